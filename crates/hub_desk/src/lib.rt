@@ -1,0 +1,18 @@
+//! Requests to replies.
+//!
+//! A [`Request`] is what a client asks for and a [`Reply`] what it is answered. Whatever answers requests is a
+//! [`Desk`], one for each session. It keeps what the session holds: its subscriptions, each under a handle, a number
+//! that is given once and never again. Ending a desk gives back all that it holds; the fifodirs stay.
+//!
+//! A [`LocalDesk`] serves one thread, over records of its own, so that its replies are a function of the requests.
+#![tactic(auto)]
+
+mod desk;
+mod name;
+mod reply;
+mod request;
+
+pub use desk::Desk;
+pub use name::Name;
+pub use reply::{Refusal, Reply};
+pub use request::Request;

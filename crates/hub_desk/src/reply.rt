@@ -1,0 +1,55 @@
+//! What a client is answered.
+
+use hub_record::{Letters, Status};
+
+/// What a client is answered, one reply to each line.
+#[derive(Drop)]
+pub enum Reply {
+    /// It was done.
+    Done,
+    /// A handle (to `sub`) or the number of a message's first event (to `pub`).
+    Number(u64),
+    /// What a fifodir shows.
+    State(Status),
+    /// The letters of the events that were taken.
+    Got(Letters),
+    /// No event waits.
+    Nothing,
+    /// No event waits, and none will come: the fifodir is closed.
+    End,
+    /// It was refused, and nothing has changed.
+    No(Refusal),
+}
+
+/// Why a line was refused.
+#[derive(Clone, Copy, Debug, PartialEq, Eq)]
+pub enum Refusal {
+    /// The line has more than 512 bytes.
+    Long,
+    /// A byte of the line is none from 0x20 to 0x7E.
+    Text,
+    /// The line begins with no word of a request.
+    Word,
+    /// The line hasn't the form that its word asks for.
+    Form,
+    /// A number is outside its range.
+    Range,
+    /// No fifodir has this name.
+    Name,
+    /// A fifodir has this name already.
+    Exists,
+    /// No handle of this session has this number.
+    Id,
+    /// As many stand already as may: names, handles or subscriptions.
+    Many,
+    /// No number is left: of handles, of ids, or of events.
+    Spent,
+    /// The fifodir is closed.
+    Closed,
+    /// The letter at this place of the message (from 0) is unlawful there.
+    Unlawful(u64),
+    /// More events would wait behind the slowest subscription than may.
+    Full,
+    /// There is no memory for it.
+    Memory,
+}

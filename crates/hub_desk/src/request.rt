@@ -1,0 +1,36 @@
+//! What a client asks for.
+
+use crate::name::Name;
+use hub_record::Letters;
+
+/// What a client asks for. Each is spelled by one line, whose word is the variant's.
+#[derive(Drop)]
+pub enum Request {
+    /// Make a plain fifodir. At most `waiting` events wait behind its slowest subscription (1 to 4,096), and it takes
+    /// `total` events in its life (1 to 10^12).
+    Dir {
+        name: Name,
+        waiting: u64,
+        total: u64,
+    },
+    /// Make the fifodir of a service, which takes only letters in their lawful order. `notifies` says whether the
+    /// service reports its readiness.
+    Svc {
+        name: Name,
+        waiting: u64,
+        total: u64,
+        notifies: bool,
+    },
+    /// Subscribe to all events from now on.
+    Sub { name: Name },
+    /// Publish letters as events, in order, all or none.
+    Pub { name: Name, letters: Letters },
+    /// Take at most `max` events (1 to 256) that wait for a subscription.
+    Take { id: u64, max: u64 },
+    /// End a subscription.
+    Cancel { id: u64 },
+    /// Close a fifodir for events and subscriptions.
+    Close { name: Name },
+    /// What a fifodir shows now.
+    Status { name: Name },
+}

@@ -1,0 +1,96 @@
+-- The forms of request lines, and how each is spelled.
+use Rattle.std.specs.Prelude.{◌≡◌, ℕ, ◌<◌, ◌≤◌, ◌^◌, List, [], ◌∷◌, ◌++◌, length, Bool, true, false, codes, All}
+use Rattle.std.specs.Fmt.{decimal}
+use Rattle.hub_desk.specs.Names.{is_name}
+use Rattle.hub_desk.specs.Ranges.{AreLimits, IsTake}
+use Rattle.hub_desk.specs.declared.request.Request.{Request}
+use Rattle.hub_desk.specs.declared.request.Request.TheVariants as request
+use Rattle.hub_front.specs.declared.parsing.Word.{Word}
+use Rattle.hub_front.specs.declared.parsing.Word.TheVariants as word
+
+-- what a line of a form says, its numbers not yet held to their ranges
+pub data Form : Type 0 where
+  Dir : (name : List ℕ) (waiting total : ℕ) → Form
+  Svc : (name : List ℕ) (waiting total reports : ℕ) → Form
+  Sub : (name : List ℕ) → Form
+  Pub : (name letters : List ℕ) → Form
+  Take : (id max : ℕ) → Form
+  Cancel : (id : ℕ) → Form
+  Close : (name : List ℕ) → Form
+  Status : (name : List ℕ) → Form
+
+-- a numeral has at most 13 digits
+abbrev pub IsNumeral : ℕ → Type 0
+IsNumeral n = n < 10 ^ 13
+
+abbrev pub IsName : List ℕ → Type 0
+IsName name = is_name name ≡ true
+
+-- one or more letters
+pub record AreLetters (letters : List ℕ) : Type 0 where
+  pub some : 0 < length letters
+  pub each : All (λ b. (33 ≤ b) × (b ≤ 126)) letters
+
+-- its fields are what the form asks for
+abbrev pub IsForm : Form → Type 0
+IsForm (Dir name waiting total) = IsName name × IsNumeral waiting × IsNumeral total
+IsForm (Svc name waiting total reports) = IsName name × IsNumeral waiting × IsNumeral total × IsNumeral reports
+IsForm (Sub name) = IsName name
+IsForm (Pub name letters) = IsName name × AreLetters letters
+IsForm (Take id max) = IsNumeral id × IsNumeral max
+IsForm (Cancel id) = IsNumeral id
+IsForm (Close name) = IsName name
+IsForm (Status name) = IsName name
+
+-- two fields with the one space between them
+infixr 30 ◌·◌
+abbrev pub ◌·◌ : List ℕ → List ℕ → List ℕ
+a · b = a ++ 32 ∷ b
+
+-- the word of each form
+abbrev pub text_of_word : Word → List ℕ
+text_of_word word.Dir = codes "dir"
+text_of_word word.Svc = codes "svc"
+text_of_word word.Sub = codes "sub"
+text_of_word word.Pub = codes "pub"
+text_of_word word.Take = codes "take"
+text_of_word word.Cancel = codes "cancel"
+text_of_word word.Close = codes "close"
+text_of_word word.Status = codes "status"
+
+-- the one line of a form
+abbrev pub spelling : Form → List ℕ
+spelling (Dir name waiting total) = codes "dir" · name · decimal waiting · decimal total
+spelling (Svc name waiting total reports) = codes "svc" · name · decimal waiting · decimal total · decimal reports
+spelling (Sub name) = codes "sub" · name
+spelling (Pub name letters) = codes "pub" · name · letters
+spelling (Take id max) = codes "take" · decimal id · decimal max
+spelling (Cancel id) = codes "cancel" · decimal id
+spelling (Close name) = codes "close" · name
+spelling (Status name) = codes "status" · name
+
+-- each number is in its range
+abbrev pub IsWithin : Form → Type 0
+IsWithin (Dir name waiting total) = AreLimits waiting total
+IsWithin (Svc name waiting total reports) = AreLimits waiting total × (reports ≤ 1)
+IsWithin (Sub name) = Unit {0}
+IsWithin (Pub name letters) = Unit {0}
+IsWithin (Take id max) = IsTake max
+IsWithin (Cancel id) = Unit {0}
+IsWithin (Close name) = Unit {0}
+IsWithin (Status name) = Unit {0}
+
+abbrev pub digit_of : Bool → ℕ
+digit_of false = 0
+digit_of true = 1
+
+-- the form that asks for a request
+abbrev pub form_of : Request → Form
+form_of (request.Dir name waiting total) = Dir name waiting total
+form_of (request.Svc name waiting total notifies) = Svc name waiting total (digit_of notifies)
+form_of (request.Sub name) = Sub name
+form_of (request.Pub name letters) = Pub name letters
+form_of (request.Take id max) = Take id max
+form_of (request.Cancel id) = Cancel id
+form_of (request.Close name) = Close name
+form_of (request.Status name) = Status name
