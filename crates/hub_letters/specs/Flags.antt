@@ -1,0 +1,66 @@
+-- The flags of a word: each by the last of the letters that bear on it.
+use Rattle.std.specs.Prelude.{ℕ, ◌+◌, ◌*◌, Bool, true, false, List, [], ◌∷◌, Option, Some, None, map}
+use Rattle.hub_letters.specs.declared.flags.Flags.{Flags}
+use Rattle.hub_letters.specs.Marks.{Mark, Began, Ran, Reported, Died, Finished, GaveUp, Exited, Other, mark, last_among, is_life, is_supervision, is_hope, is_began, is_gave_up}
+
+abbrev pub up_by : Option Mark → Bool
+up_by None = false
+up_by (Some Began) = false
+up_by (Some Ran) = true
+up_by (Some Reported) = true
+up_by (Some Died) = false
+up_by (Some Finished) = false
+up_by (Some GaveUp) = false
+up_by (Some Exited) = false
+up_by (Some Other) = false
+
+abbrev pub settled_by : Option Mark → Bool
+settled_by None = false
+settled_by (Some Began) = true
+settled_by (Some Ran) = false
+settled_by (Some Reported) = true
+settled_by (Some Died) = false
+settled_by (Some Finished) = true
+settled_by (Some GaveUp) = false
+settled_by (Some Exited) = false
+settled_by (Some Other) = false
+
+-- the flags of a word: each by the last of the letters that bear on it
+abbrev pub flags_by : List Mark → Flags
+flags_by ms = record {
+  up = up_by (last_among is_life ms);
+  settled = settled_by (last_among is_life ms);
+  supervised = is_began (last_among is_supervision ms);
+  failed = is_gave_up (last_among is_hope ms);
+}
+
+abbrev pub flags_of : List ℕ → Flags
+flags_of word = flags_by (map mark word)
+
+-- a Bool as a digit
+abbrev pub digit : Bool → ℕ
+digit true = 1
+digit false = 0
+
+abbrev pub code_of : Flags → ℕ
+code_of f = digit f.up + 2 * digit f.settled + 4 * digit f.supervised + 8 * digit f.failed
+
+-- ---- one letter at a time
+
+abbrev pub no_flags : Flags
+no_flags = record { up = false; settled = false; supervised = false; failed = false }
+
+-- the flags after one more letter
+abbrev pub flags_next : Flags → Mark → Flags
+flags_next f Began = record { up = false; settled = true; supervised = true; failed = false }
+flags_next f Ran = record f { up = true; settled = false; failed = false }
+flags_next f Reported = record f { up = true; settled = true }
+flags_next f Died = record f { up = false; settled = false }
+flags_next f Finished = record f { up = false; settled = true }
+flags_next f GaveUp = record f { failed = true }
+flags_next f Exited = record f { supervised = false }
+flags_next f Other = f
+
+abbrev pub flags_folded : Flags → List Mark → Flags
+flags_folded f [] = f
+flags_folded f (m ∷ ms) = flags_folded (flags_next f m) ms

@@ -1,0 +1,84 @@
+-- What each letter says, and the last letter of a kind in a word. A word is a list of letters, each seen as its byte.
+use Rattle.std.specs.Prelude.{ℕ, ◌==◌, Bool, true, false, if◌then◌else◌, List, [], ◌∷◌, Option, Some, None}
+
+-- what a letter says
+pub data Mark : Type 0 where
+  Began : Mark  -- s: the supervisor started
+  Ran : Mark  -- u: the run process was started
+  Reported : Mark  -- U: the service reported readiness
+  Died : Mark  -- d: the run process died
+  Finished : Mark  -- D: the finish script ended
+  GaveUp : Mark  -- O: the service won't be restarted
+  Exited : Mark  -- x: the supervisor is about to exit
+  Other : Mark  -- any other letter
+
+abbrev pub mark : ℕ → Mark
+mark c =
+    if c == 115 then Began else if c == 117 then Ran else if c == 85 then Reported else if c == 100 then Died
+    else if c == 68 then Finished else if c == 79 then GaveUp else if c == 120 then Exited else Other
+
+abbrev pub later : Option Mark → Bool → Mark → Option Mark
+later (Some n) b m = Some n
+later None true m = Some m
+later None false m = None
+
+-- the last mark that passes the test
+abbrev pub last_among : (Mark → Bool) → List Mark → Option Mark
+last_among p [] = None
+last_among p (m ∷ ms) = later (last_among p ms) (p m) m
+
+-- one of s u U d D
+abbrev pub is_life : Mark → Bool
+is_life Began = true
+is_life Ran = true
+is_life Reported = true
+is_life Died = true
+is_life Finished = true
+is_life GaveUp = false
+is_life Exited = false
+is_life Other = false
+
+-- one of s x
+abbrev pub is_supervision : Mark → Bool
+is_supervision Began = true
+is_supervision Ran = false
+is_supervision Reported = false
+is_supervision Died = false
+is_supervision Finished = false
+is_supervision GaveUp = false
+is_supervision Exited = true
+is_supervision Other = false
+
+-- one of O s u
+abbrev pub is_hope : Mark → Bool
+is_hope Began = true
+is_hope Ran = true
+is_hope Reported = false
+is_hope Died = false
+is_hope Finished = false
+is_hope GaveUp = true
+is_hope Exited = false
+is_hope Other = false
+
+-- the last is that mark
+abbrev pub is_began : Option Mark → Bool
+is_began None = false
+is_began (Some Began) = true
+is_began (Some Ran) = false
+is_began (Some Reported) = false
+is_began (Some Died) = false
+is_began (Some Finished) = false
+is_began (Some GaveUp) = false
+is_began (Some Exited) = false
+is_began (Some Other) = false
+
+abbrev pub is_gave_up : Option Mark → Bool
+is_gave_up None = false
+is_gave_up (Some Began) = false
+is_gave_up (Some Ran) = false
+is_gave_up (Some Reported) = false
+is_gave_up (Some Died) = false
+is_gave_up (Some Finished) = false
+is_gave_up (Some GaveUp) = true
+is_gave_up (Some Exited) = false
+is_gave_up (Some Other) = false

@@ -1,0 +1,130 @@
+//! The flags of a service.
+ghost use Rattle.std.specs.Prelude.{◌≡◌, ◌≤◌, ◌<◌, ◌++◌, ℕ, List, Some, map, MatchOption, false};
+ghost use Rattle.hub_letters.specs.Marks.{mark};
+ghost use Rattle.hub_letters.specs.Flags.{flags_of, flags_next, flags_folded, no_flags, code_of};
+
+use crate::letter::Letter;
+
+/// What the letters so far say of the service. Each flag is false where no letter bears on it.
+#[derive(Clone, Copy, Debug, PartialEq, Eq)]
+pub struct Flags {
+    /// The run process runs: the last letter among `s u U d D` is `u` or `U`.
+    pub up: bool,
+    /// The service is where it was going: the last letter among `s u U d D` is `s`, `U` or `D`.
+    pub settled: bool,
+    /// A supervisor runs: the last letter among `s x` is `s`.
+    pub supervised: bool,
+    /// The service won't be restarted: an `O` stands, and no `s` or `u` after it.
+    pub failed: bool,
+}
+
+impl Flags {
+    /// The flags of no letters.
+    pub fn none() -> Flags
+        ensures { result ≡ no_flags }
+    {
+        Flags {
+            up: false,
+            settled: false,
+            supervised: false,
+            failed: false,
+        }
+    }
+
+    /// The flags after one more letter.
+    pub fn after(self, letter: Letter) -> Flags
+        ensures { result ≡ flags_next self (mark letter) }
+    {
+        match letter.byte() {
+            b's' => Flags {
+                up: false,
+                settled: true,
+                supervised: true,
+                failed: false,
+            },
+            b'u' => Flags {
+                up: true,
+                settled: false,
+                failed: false,
+                ..self
+            },
+            b'U' => Flags {
+                up: true,
+                settled: true,
+                ..self
+            },
+            b'd' => Flags {
+                up: false,
+                settled: false,
+                ..self
+            },
+            b'D' => Flags {
+                up: false,
+                settled: true,
+                ..self
+            },
+            b'x' => Flags {
+                supervised: false,
+                ..self
+            },
+            b'O' => Flags {
+                failed: true,
+                ..self
+            },
+            _ => self,
+        }
+    }
+
+    /// The flags after more letters.
+    pub fn after_all(self, letters: &[Letter]) -> Flags
+        ensures { (word : List ℕ) → flags_of word ≡ self → result ≡ flags_of (word ++ letters.now) }
+    {
+        let mut flags = self;
+        for letter in letters {
+            flags = flags.after(*letter);
+        }
+        flags
+    }
+
+    /// A law: the flags folded over a word, letter by letter, are those of the word.
+    pub fn fold_to_those_of_the_word()
+        ensures { (word : List ℕ) → flags_folded no_flags (map mark word) ≡ flags_of word }
+    {}
+
+    /// The flags as a number below 16: up counts 1, settled 2, supervised 4 and failed 8.
+    pub fn code(self) -> u64
+        ensures value { result ≡ code_of self }
+        ensures small { result < 16 }
+    {
+        let mut code = 0;
+        if self.up {
+            code += 1;
+        }
+        if self.settled {
+            code += 2;
+        }
+        if self.supervised {
+            code += 4;
+        }
+        if self.failed {
+            code += 8;
+        }
+        code
+    }
+
+    /// The flags with this code; none from 16 on.
+    pub fn of_code(code: u64) -> Option<Flags>
+        ensures coded { MatchOption result (16 ≤ code) (λ flags. code_of flags ≡ code) }
+        ensures back { (flags : Flags) → code_of flags ≡ code → result ≡ Some flags }
+    {
+        if code >= 16 {
+            return None;
+        }
+        Some(Flags {
+            up: code % 2 == 1,
+            settled: code / 2 % 2 == 1,
+            supervised: code / 4 % 2 == 1,
+            failed: code / 8 % 2 == 1,
+        })
+    }
+}

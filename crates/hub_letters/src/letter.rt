@@ -1,0 +1,49 @@
+//! Letters.
+ghost use Rattle.std.specs.Prelude.{◌≡◌, ◌≤◌, SomeIff};
+
+use std::marker::Model;
+
+/// One byte from 0x21 (`!`) to 0x7E (`~`), as `s6-ftrig-notify` sends it. Contracts see it as its byte.
+#[derive(Clone, Copy, Debug, PartialEq, Eq)]
+pub struct Letter {
+    byte: u8,
+}
+
+impl Model for Letter {
+    ghost use Rattle.std.specs.Prelude.{ℕ, ◌≤◌};
+
+    ghost Value = { ℕ };
+
+    ghost view = { λ l. l.byte };
+
+    ghost inverse = { λ n. record { byte = n } };
+
+    ghost invariant = { λ l. (33 ≤ l.byte) × (l.byte ≤ 126) };
+}
+
+impl Letter {
+    /// The letter with this byte; none outside 0x21 to 0x7E.
+    pub fn of(byte: u8) -> Option<Letter>
+        ensures { SomeIff result ((33 ≤ byte) × (byte ≤ 126)) byte }
+    {
+        if byte >= b'!' && byte <= b'~' {
+            Some(Letter { byte })
+        } else {
+            None
+        }
+    }
+
+    /// The letter `!`, to fill a slice with before events are taken into it.
+    pub fn least() -> Letter
+        ensures { result ≡ 33 }
+    {
+        Letter { byte: b'!' }
+    }
+
+    pub fn byte(self) -> u8
+        ensures value { result ≡ self }
+        ensures range { (33 ≤ result) × (result ≤ 126) }
+    {
+        self.byte
+    }
+}
