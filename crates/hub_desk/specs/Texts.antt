@@ -1,7 +1,7 @@
 -- The text of a reply: one line.
 use Rattle.std.specs.Prelude.{ℕ, List, [], ◌∷◌, ◌++◌, codes, Bool, true, false}
 use Rattle.std.specs.Fmt.{decimal}
-use Rattle.hub_letters.specs.Letters.{code_of}
+use Rattle.hub_letters.specs.Flags.{code_of}
 use Rattle.hub_desk.specs.declared.reply.Reply.{Reply}
 use Rattle.hub_desk.specs.declared.reply.Reply.TheVariants.{Done, Number, State, Got, Nothing, End, No}
 use Rattle.hub_desk.specs.declared.reply.Refusal.{Refusal}
