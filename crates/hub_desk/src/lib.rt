@@ -8,11 +8,13 @@
 #![tactic(auto)]
 
 mod desk;
+mod local_desk;
 mod name;
 mod reply;
 mod request;
 
 pub use desk::Desk;
+pub use local_desk::LocalDesk;
 pub use name::Name;
 pub use reply::{Refusal, Reply};
 pub use request::Request;

@@ -1,6 +1,6 @@
 //! What a client is answered.
 
-use hub_record::{Letters, Status};
+use hub_record::{Letters, PubError, Status, SubError};
 
 /// What a client is answered, one reply to each line.
 #[derive(Drop)]
@@ -52,4 +52,36 @@ pub enum Refusal {
     Full,
     /// There is no memory for it.
     Memory,
+}
+
+impl From<SubError> for Refusal {
+    ghost use Rattle.std.specs.Prelude.{◌≡◌};
+    ghost use Rattle.hub_desk.specs.Replies.{refusal_of_sub};
+
+    ghost from_gives = { λ error refusal. refusal ≡ refusal_of_sub error };
+
+    fn from(error: SubError) -> Refusal {
+        match error {
+            SubError::Closed => Refusal::Closed,
+            SubError::Many => Refusal::Many,
+            SubError::Spent => Refusal::Spent,
+            SubError::Memory => Refusal::Memory,
+        }
+    }
+}
+
+impl From<PubError> for Refusal {
+    ghost use Rattle.std.specs.Prelude.{◌≡◌};
+    ghost use Rattle.hub_desk.specs.Replies.{refusal_of_pub};
+
+    ghost from_gives = { λ error refusal. refusal ≡ refusal_of_pub error };
+
+    fn from(error: PubError) -> Refusal {
+        match error {
+            PubError::Closed => Refusal::Closed,
+            PubError::Unlawful(place) => Refusal::Unlawful(place),
+            PubError::Spent => Refusal::Spent,
+            PubError::Full => Refusal::Full,
+        }
+    }
 }

@@ -22,15 +22,29 @@ pub enum Request {
         notifies: bool,
     },
     /// Subscribe to all events from now on.
-    Sub { name: Name },
+    Sub {
+        name: Name,
+    },
     /// Publish letters as events, in order, all or none.
-    Pub { name: Name, letters: Letters },
+    Pub {
+        name: Name,
+        letters: Letters,
+    },
     /// Take at most `max` events (1 to 256) that wait for a subscription.
-    Take { id: u64, max: u64 },
+    Take {
+        id: u64,
+        max: u64,
+    },
     /// End a subscription.
-    Cancel { id: u64 },
+    Cancel {
+        id: u64,
+    },
     /// Close a fifodir for events and subscriptions.
-    Close { name: Name },
+    Close {
+        name: Name,
+    },
     /// What a fifodir shows now.
-    Status { name: Name },
+    Status {
+        name: Name,
+    },
 }

@@ -5,7 +5,7 @@ use Rattle.hub_desk.specs.declared.request.Request.{Request}
 use Rattle.hub_front.specs.declared.parsing.Bad.{Bad}
 use Rattle.hub_front.specs.declared.parsing.Bad.TheVariants.{Long, Text, Range, Memory}
 use Rattle.hub_front.specs.declared.parsing.Bad.TheVariants as bad
-use Rattle.hub_front.specs.declared.parsing.Word.{Word}
+use Rattle.hub_front.specs.declared.words.Word.{Word}
 use Rattle.hub_front.specs.Spelling.{Form, IsForm, IsWithin, spelling, form_of, text_of_word}
 
 -- the bytes up to the first space, or all of them

@@ -5,8 +5,8 @@ use Rattle.hub_desk.specs.Names.{is_name}
 use Rattle.hub_desk.specs.Ranges.{AreLimits, IsTake}
 use Rattle.hub_desk.specs.declared.request.Request.{Request}
 use Rattle.hub_desk.specs.declared.request.Request.TheVariants as request
-use Rattle.hub_front.specs.declared.parsing.Word.{Word}
-use Rattle.hub_front.specs.declared.parsing.Word.TheVariants as word
+use Rattle.hub_front.specs.declared.words.Word.{Word}
+use Rattle.hub_front.specs.declared.words.Word.TheVariants as word
 
 -- what a line of a form says, its numbers not yet held to their ranges
 pub data Form : Type 0 where
@@ -47,7 +47,7 @@ infixr 30 ◌·◌
 abbrev pub ◌·◌ : List ℕ → List ℕ → List ℕ
 a · b = a ++ 32 ∷ b
 
--- the word of each form
+-- how a word is spelled
 abbrev pub text_of_word : Word → List ℕ
 text_of_word word.Dir = codes "dir"
 text_of_word word.Svc = codes "svc"
@@ -57,6 +57,16 @@ text_of_word word.Take = codes "take"
 text_of_word word.Cancel = codes "cancel"
 text_of_word word.Close = codes "close"
 text_of_word word.Status = codes "status"
+
+abbrev pub word_of : Form → Word
+word_of (Dir name waiting total) = word.Dir
+word_of (Svc name waiting total reports) = word.Svc
+word_of (Sub name) = word.Sub
+word_of (Pub name letters) = word.Pub
+word_of (Take id max) = word.Take
+word_of (Cancel id) = word.Cancel
+word_of (Close name) = word.Close
+word_of (Status name) = word.Status
 
 -- the one line of a form
 abbrev pub spelling : Form → List ℕ

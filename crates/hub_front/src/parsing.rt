@@ -1,8 +1,19 @@
 //! The request that a line spells.
-ghost use Rattle.hub_front.specs.Reading.{IsReading};
+ghost use Rattle.std.specs.Prelude.{◌≡◌, ◌∷◌, [], IfOk};
+ghost use Rattle.hub_desk.specs.Ranges.{IsInRange};
+ghost use Rattle.hub_front.specs.Fields.{fields_of};
+ghost use Rattle.hub_front.specs.Forms.{IsRead};
+ghost use Rattle.hub_front.specs.Reading.{IsReading, IsText};
 
+use crate::fields::{is_text, split_at_space};
+use crate::forms::{Form, form_of_word};
+use crate::requests::{is_within, request_of};
+use crate::words::word_spelled;
 use hub_desk::Request;
 use std::alloc::Global;
+
+/// A line has at most so many bytes.
+const LONGEST_LINE: usize = 512;
 
 /// Why a line is no request: the first rule that it breaks, in this order.
 #[derive(Clone, Copy, Debug, PartialEq, Eq)]
@@ -21,26 +32,57 @@ pub enum Bad {
     Memory,
 }
 
-/// The words that lines begin with.
-#[derive(Clone, Copy, Debug, PartialEq, Eq)]
-pub enum Word {
-    Dir,
-    Svc,
-    Sub,
-    Pub,
-    Take,
-    Cancel,
-    Close,
-    Status,
-}
-
 /// The request that a line, without its LF, spells, or the first rule that it breaks.
 pub fn parse(alloc: Global, line: &[u8]) -> Result<Request, Bad>
-    ensures { IsReading line.now result }
+    ensures reading { IsReading line.now result }
+    ensures in_range { IfOk result IsInRange }
 {
-    let _ = alloc;
-    if line.len() > 512 {
+    if line.len() > LONGEST_LINE {
         return Err(Bad::Long);
     }
-    Err(Bad::Text)
+    if !is_text(line) {
+        return Err(Bad::Text);
+    }
+    let form = match read_text(line) {
+        Ok(form) => form,
+        Err(bad) => return Err(bad),
+    };
+    match request_of(alloc, form) {
+        Ok(request) => Ok(request),
+        Err(_) => Err(Bad::Memory),
+    }
 }
+
+fn read_text(line: &[u8]) -> Result<Form<'_>, Bad>
+    requires { IsText line.now }
+    ensures { IsRead line.now result }
+{
+    let Some((word, rest)) = split_at_space(line) else {
+        return Err(refusal_of_word(line));
+    };
+    let Some(word) = word_spelled(word) else {
+        return Err(Bad::Word);
+    };
+    let Some(form) = form_of_word(word, rest) else {
+        return Err(Bad::Form);
+    };
+    if !is_within(&form) {
+        return Err(Bad::Range);
+    }
+    Ok(form)
+}
+
+// A line of one word has no form.
+fn refusal_of_word(line: &[u8]) -> Bad
+    requires text { IsText line.now }
+    requires one { fields_of line.now ≡ line.now ∷ [] }
+    ensures { IsReading line.now (Err result) }
+{
+    match word_spelled(line) {
+        Some(_) => Bad::Form,
+        None => Bad::Word,
+    }
+}
+
+#[cfg(test)]
+mod tests;

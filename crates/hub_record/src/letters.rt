@@ -19,12 +19,14 @@ impl Model for Letters {
 }
 
 impl Letters {
+    /// Takes no memory.
     pub fn of(letters: Vec<Letter>) -> Letters
         ensures { result ≡ letters.items }
     {
         Letters { letters }
     }
 
+    /// The letters, lent.
     pub fn items(&self) -> &[Letter]
         ensures { result.now ≡ self.now }
     {

@@ -1,0 +1,11 @@
+mod LimitsInRange
+pub mod RecordReplies
+pub mod KeptFifodirs
+pub mod Worlds
+pub mod Holdings
+pub mod Asking
+pub mod AskingFifodirs
+pub mod AskingSubscriptions
+mod ShortReplies
+mod TakenLetters
+pub mod Running

@@ -1,0 +1,170 @@
+-- What is kept of the lines is enough to answer them: their first 513 bytes.
+use Rattle.std.proofs.Common.{◌≡◌, ℕ, ◌+◌, ◌≤◌, ◌<◌, ◌⊎◌, inl, inr, List, [], ◌∷◌, ◌++◌, length, take, map, ◌==◌, ◌||◌, Bool, true, false, cond, Option, Result, Ok, Err, refl, sym, ap, ◌∙◌, subst, append_assoc, append-nil, length-append, arith, rules}
+use Rattle.std.specs.List.{list_any}
+use Rattle.std.proofs.lemmas.List.{take-append-le, map-append, take_all, length-take-le, length-map}
+use Rattle.std.proofs.lemmas.Bool.{lt-ltb, le-ltb}
+use Rattle.hub_desk.specs.declared.reply.Reply.{Reply}
+use Rattle.hub_desk.specs.declared.request.Request.{Request}
+use Rattle.hub_front.specs.declared.parsing.Bad.{Bad}
+use Rattle.hub_front.specs.declared.parsing.Bad.TheVariants.{Long, Text, Word, Form, Range, Memory}
+use Rattle.hub_front.specs.Reading.{IsReading}
+use Rattle.hub_front.specs.Lines.{onto_first, complete_of, rest_of, last_line, lines_of}
+use Rattle.hub_front.specs.Pieces.{keep, done, left, pieces_of}
+use Rattle.hub_front.specs.Serving.{Asking, Answers, Run, Served, BreaksOff}
+
+-- what is kept of a line
+abbrev pub cut : List ℕ → List ℕ
+cut line = take 513 line
+
+short_or_long : (n k : ℕ) → (n < k) ⊎ (k ≤ n)
+short_or_long n k = search rules
+
+-- ---- of each line its first 513 bytes are kept
+
+keep_short : (p : List ℕ) (b : ℕ) → length p < 513 → keep (cut p) b ≡ cut (p ++ b ∷ [])
+keep_short p b h =
+    let whole : take 513 p ≡ p = take_all 513 p (omega arith) in
+    let one : length (p ++ b ∷ []) ≡ length p + 1 = length-append p (b ∷ []) in
+    let more : take 513 (p ++ b ∷ []) ≡ p ++ b ∷ [] = take_all 513 (p ++ b ∷ []) (omega arith) in
+    ap (λ l. keep l b) whole ∙ ap (λ t. cond t (p ++ b ∷ []) p) (lt-ltb (length p) 513 h) ∙ sym more
+
+keep_long : (p : List ℕ) (b : ℕ) → 513 ≤ length p → keep (cut p) b ≡ cut (p ++ b ∷ [])
+keep_long p b h =
+    let size : length (take 513 p) ≡ 513 = length-take-le 513 p h in
+    ap (λ t. cond t (take 513 p ++ b ∷ []) (take 513 p)) (le-ltb (length (take 513 p)) 513 (omega arith)) ∙ sym (take-append-le 513 p (b ∷ []) h)
+
+keep-cut : (p : List ℕ) (b : ℕ) → keep (cut p) b ≡ cut (p ++ b ∷ [])
+keep-cut p b = elim (short_or_long (length p) 513) [ inl h ↦ keep_short p b h | inr h ↦ keep_long p b h ]
+
+onto_first-nil : (ls : List (List ℕ)) → onto_first [] ls ≡ ls
+onto_first-nil [] = refl
+onto_first-nil (l ∷ ls) = refl
+
+onto_first-append : (p q : List ℕ) (ls : List (List ℕ)) → onto_first p (onto_first q ls) ≡ onto_first (p ++ q) ls
+onto_first-append p q [] = refl
+onto_first-append p q (l ∷ ls) = ap (λ x. x ∷ ls) (sym (append_assoc p q l))
+
+done-cut : (bs p : List ℕ) → done bs (cut p) ≡ map cut (onto_first p (complete_of bs))
+done-cut [] p = refl
+done-cut (b ∷ bs) p =
+    elim (b == 10) as (λ t. cond t (cut p ∷ done bs []) (done bs (keep (cut p) b)) ≡ map cut (onto_first p (cond t ([] ∷ complete_of bs) (onto_first (b ∷ []) (complete_of bs))))) [
+      | true ↦
+        let rest : done bs [] ≡ map cut (complete_of bs) = done-cut bs [] ∙ ap (map cut) (onto_first-nil (complete_of bs)) in
+        ap (λ l. cut l ∷ done bs []) (sym (append-nil p)) ∙ ap (λ ls. cut (p ++ []) ∷ ls) rest
+      | false ↦ ap (done bs) (keep-cut p b) ∙ done-cut bs (p ++ b ∷ []) ∙ ap (map cut) (sym (onto_first-append p (b ∷ []) (complete_of bs)))
+    ]
+
+abbrev has_lf : List ℕ → Bool
+has_lf bs = list_any (λ x. x == 10) bs
+
+rest_or_all : (bs : List ℕ) → cond (has_lf bs) (rest_of bs) bs ≡ rest_of bs
+rest_or_all [] = refl
+rest_or_all (b ∷ bs) = elim (has_lf (b ∷ bs)) as (λ t. cond t (cond t (rest_of bs) (b ∷ bs)) (b ∷ bs) ≡ cond t (rest_of bs) (b ∷ bs)) [ true ↦ refl | false ↦ refl ]
+
+left-cut : (bs p : List ℕ) → left bs (cut p) ≡ cut (cond (has_lf bs) (rest_of bs) (p ++ bs))
+left-cut [] p = ap cut (sym (append-nil p))
+left-cut (b ∷ bs) p =
+    elim (b == 10) as (λ t. cond t (left bs []) (left bs (keep (cut p) b)) ≡ cut (cond (t || has_lf bs) (cond (t || has_lf bs) (rest_of bs) (b ∷ bs)) (p ++ b ∷ bs))) [
+      | true ↦ left-cut bs [] ∙ ap cut (rest_or_all bs)
+      | false ↦ ap (left bs) (keep-cut p b) ∙ left-cut bs (p ++ b ∷ []) ∙
+        elim (has_lf bs) as (λ t. cut (cond t (rest_of bs) ((p ++ b ∷ []) ++ bs)) ≡ cut (cond t (cond t (rest_of bs) (b ∷ bs)) (p ++ b ∷ bs))) [
+          | true ↦ refl
+          | false ↦ ap cut (append_assoc p (b ∷ []) bs)
+        ]
+    ]
+
+last_line-cut : (r : List ℕ) → last_line (cut r) ≡ map cut (last_line r)
+last_line-cut [] = refl
+last_line-cut (b ∷ bs) = refl
+
+pub done-whole : (bs : List ℕ) → done bs [] ≡ map cut (complete_of bs)
+done-whole bs = done-cut bs [] ∙ ap (map cut) (onto_first-nil (complete_of bs))
+
+pub pieces-whole : (bs : List ℕ) → pieces_of bs ≡ map cut (lines_of bs)
+pieces-whole bs =
+    ap (λ ls. ls ++ last_line (left bs [])) (done-whole bs)
+    ∙ ap (λ l. map cut (complete_of bs) ++ last_line l) (left-cut bs [] ∙ ap cut (rest_or_all bs))
+    ∙ ap (λ ls. map cut (complete_of bs) ++ ls) (last_line-cut (rest_of bs))
+    ∙ sym (map-append cut (complete_of bs) (last_line (rest_of bs)))
+
+-- ---- a line is read as what is kept of it is
+
+-- more than 512 bytes are too long, whatever they are
+cut_is_long : (line : List ℕ) (read : Result Request Bad) → 513 ≤ length line → IsReading (cut line) read → 512 < length line × (read ≡ Err Long)
+cut_is_long line (Err Long) h r = (omega arith, refl)
+cut_is_long line (Ok request) h r = let size : length (cut line) ≡ 513 = length-take-le 513 line h in absurd (omega (arith, r.text.short))
+cut_is_long line (Err Text) h r = let size : length (cut line) ≡ 513 = length-take-le 513 line h in absurd (omega (arith, r.0))
+cut_is_long line (Err Word) h r = let size : length (cut line) ≡ 513 = length-take-le 513 line h in absurd (omega (arith, r.0.short))
+cut_is_long line (Err Form) h r = let size : length (cut line) ≡ 513 = length-take-le 513 line h in absurd (omega (arith, r.0.short))
+cut_is_long line (Err Range) h r = let size : length (cut line) ≡ 513 = length-take-le 513 line h in absurd (omega (arith, r.0.short))
+cut_is_long line (Err Memory) h r = let size : length (cut line) ≡ 513 = length-take-le 513 line h in absurd (omega (arith, r.1.text.short))
+
+reading_of_cut : (line : List ℕ) (read : Result Request Bad) → IsReading (cut line) read → IsReading line read
+reading_of_cut line read r = elim (short_or_long (length line) 513) [
+    | inl h ↦ subst (λ l. IsReading l read) (take_all 513 line (omega arith)) r
+    | inr h ↦ let long : (512 < length line) × (read ≡ Err Long) = cut_is_long line read h r in subst (λ x. IsReading line x) (sym long.1) long.0
+  ]
+
+answers_of_cut : {D : Type 0} {asks : Asking D} {old new : D} {line : List ℕ} {reply : Reply} → Answers asks old (cut line) reply new → Answers asks old line reply new
+answers_of_cut {line = line} a = record { read = a.read; reading = reading_of_cut line a.read a.reading; answered = a.answered }
+
+run_of_cut : {D : Type 0} (asks : Asking D) (old : D) (lines : List (List ℕ)) (replies : List Reply) (new : D) → Run asks old (map cut lines) replies new → Run asks old lines replies new
+run_of_cut asks old [] [] new r = r
+run_of_cut asks old [] (p ∷ ps) new r = absurd r
+run_of_cut asks old (l ∷ ls) [] new r = absurd r
+run_of_cut asks old (l ∷ ls) (p ∷ ps) new r = (r.0, answers_of_cut r.1, run_of_cut asks r.0 ls ps new r.2)
+
+-- lines of which these are kept
+served_of_cut : {D : Type 0} {asks : Asking D} {old new : D} (kept lines : List (List ℕ)) {held holds : Option (List ℕ)} → kept ≡ map cut lines
+    → Served asks old kept held holds new → Served asks old lines held holds new
+served_of_cut {asks} {old} {new} kept lines e s = record {
+    replies = s.replies;
+    run = run_of_cut asks old lines s.replies new (subst (λ ls. Run asks old ls s.replies new) e s.run);
+    written = s.written;
+  }
+
+-- where a list of images is split, the list is too
+split_of_map : (ls front : List (List ℕ)) (line : List ℕ) (after : List (List ℕ)) → map cut ls ≡ front ++ line ∷ after
+    → (a : List (List ℕ)) × (x : List ℕ) × (b : List (List ℕ)) × (ls ≡ a ++ x ∷ b) × (front ≡ map cut a) × (cut x ≡ line)
+split_of_map [] [] line after e = cc
+split_of_map [] (f ∷ front) line after e = cc
+split_of_map (l ∷ ls) [] line after e = let h : cut l ≡ line = cc in ([], l, ls, refl, refl, h)
+split_of_map (l ∷ ls) (f ∷ front) line after e =
+    let head : f ≡ cut l = cc in
+    let tail : map cut ls ≡ front ++ line ∷ after = cc in
+    let (a, x, b, split, same, last) = split_of_map ls front line after tail in
+    (l ∷ a, x, b, ap (λ t. l ∷ t) split, ap (λ t. f ∷ t) same ∙ ap (λ t. t ∷ map cut a) head, last)
+
+breaks_of_cut : {D : Type 0} {asks : Asking D} {old new : D} (kept lines : List (List ℕ)) {held holds : Option (List ℕ)} → kept ≡ map cut lines
+    → BreaksOff asks old kept held holds new → BreaksOff asks old lines held holds new
+breaks_of_cut {asks} {new} kept lines e s =
+    let (a, x, b, whole, same, last) = split_of_map lines s.front s.line s.after (sym e ∙ s.among) in
+    record {
+      front = a;
+      line = x;
+      after = b;
+      among = whole;
+      mid = s.mid;
+      between = s.between;
+      served = served_of_cut s.front a same s.served;
+      reply = s.reply;
+      answered = answers_of_cut (subst (λ l. Answers asks s.mid l s.reply new) (sym last) s.answered);
+      written = s.written;
+    }
+
+-- ---- what a session did to the pieces, it did to the lines
+
+pub served_complete : {D : Type 0} {asks : Asking D} {old new : D} (input : List ℕ) {held holds : Option (List ℕ)} → Served asks old (done input []) held holds new → Served asks old (complete_of input) held holds new
+served_complete input s = served_of_cut (done input []) (complete_of input) (done-whole input) s
+
+pub served_lines : {D : Type 0} {asks : Asking D} {old new : D} (input : List ℕ) {held holds : Option (List ℕ)} → Served asks old (pieces_of input) held holds new → Served asks old (lines_of input) held holds new
+served_lines input s = served_of_cut (pieces_of input) (lines_of input) (pieces-whole input) s
+
+pub breaks_complete : {D : Type 0} {asks : Asking D} {old new : D} (input : List ℕ) {held holds : Option (List ℕ)} → BreaksOff asks old (done input []) held holds new → BreaksOff asks old (complete_of input) held holds new
+breaks_complete input s = breaks_of_cut (done input []) (complete_of input) (done-whole input) s
+
+pub breaks_lines : {D : Type 0} {asks : Asking D} {old new : D} (input : List ℕ) {held holds : Option (List ℕ)} → BreaksOff asks old (pieces_of input) held holds new → BreaksOff asks old (lines_of input) held holds new
+breaks_lines input s = breaks_of_cut (pieces_of input) (lines_of input) (pieces-whole input) s
+
+pub count_lines : (input : List ℕ) → length (pieces_of input) ≡ length (lines_of input)
+count_lines input = ap length (pieces-whole input) ∙ length-map (lines_of input) cut

@@ -1,0 +1,14 @@
+pub mod Alike
+pub mod Asked
+pub mod Cuts
+pub mod FieldLists
+pub mod Kept
+pub mod Numerals
+pub mod OneReading
+pub mod Outcomes
+pub mod Placed
+pub mod Runs
+pub mod Splits
+pub mod Told
+pub mod UnderWay
+pub mod Visible

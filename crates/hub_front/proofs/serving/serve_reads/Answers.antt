@@ -1,0 +1,39 @@
+use Rattle.std.proofs.Common.{◌≡◌, ◌+◌, ◌*◌, ◌<◌, ◌≤◌, Err, length, take, rules, arith}
+use Rattle.hub_front.specs.declared.fault.FrontError.TheVariants.{Write}
+use Rattle.hub_front.specs.Pieces.{done}
+use Rattle.hub_front.proofs.Cuts.{done_few}
+use Rattle.hub_front.proofs.Kept.{served_complete}
+use Rattle.hub_front.proofs.Outcomes.{IfErr-known}
+use Rattle.hub_front.proofs.Told.{Grows-trans}
+use Rattle.hub_front.proofs.UnderWay.{goes_on, stops, breaks}
+use Rattle.hub_front.proofs.serving.serve_reads.Goals as goal
+
+pub returns-in-Err-clause-err : goal.returns-in-Err-clause-err
+returns-in-Err-clause-err g c =
+    let u = c.reads.invariant.under_way in
+    let stopped = stops _ c.in-Err.ensures.bytes u in
+    (u.input, stopped.0, stopped.1)
+
+pub returns-in_err-take_bytes-clause-err : goal.returns-in_err-take_bytes-clause-err
+returns-in_err-take_bytes-clause-err g c =
+    let is : c.from_residual.result ≡ Err Write = search rules in
+    IfErr-known _ c.from_residual.result Write is (breaks _ _ c.in-Ok.ensures.bytes.0 c.in_err-take_bytes.ensures.err c.reads.invariant.under_way)
+
+pub reads-preserved : goal.reads-preserved
+reads-preserved g c =
+  let piece = take c.in-Ok.n c.pull.new.buf in
+  let size : c.in-Ok.n ≡ length piece = c.in-Ok.ensures.bound.1 in
+  let some : 1 ≤ length piece = omega arith in
+  let ended : length (done piece c.reads.session.line.items) ≤ length piece = done_few piece c.reads.session.line.items in
+  record {
+    chunk = search rules;
+    under_way = goes_on piece some c.in-Ok.ensures.bytes.0 c.in_ok-take_bytes.ensures.ok c.in_ok-take_bytes.ensures.line c.in_ok-take_bytes.ensures.count c.reads.invariant.under_way;
+    few = omega (arith, c.reads.invariant.few, c.reads.invariant.chunk, c.in-Ok.ensures.bound.0, c.in_ok-take_bytes.ensures.count);
+    no_read_fault = Grows-trans _ _ _ 0 c.reads.invariant.no_read_fault c.in-Ok.ensures.told;
+    no_write_fault = Grows-trans _ _ _ 0 c.reads.invariant.no_write_fault c.in_ok-take_bytes.ensures.told;
+  }
+
+pub returns-clause-err : goal.returns-clause-err
+returns-clause-err g c =
+    let u = c.reads.invariant.under_way in
+    (u.input, u.consumed, (served_complete u.input u.served, omega (arith, u.long)))

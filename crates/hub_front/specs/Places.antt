@@ -1,0 +1,50 @@
+-- Where replies stand: a desk's replies to the requests, and the refusals in their lines' places.
+use Rattle.std.specs.Prelude.{◌≡◌, ◌≢◌, ℕ, List, [], ◌∷◌, All, Result, Ok, Err}
+use Rattle.std.specs.List.{AllZip}
+use Rattle.hub_desk.specs.declared.request.Request.{Request}
+use Rattle.hub_desk.specs.declared.reply.Reply.{Reply}
+use Rattle.hub_desk.specs.declared.reply.Reply.TheVariants.{No}
+use Rattle.hub_desk.specs.declared.reply.Refusal.TheVariants.{Memory}
+use Rattle.hub_front.specs.declared.parsing.Bad.{Bad}
+use Rattle.hub_front.specs.declared.parsing.Bad.TheVariants as bad
+use Rattle.hub_front.specs.Reading.{IsReading}
+use Rattle.hub_front.specs.Serving.{Asking, refusal_of}
+
+-- the requests among what lines are read as, in order
+abbrev pub requests_of : List (Result Request Bad) → List Request
+requests_of [] = []
+requests_of (Ok request ∷ reads) = request ∷ requests_of reads
+requests_of (Err bad ∷ reads) = requests_of reads
+
+-- the replies to the requests, with the refusals in their lines' places
+abbrev pub in_place : List (Result Request Bad) → List Reply → List Reply
+in_place [] given = []
+in_place (Ok request ∷ reads) [] = []
+in_place (Ok request ∷ reads) (reply ∷ given) = reply ∷ in_place reads given
+in_place (Err bad ∷ reads) given = No (refusal_of bad) ∷ in_place reads given
+
+-- a desk replies so to the requests, one after another
+abbrev pub Asked : {D : Type 0} → Asking D → D → List Request → List Reply → D → Type 0
+Asked asks old [] [] new = new ≡ old
+Asked {D} asks old (request ∷ requests) (reply ∷ replies) new = (mid : D) × asks old request reply mid × Asked asks mid requests replies new
+Asked asks old [] (reply ∷ replies) new = ⊥
+Asked asks old (request ∷ requests) [] new = ⊥
+
+-- no reply is want of memory
+abbrev pub NoneIsMemory : List Reply → Type 0
+NoneIsMemory replies = All (λ reply. reply ≢ No Memory) replies
+
+-- The lines are read, the desk is asked the requests among them, and each refusal stands in its line's place.
+pub record AreInPlace {D : Type 0} (asks : Asking D) (old : D) (lines : List (List ℕ)) (replies : List Reply) (new : D) : Type 0 where
+  pub reads : List (Result Request Bad)
+  pub readings : AllZip IsReading lines reads
+  pub given : List Reply
+  pub asked : Asked asks old (requests_of reads) given new
+  pub placed : replies ≡ in_place reads given
+  pub read_whole : NoneIsMemory replies → All (λ read. read ≢ Err bad.Memory) reads
+  pub given_whole : NoneIsMemory replies → NoneIsMemory given
+
+-- asked a request, a desk has one reply and goes on in one way, want of memory aside
+abbrev pub IsFunction : {D : Type 0} → Asking D → Type 0
+IsFunction {D} asks = (old new new' : D) (request : Request) (reply reply' : Reply) → reply ≢ No Memory → reply' ≢ No Memory
+    → asks old request reply new → asks old request reply' new' → (reply ≡ reply') × (new ≡ new')

@@ -1,0 +1,119 @@
+-- What a session answers and writes.
+use Rattle.std.specs.Prelude.{◌≡◌, ◌⊎◌, ℕ, ◌<◌, ◌≤◌, List, [], ◌∷◌, ◌++◌, length, take, flat_map, Option, Result, Ok, Err}
+use Rattle.std.specs.Io.KnownBytes.{Appends, Consumes, IsAtEnd}
+use Rattle.hub_desk.specs.declared.request.Request.{Request}
+use Rattle.hub_desk.specs.declared.reply.Reply.{Reply}
+use Rattle.hub_desk.specs.declared.reply.Reply.TheVariants.{No}
+use Rattle.hub_desk.specs.declared.reply.Refusal.{Refusal}
+use Rattle.hub_desk.specs.declared.reply.Refusal.TheVariants as refusal
+use Rattle.hub_desk.specs.Texts.{text_of}
+use Rattle.hub_front.specs.declared.parsing.Bad.{Bad}
+use Rattle.hub_front.specs.declared.parsing.Bad.TheVariants.{Long, Text, Word, Form, Range, Memory}
+use Rattle.hub_front.specs.declared.fault.FrontError.{FrontError}
+use Rattle.hub_front.specs.declared.fault.FrontError.TheVariants as fault
+use Rattle.hub_front.specs.declared.fault.FrontError.TheVariants.{Read, Write, Turns}
+use Rattle.hub_front.specs.Reading.{IsReading}
+use Rattle.hub_front.specs.Lines.{complete_of, lines_of}
+
+-- the refusal of the rule that a line breaks
+abbrev pub refusal_of : Bad → Refusal
+refusal_of Long = refusal.Long
+refusal_of Text = refusal.Text
+refusal_of Word = refusal.Word
+refusal_of Form = refusal.Form
+refusal_of Range = refusal.Range
+refusal_of Memory = refusal.Memory
+
+-- how a desk answers: the desk before, the request, the reply, the desk after
+abbrev pub Asking : Type 0 → Type 1
+Asking D = D → Request → Reply → D → Type 0
+
+-- A request is answered by the desk. What is none is refused, and the desk stays as it is.
+abbrev pub AnswersRead : {D : Type 0} → Asking D → D → Result Request Bad → Reply → D → Type 0
+AnswersRead asks old (Ok request) reply new = asks old request reply new
+AnswersRead asks old (Err bad) reply new = (reply ≡ No (refusal_of bad)) × (new ≡ old)
+
+-- a line is answered by what it is read as
+pub record Answers {D : Type 0} (asks : Asking D) (old : D) (line : List ℕ) (reply : Reply) (new : D) : Type 0 where
+  pub read : Result Request Bad
+  pub reading : IsReading line read
+  pub answered : AnswersRead asks old read reply new
+
+-- the lines are given these replies, one after another
+abbrev pub Run : {D : Type 0} → Asking D → D → List (List ℕ) → List Reply → D → Type 0
+Run asks old [] [] new = new ≡ old
+Run {D} asks old (line ∷ lines) (reply ∷ replies) new = (mid : D) × Answers asks old line reply mid × Run asks mid lines replies new
+Run asks old [] (reply ∷ replies) new = ⊥
+Run asks old (line ∷ lines) [] new = ⊥
+
+-- The lines were answered, and the texts of the replies were written, in order. held and holds are what the writer held before and after.
+pub record Served {D : Type 0} (asks : Asking D) (old : D) (lines : List (List ℕ)) (held holds : Option (List ℕ)) (new : D) : Type 0 where
+  pub replies : List Reply
+  pub run : Run asks old lines replies new
+  pub written : Appends held holds (flat_map text_of replies)
+
+-- a front of the bytes was written, and not all of them
+pub record AppendsPart (held holds : Option (List ℕ)) (bytes : List ℕ) : Type 0 where
+  pub count : ℕ
+  pub part : count < length bytes
+  pub written : Appends held holds (take count bytes)
+
+-- Some of the lines were served, and the one after them was answered, but its reply wasn't written whole.
+pub record BreaksOff {D : Type 0} (asks : Asking D) (old : D) (lines : List (List ℕ)) (held holds : Option (List ℕ)) (new : D) : Type 0 where
+  pub front : List (List ℕ)
+  pub line : List ℕ
+  pub after : List (List ℕ)
+  pub among : lines ≡ front ++ line ∷ after
+  pub mid : D
+  pub between : Option (List ℕ)
+  pub served : Served asks old front held between mid
+  pub reply : Reply
+  pub answered : Answers asks mid line reply new
+  pub written : AppendsPart between holds (text_of reply)
+
+-- the lines that are due after input was read: the complete ones, and with them the last piece only where nothing is left
+abbrev pub AreDue : List ℕ → (has : Option (List ℕ)) → List (List ℕ) → Type 0
+AreDue input has lines = (lines ≡ complete_of input) ⊎ (IsAtEnd has × (lines ≡ lines_of input))
+
+-- A session that ended with its input: each of its n lines was answered, and what was written are the replies' texts, in order.
+-- had and has are what the reader had left before and has left after.
+pub record Finished {D : Type 0} (asks : Asking D) (ends : D → D → Type 0) (old new : D) (held holds had has : Option (List ℕ)) (n : ℕ) : Type 0 where
+  pub input : List ℕ
+  pub consumed : Consumes had has input
+  pub whole : IsAtEnd has
+  pub counted : n ≡ length (lines_of input)
+  pub mid : D
+  pub served : Served asks old (lines_of input) held holds mid
+  pub ended : ends mid new
+
+-- What a session did before it stopped, where input is what was read. After a fault of the reader, and after the last
+-- read that it may make, each complete line was served. Each read gave a byte at least.
+abbrev pub StopsAt : {D : Type 0} → Asking D → D → List ℕ → (held holds has : Option (List ℕ)) → D → FrontError → Type 0
+StopsAt asks old input held holds has mid Read = Served asks old (complete_of input) held holds mid
+StopsAt asks old input held holds has mid Turns = Served asks old (complete_of input) held holds mid × (10000000 ≤ length input)
+StopsAt asks old input held holds has mid Write = (lines : List (List ℕ)) × AreDue input has lines × BreaksOff asks old lines held holds mid
+StopsAt asks old input held holds has mid fault.Memory = (input ≡ []) × Served asks old [] held holds mid
+
+-- A session that stopped, and then ended its desk.
+pub record Stopped {D : Type 0} (asks : Asking D) (ends : D → D → Type 0) (old new : D) (held holds had has : Option (List ℕ)) (e : FrontError) : Type 0 where
+  pub input : List ℕ
+  pub consumed : Consumes had has input
+  pub mid : D
+  pub stopped : StopsAt asks old input held holds has mid e
+  pub ended : ends mid new
+
+-- the faults of the reader that a session met: it stops at the first
+abbrev pub read_faults : {T : Type 0} → Result T FrontError → ℕ
+read_faults (Ok x) = 0
+read_faults (Err Read) = 1
+read_faults (Err Write) = 0
+read_faults (Err Turns) = 0
+read_faults (Err fault.Memory) = 0
+
+-- the faults of the writer that a session met
+abbrev pub write_faults : {T : Type 0} → Result T FrontError → ℕ
+write_faults (Ok x) = 0
+write_faults (Err Read) = 0
+write_faults (Err Write) = 1
+write_faults (Err Turns) = 0
+write_faults (Err fault.Memory) = 0

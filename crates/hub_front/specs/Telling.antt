@@ -1,0 +1,18 @@
+-- Faults that readers and writers tell.
+use Rattle.std.specs.Prelude.{◌≡◌, ℕ, zero, suc, ◌+◌, ⊤, Option, None, Some, Result, Ok, Err}
+
+-- a count of faults, where it is known, grew by n
+abbrev pub Grows : Option ℕ → Option ℕ → ℕ → Type 0
+Grows None new n = ⊤
+Grows (Some k) new n = new ≡ Some (k + n)
+
+-- a read that fails is a fault
+abbrev pub faults_of_read : {E : Type 0} → Result ℕ E → ℕ
+faults_of_read (Ok n) = 0
+faults_of_read (Err e) = 1
+
+-- a write that fails is a fault, and so is one that takes no byte
+abbrev pub faults_of_write : {E : Type 0} → Result ℕ E → ℕ
+faults_of_write (Ok zero) = 1
+faults_of_write (Ok (suc n)) = 0
+faults_of_write (Err e) = 1

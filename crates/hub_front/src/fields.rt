@@ -1,0 +1,69 @@
+//! The fields of a line.
+ghost use Rattle.std.specs.Prelude.{◌≡◌, ◌≤◌, ◌∷◌, [], length, All, Any, MatchBool, MatchOption};
+ghost use Rattle.hub_front.specs.Spelling.{AreLetters};
+ghost use Rattle.hub_front.specs.Reading.{IsTextByte};
+ghost use Rattle.hub_front.specs.Fields.{fields_of, digits_from, IsNumeralOf};
+
+/// A numeral has at most so many digits.
+const MOST_DIGITS: usize = 13;
+
+/// Whether each byte may stand in a line.
+pub fn is_text(line: &[u8]) -> bool
+    ensures { MatchBool result (All IsTextByte line.now) (Any (λ b. IsTextByte b → ⊥) line.now) }
+{
+    for b in line {
+        if *b < b' ' || *b > b'~' {
+            return false;
+        }
+    }
+    true
+}
+
+/// What stands before the first space and what after it; none where there is no space.
+pub fn split_at_space(text: &[u8]) -> Option<(&[u8], &[u8])>
+    ensures { MatchOption result (fields_of text.now ≡ text.now ∷ []) (λ p. fields_of text.now ≡ p.0.now ∷ fields_of p.1.now) }
+{
+    for i in 0..text.len() {
+        if text[i] == b' ' {
+            return Some((&text[..i], &text[i + 1..]));
+        }
+    }
+    None
+}
+
+fn digits_value(text: &[u8]) -> Option<u64>
+    requires { length text.now ≤ 13 }
+    ensures { result ≡ digits_from 0 text.now }
+{
+    let mut value = 0u64;
+    for b in text {
+        if !b.is_ascii_digit() {
+            return None;
+        }
+        value = 10 * value + u64::from(*b - b'0');
+    }
+    Some(value)
+}
+
+/// The number whose numeral the text is: its digits, without leading zeros.
+pub fn numeral(text: &[u8]) -> Option<u64>
+    ensures { IsNumeralOf text.now result }
+{
+    if text.is_empty() || text.len() > MOST_DIGITS {
+        return None;
+    }
+    if text[0] == b'0' && text.len() > 1 {
+        return None;
+    }
+    digits_value(text)
+}
+
+/// Whether the text is letters, one or more.
+pub fn are_letters(text: &[u8]) -> bool
+    ensures { MatchBool result (AreLetters text.now) (AreLetters text.now → ⊥) }
+{
+    if text.is_empty() {
+        return false;
+    }
+    text.iter().all(|b| *b >= b'!' && *b <= b'~')
+}

@@ -1,0 +1,118 @@
+//! A session from its first read to its end.
+ghost use Rattle.std.specs.Prelude.{◌≡◌, ◌≢◌, ◌+◌, ◌*◌, ◌≤◌, List, ℕ, [], length, Err, OnOk, IfOk, IfErr, vec_len};
+ghost use Rattle.std.specs.Io.KnownBytes.{Consumes, IsAtEnd};
+ghost use Rattle.hub_front.specs.Lines.{lines_of};
+ghost use Rattle.hub_front.specs.Telling.{Grows};
+ghost use Rattle.hub_front.specs.Serving.{Finished, Stopped, StopsAt, Served, read_faults, write_faults};
+ghost use Rattle.hub_front.specs.Pieces.{IsUnderWay};
+
+#[cfg(test)]
+mod fakes;
+#[cfg(test)]
+mod tests;
+
+use crate::fault::FrontError;
+use crate::session::Session;
+use crate::sink::Sink;
+use crate::source::Source;
+use hub_desk::Desk;
+use std::alloc::{AllocError, Global};
+use std::sync::Wait;
+
+const MAX_READS: u64 = 10_000_000;
+
+const CHUNK: usize = 65_536;
+
+// Room for one read. (A size that is a parameter keeps the proof from writing the zeros out.)
+fn new_chunk(alloc: Global, size: usize) -> Result<Vec<u8>, AllocError>
+    ensures { IfOk result (λ chunk. vec_len chunk ≡ size) }
+{
+    vec![in alloc; 0u8; size]
+}
+
+// Serves the lines that end in an LF, until the input ends.
+fn serve_reads<H: Wait, D: Desk, R: Source, W: Sink>(
+    rt: &H,
+    desk: &mut D,
+    reader: &mut R,
+    writer: &mut W,
+    session: &mut Session,
+    chunk: &mut [u8],
+) -> Result<(), FrontError>
+    requires line { session.old.line.items ≡ [] }
+    requires count { session.old.count ≡ 0 }
+    requires chunk { length chunk.old ≡ 65536 }
+    ensures under_way { OnOk result (IsUnderWay D.asks desk.old desk.new (W.contents writer.old) (W.contents writer.new)
+        (R.remaining reader.old) (R.remaining reader.new) session.new.line.items session.new.count 0) }
+    ensures few { OnOk result (session.new.count ≤ 10000000 * 65536) }
+    ensures end { OnOk result (IsAtEnd (R.remaining reader.new)) }
+    ensures err { IfErr result (λ e. (input : List ℕ) × Consumes (R.remaining reader.old) (R.remaining reader.new) input
+        × StopsAt D.asks desk.old input (W.contents writer.old) (W.contents writer.new) (R.remaining reader.new) desk.new e) }
+    ensures memory { result ≢ Err FrontError.Memory }
+    ensures read_faults { Grows (R.faults reader.old) (R.faults reader.new) (read_faults result) }
+    ensures write_faults { Grows (W.faults writer.old) (W.faults writer.new) (write_faults result) }
+{
+    'reads: for _read in 0..MAX_READS {
+        let n = match reader.pull(chunk) {
+            Err(_) => return Err(FrontError::Read),
+            Ok(0) => return Ok(()),
+            Ok(n) => n,
+        };
+        session.take_bytes(rt, desk, writer, &chunk[..n])?;
+    }
+    Err(FrontError::Turns)
+}
+
+// Serves the lines of the input.
+fn serve_lines<H: Wait, D: Desk, R: Source, W: Sink>(
+    rt: &H,
+    alloc: Global,
+    desk: &mut D,
+    reader: &mut R,
+    writer: &mut W,
+) -> Result<u64, FrontError>
+    ensures ok { IfOk result (λ n. (input : List ℕ) × Consumes (R.remaining reader.old) (R.remaining reader.new) input
+        × IsAtEnd (R.remaining reader.new) × (n ≡ length (lines_of input))
+        × Served D.asks desk.old (lines_of input) (W.contents writer.old) (W.contents writer.new) desk.new) }
+    ensures err { IfErr result (λ e. (input : List ℕ) × Consumes (R.remaining reader.old) (R.remaining reader.new) input
+        × StopsAt D.asks desk.old input (W.contents writer.old) (W.contents writer.new) (R.remaining reader.new) desk.new e) }
+    ensures memory { result ≡ Err FrontError.Memory → (reader.new ≡ reader.old) × (writer.new ≡ writer.old) }
+    ensures read_faults { Grows (R.faults reader.old) (R.faults reader.new) (read_faults result) }
+    ensures write_faults { Grows (W.faults writer.old) (W.faults writer.new) (write_faults result) }
+{
+    let Ok(mut session) = Session::new(alloc) else {
+        return Err(FrontError::Memory);
+    };
+    let Ok(mut chunk) = new_chunk(alloc, CHUNK) else {
+        return Err(FrontError::Memory);
+    };
+    serve_reads(rt, desk, reader, writer, &mut session, &mut chunk)?;
+    session.finish(rt, desk, writer)
+}
+
+/// Serves lines until the end of the input, and answers how many they were. Each reply is written whole, by itself,
+/// before the next line is looked at. The desk is ended in each case.
+pub fn serve<H: Wait, D: Desk, R: Source, W: Sink>(
+    rt: &H,
+    alloc: Global,
+    desk: &mut D,
+    reader: &mut R,
+    writer: &mut W,
+) -> Result<u64, FrontError>
+    // What is written are the texts of one reply for each line, however the reader cut its bytes.
+    ensures finished { IfOk result (Finished D.asks D.ends desk.old desk.new (W.contents writer.old) (W.contents writer.new)
+        (R.remaining reader.old) (R.remaining reader.new)) }
+    ensures stopped { IfErr result (Stopped D.asks D.ends desk.old desk.new (W.contents writer.old) (W.contents writer.new)
+        (R.remaining reader.old) (R.remaining reader.new)) }
+
+    // Memory comes before the first read.
+    ensures memory { result ≡ Err FrontError.Memory → (reader.new ≡ reader.old) × (writer.new ≡ writer.old) }
+
+    // A fault is answered where it was told, and nowhere else.
+    ensures read_faults { Grows (R.faults reader.old) (R.faults reader.new) (read_faults result) }
+    ensures write_faults { Grows (W.faults writer.old) (W.faults writer.new) (write_faults result) }
+{
+    let served = serve_lines(rt, alloc, desk, reader, writer);
+    desk.end(rt);
+    served
+}

@@ -1,0 +1,194 @@
+//! What a session keeps between two reads, and how it answers the bytes of one.
+ghost use Rattle.std.specs.Prelude.{◌≡◌, ◌+◌, ◌<◌, ◌≤◌, ◌^◌, List, [], ◌∷◌, length, OnOk, OnErr, IfOk, IfErr, vec_len, vec_capacity};
+ghost use Rattle.std.specs.Io.KnownBytes.{Appends};
+ghost use Rattle.hub_desk.specs.Texts.{text_of};
+ghost use Rattle.hub_front.specs.Lines.{last_line};
+ghost use Rattle.hub_front.specs.Telling.{Grows};
+ghost use Rattle.hub_front.specs.Serving.{refusal_of, Answers, Served, AppendsPart, BreaksOff, write_faults};
+ghost use Rattle.hub_front.specs.Pieces.{done, left};
+
+use crate::fault::FrontError;
+use crate::parsing::{Bad, parse};
+use crate::sink::Sink;
+use crate::writing::write_reply;
+use hub_desk::{Desk, Refusal, Reply};
+use std::alloc::{AllocError, Global};
+use std::sync::Wait;
+
+// One byte more than a line may have, which is enough to tell that a line is too long.
+const KEPT: usize = 513;
+
+const LONGEST_REPLY: usize = 4_101;
+
+const LF: u8 = b'\n';
+
+/// What a session keeps between two reads: the first 513 bytes of the line that goes on, room for a reply's text, and
+/// how many lines were answered.
+#[derive(Drop)]
+pub(crate) struct Session {
+    alloc: Global,
+    line: Vec<u8>,
+    text: Vec<u8>,
+    count: u64,
+    ghost line_room: { 513 ≤ vec_capacity line },
+    ghost text_room: { 4101 ≤ vec_capacity text },
+    ghost short: { vec_len line ≤ 513 },
+}
+
+impl Session {
+    pub(crate) fn new(alloc: Global) -> Result<Session, AllocError>
+        ensures line { IfOk result (λ session. session.line.items ≡ []) }
+        ensures count { IfOk result (λ session. session.count ≡ 0) }
+    {
+        let line = Vec::with_capacity(alloc, KEPT)?;
+        let text = Vec::with_capacity(alloc, LONGEST_REPLY)?;
+        Ok(Session {
+            alloc,
+            line,
+            text,
+            count: 0,
+        })
+    }
+
+    /// Answers the lines that end in the bytes, and keeps the front of the line that goes on.
+    pub(crate) fn take_bytes<H: Wait, D: Desk, W: Sink>(
+        &mut self,
+        rt: &H,
+        desk: &mut D,
+        writer: &mut W,
+        bytes: &[u8],
+    ) -> Result<(), FrontError>
+        requires { self.old.count + length bytes.now < 2 ^ 64 }
+        ensures ok { OnOk result (Served D.asks desk.old (done bytes.now self.old.line.items)
+            (W.contents writer.old) (W.contents writer.new) desk.new) }
+        ensures line { OnOk result (self.new.line.items ≡ left bytes.now self.old.line.items) }
+        ensures count { OnOk result (self.new.count ≡ self.old.count + length (done bytes.now self.old.line.items)) }
+        ensures err { OnErr result (BreaksOff D.asks desk.old (done bytes.now self.old.line.items)
+            (W.contents writer.old) (W.contents writer.new) desk.new) }
+        ensures fault { IfErr result (λ e. e ≡ FrontError.Write) }
+        ensures told { Grows (W.faults writer.old) (W.faults writer.new) (write_faults result) }
+    {
+        for byte in bytes {
+            self.take_byte(rt, desk, writer, *byte)?;
+        }
+        Ok(())
+    }
+
+    // Takes one more byte of the input, which may end a line.
+    fn take_byte<H: Wait, D: Desk, W: Sink>(
+        &mut self,
+        rt: &H,
+        desk: &mut D,
+        writer: &mut W,
+        byte: u8,
+    ) -> Result<(), FrontError>
+        requires { self.old.count + 1 < 2 ^ 64 }
+        ensures ok { OnOk result (Served D.asks desk.old (done (byte ∷ []) self.old.line.items)
+            (W.contents writer.old) (W.contents writer.new) desk.new) }
+        ensures line { OnOk result (self.new.line.items ≡ left (byte ∷ []) self.old.line.items) }
+        ensures count { OnOk result (self.new.count ≡ self.old.count + length (done (byte ∷ []) self.old.line.items)) }
+        ensures err { OnErr result (BreaksOff D.asks desk.old (done (byte ∷ []) self.old.line.items)
+            (W.contents writer.old) (W.contents writer.new) desk.new) }
+        ensures fault { IfErr result (λ e. e ≡ FrontError.Write) }
+        ensures told { Grows (W.faults writer.old) (W.faults writer.new) (write_faults result) }
+    {
+        if byte == LF {
+            return self.answer_line(rt, desk, writer);
+        }
+        if self.line.len() < KEPT {
+            self.line.push(byte).unwrap();
+        }
+        Ok(())
+    }
+
+    /// Answers the line that the input ended in, where there is one, and says how many lines were answered in all.
+    pub(crate) fn finish<H: Wait, D: Desk, W: Sink>(
+        &mut self,
+        rt: &H,
+        desk: &mut D,
+        writer: &mut W,
+    ) -> Result<u64, FrontError>
+        requires { self.old.count + 1 < 2 ^ 64 }
+        ensures ok { OnOk result (Served D.asks desk.old (last_line self.old.line.items)
+            (W.contents writer.old) (W.contents writer.new) desk.new) }
+        ensures count { IfOk result (λ n. n ≡ self.old.count + length (last_line self.old.line.items)) }
+        ensures err { OnErr result (BreaksOff D.asks desk.old (last_line self.old.line.items)
+            (W.contents writer.old) (W.contents writer.new) desk.new) }
+        ensures fault { IfErr result (λ e. e ≡ FrontError.Write) }
+        ensures told { Grows (W.faults writer.old) (W.faults writer.new) (write_faults result) }
+    {
+        if !self.line.is_empty() {
+            self.answer_line(rt, desk, writer)?;
+        }
+        Ok(self.count)
+    }
+
+    // Answers the line that was kept, writes the reply whole, and begins the next line.
+    fn answer_line<H: Wait, D: Desk, W: Sink>(
+        &mut self,
+        rt: &H,
+        desk: &mut D,
+        writer: &mut W,
+    ) -> Result<(), FrontError>
+        requires { self.old.count + 1 < 2 ^ 64 }
+        ensures ok { OnOk result (Served D.asks desk.old (self.old.line.items ∷ [])
+            (W.contents writer.old) (W.contents writer.new) desk.new) }
+        ensures line { OnOk result (self.new.line.items ≡ []) }
+        ensures count { OnOk result (self.new.count ≡ self.old.count + 1) }
+        ensures err { OnErr result (BreaksOff D.asks desk.old (self.old.line.items ∷ [])
+            (W.contents writer.old) (W.contents writer.new) desk.new) }
+        ensures fault { IfErr result (λ e. e ≡ FrontError.Write) }
+        ensures told { Grows (W.faults writer.old) (W.faults writer.new) (write_faults result) }
+    {
+        let reply = reply_to(rt, self.alloc, desk, &self.line);
+        self.text.clear();
+        write_reply(&reply, &mut self.text).unwrap();
+        write_whole(writer, &self.text)?;
+        self.line.clear();
+        self.count += 1;
+        Ok(())
+    }
+}
+
+impl From<Bad> for Refusal {
+    ghost from_gives = { λ bad refusal. refusal ≡ refusal_of bad };
+
+    fn from(bad: Bad) -> Refusal {
+        match bad {
+            Bad::Long => Refusal::Long,
+            Bad::Text => Refusal::Text,
+            Bad::Word => Refusal::Word,
+            Bad::Form => Refusal::Form,
+            Bad::Range => Refusal::Range,
+            Bad::Memory => Refusal::Memory,
+        }
+    }
+}
+
+// What a line is answered.
+fn reply_to<H: Wait, D: Desk>(rt: &H, alloc: Global, desk: &mut D, line: &[u8]) -> Reply
+    ensures step { Answers D.asks desk.old line.now result desk.new }
+    ensures short { length (text_of result) ≤ 4101 }
+{
+    match parse(alloc, line) {
+        Ok(request) => desk.ask(rt, &request),
+        Err(bad) => Reply::No(Refusal::from(bad)),
+    }
+}
+
+// Writes all of the bytes, and stops where the writer fails or takes none.
+fn write_whole<W: Sink>(writer: &mut W, bytes: &[u8]) -> Result<(), FrontError>
+    ensures ok { OnOk result (Appends (W.contents writer.old) (W.contents writer.new) bytes.now) }
+    ensures err { OnErr result (AppendsPart (W.contents writer.old) (W.contents writer.new) bytes.now) }
+    ensures fault { IfErr result (λ e. e ≡ FrontError.Write) }
+    ensures told { Grows (W.faults writer.old) (W.faults writer.new) (write_faults result) }
+{
+    let mut written = 0;
+    'parts: while written < bytes.len() {
+        match writer.push(&bytes[written..]) {
+            Ok(0) | Err(_) => return Err(FrontError::Write),
+            Ok(n) => written += n,
+        }
+    }
+    Ok(())
+}

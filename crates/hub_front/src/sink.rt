@@ -1,0 +1,47 @@
+//! Writers that tell their faults.
+ghost use Rattle.std.specs.Prelude.{ℕ, ◌<◌, length, Option, None};
+ghost use Rattle.std.specs.Io.{WritesAtMost};
+ghost use Rattle.std.specs.Io.KnownBytes.{WriteAppends};
+ghost use Rattle.hub_front.specs.Telling.{Grows, faults_of_write};
+
+use std::io;
+use std::io::{Stdout, Write};
+use std::os::unix::net::UnixStream;
+
+/// What a session writes to: a writer whose faults a contract can count. A write that fails is a fault, and so is one
+/// that takes no byte.
+pub trait Sink: Write {
+    /// How many writes have failed or taken no byte, where that is known.
+    ghost faults: { Self → Option ℕ };
+
+    /// Writes once, as `write` does.
+    fn push(&mut self, bytes: &[u8]) -> io::Result<usize>
+        requires { 0 < length bytes.now }
+        ensures bound { WritesAtMost result bytes.now }
+        ensures bytes { WriteAppends (Self.contents self.old) (Self.contents self.new) result bytes.now }
+        ensures told { Grows (faults self.old) (faults self.new) (faults_of_write result) };
+}
+
+impl Sink for Vec<u8> {
+    ghost faults = { λ _. None };
+
+    fn push(&mut self, bytes: &[u8]) -> io::Result<usize> {
+        self.write(bytes)
+    }
+}
+
+impl Sink for Stdout {
+    ghost faults = { λ _. None };
+
+    fn push(&mut self, bytes: &[u8]) -> io::Result<usize> {
+        self.write(bytes)
+    }
+}
+
+impl Sink for UnixStream {
+    ghost faults = { λ _. None };
+
+    fn push(&mut self, bytes: &[u8]) -> io::Result<usize> {
+        self.write(bytes)
+    }
+}

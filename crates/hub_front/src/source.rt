@@ -1,0 +1,45 @@
+//! Readers that tell their faults.
+ghost use Rattle.std.specs.Prelude.{ℕ, Option, Some, None};
+ghost use Rattle.std.specs.Io.{ReadsAtMost};
+ghost use Rattle.std.specs.Io.KnownBytes.{ReadConsumes};
+ghost use Rattle.hub_front.specs.Telling.{Grows, faults_of_read};
+
+use std::io;
+use std::io::{Read, Stdin};
+use std::os::unix::net::UnixStream;
+
+/// What a session reads: a reader whose failed reads a contract can count.
+pub trait Source: Read {
+    /// How many reads have failed, where that is known.
+    ghost faults: { Self → Option ℕ };
+
+    /// Reads once, as `read` does.
+    fn pull(&mut self, buf: &mut [u8]) -> io::Result<usize>
+        ensures bound { ReadsAtMost result buf.new }
+        ensures bytes { ReadConsumes (Self.remaining self.old) (Self.remaining self.new) result buf.new }
+        ensures told { Grows (faults self.old) (faults self.new) (faults_of_read result) };
+}
+
+impl Source for &[u8] {
+    ghost faults = { λ _. Some 0 };
+
+    fn pull(&mut self, buf: &mut [u8]) -> io::Result<usize> {
+        self.read(buf)
+    }
+}
+
+impl Source for Stdin {
+    ghost faults = { λ _. None };
+
+    fn pull(&mut self, buf: &mut [u8]) -> io::Result<usize> {
+        self.read(buf)
+    }
+}
+
+impl Source for UnixStream {
+    ghost faults = { λ _. None };
+
+    fn pull(&mut self, buf: &mut [u8]) -> io::Result<usize> {
+        self.read(buf)
+    }
+}

@@ -1,0 +1,150 @@
+-- What every run of the model keeps: each event since a mark once and in order, and each publisher's letters.
+use Rattle.std.proofs.Common.{ℕ, suc, ◌≡◌, ◌==◌, ◌+◌, ◌-◌, ◌<◌, ◌≤◌, min, Bool, true, false, cond, if◌then◌else◌, List, [], ◌∷◌, ◌++◌, length, get_or, map, filter, take, drop, Vec, Option, Some, None, Result, Ok, Err, nat_eq, refl, sym, ap, subst, ◌∙◌, inl, inr, append_assoc, append-nil, arith}
+use Rattle.std.proofs.lemmas.Bool.{cases_Bool, ne_eqb}
+use Rattle.std.specs.Map.{lookup, set_value}
+use Rattle.std.specs.Option.{option_map, unwrap_or}
+use Rattle.std.specs.Global.{Global}
+use Rattle.std.proofs.lemmas.List.{map-append, length-append, take-append-drop, drop-drop, drop-append-le, take_at, take_more, drop_all, take_all, take-append-le, length-drop, length-take-le}
+use Rattle.std.proofs.lemmas.List.Elements.{filter-append}
+use Rattle.hub_record.specs.declared.Event.{Event}
+use Rattle.hub_record.specs.declared.SubError.{SubError}
+use Rattle.hub_record.specs.declared.PubError.{PubError}
+use Rattle.hub_record.specs.declared.runs.Call.{Call}
+use Rattle.hub_record.specs.declared.runs.Call.TheVariants.{Subscribe, Publish, Take, Cancel, Close}
+use Rattle.hub_record.specs.declared.runs.Said.{Said}
+use Rattle.hub_record.specs.declared.runs.Said.TheVariants.{Subscribed, Published, Took, Cancelled, Shut}
+use Rattle.hub_record.specs.World.{World, Subscription, found, found_from, changed_from, with_changed, new_subscription, stamped, moved, moved_on, moved_for, take_events, SubscribeReply, taken, stopped, after_subscribe, after_publish, after_take, after_take_for, after_cancel, after_cancel_for, after_close}
+use Rattle.hub_record.specs.Runs.{SaidTo, IsRun, gathered_from, lists_of, appended, after_call, world_after, Follows, EachFollows, AllFollow, by, accepted, published}
+
+-- ---- since
+
+-- what comes first of the events since the mark, up to the cursor
+between : (events : List Event) (s : Subscription) → s.mark ≤ s.next → s.next ≤ length events → drop s.mark events ≡ s.gathered ++ drop s.next events → s.gathered ≡ take (s.next - s.mark) (drop s.mark events)
+between events s b e since =
+    let a = ap length since in
+    let m = length-drop s.mark events in
+    let n = length-drop s.next events in
+    let l = length-append s.gathered (drop s.next events) in
+    sym (ap (take (s.next - s.mark)) since ∙ take_at s.gathered (drop s.next events) (s.next - s.mark) (omega arith))
+
+follows : (events : List Event) (s : Subscription) → s.mark ≤ s.next → s.next ≤ length events → drop s.mark events ≡ s.gathered ++ drop s.next events → Follows events s
+follows events s b e since = record { began = b; ended = e; gathered = between events s b e since; since = since }
+
+more_events : (events more : List Event) (subs : List Subscription) → EachFollows events subs → EachFollows (events ++ more) subs
+more_events events more [] h = tt
+more_events events more (s ∷ rest) h =
+    let b = h.0.began in
+    let e = h.0.ended in
+    let l = length-append events more in
+    (follows (events ++ more) s h.0.began (omega arith)
+       (drop-append-le s.mark events more (omega arith) ∙ ap (λ z. z ++ more) h.0.since ∙ append_assoc s.gathered (drop s.next events) more
+        ∙ ap (λ z. s.gathered ++ z) (sym (drop-append-le s.next events more e))),
+     more_events events more rest h.1)
+
+follows-push : (events : List Event) (subs : List Subscription) (s : Subscription) → Follows events s → EachFollows events subs → EachFollows events (subs ++ s ∷ [])
+follows-push events [] s f h = (f, tt)
+follows-push events (x ∷ rest) s f h = (h.0, follows-push events rest s f h.1)
+
+follows-changed : (events : List Event) (f : Subscription → Subscription) → ((s : Subscription) → Follows events s → Follows events (f s)) → (from : ℕ) (subs : List Subscription) (id : ℕ) → EachFollows events subs → EachFollows events (changed_from f from subs id)
+follows-changed events f keep from [] id h = tt
+follows-changed events f keep from (s ∷ rest) id h =
+    elim (cases_Bool (nat_eq id from)) [ inl e ↦ simp e (keep s h.0, h.1) | inr e ↦ simp e (h.0, follows-changed events f keep (from + 1) rest id h.1) ]
+
+follows-moved : (w : World) (most : ℕ) (s : Subscription) → Follows w.events s → Follows w.events (moved_on w most s)
+follows-moved w most s h =
+    let b = h.began in
+    let e = h.ended in
+    let k = taken w s most in
+    follows w.events (moved_on w most s) (omega arith) (omega arith)
+      (h.since ∙ ap (λ z. s.gathered ++ z) (sym (take-append-drop k (drop s.next w.events)) ∙ ap (λ z. take k (drop s.next w.events) ++ z) (drop-drop k s.next w.events))
+        ∙ sym (append_assoc s.gathered (take k (drop s.next w.events)) (drop (s.next + k) w.events)))
+
+follows_take : (w : World) (id most : ℕ) (o : Option Subscription) → AllFollow w → AllFollow (after_take_for w id most o)
+follows_take w id most None h = h
+follows_take w id most (Some s) h = follows-changed w.events (moved_on w most) (follows-moved w most) 1 w.subscriptions id h
+
+follows_cancel : (w : World) (id : ℕ) (o : Option Subscription) → AllFollow w → AllFollow (after_cancel_for w id o)
+follows_cancel w id None h = h
+follows_cancel w id (Some s) h = follows-changed w.events stopped (λ s f. record { began = f.began; ended = f.ended; gathered = f.gathered; since = f.since }) 1 w.subscriptions id h
+
+follows_subscribe : (w : World) (r : Result (ℕ × ℕ) SubError) → AllFollow w → AllFollow (after_subscribe w r)
+follows_subscribe w (Ok g) h = follows-push w.events w.subscriptions (new_subscription w) (follows w.events (new_subscription w) (omega arith) (omega arith) refl) h
+follows_subscribe w (Err e) h = h
+
+follows_publish : (w : World) (who : ℕ) (message : List ℕ) (r : Result ℕ PubError) → AllFollow w → AllFollow (after_publish w who message r)
+follows_publish w who message (Ok g) h = more_events w.events (stamped who message) w.subscriptions h
+follows_publish w who message (Err e) h = h
+
+follows_call : (w : World) (call : Call) (said : Said) → AllFollow w → AllFollow (after_call w call said)
+follows_call w Subscribe (Subscribed r) h = follows_subscribe w r h
+follows_call w Subscribe (Published r) h = h
+follows_call w Subscribe (Took r) h = h
+follows_call w Subscribe (Cancelled r) h = h
+follows_call w Subscribe (Shut r) h = h
+follows_call w (Publish who message) (Published r) h = follows_publish w who message r h
+follows_call w (Publish who message) (Subscribed r) h = h
+follows_call w (Publish who message) (Took r) h = h
+follows_call w (Publish who message) (Cancelled r) h = h
+follows_call w (Publish who message) (Shut r) h = h
+follows_call w (Take id max) said h = follows_take w id max (found w id) h
+follows_call w (Cancel id) said h = follows_cancel w id (found w id) h
+follows_call w Close said h = h
+
+pub run_follows : (w : World) (calls : List Call) (replies : List Said) → AllFollow w → AllFollow (world_after w calls replies)
+run_follows w [] replies h = h
+run_follows w (call ∷ calls) [] h = h
+run_follows w (call ∷ calls) (said ∷ rest) h = run_follows (after_call w call said) calls rest (follows_call w call said h)
+
+-- ---- each publisher's letters
+
+by-append : (p : ℕ) (a b : List Event) → by p (a ++ b) ≡ by p a ++ by p b
+by-append p a b = ap (map (λ (e : Event). e.letter)) (filter-append (λ (e : Event). e.who == p) a b) ∙ map-append (λ (e : Event). e.letter) (filter (λ (e : Event). e.who == p) a) (filter (λ (e : Event). e.who == p) b)
+
+by-stamped : (p who : ℕ) (message : List ℕ) → by p (stamped who message) ≡ (if who == p then message else [])
+by-stamped p who [] = elim (cases_Bool (who == p)) [ inl e ↦ simp e | inr e ↦ simp e ]
+by-stamped p who (l ∷ ls) =
+    let ih = by-stamped p who ls in
+    elim (cases_Bool (who == p)) [
+      inl e ↦ (let k : by p (stamped who ls) ≡ ls = ih ∙ ap (λ (b : Bool). if b then ls else []) e in simp e (ap (λ z. l ∷ z) k))
+    | inr e ↦ (let k : by p (stamped who ls) ≡ [] = ih ∙ ap (λ (b : Bool). if b then ls else []) e in simp e k) ]
+
+own_take : (p : ℕ) (w : World) (id most : ℕ) (o : Option Subscription) → by p (after_take_for w id most o).events ≡ by p w.events ++ []
+own_take p w id most None = sym (append-nil (by p w.events))
+own_take p w id most (Some s) = sym (append-nil (by p w.events))
+
+own_cancel : (p : ℕ) (w : World) (id : ℕ) (o : Option Subscription) → by p (after_cancel_for w id o).events ≡ by p w.events ++ []
+own_cancel p w id None = sym (append-nil (by p w.events))
+own_cancel p w id (Some s) = sym (append-nil (by p w.events))
+
+own_subscribe : (p : ℕ) (w : World) (r : Result (ℕ × ℕ) SubError) → by p (after_subscribe w r).events ≡ by p w.events ++ []
+own_subscribe p w (Ok g) = sym (append-nil (by p w.events))
+own_subscribe p w (Err e) = sym (append-nil (by p w.events))
+
+own_publish : (p : ℕ) (w : World) (who : ℕ) (message : List ℕ) (r : Result ℕ PubError) → by p (after_publish w who message r).events ≡ by p w.events ++ accepted p (Publish who message) (Published r)
+own_publish p w who message (Ok g) = by-append p w.events (stamped who message) ∙ ap (λ z. by p w.events ++ z) (by-stamped p who message)
+own_publish p w who message (Err e) = sym (append-nil (by p w.events))
+
+own_call : (p : ℕ) (w : World) (call : Call) (said : Said) → by p (after_call w call said).events ≡ by p w.events ++ accepted p call said
+own_call p w Subscribe (Subscribed r) = own_subscribe p w r
+own_call p w Subscribe (Published r) = sym (append-nil (by p w.events))
+own_call p w Subscribe (Took r) = sym (append-nil (by p w.events))
+own_call p w Subscribe (Cancelled r) = sym (append-nil (by p w.events))
+own_call p w Subscribe (Shut r) = sym (append-nil (by p w.events))
+own_call p w (Publish who message) (Published r) = own_publish p w who message r
+own_call p w (Publish who message) (Subscribed r) = sym (append-nil (by p w.events))
+own_call p w (Publish who message) (Took r) = sym (append-nil (by p w.events))
+own_call p w (Publish who message) (Cancelled r) = sym (append-nil (by p w.events))
+own_call p w (Publish who message) (Shut r) = sym (append-nil (by p w.events))
+own_call p w (Take id max) said = own_take p w id max (found w id)
+own_call p w (Cancel id) said = own_cancel p w id (found w id)
+own_call p w Close said = sym (append-nil (by p w.events))
+
+run_own : (p : ℕ) (w : World) (calls : List Call) (replies : List Said) → by p (world_after w calls replies).events ≡ by p w.events ++ published p calls replies
+run_own p w [] replies = sym (append-nil (by p w.events))
+run_own p w (call ∷ calls) [] = sym (append-nil (by p w.events))
+run_own p w (call ∷ calls) (said ∷ rest) =
+    run_own p (after_call w call said) calls rest ∙ ap (λ z. z ++ published p calls rest) (own_call p w call said)
+    ∙ append_assoc (by p w.events) (accepted p call said) (published p calls rest)
+
+pub run_published : (p : ℕ) (w : World) (calls : List Call) (replies : List Said) → by p (world_after w calls replies).events ≡ by p w.events ++ published p calls replies
+run_published = run_own

@@ -1,0 +1,81 @@
+-- What a contract sees of the events that are kept, and of the cursors into them.
+use Rattle.std.specs.Prelude.{ℕ, ◌≡◌, ◌⊎◌, ◌==◌, ◌+◌, ◌-◌, ◌<◌, ◌≤◌, List, [], ◌∷◌, ◌++◌, Option, Some, None, Result, Ok, Err, take, drop, length, min, nat_eq, count_by, All, IsSome}
+use Rattle.std.specs.Map.{lookup, set_value, remove_entry, keys_of, values_of}
+use Rattle.hub_record.specs.declared.Event.{Event}
+use Rattle.hub_record.specs.declared.NoId.{NoId}
+use Rattle.hub_record.specs.World.{least}
+
+-- the events from the least cursor on, and the cursors of the standing ids in the order of the ids
+pub record Held : Type 0 where
+  pub room : ℕ
+  pub end : ℕ
+  pub events : List Event
+  pub given : ℕ
+  pub cursors : List (ℕ × ℕ)
+
+abbrev pub nothing_held : ℕ → Held
+nothing_held room = record { room = room; end = 0; events = []; given = 0; cursors = [] }
+
+-- the number of the first event that is kept
+abbrev pub lowest : Held → ℕ
+lowest h = least h.end h.cursors
+
+-- the number of the event that an id takes next
+abbrev pub next_of : Held → ℕ → Option ℕ
+next_of h id = lookup (nat_eq id) h.cursors
+
+-- with a cursor of a new id at the end
+abbrev pub with_new_id : Held → Held
+with_new_id h = record h { given = h.given + 1; cursors = h.cursors ++ (h.given + 1, h.end) ∷ [] }
+
+-- more events are kept only where a cursor waits for them
+abbrev pub kept_with : List (ℕ × ℕ) → List Event → List Event → List Event
+kept_with [] events more = []
+kept_with (c ∷ cs) events more = events ++ more
+
+abbrev pub with_events : Held → List Event → Held
+with_events h more = record h { end = h.end + length more; events = kept_with h.cursors h.events more }
+
+-- with these cursors, cut at the least of them
+abbrev pub with_cursors : Held → List (ℕ × ℕ) → Held
+with_cursors h cursors = record h { cursors = cursors; events = drop (least h.end cursors - lowest h) h.events }
+
+abbrev pub HasRoomFor : Held → ℕ → Type 0
+HasRoomFor h n = (h.cursors ≡ []) ⊎ (length h.events + n ≤ h.room)
+
+-- ---- take
+
+-- n events are moved to the front of a slice
+pub record Takes (before after : Held) (id n : ℕ) (slice filled : List Event) : Type 0 where
+  pub next : ℕ
+  pub stood : next_of before id ≡ Some next
+  pub waited : next < before.end
+  pub count : n ≡ min (length slice) (before.end - next)
+  pub moved : after ≡ with_cursors before (set_value (nat_eq id) before.cursors (next + n))
+  pub copied : filled ≡ take n (drop (next - lowest before) before.events) ++ drop n slice
+
+-- by the answer: no such cursor, nothing behind it, or how many were moved
+abbrev pub TakesBy : Held → Held → ℕ → List Event → List Event → Result (Option ℕ) NoId → Type 0
+TakesBy before after id slice filled (Err no_id) = (next_of before id ≡ None) × (after ≡ before) × (filled ≡ slice)
+TakesBy before after id slice filled (Ok None) = (next_of before id ≡ Some before.end) × (after ≡ before) × (filled ≡ slice)
+TakesBy before after id slice filled (Ok (Some n)) = Takes before after id n slice filled
+
+-- ---- remove
+
+-- by the answer: the cursor is gone, or there was none
+abbrev pub RemovesBy : Held → Held → ℕ → Result (Unit {0}) NoId → Type 0
+RemovesBy before after id (Ok done) = IsSome (next_of before id) × (after ≡ with_cursors before (remove_entry (nat_eq id) before.cursors))
+RemovesBy before after id (Err no_id) = (next_of before id ≡ None) × (after ≡ before)
+
+-- ---- what is kept beside, to find the least cursor without a look at all of them
+
+-- how many cursors stand at a number
+abbrev pub standing_at : ℕ → List (ℕ × ℕ) → ℕ
+standing_at number cursors = count_by (λ n. n == number) (values_of cursors)
+
+pub record IsKept (number standing end given : ℕ) (cursors : List (ℕ × ℕ)) : Type 0 where
+  pub lowest : number ≡ least end cursors
+  pub counted : standing ≡ standing_at number cursors
+  pub behind : All (λ n. n ≤ end) (values_of cursors)
+  pub known : All (λ id. id ≤ given) (keys_of cursors)
+  pub small : end ≤ 1000000000000

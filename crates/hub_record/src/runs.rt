@@ -1,0 +1,119 @@
+//! Any list of calls on a record of its own, with the replies and what each id gathered.
+ghost use Rattle.std.specs.Prelude.{◌≡◌, ◌≤◌, ◌+◌, ◌-◌, ◌++◌, ◌∷◌, [], List, ℕ, None, IfOk, OnOk, OnErr, length, map, nat_eq};
+ghost use Rattle.std.specs.Map.{lookup};
+ghost use Rattle.hub_record.specs.World.{World as Modelled, empty_world};
+ghost use Rattle.hub_record.specs.Kept.{StandsFor};
+ghost use Rattle.hub_record.specs.Runs.{IsRun, world_after, SaidTo, after_call, AllFollow, by, published, gathered_from, lists_of, appended};
+
+use crate::{Closed, Event, Kind, Letters, Limits, NoId, PubError, Record, SubError, Taken};
+use hub_letters::Letter;
+use indexmap::IndexMap;
+use std::alloc::{AllocError, Global};
+
+/// A call on a record.
+#[derive(Drop)]
+pub enum Call {
+    Subscribe,
+    Publish { who: u64, letters: Letters },
+    /// Takes what waits behind the cursor of an id, and at most `max`.
+    Take { id: u64, max: usize },
+    Cancel { id: u64 },
+    Close,
+}
+
+/// The reply to a call, by the call.
+#[derive(Clone, Copy, Debug, PartialEq, Eq)]
+pub enum Said {
+    Subscribed(Result<(u64, u64), SubError>),
+    Published(Result<u64, PubError>),
+    Took(Result<Taken, NoId>),
+    Cancelled(Result<(), NoId>),
+    Shut(Result<(), Closed>),
+}
+
+/// What a run leaves.
+#[derive(Drop)]
+pub struct World {
+    /// The record after all calls.
+    pub state: Record,
+    /// One reply for each call.
+    pub replies: Vec<Said>,
+    /// What each id that was given took, cancelled ones too, in the order of the ids.
+    pub gathered: IndexMap<u64, Vec<Event>>,
+}
+
+impl World {
+    /// Carries out one call. After an error the world is to be let go.
+    fn answer(&mut self, alloc: Global, call: &Call) -> Result<Said, AllocError>
+        ensures said { (w : Modelled) → StandsFor self.old.state w → IfOk result (λ said. SaidTo w call.now said) }
+        ensures after { (w : Modelled) → StandsFor self.old.state w → IfOk result (λ said. StandsFor self.new.state (after_call w call.now said)) }
+        ensures gathered { (w : Modelled) → StandsFor self.old.state w → lists_of self.old.gathered.entries ≡ gathered_from 1 w.subscriptions → IfOk result (λ said. lists_of self.new.gathered.entries ≡ gathered_from 1 (after_call w call.now said).subscriptions) }
+        ensures replies { self.new.replies ≡ self.old.replies }
+    {
+        match call {
+            Call::Subscribe => match self.state.subscribe() {
+                Ok((id, mark)) => {
+                    begin(alloc, &mut self.gathered, id)?;
+                    return Ok(Said::Subscribed(Ok((id, mark))));
+                }
+                Err(SubError::Memory) => return Err(AllocError),
+                Err(error) => return Ok(Said::Subscribed(Err(error))),
+            },
+            Call::Publish { who, letters } => return Ok(Said::Published(self.state.publish(*who, letters.items()))),
+            Call::Take { id, max } => {
+                let waiting = self.state.waiting(*id).unwrap_or(0) as usize;
+                let filler = Event {
+                    who: 0,
+                    letter: Letter::least(),
+                };
+                let mut out = vec![in alloc; filler; waiting.min(*max)]?;
+                let reply = self.state.take_into(*id, &mut out);
+                append(&mut self.gathered, *id, &out)?;
+                return Ok(Said::Took(reply));
+            }
+            Call::Cancel { id } => return Ok(Said::Cancelled(self.state.cancel(*id))),
+            Call::Close => return Ok(Said::Shut(self.state.close())),
+        }
+    }
+}
+
+/// Adds events behind those of an id.
+fn append(gathered: &mut IndexMap<u64, Vec<Event>>, id: u64, more: &[Event]) -> Result<(), AllocError>
+    ensures { OnOk result (lists_of gathered.new.entries ≡ appended id more.now (lists_of gathered.old.entries)) }
+{
+    let Some(list) = gathered.get_mut(&id) else {
+        return Ok(());
+    };
+    list.extend_from_slice(more)?;
+    Ok(())
+}
+
+/// Adds an empty list for a new id.
+fn begin(alloc: Global, gathered: &mut IndexMap<u64, Vec<Event>>, id: u64) -> Result<(), AllocError>
+    ensures { OnOk result (lookup (nat_eq id) (lists_of gathered.old.entries) ≡ None → lists_of gathered.new.entries ≡ lists_of gathered.old.entries ++ (id, []) ∷ []) }
+{
+    match gathered.insert(id, Vec::new(alloc)) {
+        Ok(_) => return Ok(()),
+        Err(_) => return Err(AllocError),
+    }
+}
+
+/// Makes the calls in order on a new record. A growth that is refused ends the run.
+pub fn replay(alloc: Global, kind: Kind, limits: Limits, calls: &[Call]) -> Result<World, AllocError>
+    ensures replies { IfOk result (λ r. IsRun (empty_world kind limits) calls.now r.replies.items) }
+    ensures state { IfOk result (λ r. StandsFor r.state (world_after (empty_world kind limits) calls.now r.replies.items)) }
+    ensures gathered { IfOk result (λ r. lists_of r.gathered.entries ≡ gathered_from 1 (world_after (empty_world kind limits) calls.now r.replies.items).subscriptions) }
+    ensures since { IfOk result (λ r. AllFollow (world_after (empty_world kind limits) calls.now r.replies.items)) }
+    ensures own { IfOk result (λ r. (p : ℕ) → by p (world_after (empty_world kind limits) calls.now r.replies.items).events ≡ published p calls.now r.replies.items) }
+{
+    let mut world = World {
+        state: Record::new(alloc, kind, limits)?,
+        replies: Vec::new(alloc),
+        gathered: IndexMap::new(alloc),
+    };
+    for call in calls {
+        let said = world.answer(alloc, call)?;
+        world.replies.push(said)?;
+    }
+    Ok(world)
+}
