@@ -9,7 +9,6 @@ use Rattle.hub_desk.specs.declared.reply.Refusal.TheVariants.{Memory}
 use Rattle.hub_desk.specs.Texts.{text_of}
 use Rattle.hub_front.specs.declared.parsing.Bad.{Bad}
 use Rattle.hub_front.specs.declared.parsing.Bad.TheVariants as bad
-use Rattle.hub_front.specs.Reading.{IsReading}
 use Rattle.hub_front.specs.Serving.{Asking, refusal_of, Answers, AnswersRead, Run, Finished}
 use Rattle.hub_front.specs.Lines.{lines_of}
 use Rattle.hub_front.specs.Places.{NoneIsMemory, IsFunction}
@@ -77,6 +76,7 @@ pub same_output : {D : Type 0} (asks : Asking D) (ends : D → D → Type 0) (al
 same_output asks ends alike stay old new new' bytes held holds holds' has has' n n' a one other none none' =
     let lines : lines_of one.input ≡ lines_of other.input = same_lines one other in
     let run : Run asks old (lines_of other.input) one.served.replies one.mid = subst (λ ls. Run asks old ls one.served.replies one.mid) lines one.served.run in
-    let same = same_run asks alike stay old old one.mid other.mid (lines_of other.input) one.served.replies other.served.replies a none none' run other.served.run in
-    (same_texts held holds holds' one.served.replies other.served.replies same.0 one.served.written other.served.written,
-     one.counted ∙ ap length lines ∙ sym other.counted)
+    let same = same_run asks alike stay old old one.mid other.mid (lines_of other.input) one.served.replies other.served.replies a none none' run other.served.run in (
+      same_texts held holds holds' one.served.replies other.served.replies same.0 one.served.written other.served.written,
+      one.counted ∙ ap length lines ∙ sym other.counted,
+    )

@@ -1,5 +1,5 @@
 -- The requests that forms ask for.
-use Rattle.std.proofs.Common.{◌⊎◌, inl, inr, ◌≡◌, ℕ, ◌≤◌, Bool, true, false, refl, sym, ap, arith}
+use Rattle.std.proofs.Common.{inl, inr, ◌≡◌, ℕ, ◌≤◌, Bool, true, false, refl, sym, ap, arith}
 use Rattle.std.proofs.lemmas.Bool.{cases_eq}
 use Rattle.hub_desk.specs.declared.request.Request.{Request}
 use Rattle.hub_desk.specs.declared.request.Request.TheVariants as request

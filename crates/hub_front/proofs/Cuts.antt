@@ -1,5 +1,5 @@
 -- An input in pieces, however it is cut.
-use Rattle.std.proofs.Common.{◌≡◌, ℕ, ◌+◌, ◌≤◌, List, [], ◌∷◌, ◌++◌, length, ◌==◌, true, false, cond, Option, refl, sym, ap, ◌∙◌, subst, length-append, arith, rules}
+use Rattle.std.proofs.Common.{◌≡◌, ℕ, ◌+◌, ◌≤◌, List, [], ◌∷◌, ◌++◌, length, ◌==◌, true, false, cond, Option, refl, sym, ap, ◌∙◌, length-append, arith, rules}
 use Rattle.hub_front.specs.Pieces.{keep, done, left}
 use Rattle.hub_front.specs.Serving.{Asking, Served, BreaksOff}
 use Rattle.hub_front.proofs.Runs.{served_same, served_then, breaks_same, breaks_then, breaks_within}
@@ -41,7 +41,7 @@ pub count_on : (front piece kept line : List ℕ) (n m new : ℕ) → line ≡ l
     → new ≡ n + length (done (front ++ piece) kept)
 count_on front piece kept line n m new k h i =
     let sum : length (done (front ++ piece) kept) ≡ length (done front kept) + length (done piece line) =
-      ap length (done_on front piece kept line k) ∙ length-append (done front kept) (done piece line) in
+    ap length (done_on front piece kept line k) ∙ length-append (done front kept) (done piece line) in
     omega arith
 
 pub served_on : {D : Type 0} {asks : Asking D} {old mid new : D} {held between holds : Option (List ℕ)} (front piece kept line : List ℕ) → line ≡ left front kept
@@ -54,5 +54,5 @@ pub breaks_on : {D : Type 0} {asks : Asking D} {old mid new : D} {held between h
     → Served asks old (done front kept) held between mid → BreaksOff asks mid (done piece line) between holds new → BreaksOff asks old (done (front ++ (piece ++ rest)) kept) held holds new
 breaks_on front piece rest kept line k p b =
     let joined : done (front ++ (piece ++ rest)) kept ≡ done front kept ++ (done piece line ++ done rest (left piece line)) =
-      done_on front (piece ++ rest) kept line k ∙ ap (λ l. done front kept ++ l) (done-append piece rest line) in
+    done_on front (piece ++ rest) kept line k ∙ ap (λ l. done front kept ++ l) (done-append piece rest line) in
     breaks_same (sym joined) (breaks_then p (breaks_within (done rest (left piece line)) b))

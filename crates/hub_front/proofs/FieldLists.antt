@@ -1,9 +1,8 @@
 -- A line of a form, as its list of fields.
-use Rattle.std.proofs.Common.{◌⊎◌, inl, inr, ◌≡◌, ◌≢◌, ℕ, ◌+◌, ◌<◌, ◌≤◌, List, [], ◌∷◌, ◌++◌, length, get_or, take, drop, Bool, true, false, cond, refl, sym, ap, ◌∙◌, subst, codes, arith, rules}
+use Rattle.std.proofs.Common.{inl, inr, ◌≡◌, ℕ, ◌≤◌, List, [], ◌∷◌, length, false, refl, sym, ap, ◌∙◌, subst, codes, arith}
 use Rattle.std.specs.Prelude.{All, if◌then◌else◌}
-use Rattle.std.specs.Fmt.{decimal}
 use Rattle.std.specs.Str.{bytes_eq}
-use Rattle.std.specs.List.{before_first, after_first, position_or_len, slice_split, join_with_byte}
+use Rattle.std.specs.List.{after_first, position_or_len, join_with_byte}
 use Rattle.std.proofs.lemmas.Bool.{cases_lt}
 use Rattle.std.proofs.lemmas.List.{take_all}
 use Rattle.std.proofs.lemmas.List.Elements.{All-from_get_or, All-cons, All-append}
@@ -11,10 +10,10 @@ use Rattle.std.proofs.lemmas.List.Sums.{fails_before_first}
 use Rattle.std.proofs.lemmas.List.Splits.{slice_split_first, join_with_byte-slice_split}
 use Rattle.hub_front.specs.declared.words.Word.{Word}
 use Rattle.hub_front.specs.declared.words.Word.TheVariants as word
-use Rattle.hub_front.specs.Spelling.{Form, Dir, Svc, Sub, Pub, Take, Cancel, Close, Status, IsForm, IsName, IsNumeral, AreLetters, spelling, word_of, text_of_word, ◌·◌}
+use Rattle.hub_front.specs.Spelling.{Form, Dir, Svc, Sub, Pub, Take, Cancel, Close, Status, IsForm, spelling, word_of, text_of_word}
 use Rattle.hub_front.specs.Fields.{is_space, fields_of, fields_behind, IsNoForm, IsFormOf}
 use Rattle.hub_front.specs.Reading.{first_word, IsTextByte, IsText, HasForm}
-use Rattle.hub_front.proofs.Splits.{IsOneField, fields_of-one, fields_of-more, text_of_one}
+use Rattle.hub_front.proofs.Splits.{IsOneField, fields_of-one, fields_of-more}
 use Rattle.hub_front.proofs.Visible.{AreVisible, one_field, plain, visible_name, visible_numeral, visible_word}
 
 -- ---- words

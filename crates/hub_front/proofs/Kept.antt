@@ -49,8 +49,8 @@ done-cut [] p = refl
 done-cut (b ∷ bs) p =
     elim (b == 10) as (λ t. cond t (cut p ∷ done bs []) (done bs (keep (cut p) b)) ≡ map cut (onto_first p (cond t ([] ∷ complete_of bs) (onto_first (b ∷ []) (complete_of bs))))) [
       | true ↦
-        let rest : done bs [] ≡ map cut (complete_of bs) = done-cut bs [] ∙ ap (map cut) (onto_first-nil (complete_of bs)) in
-        ap (λ l. cut l ∷ done bs []) (sym (append-nil p)) ∙ ap (λ ls. cut (p ++ []) ∷ ls) rest
+          let rest : done bs [] ≡ map cut (complete_of bs) = done-cut bs [] ∙ ap (map cut) (onto_first-nil (complete_of bs)) in
+          ap (λ l. cut l ∷ done bs []) (sym (append-nil p)) ∙ ap (λ ls. cut (p ++ []) ∷ ls) rest
       | false ↦ ap (done bs) (keep-cut p b) ∙ done-cut bs (p ++ b ∷ []) ∙ ap (map cut) (sym (onto_first-append p (b ∷ []) (complete_of bs)))
     ]
 
@@ -67,10 +67,10 @@ left-cut (b ∷ bs) p =
     elim (b == 10) as (λ t. cond t (left bs []) (left bs (keep (cut p) b)) ≡ cut (cond (t || has_lf bs) (cond (t || has_lf bs) (rest_of bs) (b ∷ bs)) (p ++ b ∷ bs))) [
       | true ↦ left-cut bs [] ∙ ap cut (rest_or_all bs)
       | false ↦ ap (left bs) (keep-cut p b) ∙ left-cut bs (p ++ b ∷ []) ∙
-        elim (has_lf bs) as (λ t. cut (cond t (rest_of bs) ((p ++ b ∷ []) ++ bs)) ≡ cut (cond t (cond t (rest_of bs) (b ∷ bs)) (p ++ b ∷ bs))) [
-          | true ↦ refl
-          | false ↦ ap cut (append_assoc p (b ∷ []) bs)
-        ]
+          elim (has_lf bs) as (λ t. cut (cond t (rest_of bs) ((p ++ b ∷ []) ++ bs)) ≡ cut (cond t (cond t (rest_of bs) (b ∷ bs)) (p ++ b ∷ bs))) [
+            | true ↦ refl
+            | false ↦ ap cut (append_assoc p (b ∷ []) bs)
+          ]
     ]
 
 last_line-cut : (r : List ℕ) → last_line (cut r) ≡ map cut (last_line r)
@@ -101,9 +101,9 @@ cut_is_long line (Err Memory) h r = let size : length (cut line) ≡ 513 = lengt
 
 reading_of_cut : (line : List ℕ) (read : Result Request Bad) → IsReading (cut line) read → IsReading line read
 reading_of_cut line read r = elim (short_or_long (length line) 513) [
-    | inl h ↦ subst (λ l. IsReading l read) (take_all 513 line (omega arith)) r
-    | inr h ↦ let long : (512 < length line) × (read ≡ Err Long) = cut_is_long line read h r in subst (λ x. IsReading line x) (sym long.1) long.0
-  ]
+  | inl h ↦ subst (λ l. IsReading l read) (take_all 513 line (omega arith)) r
+  | inr h ↦ let long : (512 < length line) × (read ≡ Err Long) = cut_is_long line read h r in subst (λ x. IsReading line x) (sym long.1) long.0
+]
 
 answers_of_cut : {D : Type 0} {asks : Asking D} {old new : D} {line : List ℕ} {reply : Reply} → Answers asks old (cut line) reply new → Answers asks old line reply new
 answers_of_cut {line = line} a = record { read = a.read; reading = reading_of_cut line a.read a.reading; answered = a.answered }
@@ -118,10 +118,10 @@ run_of_cut asks old (l ∷ ls) (p ∷ ps) new r = (r.0, answers_of_cut r.1, run_
 served_of_cut : {D : Type 0} {asks : Asking D} {old new : D} (kept lines : List (List ℕ)) {held holds : Option (List ℕ)} → kept ≡ map cut lines
     → Served asks old kept held holds new → Served asks old lines held holds new
 served_of_cut {asks} {old} {new} kept lines e s = record {
-    replies = s.replies;
-    run = run_of_cut asks old lines s.replies new (subst (λ ls. Run asks old ls s.replies new) e s.run);
-    written = s.written;
-  }
+  replies = s.replies;
+  run = run_of_cut asks old lines s.replies new (subst (λ ls. Run asks old ls s.replies new) e s.run);
+  written = s.written;
+}
 
 -- where a list of images is split, the list is too
 split_of_map : (ls front : List (List ℕ)) (line : List ℕ) (after : List (List ℕ)) → map cut ls ≡ front ++ line ∷ after

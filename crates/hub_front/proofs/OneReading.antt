@@ -1,15 +1,14 @@
 -- A line spells one form, and is read in one way.
-use Rattle.std.proofs.Common.{◌≡◌, ◌≢◌, ℕ, ◌<◌, ◌≤◌, List, [], ◌∷◌, length, Bool, true, false, Result, Ok, Err, refl, sym, ap, ◌∙◌, subst, arith}
-use Rattle.std.specs.Prelude.{All, Any}
+use Rattle.std.proofs.Common.{◌≡◌, ◌≢◌, ℕ, ◌<◌, ◌≤◌, List, length, Bool, true, false, Result, Ok, Err, refl, sym, ap, subst, arith}
+use Rattle.std.specs.Prelude.{Any}
 use Rattle.std.specs.Fmt.{decimal}
-use Rattle.std.proofs.lemmas.List.Elements.{All-contains}
 use Rattle.hub_desk.specs.declared.request.Request.{Request}
 use Rattle.hub_desk.specs.declared.request.Request.TheVariants as request
 use Rattle.hub_front.specs.declared.parsing.Bad.{Bad}
 use Rattle.hub_front.specs.declared.parsing.Bad.TheVariants.{Long, Text, Range, Memory}
 use Rattle.hub_front.specs.declared.words.Word.{Word}
 use Rattle.hub_front.specs.declared.parsing.Bad.TheVariants as bad
-use Rattle.hub_front.specs.Spelling.{Form, Dir, Svc, Sub, Pub, Take, Cancel, Close, Status, IsForm, IsNumeral, IsWithin, spelling, form_of, digit_of, word_of, text_of_word}
+use Rattle.hub_front.specs.Spelling.{Form, Dir, Svc, Sub, Pub, Take, Cancel, Close, Status, IsForm, IsWithin, form_of, digit_of, word_of, text_of_word}
 use Rattle.hub_front.specs.Fields.{fields_of, fields_behind}
 use Rattle.hub_front.specs.Reading.{first_word, IsTextByte, IsText, HasForm, Spells, IsReading}
 use Rattle.hub_front.proofs.Numerals.{same_number}

@@ -1,5 +1,5 @@
 -- Runs over lines, and what they write.
-use Rattle.std.proofs.Common.{◌≡◌, ℕ, List, [], ◌∷◌, ◌++◌, flat_map, Option, refl, sym, ap, ◌∙◌, subst, append_assoc, append-nil}
+use Rattle.std.proofs.Common.{◌≡◌, ℕ, List, [], ◌∷◌, ◌++◌, Option, refl, sym, ap, ◌∙◌, subst, append_assoc, append-nil}
 use Rattle.std.specs.Io.KnownBytes.{Appends}
 use Rattle.std.proofs.KnownBytes.{Appends-nil, Appends-trans}
 use Rattle.std.proofs.lemmas.Grind.{flat_map-append}
@@ -23,10 +23,10 @@ served_none asks old held = record { replies = []; run = refl; written = Appends
 pub served_one : {D : Type 0} {asks : Asking D} {old new : D} {line : List ℕ} {held holds : Option (List ℕ)} (reply : Reply)
     → Answers asks old line reply new → Appends held holds (text_of reply) → Served asks old (line ∷ []) held holds new
 served_one {asks} {old} {new} {line} {held} {holds} reply answered appended = record {
-    replies = reply ∷ [];
-    run = (new, answered, refl);
-    written = subst (Appends held holds) (sym (append-nil (text_of reply))) appended;
-  }
+  replies = reply ∷ [];
+  run = (new, answered, refl);
+  written = subst (Appends held holds) (sym (append-nil (text_of reply))) appended;
+}
 
 pub answers_same : {D : Type 0} {asks : Asking D} {old new : D} {line line' : List ℕ} {reply : Reply} → line ≡ line' → Answers asks old line reply new → Answers asks old line' reply new
 answers_same {asks} {old} {new} {reply = reply} e a = subst (λ l. Answers asks old l reply new) e a
@@ -43,55 +43,55 @@ breaks_same {asks} {old} {new} {held = held} {holds} e b = subst (λ ls. BreaksO
 pub served_then : {D : Type 0} {asks : Asking D} {old mid new : D} {l1 l2 : List (List ℕ)} {held between holds : Option (List ℕ)}
     → Served asks old l1 held between mid → Served asks mid l2 between holds new → Served asks old (l1 ++ l2) held holds new
 served_then {asks} {old} {mid} {new} {l1} {l2} {held} {between} {holds} p q = record {
-    replies = p.replies ++ q.replies;
-    run = run_then asks old mid new l1 l2 p.replies q.replies p.run q.run;
-    written = subst (Appends held holds) (sym (flat_map-append text_of p.replies q.replies)) (Appends-trans held between holds _ _ p.written q.written);
-  }
+  replies = p.replies ++ q.replies;
+  run = run_then asks old mid new l1 l2 p.replies q.replies p.run q.run;
+  written = subst (Appends held holds) (sym (flat_map-append text_of p.replies q.replies)) (Appends-trans held between holds _ _ p.written q.written);
+}
 
 -- the first line was answered, but its reply wasn't written whole
 pub breaks_at_once : {D : Type 0} {asks : Asking D} {old new : D} {line : List ℕ} {held holds : Option (List ℕ)} (reply : Reply)
     → Answers asks old line reply new → AppendsPart held holds (text_of reply) → BreaksOff asks old (line ∷ []) held holds new
 breaks_at_once {asks} {old} {new} {line} {held} {holds} reply answered part = record {
-    front = [];
-    line = line;
-    after = [];
-    among = refl;
-    mid = old;
-    between = held;
-    served = served_none asks old held;
-    reply = reply;
-    answered = answered;
-    written = part;
-  }
+  front = [];
+  line = line;
+  after = [];
+  among = refl;
+  mid = old;
+  between = held;
+  served = served_none asks old held;
+  reply = reply;
+  answered = answered;
+  written = part;
+}
 
 -- lines served, and then a fault among the next
 pub breaks_then : {D : Type 0} {asks : Asking D} {old mid new : D} {l1 l2 : List (List ℕ)} {held between holds : Option (List ℕ)}
     → Served asks old l1 held between mid → BreaksOff asks mid l2 between holds new → BreaksOff asks old (l1 ++ l2) held holds new
 breaks_then {l1 = l1} p b = record {
-    front = l1 ++ b.front;
-    line = b.line;
-    after = b.after;
-    among = ap (λ l. l1 ++ l) b.among ∙ sym (append_assoc l1 b.front (b.line ∷ b.after));
-    mid = b.mid;
-    between = b.between;
-    served = served_then p b.served;
-    reply = b.reply;
-    answered = b.answered;
-    written = b.written;
-  }
+  front = l1 ++ b.front;
+  line = b.line;
+  after = b.after;
+  among = ap (λ l. l1 ++ l) b.among ∙ sym (append_assoc l1 b.front (b.line ∷ b.after));
+  mid = b.mid;
+  between = b.between;
+  served = served_then p b.served;
+  reply = b.reply;
+  answered = b.answered;
+  written = b.written;
+}
 
 -- a fault among the lines is one among more of them
 pub breaks_within : {D : Type 0} {asks : Asking D} {old new : D} {l1 : List (List ℕ)} (l2 : List (List ℕ)) {held holds : Option (List ℕ)}
     → BreaksOff asks old l1 held holds new → BreaksOff asks old (l1 ++ l2) held holds new
 breaks_within l2 b = record {
-    front = b.front;
-    line = b.line;
-    after = b.after ++ l2;
-    among = ap (λ l. l ++ l2) b.among ∙ append_assoc b.front (b.line ∷ b.after) l2;
-    mid = b.mid;
-    between = b.between;
-    served = b.served;
-    reply = b.reply;
-    answered = b.answered;
-    written = b.written;
-  }
+  front = b.front;
+  line = b.line;
+  after = b.after ++ l2;
+  among = ap (λ l. l ++ l2) b.among ∙ append_assoc b.front (b.line ∷ b.after) l2;
+  mid = b.mid;
+  between = b.between;
+  served = b.served;
+  reply = b.reply;
+  answered = b.answered;
+  written = b.written;
+}

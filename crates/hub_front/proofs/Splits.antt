@@ -1,7 +1,7 @@
 -- A text is cut at its first space.
-use Rattle.std.proofs.Common.{◌≡◌, ◌≢◌, ℕ, ◌+◌, ◌-◌, ◌<◌, ◌≤◌, List, [], ◌∷◌, ◌++◌, length, get_or, take, drop, Bool, true, false, refl, sym, ap, ◌∙◌, subst, arith, rules}
+use Rattle.std.proofs.Common.{◌≡◌, ◌≢◌, ℕ, ◌+◌, ◌-◌, ◌<◌, List, [], ◌∷◌, ◌++◌, length, get_or, take, drop, false, refl, sym, ap, ◌∙◌, arith}
 use Rattle.std.specs.Prelude.{All}
-use Rattle.std.specs.List.{slice_split, join_with_byte}
+use Rattle.std.specs.List.{join_with_byte}
 use Rattle.std.proofs.lemmas.Bool.{ne_eqb}
 use Rattle.std.proofs.lemmas.List.{drop_more, take-append-drop, get_or-take, get_or_default, take_rest, length-take}
 use Rattle.std.proofs.lemmas.List.Splits.{slice_split_none, slice_split_at, join_with_byte-slice_split}
@@ -23,17 +23,21 @@ no_space_at text k d below other = ne_eqb (get_or text k d) 32 (λ e. other (get
 pub fields_of-none : (text : List ℕ) → ((k : ℕ) → k < length text → get_or text k 0 ≢ 32) → fields_of text ≡ text ∷ []
 fields_of-none text none = fields_of-one text (λ k d below. no_space_at text k d below (none k below))
 
+one_field_before : (text : List ℕ) (i : ℕ) → i < length text → ((k : ℕ) → k < i → get_or text k 0 ≢ 32) → IsOneField (take i text)
+one_field_before text i below before k d short =
+    let lower : k < i = omega (arith, length-take i text) in
+    let inside : k < length text = omega arith in
+    rw get_or-take (no_space_at text k d inside (before k lower))
+
+whole_at : (text : List ℕ) (i : ℕ) → i < length text → get_or text i 0 ≡ 32 → text ≡ take i text ++ 32 ∷ drop (i + 1) text
+whole_at text i below space =
+    sym (take-append-drop i text) ∙ ap (λ l. take i text ++ l) (drop_more text i 0 below ∙ ap (λ b. b ∷ drop (i + 1) text) space)
+
 -- where the first space stands at i
 pub fields_of-at : (text : List ℕ) (i : ℕ) → i < length text → ((k : ℕ) → k < i → get_or text k 0 ≢ 32) → get_or text i 0 ≡ 32
     → fields_of text ≡ take i text ∷ fields_of (take (length text - (i + 1)) (drop (i + 1) text))
 fields_of-at text i below before space =
-    let front : IsOneField (take i text) = λ k d short.
-    let lower : k < i = omega (arith, length-take i text) in
-    let inside : k < length text = omega (arith, length-take i text) in
-    rw get_or-take (no_space_at text k d inside (before k lower)) in
-    let whole : text ≡ take i text ++ 32 ∷ drop (i + 1) text =
-    sym (take-append-drop i text) ∙ ap (λ l. take i text ++ l) (drop_more text i 0 below ∙ ap (λ b. b ∷ drop (i + 1) text) space) in
-    ap fields_of whole ∙ fields_of-more (take i text) (drop (i + 1) text) front
+    ap fields_of (whole_at text i below space) ∙ fields_of-more (take i text) (drop (i + 1) text) (one_field_before text i below before)
     ∙ ap (λ l. take i text ∷ fields_of l) (sym (take_rest text (i + 1)))
 
 pub text_of_one : (text field : List ℕ) → fields_of text ≡ field ∷ [] → text ≡ field

@@ -1,5 +1,5 @@
 -- Counts of faults, from one call to the next.
-use Rattle.std.proofs.Common.{◌≡◌, ℕ, ◌+◌, ◌<◌, zero, suc, Option, None, Some, Result, Ok, ap, ◌∙◌, arith}
+use Rattle.std.proofs.Common.{◌≡◌, ℕ, ◌+◌, ◌<◌, zero, suc, Option, None, Some, Ok, ap, ◌∙◌, arith}
 use Rattle.hub_front.specs.Telling.{Grows, faults_of_write}
 
 pub Grows-none : (a : Option ℕ) → Grows a a 0

@@ -34,9 +34,15 @@ stops {had = had} {has} has' same u = (Consumes-kept had has has' u.input u.cons
 pub breaks : {D : Type 0} {asks : Asking D} {old mid new : D} {held between holds had has : Option (List ℕ)} (has' : Option (List ℕ)) {line : List ℕ} {count least : ℕ} (piece : List ℕ)
     → Consumes has has' piece → BreaksOff asks mid (done piece line) between holds new → IsUnderWay asks old mid held between had has line count least
     → (input : List ℕ) × Consumes had has' input × ((lines : List (List ℕ)) × AreDue input has' lines × BreaksOff asks old lines held holds new)
-breaks {had = had} {has} has' {line} piece consumes b u =
-    (u.input ++ piece, Consumes-trans had has has' u.input piece u.consumed consumes, (complete_of (u.input ++ piece), inl refl,
-     breaks_complete (u.input ++ piece) (breaks_same (sym (done_on u.input piece [] line u.kept)) (breaks_then u.served b))))
+breaks {had = had} {has} has' {line} piece consumes b u = (
+  u.input ++ piece,
+  Consumes-trans had has has' u.input piece u.consumed consumes,
+  (
+    complete_of (u.input ++ piece),
+    inl refl,
+    breaks_complete (u.input ++ piece) (breaks_same (sym (done_on u.input piece [] line u.kept)) (breaks_then u.served b)),
+  ),
+)
 
 -- ---- the input has ended
 

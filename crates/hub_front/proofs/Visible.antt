@@ -1,16 +1,15 @@
 -- Names, numerals, letters and words are of visible bytes: of bytes that may stand in a line, and are no space.
-use Rattle.std.proofs.Common.{◌≡◌, ◌≢◌, ℕ, ◌≤◌, List, [], ◌∷◌, Bool, true, false, ◌&&◌, not, nat_lt, Option, None, Some, refl, ap, ◌∙◌, codes, arith}
+use Rattle.std.proofs.Common.{◌≡◌, ◌≢◌, ℕ, ◌≤◌, List, [], ◌∷◌, Bool, true, false, not, nat_lt, Option, None, Some, refl, ap, ◌∙◌, codes, arith}
 use Rattle.std.specs.Prelude.{All, MatchOption}
 use Rattle.std.specs.Fmt.{decimal}
 use Rattle.std.specs.List.{list_all}
 use Rattle.std.specs.Char.{is_ascii_digit}
-use Rattle.std.specs.Str.{all_ascii_digits}
 use Rattle.std.proofs.lemmas.Bool.{and_parts, or_cases, eqb-true, ne_eqb, not-true, ltb-false}
 use Rattle.std.proofs.lemmas.List.Elements.{All-nil, All-cons, All-weaker}
-use Rattle.hub_desk.specs.Names.{within, is_name_byte, is_name}
+use Rattle.hub_desk.specs.Names.{within, is_name_byte}
 use Rattle.hub_front.specs.declared.words.Word.{Word}
 use Rattle.hub_front.specs.declared.words.Word.TheVariants as word
-use Rattle.hub_front.specs.Spelling.{IsName, IsNumeral, AreLetters, text_of_word}
+use Rattle.hub_front.specs.Spelling.{IsName, IsNumeral, text_of_word}
 use Rattle.hub_front.specs.Fields.{is_space, fields_of, IsNumeralOf}
 use Rattle.hub_front.specs.Reading.{IsTextByte}
 use Rattle.hub_front.proofs.Numerals.{digits_of_numeral}

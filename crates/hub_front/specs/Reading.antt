@@ -1,5 +1,5 @@
 -- What a line is read as: the request that it spells, or the first rule that it breaks.
-use Rattle.std.specs.Prelude.{◌≡◌, ◌≢◌, ℕ, ◌<◌, ◌≤◌, List, [], ◌∷◌, length, All, Any, Result, Ok, Err, ◌==◌}
+use Rattle.std.specs.Prelude.{◌≡◌, ◌≢◌, ℕ, ◌<◌, ◌≤◌, List, length, All, Any, Result, Ok, Err, ◌==◌}
 use Rattle.std.specs.List.{before_first}
 use Rattle.hub_desk.specs.declared.request.Request.{Request}
 use Rattle.hub_front.specs.declared.parsing.Bad.{Bad}

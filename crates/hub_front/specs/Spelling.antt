@@ -1,5 +1,5 @@
 -- The forms of request lines, and how each is spelled.
-use Rattle.std.specs.Prelude.{◌≡◌, ℕ, ◌<◌, ◌≤◌, ◌^◌, List, [], ◌∷◌, ◌++◌, length, Bool, true, false, codes, All}
+use Rattle.std.specs.Prelude.{◌≡◌, ℕ, ◌<◌, ◌≤◌, ◌^◌, List, ◌∷◌, ◌++◌, length, Bool, true, false, codes, All}
 use Rattle.std.specs.Fmt.{decimal}
 use Rattle.hub_desk.specs.Names.{is_name}
 use Rattle.hub_desk.specs.Ranges.{AreLimits, IsTake}

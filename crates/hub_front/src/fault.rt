@@ -1,5 +1,9 @@
 //! Why a session stopped.
 
+ghost use Rattle.std.specs.Prelude.{◌≡◌};
+ghost use Rattle.hub_front.specs.declared.fault.FrontError.TheVariants.{Memory};
+
+use std::alloc::AllocError;
 use thiserror::Error;
 
 /// Why a session stopped before the end of its input.
@@ -17,4 +21,12 @@ pub enum FrontError {
     /// There was no memory for the session's own buffers.
     #[error("out of memory")]
     Memory,
+}
+
+impl From<AllocError> for FrontError {
+    ghost from_gives = { λ _ fault. fault ≡ Memory };
+
+    fn from(_error: AllocError) -> FrontError {
+        FrontError::Memory
+    }
 }

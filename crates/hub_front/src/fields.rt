@@ -1,5 +1,5 @@
 //! The fields of a line.
-ghost use Rattle.std.specs.Prelude.{◌≡◌, ◌≤◌, ◌∷◌, [], length, All, Any, MatchBool, MatchOption};
+ghost use Rattle.std.specs.Prelude.{◌≡◌, ◌<◌, ◌≤◌, ◌↔◌, IsTrue, slice_index, ◌∷◌, [], length, All, Any, MatchBool, MatchOption};
 ghost use Rattle.hub_front.specs.Spelling.{AreLetters};
 ghost use Rattle.hub_front.specs.Reading.{IsTextByte};
 ghost use Rattle.hub_front.specs.Fields.{fields_of, digits_from, IsNumeralOf};
@@ -21,7 +21,9 @@ pub fn is_text(line: &[u8]) -> bool
 
 /// What stands before the first space and what after it; none where there is no space.
 pub fn split_at_space(text: &[u8]) -> Option<(&[u8], &[u8])>
-    ensures { MatchOption result (fields_of text.now ≡ text.now ∷ []) (λ p. fields_of text.now ≡ p.0.now ∷ fields_of p.1.now) }
+    ensures { MatchOption result
+        (fields_of text.now ≡ text.now ∷ [])
+        (λ p. fields_of text.now ≡ p.0.now ∷ fields_of p.1.now) }
 {
     for i in 0..text.len() {
         if text[i] == b' ' {
@@ -32,7 +34,7 @@ pub fn split_at_space(text: &[u8]) -> Option<(&[u8], &[u8])>
 }
 
 fn digits_value(text: &[u8]) -> Option<u64>
-    requires { length text.now ≤ 13 }
+    requires { length text.now ≤ MOST_DIGITS }
     ensures { result ≡ digits_from 0 text.now }
 {
     let mut value = 0u64;
@@ -45,14 +47,17 @@ fn digits_value(text: &[u8]) -> Option<u64>
     Some(value)
 }
 
+fn has_leading_zero(text: &[u8]) -> bool
+    ensures { IsTrue result ↔ ((1 < length text.now) × (slice_index text.now 0 ≡ 48)) }
+{
+    text.len() > 1 && text[0] == b'0'
+}
+
 /// The number whose numeral the text is: its digits, without leading zeros.
 pub fn numeral(text: &[u8]) -> Option<u64>
     ensures { IsNumeralOf text.now result }
 {
-    if text.is_empty() || text.len() > MOST_DIGITS {
-        return None;
-    }
-    if text[0] == b'0' && text.len() > 1 {
+    if text.is_empty() || text.len() > MOST_DIGITS || has_leading_zero(text) {
         return None;
     }
     digits_value(text)

@@ -46,7 +46,9 @@ pub enum Form<'a> {
 }
 
 fn name_first(rest: &[u8]) -> Option<(&[u8], &[u8])>
-    ensures { MatchOption result ((name field : List ℕ) (more : List (List ℕ)) → IsName name → fields_of rest.now ≢ name ∷ field ∷ more) (λ p. IsName p.0.now × (fields_of rest.now ≡ p.0.now ∷ fields_of p.1.now)) }
+    ensures { MatchOption result
+        ((name field : List ℕ) (more : List (List ℕ)) → IsName name → fields_of rest.now ≢ name ∷ field ∷ more)
+        (λ p. IsName p.0.now × (fields_of rest.now ≡ p.0.now ∷ fields_of p.1.now)) }
 {
     let (name, rest) = split_at_space(rest)?;
     if !Name::is_name(name) {
@@ -56,14 +58,18 @@ fn name_first(rest: &[u8]) -> Option<(&[u8], &[u8])>
 }
 
 fn numeral_first(rest: &[u8]) -> Option<(u64, &[u8])>
-    ensures { MatchOption result ((n : ℕ) (field : List ℕ) (more : List (List ℕ)) → IsNumeral n → fields_of rest.now ≢ decimal n ∷ field ∷ more) (λ p. IsNumeral p.0 × (fields_of rest.now ≡ decimal p.0 ∷ fields_of p.1.now)) }
+    ensures { MatchOption result
+        ((n : ℕ) (field : List ℕ) (more : List (List ℕ)) → IsNumeral n → fields_of rest.now ≢ decimal n ∷ field ∷ more)
+        (λ p. IsNumeral p.0 × (fields_of rest.now ≡ decimal p.0 ∷ fields_of p.1.now)) }
 {
     let (number, rest) = split_at_space(rest)?;
     Some((numeral(number)?, rest))
 }
 
 fn last_name(rest: &[u8]) -> Option<&[u8]>
-    ensures { MatchOption result ((name : List ℕ) → IsName name → fields_of rest.now ≢ name ∷ []) (λ name. IsName name.now × (fields_of rest.now ≡ name.now ∷ [])) }
+    ensures { MatchOption result
+        ((name : List ℕ) → IsName name → fields_of rest.now ≢ name ∷ [])
+        (λ name. IsName name.now × (fields_of rest.now ≡ name.now ∷ [])) }
 {
     if Name::is_name(rest) {
         Some(rest)
@@ -73,13 +79,17 @@ fn last_name(rest: &[u8]) -> Option<&[u8]>
 }
 
 fn last_numeral(rest: &[u8]) -> Option<u64>
-    ensures { MatchOption result ((n : ℕ) → IsNumeral n → fields_of rest.now ≢ decimal n ∷ []) (λ n. IsNumeral n × (fields_of rest.now ≡ decimal n ∷ [])) }
+    ensures { MatchOption result
+        ((n : ℕ) → IsNumeral n → fields_of rest.now ≢ decimal n ∷ [])
+        (λ n. IsNumeral n × (fields_of rest.now ≡ decimal n ∷ [])) }
 {
     numeral(rest)
 }
 
 fn last_letters(rest: &[u8]) -> Option<&[u8]>
-    ensures { MatchOption result ((letters : List ℕ) → AreLetters letters → fields_of rest.now ≢ letters ∷ []) (λ letters. AreLetters letters.now × (fields_of rest.now ≡ letters.now ∷ [])) }
+    ensures { MatchOption result
+        ((letters : List ℕ) → AreLetters letters → fields_of rest.now ≢ letters ∷ [])
+        (λ letters. AreLetters letters.now × (fields_of rest.now ≡ letters.now ∷ [])) }
 {
     if are_letters(rest) { Some(rest) } else { None }
 }

@@ -43,10 +43,7 @@ pub fn parse(alloc: Global, line: &[u8]) -> Result<Request, Bad>
     if !is_text(line) {
         return Err(Bad::Text);
     }
-    let form = match read_text(line) {
-        Ok(form) => form,
-        Err(bad) => return Err(bad),
-    };
+    let form = read_text(line)?;
     match request_of(alloc, form) {
         Ok(request) => Ok(request),
         Err(_) => Err(Bad::Memory),

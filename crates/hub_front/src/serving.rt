@@ -80,12 +80,8 @@ fn serve_lines<H: Wait, D: Desk, R: Source, W: Sink>(
     ensures read_faults { Grows (R.faults reader.old) (R.faults reader.new) (read_faults result) }
     ensures write_faults { Grows (W.faults writer.old) (W.faults writer.new) (write_faults result) }
 {
-    let Ok(mut session) = Session::new(alloc) else {
-        return Err(FrontError::Memory);
-    };
-    let Ok(mut chunk) = new_chunk(alloc, CHUNK) else {
-        return Err(FrontError::Memory);
-    };
+    let mut session = Session::new(alloc)?;
+    let mut chunk = new_chunk(alloc, CHUNK)?;
     serve_reads(rt, desk, reader, writer, &mut session, &mut chunk)?;
     session.finish(rt, desk, writer)
 }

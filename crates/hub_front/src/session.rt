@@ -103,16 +103,16 @@ impl Session {
 
     /// Answers the line that the input ended in, where there is one, and says how many lines were answered in all.
     pub(crate) fn finish<H: Wait, D: Desk, W: Sink>(
-        &mut self,
+        mut self,
         rt: &H,
         desk: &mut D,
         writer: &mut W,
     ) -> Result<u64, FrontError>
-        requires { self.old.count + 1 < 2 ^ 64 }
-        ensures ok { OnOk result (Served D.asks desk.old (last_line self.old.line.items)
+        requires { self.count + 1 < 2 ^ 64 }
+        ensures ok { OnOk result (Served D.asks desk.old (last_line self.line.items)
             (W.contents writer.old) (W.contents writer.new) desk.new) }
-        ensures count { IfOk result (λ n. n ≡ self.old.count + length (last_line self.old.line.items)) }
-        ensures err { OnErr result (BreaksOff D.asks desk.old (last_line self.old.line.items)
+        ensures count { IfOk result (λ n. n ≡ self.count + length (last_line self.line.items)) }
+        ensures err { OnErr result (BreaksOff D.asks desk.old (last_line self.line.items)
             (W.contents writer.old) (W.contents writer.new) desk.new) }
         ensures fault { IfErr result (λ e. e ≡ FrontError.Write) }
         ensures told { Grows (W.faults writer.old) (W.faults writer.new) (write_faults result) }

@@ -1,11 +1,12 @@
 //! Writers that tell their faults.
-ghost use Rattle.std.specs.Prelude.{ℕ, ◌<◌, length, Option, None};
+ghost use Rattle.std.specs.Prelude.{◌≡◌, ℕ, ◌<◌, length, Option, None, Some, IfOk, IfErr};
 ghost use Rattle.std.specs.Io.{WritesAtMost};
 ghost use Rattle.std.specs.Io.KnownBytes.{WriteAppends};
+ghost use Rattle.std.specs.IoError.{error_kind};
 ghost use Rattle.hub_front.specs.Telling.{Grows, faults_of_write};
 
 use std::io;
-use std::io::{Stdout, Write};
+use std::io::{ErrorKind, Stdout, Write};
 use std::os::unix::net::UnixStream;
 
 /// What a session writes to: a writer whose faults a contract can count. A write that fails is a fault, and so is one
@@ -22,10 +23,16 @@ pub trait Sink: Write {
         ensures told { Grows (faults self.old) (faults self.new) (faults_of_write result) };
 }
 
+// It fails where there is no memory, and else takes all.
 impl Sink for Vec<u8> {
     ghost faults = { λ _. None };
 
-    fn push(&mut self, bytes: &[u8]) -> io::Result<usize> {
+    fn push(&mut self, bytes: &[u8]) -> io::Result<usize>
+        ensures bound { WritesAtMost result bytes.now }
+        ensures bytes { WriteAppends (Some self.old.items) (Some self.new.items) result bytes.now }
+        ensures count { IfOk result (λ n. n ≡ length bytes.now) }
+        ensures kind { IfErr result (λ e. error_kind e ≡ ErrorKind.OutOfMemory) }
+    {
         self.write(bytes)
     }
 }

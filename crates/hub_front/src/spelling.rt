@@ -13,13 +13,16 @@ pub fn no_line_is_spelled_twice()
 
 /// A line is read in one way, want of memory aside.
 pub fn each_line_is_read_in_one_way()
-    ensures { (line : List ℕ) (a b : Result Request Bad) → a ≢ Err Bad.Memory → b ≢ Err Bad.Memory → IsReading line a → IsReading line b → a ≡ b }
+    ensures { (line : List ℕ) (a b : Result Request Bad) → a ≢ Err Bad.Memory → b ≢ Err Bad.Memory
+        → IsReading line a → IsReading line b → a ≡ b }
 {}
 
 /// Each form has a line, which begins with its word. Where it isn't too long it is read as the form's request, or as
 /// out of range.
 pub fn each_form_has_a_line()
     ensures word { (form : Form) → IsForm form → first_word (spelling form) ≡ text_of_word (word_of form) }
-    ensures within { (request : Request) → IsForm (form_of request) → IsWithin (form_of request) → length (spelling (form_of request)) ≤ 512 → Spells (spelling (form_of request)) request }
-    ensures beyond { (form : Form) → IsForm form → length (spelling form) ≤ 512 → (IsWithin form → ⊥) → IsReading (spelling form) (Err Bad.Range) }
+    ensures within { (request : Request) → IsForm (form_of request) → IsWithin (form_of request)
+        → length (spelling (form_of request)) ≤ 512 → Spells (spelling (form_of request)) request }
+    ensures beyond { (form : Form) → IsForm form → (IsWithin form → ⊥)
+        → length (spelling form) ≤ 512 → IsReading (spelling form) (Err Bad.Range) }
 {}

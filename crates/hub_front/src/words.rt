@@ -18,7 +18,9 @@ pub enum Word {
 
 /// The word that is spelled so.
 pub fn word_spelled(text: &[u8]) -> Option<Word>
-    ensures { MatchOption result ((word : Word) → text.now ≢ text_of_word word) (λ word. text.now ≡ text_of_word word) }
+    ensures { MatchOption result
+        ((word : Word) → text.now ≢ text_of_word word)
+        (λ word. text.now ≡ text_of_word word) }
 {
     match text {
         b"dir" => Some(Word::Dir),

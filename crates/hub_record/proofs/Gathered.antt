@@ -1,27 +1,25 @@
 -- What was gathered, after each call.
-use Rattle.std.proofs.Common.{ℕ, suc, ◌≡◌, ◌==◌, ◌+◌, ◌-◌, ◌<◌, ◌≤◌, min, Bool, true, false, cond, if◌then◌else◌, List, [], ◌∷◌, ◌++◌, length, get_or, map, filter, take, drop, Vec, Option, Some, None, Result, Ok, Err, nat_eq, refl, sym, ap, subst, ◌∙◌, inl, inr, append_assoc, append-nil, arith}
+use Rattle.std.proofs.Common.{ℕ, ◌≡◌, ◌+◌, ◌-◌, ◌≤◌, min, Bool, false, List, [], ◌∷◌, ◌++◌, length, take, drop, Vec, Option, Some, None, Ok, nat_eq, refl, sym, ap, ◌∙◌, inl, inr, append-nil, arith}
 use Rattle.std.proofs.lemmas.Bool.{cases_Bool, ne_eqb}
 use Rattle.std.specs.Map.{lookup, set_value}
 use Rattle.std.specs.Option.{option_map, unwrap_or}
 use Rattle.std.specs.Global.{Global}
-use Rattle.std.proofs.lemmas.List.{map-append, length-append, take-append-drop, drop-drop, drop-append-le, take_more, drop_all, take_all, take-append-le, length-drop, length-take-le}
-use Rattle.std.proofs.lemmas.List.Elements.{filter-append}
+use Rattle.std.proofs.lemmas.List.{drop_all, take_all, take-append-le, length-drop, length-take-le}
 use Rattle.hub_record.specs.declared.Event.{Event}
-use Rattle.hub_record.specs.declared.SubError.{SubError}
-use Rattle.hub_record.specs.declared.PubError.{PubError}
 use Rattle.hub_record.specs.declared.runs.Call.{Call}
-use Rattle.hub_record.specs.declared.runs.Call.TheVariants.{Subscribe, Publish, Take, Cancel, Close}
+use Rattle.hub_record.specs.declared.runs.Call.TheVariants.{Subscribe, Take, Cancel}
 use Rattle.hub_record.specs.declared.runs.Said.{Said}
-use Rattle.hub_record.specs.declared.runs.Said.TheVariants.{Subscribed, Published, Took, Cancelled, Shut}
-use Rattle.hub_record.specs.World.{World, Subscription, found, found_from, changed_from, with_changed, new_subscription, stamped, moved, moved_on, moved_for, take_events, SubscribeReply, taken, stopped, after_subscribe, after_publish, after_take, after_take_for, after_cancel, after_cancel_for, after_close}
-use Rattle.hub_record.specs.Runs.{SaidTo, IsRun, gathered_from, lists_of, appended, after_call, world_after, Follows, EachFollows, AllFollow, by, accepted, published}
+use Rattle.hub_record.specs.declared.runs.Said.TheVariants.{Subscribed}
+use Rattle.hub_record.specs.World.{World, Subscription, found, found_from, changed_from, new_subscription, moved, moved_on, moved_for, take_events, SubscribeReply, taken, stopped, after_take, after_take_for, after_cancel_for}
+use Rattle.hub_record.specs.Runs.{gathered_from, lists_of, appended, after_call}
 
 pub gathered_changed : (f : Subscription → Subscription) → ((s : Subscription) → (f s).gathered ≡ s.gathered) → (from : ℕ) (subs : List Subscription) (id : ℕ) → gathered_from from (changed_from f from subs id) ≡ gathered_from from subs
 gathered_changed f keep from [] id = refl
 gathered_changed f keep from (s ∷ rest) id =
     elim (cases_Bool (nat_eq id from)) [
-      inl e ↦ simp e (ap (λ z. (from, z) ∷ gathered_from (from + 1) rest) (keep s))
-    | inr e ↦ simp e (ap (λ z. (from, s.gathered) ∷ z) (gathered_changed f keep (from + 1) rest id)) ]
+      | inl e ↦ simp e (ap (λ z. (from, z) ∷ gathered_from (from + 1) rest) (keep s))
+      | inr e ↦ simp e (ap (λ z. (from, s.gathered) ∷ z) (gathered_changed f keep (from + 1) rest id))
+    ]
 
 pub gathered_cancel : (w : World) (id : ℕ) (o : Option Subscription) → gathered_from 1 (after_cancel_for w id o).subscriptions ≡ gathered_from 1 w.subscriptions
 gathered_cancel w id None = refl
@@ -39,12 +37,14 @@ pub changed_alike : (f g : Subscription → Subscription) (from : ℕ) (subs : L
 changed_alike f g from [] id s e h = refl
 changed_alike f g from (x ∷ rest) id s e h =
     elim (cases_Bool (nat_eq id from)) [
-      inl t ↦ elim (cases_Bool x.stands) [
-          inl st ↦ (let k = simp (t, st) at e in
-                    let is : x ≡ s = cc in
-                    simp t (ap (λ z. z ∷ rest) (ap f is ∙ h ∙ ap g (sym is))))
-        | inr st ↦ (let k = simp (t, st) at e in cc) ]
-    | inr t ↦ simp t (ap (λ z. x ∷ z) (changed_alike f g (from + 1) rest id s (simp t at e) h)) ]
+      | inl t ↦ elim (cases_Bool x.stands) [
+        | inl st ↦ (let k = simp (t, st) at e in
+            let is : x ≡ s = cc in
+            simp t (ap (λ z. z ∷ rest) (ap f is ∙ h ∙ ap g (sym is))))
+        | inr st ↦ (let k = simp (t, st) at e in cc)
+      ]
+      | inr t ↦ simp t (ap (λ z. x ∷ z) (changed_alike f g (from + 1) rest id s (simp t at e) h))
+    ]
 
 -- taking as many as wait, or fewer, is taking at most that many
 pub take_alike : (w : World) (id most most' : ℕ) → ((s : Subscription) → found w id ≡ Some s → taken w s most ≡ taken w s most') → after_take w id most ≡ after_take w id most'
@@ -55,7 +55,7 @@ take_alike w id most most' h = by (found w id) refl
     by (Some s) is =
         let same = h s is in
         ap (λ z. record w { subscriptions = z }) (changed_alike (moved_on w most) (moved_on w most') 1 w.subscriptions id s is
-          (ap (λ n. record s { next = s.next + n; gathered = s.gathered ++ take n (drop s.next w.events) }) same))
+        (ap (λ n. record s { next = s.next + n; gathered = s.gathered ++ take n (drop s.next w.events) }) same))
 
 pub take_at : (w : World) (call : Call) (said : Said) (id most most' : ℕ) → call ≡ Take id most → ((s : Subscription) → found w id ≡ Some s → taken w s most' ≡ taken w s most) → after_take w id most' ≡ after_call w call said
 take_at w call said id most most' e h = take_alike w id most' most h ∙ ap (λ k. after_call w k said) (sym e)
@@ -70,33 +70,38 @@ pub lists_set : (id : ℕ) (es : List (ℕ × Vec Event Global)) (v v' : Vec Eve
 lists_set id [] v v' more e h = refl
 lists_set id (x ∷ es) v v' more e h =
     elim (cases_Bool (nat_eq id x.0)) [
-      inl t ↦ (let k = simp t at e in let is : x.1 ≡ v = cc in simp t (ap (λ z. (x.0, z) ∷ lists_of es) (h ∙ ap (λ (z : Vec Event Global). z.items ++ more) (sym is))))
-    | inr t ↦ simp t (ap (λ z. (x.0, x.1.items) ∷ z) (lists_set id es v v' more (simp t at e) h)) ]
+      | inl t ↦ (let k = simp t at e in let is : x.1 ≡ v = cc in simp t (ap (λ z. (x.0, z) ∷ lists_of es) (h ∙ ap (λ (z : Vec Event Global). z.items ++ more) (sym is))))
+      | inr t ↦ simp t (ap (λ z. (x.0, x.1.items) ∷ z) (lists_set id es v v' more (simp t at e) h))
+    ]
 
 pub appended_nowhere : (id : ℕ) (more : List Event) (ls : List (ℕ × List Event)) → lookup (nat_eq id) ls ≡ None → appended id more ls ≡ ls
 appended_nowhere id more [] e = refl
 appended_nowhere id more (x ∷ ls) e =
     elim (cases_Bool (nat_eq id x.0)) [
-      inl t ↦ (let k = simp t at e in cc)
-    | inr t ↦ simp t (ap (λ z. x ∷ z) (appended_nowhere id more ls (simp t at e))) ]
+      | inl t ↦ (let k = simp t at e in cc)
+      | inr t ↦ simp t (ap (λ z. x ∷ z) (appended_nowhere id more ls (simp t at e)))
+    ]
 
 appended_nothing : (id : ℕ) (ls : List (ℕ × List Event)) → appended id [] ls ≡ ls
 appended_nothing id [] = refl
 appended_nothing id (x ∷ ls) =
     elim (cases_Bool (nat_eq id x.0)) [
-      inl t ↦ simp t (ap (λ z. (x.0, z) ∷ ls) (append-nil x.1))
-    | inr t ↦ simp t (ap (λ z. x ∷ z) (appended_nothing id ls)) ]
+      | inl t ↦ simp t (ap (λ z. (x.0, z) ∷ ls) (append-nil x.1))
+      | inr t ↦ simp t (ap (λ z. x ∷ z) (appended_nothing id ls))
+    ]
 
 gathered_moved : (w : World) (most : ℕ) (from : ℕ) (subs : List Subscription) (id : ℕ) (s : Subscription) → found_from from subs id ≡ Some s → gathered_from from (changed_from (moved_on w most) from subs id) ≡ appended id (moved w s most) (gathered_from from subs)
 gathered_moved w most from [] id s e = refl
 gathered_moved w most from (x ∷ rest) id s e =
     elim (cases_Bool (nat_eq id from)) [
-      inl t ↦ elim (cases_Bool x.stands) [
-          inl st ↦ (let k = simp (t, st) at e in
-                    let is : x ≡ s = cc in
-                    simp t (ap (λ (z : Subscription). (from, x.gathered ++ moved w z most) ∷ gathered_from (from + 1) rest) is))
-        | inr st ↦ (let k = simp (t, st) at e in cc) ]
-    | inr t ↦ simp t (ap (λ z. (from, x.gathered) ∷ z) (gathered_moved w most (from + 1) rest id s (simp t at e))) ]
+      | inl t ↦ elim (cases_Bool x.stands) [
+        | inl st ↦ (let k = simp (t, st) at e in
+            let is : x ≡ s = cc in
+            simp t (ap (λ (z : Subscription). (from, x.gathered ++ moved w z most) ∷ gathered_from (from + 1) rest) is))
+        | inr st ↦ (let k = simp (t, st) at e in cc)
+      ]
+      | inr t ↦ simp t (ap (λ z. (from, x.gathered) ∷ z) (gathered_moved w most (from + 1) rest id s (simp t at e)))
+    ]
 
 gathered_take : (w : World) (id most : ℕ) → gathered_from 1 (after_take w id most).subscriptions ≡ appended id (take_events w id most) (gathered_from 1 w.subscriptions)
 gathered_take w id most = by (found w id) refl

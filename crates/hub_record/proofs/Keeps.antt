@@ -1,6 +1,6 @@
 -- What a backlog keeps beside, after each change.
-use Rattle.std.proofs.Common.{ℕ, suc, ◌≡◌, ◌+◌, ◌-◌, ◌<◌, ◌≤◌, Bool, false, List, [], ◌∷◌, ◌++◌, Option, Some, None, Ok, min, length, take, drop, All, nat_eq, refl, sym, ap, subst, ◌∙◌, arith}
-use Rattle.std.proofs.lemmas.Bool.{cases_Bool, ne_eqb}
+use Rattle.std.proofs.Common.{ℕ, suc, ◌≡◌, ◌+◌, ◌-◌, ◌<◌, ◌≤◌, Bool, false, List, [], ◌∷◌, ◌++◌, Some, None, Ok, min, length, take, drop, All, nat_eq, refl, sym, ap, subst, ◌∙◌, arith}
+use Rattle.std.proofs.lemmas.Bool.{ne_eqb}
 use Rattle.std.proofs.lemmas.List.{length-drop, map-append}
 use Rattle.std.proofs.lemmas.List.Elements.{All-head, All-tail, All-push, All-weaker}
 use Rattle.std.proofs.lemmas.Map.Views.{All-values-set_value, All-map-remove_entry, IfSome-lookup_from_All}
@@ -27,24 +27,24 @@ lookup_bound end v test cs h e = subst (λ o. IfSome o (λ n. n ≤ end)) e (IfS
 
 pub kept_stand : (number standing more end given : ℕ) (cs after : List (ℕ × ℕ)) → IsKept number standing end given cs → after ≡ cs ++ (given + 1, end) ∷ [] → more ≡ standing_at number (cs ++ (given + 1, end) ∷ []) → IsKept number more end (given + 1) after
 kept_stand number standing more end given cs after k is m = record {
-    lowest = k.lowest ∙ sym (least-push end (given + 1) cs) ∙ ap (least end) (sym is);
-    counted = m ∙ ap (standing_at number) (sym is);
-    behind = subst (λ z. All (λ n. n ≤ end) (values_of z)) (sym is)
+  lowest = k.lowest ∙ sym (least-push end (given + 1) cs) ∙ ap (least end) (sym is);
+  counted = m ∙ ap (standing_at number) (sym is);
+  behind = subst (λ z. All (λ n. n ≤ end) (values_of z)) (sym is)
       (subst (All (λ n. n ≤ end)) (sym (map-append (λ (c : ℕ × ℕ). c.1) cs ((given + 1, end) ∷ []))) (All-push (λ n. n ≤ end) (values_of cs) end k.behind (omega arith)));
-    known = subst (λ z. All (λ id. id ≤ given + 1) (keys_of z)) (sym is)
+  known = subst (λ z. All (λ id. id ≤ given + 1) (keys_of z)) (sym is)
       (subst (All (λ id. id ≤ given + 1)) (sym (map-append (λ (c : ℕ × ℕ). c.0) cs ((given + 1, end) ∷ [])))
-        (All-push (λ id. id ≤ given + 1) (keys_of cs) (given + 1) (All-weaker (λ id. id ≤ given) (λ id. id ≤ given + 1) (λ id l. omega arith) (keys_of cs) k.known) (omega arith)));
-    small = k.small;
-  }
+      (All-push (λ id. id ≤ given + 1) (keys_of cs) (given + 1) (All-weaker (λ id. id ≤ given) (λ id. id ≤ given + 1) (λ id l. omega arith) (keys_of cs) k.known) (omega arith)));
+  small = k.small;
+}
 
 pub kept_grown : (number standing end more given : ℕ) (cs : List (ℕ × ℕ)) → IsKept number standing end given cs → (length cs ≡ 0 → ⊥) → end ≤ more → more ≤ 1000000000000 → IsKept number standing more given cs
 kept_grown number standing end more given cs k some l small = record {
-    lowest = k.lowest ∙ sym (least_grown end more cs (λ none. some (ap length none)) l k.behind);
-    counted = k.counted;
-    behind = All-weaker (λ n. n ≤ end) (λ n. n ≤ more) (λ n h. omega arith) (values_of cs) k.behind;
-    known = k.known;
-    small = small;
-  }
+  lowest = k.lowest ∙ sym (least_grown end more cs (λ none. some (ap length none)) l k.behind);
+  counted = k.counted;
+  behind = All-weaker (λ n. n ≤ end) (λ n. n ≤ more) (λ n h. omega arith) (values_of cs) k.behind;
+  known = k.known;
+  small = small;
+}
 
 -- a cursor moves on, and the base and the count are those of the cursors then
 pub kept_set_value : (number standing end given number' standing' end' w : ℕ) (test : ℕ → Bool) (cs after : List (ℕ × ℕ)) → IsKept number standing end given cs → w ≤ end → after ≡ set_value test cs w → number' ≡ least end after → standing' ≡ standing_at number' after → end' ≡ end → IsKept number' standing' end' given after

@@ -1,5 +1,5 @@
 -- The least of the cursors and how many stand there, after a change of one.
-use Rattle.std.proofs.Common.{ℕ, ◌≡◌, ◌==◌, ◌+◌, ◌<◌, ◌≤◌, min, Bool, true, false, cond, List, [], ◌∷◌, ◌++◌, Option, Some, None, length, count_by, All, nat_eq, refl, sym, ap, ◌∙◌, inl, inr, arith}
+use Rattle.std.proofs.Common.{ℕ, ◌≡◌, ◌==◌, ◌+◌, ◌<◌, ◌≤◌, min, Bool, cond, List, [], ◌∷◌, ◌++◌, Some, count_by, All, refl, ap, ◌∙◌, inl, inr, arith}
 use Rattle.std.proofs.lemmas.Bool.{cases_Bool, cases_eq, cases_lt, eq-eqb, ne_eqb}
 use Rattle.std.proofs.lemmas.List.{map-append}
 use Rattle.std.proofs.lemmas.List.Elements.{All-head, All-tail}
@@ -9,7 +9,7 @@ use Rattle.std.specs.Option.{option_map, unwrap_or}
 use Rattle.std.specs.Map.{lookup, set_value, remove_entry, values_of}
 use Rattle.hub_record.specs.World.{least}
 use Rattle.hub_record.specs.Backlog.{standing_at}
-use Rattle.hub_record.proofs.Lowest.{count_here, count_other}
+use Rattle.hub_record.proofs.Lowest.{count_other}
 
 pub least_bound : (d : ℕ) (cs : List (ℕ × ℕ)) → least d cs ≤ d
 least_bound d [] = omega arith
@@ -19,15 +19,17 @@ pub least_bound_at : (d : ℕ) (test : ℕ → Bool) (cs : List (ℕ × ℕ)) (v
 least_bound_at d test [] v e = cc
 least_bound_at d test (c ∷ cs) v e =
     elim (cases_Bool (test c.0)) [
-      inl t ↦ (let k = simp t at e in let is : c.1 ≡ v = cc in omega arith)
-    | inr t ↦ (let k = least_bound_at d test cs v (simp t at e) in omega arith) ]
+      | inl t ↦ (let k = simp t at e in let is : c.1 ≡ v = cc in omega arith)
+      | inr t ↦ (let k = least_bound_at d test cs v (simp t at e) in omega arith)
+    ]
 
 -- a number at which a cursor stands
 pub least_bound_standing : (d n : ℕ) (cs : List (ℕ × ℕ)) → 0 < standing_at n cs → least d cs ≤ n
 least_bound_standing d n [] h = absurd (omega arith)
 least_bound_standing d n (c ∷ cs) h = elim (cases_eq c.1 n) [
-    inl is ↦ omega arith
-  | inr not ↦ (let k = count_other c.1 n (values_of cs) not in let b = least_bound_standing d n cs (omega arith) in omega arith) ]
+  | inl is ↦ omega arith
+  | inr not ↦ (let k = count_other c.1 n (values_of cs) not in let b = least_bound_standing d n cs (omega arith) in omega arith)
+]
 
 pub least-push : (d id : ℕ) (cs : List (ℕ × ℕ)) → least d (cs ++ (id, d) ∷ []) ≡ least d cs
 least-push d id [] = omega arith
@@ -37,8 +39,9 @@ pub least-set_value : (d : ℕ) (test : ℕ → Bool) (cs : List (ℕ × ℕ)) (
 least-set_value d test [] v w e l = omega arith
 least-set_value d test (c ∷ cs) v w e l =
     elim (cases_Bool (test c.0)) [
-      inl t ↦ (let k = simp t at e in let is : c.1 ≡ v = cc in simp t (omega arith))
-    | inr t ↦ (let ih = least-set_value d test cs v w (simp t at e) l in simp t (omega arith)) ]
+      | inl t ↦ (let k = simp t at e in let is : c.1 ≡ v = cc in simp t (omega arith))
+      | inr t ↦ (let ih = least-set_value d test cs v w (simp t at e) l in simp t (omega arith))
+    ]
 
 pub least-remove_entry : (d : ℕ) (test : ℕ → Bool) (cs : List (ℕ × ℕ)) → least d cs ≤ least d (remove_entry test cs)
 least-remove_entry d test [] = omega arith
@@ -51,23 +54,27 @@ pub least-set_value_above : (d : ℕ) (test : ℕ → Bool) (cs : List (ℕ × �
 least-set_value_above d test [] v w e l h = refl
 least-set_value_above d test (c ∷ cs) v w e l h =
     elim (cases_Bool (test c.0)) [
-      inl t ↦ (let k = simp t at e in let is : c.1 ≡ v = cc in simp t (omega arith))
-    | inr t ↦ (let at = simp t at e in
-               let more = least-set_value d test cs v w at l in
-               elim (cases_lt (least d cs) v) [
-                 inl below ↦ (let ih = least-set_value_above d test cs v w at l below in simp t (omega arith))
-               | inr above ↦ simp t (omega arith) ]) ]
+      | inl t ↦ (let k = simp t at e in let is : c.1 ≡ v = cc in simp t (omega arith))
+      | inr t ↦ (let at = simp t at e in
+          let more = least-set_value d test cs v w at l in
+          elim (cases_lt (least d cs) v) [
+            | inl below ↦ (let ih = least-set_value_above d test cs v w at l below in simp t (omega arith))
+            | inr above ↦ simp t (omega arith)
+          ])
+    ]
 
 pub least-remove_entry_above : (d : ℕ) (test : ℕ → Bool) (cs : List (ℕ × ℕ)) (v : ℕ) → lookup test cs ≡ Some v → least d cs < v → least d (remove_entry test cs) ≡ least d cs
 least-remove_entry_above d test [] v e h = refl
 least-remove_entry_above d test (c ∷ cs) v e h =
     elim (cases_Bool (test c.0)) [
-      inl t ↦ (let k = simp t at e in let is : c.1 ≡ v = cc in simp t (omega arith))
-    | inr t ↦ (let at = simp t at e in
-               let more = least-remove_entry d test cs in
-               elim (cases_lt (least d cs) v) [
-                 inl below ↦ (let ih = least-remove_entry_above d test cs v at below in simp t (omega arith))
-               | inr above ↦ simp t (omega arith) ]) ]
+      | inl t ↦ (let k = simp t at e in let is : c.1 ≡ v = cc in simp t (omega arith))
+      | inr t ↦ (let at = simp t at e in
+          let more = least-remove_entry d test cs in
+          elim (cases_lt (least d cs) v) [
+            | inl below ↦ (let ih = least-remove_entry_above d test cs v at below in simp t (omega arith))
+            | inr above ↦ simp t (omega arith)
+          ])
+    ]
 
 -- with more events the least cursor stays, where there is one
 pub least_grown : (d e : ℕ) (cs : List (ℕ × ℕ)) → (cs ≡ [] → ⊥) → d ≤ e → All (λ n. n ≤ d) (values_of cs) → least e cs ≡ least d cs

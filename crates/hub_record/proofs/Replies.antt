@@ -1,11 +1,11 @@
 -- A call has one reply in a world.
-use Rattle.std.proofs.Common.{ℕ, ◌≡◌, ◌+◌, ◌-◌, ◌<◌, ◌≤◌, true, false, List, [], ◌∷◌, ◌++◌, length, map, take, drop, Option, Some, None, Result, Ok, Err, refl, sym, ap, subst, ◌∙◌, ◌⊎◌, inl, inr, append_assoc, arith}
+use Rattle.std.proofs.Common.{ℕ, ◌≡◌, ◌+◌, List, [], ◌∷◌, ◌++◌, length, map, take, drop, Option, Some, None, Result, Ok, Err, refl, sym, ap, subst, ◌∙◌, inl, inr, append_assoc, arith}
 use Rattle.std.proofs.lemmas.Bool.{cases_order}
 use Rattle.std.proofs.lemmas.List.{map-append, take-append-drop}
 use Rattle.hub_letters.specs.declared.stage.Stage.{Stage}
 use Rattle.hub_letters.specs.declared.stage.Stage.TheVariants.{Off}
 use Rattle.hub_letters.specs.Marks.{Mark, mark}
-use Rattle.hub_letters.specs.Lawful.{IsLawful, IsLawfulRow, IsFirstUnlawful}
+use Rattle.hub_letters.specs.Lawful.{IsLawfulRow}
 use Rattle.hub_letters.specs.Stages.{follow_by}
 use Rattle.hub_letters.proofs.Lawful.{lawful_from_followed, followed_from_lawful, follow-append, follow_none}
 use Rattle.hub_record.specs.declared.Kind.{Kind}
@@ -18,7 +18,7 @@ use Rattle.hub_record.specs.declared.runs.Call.{Call}
 use Rattle.hub_record.specs.declared.runs.Call.TheVariants.{Subscribe, Publish, Take, Cancel, Close}
 use Rattle.hub_record.specs.declared.runs.Said.{Said}
 use Rattle.hub_record.specs.declared.runs.Said.TheVariants.{Subscribed, Published, Took, Cancelled, Shut}
-use Rattle.hub_record.specs.World.{World, IsLawfulIn, IsUnlawfulIn, HasRoom, IsFull, letters, load, standing}
+use Rattle.hub_record.specs.World.{World, IsLawfulIn, IsUnlawfulIn, HasRoom, IsFull, letters}
 use Rattle.hub_record.specs.Runs.{SaidTo, after_call, IsRun}
 
 -- ---- lawful words
@@ -28,6 +28,7 @@ lawful_before a b l = by (follow_by (Some Off) a) refl
   where
     whole : follow_by (follow_by (Some Off) a) b ≡ follow_by (Some Off) (a ++ b)
     whole = sym (follow-append (Some Off) a b)
+
     by : (o : Option Stage) → follow_by (Some Off) a ≡ o → IsLawfulRow a
     by (Some s) is = (lawful_from_followed a s is).0
     by None is =
@@ -41,15 +42,17 @@ unlawful_whole Plain word message i u l = u
 unlawful_whole Service word message i u l =
     let parts : (word ++ take (i + 1) message) ++ drop (i + 1) message ≡ word ++ message = append_assoc word (take (i + 1) message) (drop (i + 1) message) ∙ ap (λ z. word ++ z) (take-append-drop (i + 1) message) in
     u.broken (lawful_before (map mark (word ++ take (i + 1) message)) (map mark (drop (i + 1) message))
-      (subst IsLawfulRow (ap (map mark) (sym parts) ∙ map-append mark (word ++ take (i + 1) message) (drop (i + 1) message)) l))
+    (subst IsLawfulRow (ap (map mark) (sym parts) ∙ map-append mark (word ++ take (i + 1) message) (drop (i + 1) message)) l))
 
 unlawful_once : (kind : Kind) (word message : List ℕ) (i j : ℕ) → IsUnlawfulIn kind word message i → IsUnlawfulIn kind word message j → i ≡ j
 unlawful_once Plain word message i j u v = absurd u
 unlawful_once Service word message i j u v = elim (cases_order i j) [
-    inl same ↦ same
+  | inl same ↦ same
   | inr apart ↦ elim apart [
-      inl less ↦ absurd (u.broken (v.before i less))
-    | inr more ↦ absurd (v.broken (u.before j more)) ] ]
+    | inl less ↦ absurd (u.broken (v.before i less))
+    | inr more ↦ absurd (v.broken (u.before j more))
+  ]
+]
 
 full_once : (w : World) (n : ℕ) → HasRoom w n → IsFull w n → ⊥
 full_once w n (inl none) f = f.0 none

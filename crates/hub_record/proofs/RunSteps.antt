@@ -1,20 +1,10 @@
 -- A run with one more call.
-use Rattle.std.proofs.Common.{ℕ, suc, ◌≡◌, ◌==◌, ◌+◌, ◌-◌, ◌<◌, ◌≤◌, min, Bool, true, false, cond, if◌then◌else◌, List, [], ◌∷◌, ◌++◌, length, get_or, map, filter, take, drop, Vec, Option, Some, None, Result, Ok, Err, nat_eq, refl, sym, ap, subst, ◌∙◌, inl, inr, append_assoc, append-nil, arith}
-use Rattle.std.proofs.lemmas.Bool.{cases_Bool, ne_eqb}
-use Rattle.std.specs.Map.{lookup, set_value}
-use Rattle.std.specs.Option.{option_map, unwrap_or}
-use Rattle.std.specs.Global.{Global}
-use Rattle.std.proofs.lemmas.List.{map-append, length-append, take-append-drop, drop-drop, drop-append-le, take_more, drop_all, take_all, take-append-le, length-drop, length-take-le}
-use Rattle.std.proofs.lemmas.List.Elements.{filter-append}
-use Rattle.hub_record.specs.declared.Event.{Event}
-use Rattle.hub_record.specs.declared.SubError.{SubError}
-use Rattle.hub_record.specs.declared.PubError.{PubError}
+use Rattle.std.proofs.Common.{ℕ, ◌≡◌, ◌+◌, ◌<◌, List, [], ◌∷◌, ◌++◌, length, get_or, take, refl, sym, ap, subst, ◌∙◌}
+use Rattle.std.proofs.lemmas.List.{take_more}
 use Rattle.hub_record.specs.declared.runs.Call.{Call}
-use Rattle.hub_record.specs.declared.runs.Call.TheVariants.{Subscribe, Publish, Take, Cancel, Close}
 use Rattle.hub_record.specs.declared.runs.Said.{Said}
-use Rattle.hub_record.specs.declared.runs.Said.TheVariants.{Subscribed, Published, Took, Cancelled, Shut}
-use Rattle.hub_record.specs.World.{World, Subscription, found, found_from, changed_from, with_changed, new_subscription, stamped, moved, moved_on, moved_for, take_events, SubscribeReply, taken, stopped, after_subscribe, after_publish, after_take, after_take_for, after_cancel, after_cancel_for, after_close}
-use Rattle.hub_record.specs.Runs.{SaidTo, IsRun, gathered_from, lists_of, appended, after_call, world_after, Follows, EachFollows, AllFollow, by, accepted, published}
+use Rattle.hub_record.specs.World.{World}
+use Rattle.hub_record.specs.Runs.{SaidTo, IsRun, after_call, world_after}
 
 pub run-push : (w : World) (calls : List Call) (replies : List Said) (call : Call) (said : Said) → IsRun w calls replies → SaidTo (world_after w calls replies) call said → IsRun w (calls ++ call ∷ []) (replies ++ said ∷ [])
 run-push w [] [] call said r h = (h, tt)

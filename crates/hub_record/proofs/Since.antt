@@ -1,10 +1,7 @@
 -- What every run of the model keeps: each event since a mark once and in order, and each publisher's letters.
-use Rattle.std.proofs.Common.{ℕ, suc, ◌≡◌, ◌==◌, ◌+◌, ◌-◌, ◌<◌, ◌≤◌, min, Bool, true, false, cond, if◌then◌else◌, List, [], ◌∷◌, ◌++◌, length, get_or, map, filter, take, drop, Vec, Option, Some, None, Result, Ok, Err, nat_eq, refl, sym, ap, subst, ◌∙◌, inl, inr, append_assoc, append-nil, arith}
-use Rattle.std.proofs.lemmas.Bool.{cases_Bool, ne_eqb}
-use Rattle.std.specs.Map.{lookup, set_value}
-use Rattle.std.specs.Option.{option_map, unwrap_or}
-use Rattle.std.specs.Global.{Global}
-use Rattle.std.proofs.lemmas.List.{map-append, length-append, take-append-drop, drop-drop, drop-append-le, take_at, take_more, drop_all, take_all, take-append-le, length-drop, length-take-le}
+use Rattle.std.proofs.Common.{ℕ, ◌≡◌, ◌==◌, ◌+◌, ◌-◌, ◌≤◌, Bool, if◌then◌else◌, List, [], ◌∷◌, ◌++◌, length, map, filter, take, drop, Option, Some, None, Result, Ok, Err, nat_eq, refl, sym, ap, ◌∙◌, inl, inr, append_assoc, append-nil, arith}
+use Rattle.std.proofs.lemmas.Bool.{cases_Bool}
+use Rattle.std.proofs.lemmas.List.{map-append, length-append, take-append-drop, drop-drop, drop-append-le, take_at, length-drop}
 use Rattle.std.proofs.lemmas.List.Elements.{filter-append}
 use Rattle.hub_record.specs.declared.Event.{Event}
 use Rattle.hub_record.specs.declared.SubError.{SubError}
@@ -13,8 +10,8 @@ use Rattle.hub_record.specs.declared.runs.Call.{Call}
 use Rattle.hub_record.specs.declared.runs.Call.TheVariants.{Subscribe, Publish, Take, Cancel, Close}
 use Rattle.hub_record.specs.declared.runs.Said.{Said}
 use Rattle.hub_record.specs.declared.runs.Said.TheVariants.{Subscribed, Published, Took, Cancelled, Shut}
-use Rattle.hub_record.specs.World.{World, Subscription, found, found_from, changed_from, with_changed, new_subscription, stamped, moved, moved_on, moved_for, take_events, SubscribeReply, taken, stopped, after_subscribe, after_publish, after_take, after_take_for, after_cancel, after_cancel_for, after_close}
-use Rattle.hub_record.specs.Runs.{SaidTo, IsRun, gathered_from, lists_of, appended, after_call, world_after, Follows, EachFollows, AllFollow, by, accepted, published}
+use Rattle.hub_record.specs.World.{World, Subscription, found, changed_from, new_subscription, stamped, moved_on, taken, stopped, after_subscribe, after_publish, after_take_for, after_cancel_for}
+use Rattle.hub_record.specs.Runs.{after_call, world_after, Follows, EachFollows, AllFollow, by, accepted, published}
 
 -- ---- since
 
@@ -35,11 +32,12 @@ more_events events more [] h = tt
 more_events events more (s ∷ rest) h =
     let b = h.0.began in
     let e = h.0.ended in
-    let l = length-append events more in
-    (follows (events ++ more) s h.0.began (omega arith)
-       (drop-append-le s.mark events more (omega arith) ∙ ap (λ z. z ++ more) h.0.since ∙ append_assoc s.gathered (drop s.next events) more
-        ∙ ap (λ z. s.gathered ++ z) (sym (drop-append-le s.next events more e))),
-     more_events events more rest h.1)
+    let l = length-append events more in (
+      follows (events ++ more) s h.0.began (omega arith)
+          (drop-append-le s.mark events more (omega arith) ∙ ap (λ z. z ++ more) h.0.since ∙ append_assoc s.gathered (drop s.next events) more
+          ∙ ap (λ z. s.gathered ++ z) (sym (drop-append-le s.next events more e))),
+      more_events events more rest h.1,
+    )
 
 follows-push : (events : List Event) (subs : List Subscription) (s : Subscription) → Follows events s → EachFollows events subs → EachFollows events (subs ++ s ∷ [])
 follows-push events [] s f h = (f, tt)
@@ -56,8 +54,8 @@ follows-moved w most s h =
     let e = h.ended in
     let k = taken w s most in
     follows w.events (moved_on w most s) (omega arith) (omega arith)
-      (h.since ∙ ap (λ z. s.gathered ++ z) (sym (take-append-drop k (drop s.next w.events)) ∙ ap (λ z. take k (drop s.next w.events) ++ z) (drop-drop k s.next w.events))
-        ∙ sym (append_assoc s.gathered (take k (drop s.next w.events)) (drop (s.next + k) w.events)))
+    (h.since ∙ ap (λ z. s.gathered ++ z) (sym (take-append-drop k (drop s.next w.events)) ∙ ap (λ z. take k (drop s.next w.events) ++ z) (drop-drop k s.next w.events))
+    ∙ sym (append_assoc s.gathered (take k (drop s.next w.events)) (drop (s.next + k) w.events)))
 
 follows_take : (w : World) (id most : ℕ) (o : Option Subscription) → AllFollow w → AllFollow (after_take_for w id most o)
 follows_take w id most None h = h
@@ -105,8 +103,9 @@ by-stamped p who [] = elim (cases_Bool (who == p)) [ inl e ↦ simp e | inr e �
 by-stamped p who (l ∷ ls) =
     let ih = by-stamped p who ls in
     elim (cases_Bool (who == p)) [
-      inl e ↦ (let k : by p (stamped who ls) ≡ ls = ih ∙ ap (λ (b : Bool). if b then ls else []) e in simp e (ap (λ z. l ∷ z) k))
-    | inr e ↦ (let k : by p (stamped who ls) ≡ [] = ih ∙ ap (λ (b : Bool). if b then ls else []) e in simp e k) ]
+      | inl e ↦ (let k : by p (stamped who ls) ≡ ls = ih ∙ ap (λ (b : Bool). if b then ls else []) e in simp e (ap (λ z. l ∷ z) k))
+      | inr e ↦ (let k : by p (stamped who ls) ≡ [] = ih ∙ ap (λ (b : Bool). if b then ls else []) e in simp e k)
+    ]
 
 own_take : (p : ℕ) (w : World) (id most : ℕ) (o : Option Subscription) → by p (after_take_for w id most o).events ≡ by p w.events ++ []
 own_take p w id most None = sym (append-nil (by p w.events))

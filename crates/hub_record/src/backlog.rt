@@ -38,11 +38,11 @@ impl Model for Backlog {
     ghost Value = { Held };
 
     ghost view = { λ b. record {
-        room = b.ring.capacity;
-        end = b.base.number + length b.ring.items;
-        events = b.ring.items;
-        given = b.given;
-        cursors = b.cursors.entries;
+      room = b.ring.capacity;
+      end = b.base.number + length b.ring.items;
+      events = b.ring.items;
+      given = b.given;
+      cursors = b.cursors.entries;
     } };
 
     ghost invariant = { λ b. IsKept b.base.number b.base.standing (b.base.number + length b.ring.items) b.given b.cursors.entries };

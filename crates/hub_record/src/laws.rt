@@ -10,20 +10,17 @@ use crate::{Call, Kind, Limits, Said};
 pub fn each_event_once_and_in_order()
     ensures since { (kind : Kind) (limits : Limits) (calls : List Call) (replies : List Said) → IsRun (empty_world kind limits) calls replies → AllFollow (world_after (empty_world kind limits) calls replies) }
     ensures own { (kind : Kind) (limits : Limits) (calls : List Call) (replies : List Said) (p : ℕ) → IsRun (empty_world kind limits) calls replies → by p (world_after (empty_world kind limits) calls replies).events ≡ published p calls replies }
-{
-}
+{}
 
 /// In a world a call has one reply, want of memory aside, and one world after it. So a run has one list of replies.
 pub fn one_reply()
     ensures reply { (w : World) (call : Call) (one other : Said) → SaidTo w call one → SaidTo w call other → one ≡ other }
     ensures after { (w : World) (call : Call) (one other : Said) → SaidTo w call one → SaidTo w call other → after_call w call one ≡ after_call w call other }
     ensures run { (w : World) (calls : List Call) (one other : List Said) → IsRun w calls one → IsRun w calls other → one ≡ other }
-{
-}
+{}
 
 /// A record never keeps more events than may wait, and none where no subscription stands.
 pub fn no_more_than_may_wait()
     ensures most { (r : Kept) (w : World) → StandsFor r w → length r.events ≤ w.limits.waiting }
     ensures none { (r : Kept) (w : World) → StandsFor r w → standing w ≡ [] → r.events ≡ [] }
-{
-}
+{}

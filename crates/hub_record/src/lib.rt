@@ -20,12 +20,11 @@ mod ring;
 mod runs;
 
 use hub_letters::{Flags, Letter};
-use thiserror::Error;
-
 pub use letters::Letters;
 pub use limits::Limits;
 pub use record::Record;
-pub use runs::{replay, Call, Said, World};
+pub use runs::{Call, Said, World, replay};
+use thiserror::Error;
 
 /// A letter with the number of its publisher.
 #[derive(Clone, Copy, Debug, PartialEq, Eq)]

@@ -59,7 +59,9 @@ impl World {
                 Err(SubError::Memory) => return Err(AllocError),
                 Err(error) => return Ok(Said::Subscribed(Err(error))),
             },
-            Call::Publish { who, letters } => return Ok(Said::Published(self.state.publish(*who, letters.items()))),
+            Call::Publish { who, letters } => return Ok(Said::Published(
+                self.state.publish(*who, letters.items()),
+            )),
             Call::Take { id, max } => {
                 let waiting = self.state.waiting(*id).unwrap_or(0) as usize;
                 let filler = Event {
@@ -78,7 +80,11 @@ impl World {
 }
 
 /// Adds events behind those of an id.
-fn append(gathered: &mut IndexMap<u64, Vec<Event>>, id: u64, more: &[Event]) -> Result<(), AllocError>
+fn append(
+    gathered: &mut IndexMap<u64, Vec<Event>>,
+    id: u64,
+    more: &[Event],
+) -> Result<(), AllocError>
     ensures { OnOk result (lists_of gathered.new.entries ≡ appended id more.now (lists_of gathered.old.entries)) }
 {
     let Some(list) = gathered.get_mut(&id) else {
@@ -99,7 +105,12 @@ fn begin(alloc: Global, gathered: &mut IndexMap<u64, Vec<Event>>, id: u64) -> Re
 }
 
 /// Makes the calls in order on a new record. A growth that is refused ends the run.
-pub fn replay(alloc: Global, kind: Kind, limits: Limits, calls: &[Call]) -> Result<World, AllocError>
+pub fn replay(
+    alloc: Global,
+    kind: Kind,
+    limits: Limits,
+    calls: &[Call],
+) -> Result<World, AllocError>
     ensures replies { IfOk result (λ r. IsRun (empty_world kind limits) calls.now r.replies.items) }
     ensures state { IfOk result (λ r. StandsFor r.state (world_after (empty_world kind limits) calls.now r.replies.items)) }
     ensures gathered { IfOk result (λ r. lists_of r.gathered.entries ≡ gathered_from 1 (world_after (empty_world kind limits) calls.now r.replies.items).subscriptions) }

@@ -1,6 +1,6 @@
 //! Sessions over memory, with readers that drip and writers that fail.
 
-use super::fakes::{Dripping, Endless, Narrow, PlainDesk};
+use super::fakes::{Dripping, Endless, Narrow, PlainDesk, Stuck};
 use super::serve;
 use crate::fault::FrontError;
 use std::test::Fail;
@@ -10,7 +10,11 @@ fn one_reply_for_each_line_however_it_is_cut(rt: HostRuntime) -> Result<(), Fail
     for (input, count, output) in [
         ("", 0, ""),
         ("\n\n", 2, "no word\nno word\n"),
-        ("sub w\nstatus w\n\nclose w\n", 4, "ok\nnone\nno word\nend\n"),
+        (
+            "sub w\nstatus w\n\nclose w\n",
+            4,
+            "ok\nnone\nno word\nend\n",
+        ),
         ("sub w\nstatus w", 2, "ok\nnone\n"),
         ("sub w\r\nsub w\n", 2, "no text\nok\n"),
         (" \nsub w", 2, "no word\nok\n"),
@@ -101,7 +105,7 @@ fn a_writer_that_fails(rt: HostRuntime) -> Result<(), Fail> {
 #[test]
 fn a_writer_that_takes_nothing(rt: HostRuntime) -> Result<(), Fail> {
     let mut desk = PlainDesk::new();
-    let mut writer = Narrow::new(0, 0);
+    let mut writer = Stuck { writes: 0 };
     let mut input = b"sub w\n".as_slice();
     let served = serve(&rt, rt.alloc(), &mut desk, &mut input, &mut writer);
     assert_eq!(rt; served, Err(FrontError::Write));

@@ -1,4 +1,4 @@
-use Rattle.std.proofs.Common.{◌≡◌, ◌<◌, ℕ, length, arith, rules}
+use Rattle.std.proofs.Common.{arith}
 use Rattle.hub_front.proofs.Splits.{fields_of-at, fields_of-none}
 use Rattle.hub_front.proofs.fields.split_at_space.Goals as goal
 

@@ -1,4 +1,4 @@
-use Rattle.std.proofs.Common.{◌≡◌, true, sym, ap, ◌∙◌}
+use Rattle.std.proofs.Common.{◌≡◌, true, ap}
 use Rattle.hub_desk.specs.Names.{is_name}
 use Rattle.hub_front.proofs.Splits.{fields_of-one, text_of_one}
 use Rattle.hub_front.proofs.Visible.{one_field, visible_name}

@@ -1,8 +1,8 @@
-use Rattle.std.proofs.Common.{◌≡◌, ◌≢◌, ℕ, List, ◌∷◌, [], ◌∙◌, sym, ap, subst}
+use Rattle.std.proofs.Common.{◌≡◌, ◌≢◌, ℕ, List, ◌∷◌, [], sym, subst}
 use Rattle.std.specs.Fmt.{decimal}
 use Rattle.hub_front.specs.declared.words.Word.TheVariants as word
-use Rattle.hub_front.specs.Spelling.{Form, Dir, Svc, Sub, Pub, Take, Cancel, Close, Status, IsForm, IsNumeral, word_of}
-use Rattle.hub_front.specs.Fields.{fields_of, fields_behind, IsNoForm}
+use Rattle.hub_front.specs.Spelling.{Svc, IsNumeral}
+use Rattle.hub_front.specs.Fields.{fields_of, IsNoForm}
 use Rattle.hub_front.proofs.forms.svc.Goals as goal
 
 -- no number stands third

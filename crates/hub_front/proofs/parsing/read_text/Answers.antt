@@ -1,8 +1,7 @@
-use Rattle.std.proofs.Common.{◌≡◌, ◌∷◌, ◌∙◌, ap, sym, rules}
+use Rattle.std.proofs.Common.{◌≡◌, ◌∷◌, ◌∙◌, ap, sym}
 use Rattle.hub_front.specs.Spelling.{text_of_word}
 use Rattle.hub_front.specs.Fields.{fields_of}
 use Rattle.hub_front.specs.Forms.{form_shown}
-use Rattle.hub_front.specs.Reading.{HasForm}
 use Rattle.hub_front.proofs.FieldLists.{first_word-fields, no_form, has_form-of_word}
 use Rattle.hub_front.proofs.parsing.read_text.Goals as goal
 

@@ -1,4 +1,4 @@
-use Rattle.std.proofs.Common.{◌≡◌, refl, subst}
+use Rattle.std.proofs.Common.{◌≡◌, refl}
 use Rattle.hub_front.proofs.Alike.{same_output, alike_of_function}
 use Rattle.hub_front.proofs.places.same_input_same_output.Goals as goal
 

@@ -1,7 +1,6 @@
-use Rattle.std.proofs.Common.{◌≡◌, ℕ, ◌+◌, List, Err, length, refl, sym, inr, subst, rules}
-use Rattle.hub_front.specs.declared.fault.FrontError.{FrontError}
-use Rattle.hub_front.specs.declared.fault.FrontError.TheVariants.{Write, Memory}
-use Rattle.hub_front.specs.Lines.{last_line, lines_of}
+use Rattle.std.proofs.Common.{◌≡◌, Err, refl, sym, ap, ◌∙◌, inr, subst, rules}
+use Rattle.hub_front.specs.declared.fault.FrontError.TheVariants.{Memory}
+use Rattle.hub_front.specs.Lines.{lines_of}
 use Rattle.hub_front.specs.Serving.{StopsAt}
 use Rattle.hub_front.proofs.Outcomes.{IfOk-from, IfErr-from}
 use Rattle.hub_front.proofs.UnderWay.{served_last, breaks_last, count_last}
@@ -9,9 +8,9 @@ use Rattle.hub_front.proofs.serving.serve_lines.Goals as goal
 
 pub returns-in_err-serve_reads-clause-memory : goal.returns-in_err-serve_reads-clause-memory
 returns-in_err-serve_reads-clause-memory g c = λ memory.
-    let same : c.from_residual.result ≡ Err c.in_err-serve_reads.field-0.0 = search rules in
+    let same : c.from_residual-in_err-serve_reads.result ≡ Err c.in_err-serve_reads.field-0.0 = search rules in
     let it : c.in_err-serve_reads.field-0.0 ≡ Memory = cc in
-    absurd (c.serve_reads.ensures.memory (cc))
+    absurd (c.serve_reads.ensures.memory (c.in_err-serve_reads.was ∙ ap Err it))
 
 pub returns-clause-ok : goal.returns-clause-ok
 returns-clause-ok g c =
@@ -22,5 +21,5 @@ pub returns-clause-err : goal.returns-clause-err
 returns-clause-err g c =
     let u = c.in_ok-serve_reads.ensures.under_way in
     IfErr-from _ _ c.finish.result
-      (λ e broken fault. (u.input, u.consumed, subst (StopsAt _ _ u.input _ _ _ _) (sym fault) (lines_of u.input, inr (c.in_ok-serve_reads.ensures.end, refl), breaks_last u broken)))
-      c.finish.ensures.err c.finish.ensures.fault
+    (λ e broken fault. (u.input, u.consumed, subst (StopsAt _ _ u.input _ _ _ _) (sym fault) (lines_of u.input, inr (c.in_ok-serve_reads.ensures.end, refl), breaks_last u broken)))
+    c.finish.ensures.err c.finish.ensures.fault

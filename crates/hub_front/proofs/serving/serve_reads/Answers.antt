@@ -1,4 +1,4 @@
-use Rattle.std.proofs.Common.{◌≡◌, ◌+◌, ◌*◌, ◌<◌, ◌≤◌, Err, length, take, rules, arith}
+use Rattle.std.proofs.Common.{◌≡◌, ◌≤◌, Err, length, take, rules, arith}
 use Rattle.hub_front.specs.declared.fault.FrontError.TheVariants.{Write}
 use Rattle.hub_front.specs.Pieces.{done}
 use Rattle.hub_front.proofs.Cuts.{done_few}
@@ -21,17 +21,17 @@ returns-in_err-take_bytes-clause-err g c =
 
 pub reads-preserved : goal.reads-preserved
 reads-preserved g c =
-  let piece = take c.in-Ok.n c.pull.new.buf in
-  let size : c.in-Ok.n ≡ length piece = c.in-Ok.ensures.bound.1 in
-  let some : 1 ≤ length piece = omega arith in
-  let ended : length (done piece c.reads.session.line.items) ≤ length piece = done_few piece c.reads.session.line.items in
-  record {
-    chunk = search rules;
-    under_way = goes_on piece some c.in-Ok.ensures.bytes.0 c.in_ok-take_bytes.ensures.ok c.in_ok-take_bytes.ensures.line c.in_ok-take_bytes.ensures.count c.reads.invariant.under_way;
-    few = omega (arith, c.reads.invariant.few, c.reads.invariant.chunk, c.in-Ok.ensures.bound.0, c.in_ok-take_bytes.ensures.count);
-    no_read_fault = Grows-trans _ _ _ 0 c.reads.invariant.no_read_fault c.in-Ok.ensures.told;
-    no_write_fault = Grows-trans _ _ _ 0 c.reads.invariant.no_write_fault c.in_ok-take_bytes.ensures.told;
-  }
+    let piece = take c.in-Ok.n c.pull.new.buf in
+    let size : c.in-Ok.n ≡ length piece = c.in-Ok.ensures.bound.1 in
+    let some : 1 ≤ length piece = omega arith in
+    let ended : length (done piece c.reads.session.line.items) ≤ length piece = done_few piece c.reads.session.line.items in
+    record {
+      chunk = search rules;
+      under_way = goes_on piece some c.in-Ok.ensures.bytes.0 c.in_ok-take_bytes.ensures.ok c.in_ok-take_bytes.ensures.line c.in_ok-take_bytes.ensures.count c.reads.invariant.under_way;
+      few = omega (arith, c.reads.invariant.few, c.reads.invariant.chunk, c.in-Ok.ensures.bound.0, c.in_ok-take_bytes.ensures.count);
+      no_read_fault = Grows-trans _ _ _ 0 c.reads.invariant.no_read_fault c.in-Ok.ensures.told;
+      no_write_fault = Grows-trans _ _ _ 0 c.reads.invariant.no_write_fault c.in_ok-take_bytes.ensures.told;
+    }
 
 pub returns-clause-err : goal.returns-clause-err
 returns-clause-err g c =

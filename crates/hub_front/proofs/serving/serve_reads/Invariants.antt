@@ -8,7 +8,7 @@ abbrev pub invariant-reads : goal.invariant-reads
 invariant-reads g l = record {
   chunk : length l.chunk ≡ 65536;
   under_way : IsUnderWay g.D.Desk.asks l.fn.desk l.desk (g.W.Write.contents l.fn.writer) (g.W.Write.contents l.writer)
-    (g.R.Read.remaining l.fn.reader) (g.R.Read.remaining l.reader) l.session.line.items l.session.count l._read;
+      (g.R.Read.remaining l.fn.reader) (g.R.Read.remaining l.reader) l.session.line.items l.session.count l._read;
   few : l.session.count ≤ l._read * 65536;
   no_read_fault : Grows (g.R.Source.faults l.fn.reader) (g.R.Source.faults l.reader) 0;
   no_write_fault : Grows (g.W.Sink.faults l.fn.writer) (g.W.Sink.faults l.writer) 0;

@@ -11,5 +11,5 @@ returns-clause-within c = λ request formed within short. record {
 }
 
 pub returns-clause-beyond : goal.returns-clause-beyond
-returns-clause-beyond c = λ form formed short beyond.
+returns-clause-beyond c = λ form formed beyond short.
     (text_of_form form formed short, form, record { formed = formed; spelled = refl }, beyond)

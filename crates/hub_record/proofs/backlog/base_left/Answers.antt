@@ -1,4 +1,4 @@
-use Rattle.std.proofs.Common.{◌≡◌, ◌<◌, ◌≤◌, ◌+◌, ◌-◌, length, arith}
+use Rattle.std.proofs.Common.{◌+◌, length, arith}
 use Rattle.hub_record.proofs.Least.{least_bound, least_bound_standing}
 use Rattle.hub_record.proofs.backlog.base_left.Goals as goal
 

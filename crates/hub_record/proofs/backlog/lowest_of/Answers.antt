@@ -1,9 +1,6 @@
-use Rattle.std.proofs.Common.{◌≡◌, ◌<◌, ◌≤◌, ◌+◌, ◌==◌, ◌∷◌, fold, min, count_by, List, ℕ, length, sym, ap, subst, ◌∙◌, arith}
-use Rattle.std.specs.Map.{values_of}
+use Rattle.std.proofs.Common.{length, ap, ◌∙◌, arith}
 use Rattle.std.proofs.lemmas.Map.Entries.{length-values_of}
-use Rattle.hub_record.specs.World.{least}
-use Rattle.hub_record.specs.Backlog.{standing_at}
-use Rattle.hub_record.proofs.Lowest.{IsSoFar, so_far_first, so_far_last, so_far_lower, so_far_same, so_far_higher}
+use Rattle.hub_record.proofs.Lowest.{so_far_first, so_far_last, so_far_lower, so_far_same, so_far_higher}
 use Rattle.hub_record.proofs.backlog.lowest_of.Goals as goal
 
 pub loop-next-init : goal.loop-next-init

@@ -1,4 +1,4 @@
-use Rattle.std.proofs.Common.{◌≡◌, ◌+◌, ◌-◌, ◌<◌, ◌≤◌, ◌++◌, min, length, take, drop, sym, ap, ◌∙◌, arith}
+use Rattle.std.proofs.Common.{◌≡◌, ◌+◌, ◌-◌, ◌++◌, take, drop, ap, ◌∙◌, arith}
 use Rattle.std.proofs.lemmas.List.{length-drop, take_rest}
 use Rattle.hub_record.proofs.Copies.{drop-parts, copied_out}
 use Rattle.hub_record.proofs.ring.copy_out.Goals as goal
@@ -13,8 +13,8 @@ returns-clause-copied c =
     let l = length-drop c.min-in_front.result front in
     let m = length-drop (c.args.place - c.min-in_front.result) back in
     let parts : drop c.min-in_front.result front ++ drop (c.args.place - c.min-in_front.result) back ≡ drop c.args.place c.args.ring.now.items =
-        (λ i. drop (p i) front ++ drop (c.args.place - p i) back) ∙ drop-parts front back c.args.place ∙ ap (drop c.args.place) c.as_slices.ensures in
+    (λ i. drop (p i) front ++ drop (c.args.place - p i) back) ∙ drop-parts front back c.args.place ∙ ap (drop c.args.place) c.as_slices.ensures in
     copied_out (drop c.min-in_front.result front) (drop (c.args.place - c.min-in_front.result) back) c.args.out.now _ _ c.min-from_front.result c.min-from_back.result
-      (omega arith) (λ some. omega arith) (c.copy_from_slice.ensures.after ∙ ap (take c.min-from_front.result) (take_rest front c.min-in_front.result))
-      (c.copy_from_slice-2.ensures.after ∙ ap (take c.min-from_back.result) (take_rest back (c.args.place - c.min-in_front.result)))
+    (omega arith) (λ some. omega arith) (c.copy_from_slice.ensures.after ∙ ap (take c.min-from_front.result) (take_rest front c.min-in_front.result))
+    (c.copy_from_slice-2.ensures.after ∙ ap (take c.min-from_back.result) (take_rest back (c.args.place - c.min-in_front.result)))
     ∙ ap (λ z. take (c.min-from_front.result + c.min-from_back.result) z ++ drop (c.min-from_front.result + c.min-from_back.result) c.args.out.now) parts

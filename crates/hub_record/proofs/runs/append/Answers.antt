@@ -1,4 +1,4 @@
-use Rattle.std.proofs.Common.{◌≡◌, Vec, nat_eq, sym, ap, ◌∙◌}
+use Rattle.std.proofs.Common.{Vec, nat_eq, sym, ap, ◌∙◌}
 use Rattle.std.specs.Option.{option_map}
 use Rattle.std.specs.Global.{Global}
 use Rattle.hub_record.specs.declared.Event.{Event}

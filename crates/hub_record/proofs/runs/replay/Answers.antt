@@ -1,4 +1,4 @@
-use Rattle.std.proofs.Common.{◌≡◌, List, [], ◌∷◌, ◌++◌, ap, ◌∙◌, subst}
+use Rattle.std.proofs.Common.{◌≡◌, [], ◌∷◌, ◌++◌, ap, ◌∙◌, subst}
 use Rattle.hub_record.specs.World.{World, empty_world}
 use Rattle.hub_record.specs.Kept.{StandsFor}
 use Rattle.hub_record.specs.Runs.{gathered_from}

@@ -1,4 +1,4 @@
-use Rattle.std.proofs.Common.{◌≡◌, ℕ, ◌≤◌, ◌<◌, ◌+◌, List, [], ◌∷◌, ◌++◌, length, take, drop, get_or, arith, sym, ap, ◌∙◌, refl, subst, take-append-drop, drop-cons, add-one}
+use Rattle.std.proofs.Common.{◌≡◌, ℕ, ◌≤◌, ◌<◌, ◌+◌, List, [], ◌∷◌, ◌++◌, length, take, drop, get_or, arith, sym, ap, ◌∙◌, refl, take-append-drop, drop-cons, add-one}
 use Rattle.std.proofs.lemmas.List.{take_more, length-take-le}
 use Rattle.hub_front.specs.Pieces.{done, left}
 use Rattle.hub_front.proofs.Cuts.{done_few, served_on, left_on, count_on, breaks_on}
@@ -22,7 +22,7 @@ returns-in_err-take_byte-clause-err g c =
     let xs = c.args.bytes.now in
     let i = c.loop-byte.byte-index in
     OnErr-known _ (breaks_same (ap (λ bytes. done bytes c.args.self.now.line.items) (split_at_byte xs i c.loop-byte-test.true))
-      (breaks_on (take i xs) (get_or xs i 0 ∷ []) (drop (i + 1) xs) _ _ c.loop-byte.invariant.line c.loop-byte.invariant.served c.in_err-take_byte.ensures.err))
+    (breaks_on (take i xs) (get_or xs i 0 ∷ []) (drop (i + 1) xs) _ _ c.loop-byte.invariant.line c.loop-byte.invariant.served c.in_err-take_byte.ensures.err))
 
 pub loop-byte-preserved : goal.loop-byte-preserved
 loop-byte-preserved g c =
@@ -32,9 +32,9 @@ loop-byte-preserved g c =
     let more : take i xs ++ get_or xs i 0 ∷ [] ≡ take (i + 1) xs = sym (take_more xs i 0 c.loop-byte-test.true) in
     record {
       served = served_same (ap (λ bytes. done bytes kept) more)
-        (served_on (take i xs) (get_or xs i 0 ∷ []) kept _ c.loop-byte.invariant.line c.loop-byte.invariant.served c.in_ok-take_byte.ensures.ok);
+          (served_on (take i xs) (get_or xs i 0 ∷ []) kept _ c.loop-byte.invariant.line c.loop-byte.invariant.served c.in_ok-take_byte.ensures.ok);
       line = left_on (take i xs) (get_or xs i 0 ∷ []) kept _ _ c.loop-byte.invariant.line c.in_ok-take_byte.ensures.line ∙ ap (λ bytes. left bytes kept) more;
       count = count_on (take i xs) (get_or xs i 0 ∷ []) kept _ _ _ _ c.loop-byte.invariant.line c.loop-byte.invariant.count c.in_ok-take_byte.ensures.count
-        ∙ ap (λ bytes. c.args.self.now.count + length (done bytes kept)) more;
+          ∙ ap (λ bytes. c.args.self.now.count + length (done bytes kept)) more;
       quiet = Grows-trans _ _ _ 0 c.loop-byte.invariant.quiet c.in_ok-take_byte.ensures.told;
     }

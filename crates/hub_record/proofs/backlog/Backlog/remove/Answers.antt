@@ -1,4 +1,4 @@
-use Rattle.std.proofs.Common.{ℕ, ◌≡◌, ◌<◌, ◌≤◌, ◌+◌, ◌-◌, Some, length, drop, nat_eq, refl, sym, ap, ◌∙◌, arith}
+use Rattle.std.proofs.Common.{◌≡◌, ◌+◌, length, nat_eq, refl, sym, ap, ◌∙◌, arith}
 use Rattle.hub_record.specs.World.{least}
 use Rattle.hub_record.specs.Backlog.{Held, standing_at}
 use Rattle.hub_record.proofs.Least.{least_bound_at, least-remove_entry, least-remove_entry_above, standing_at-remove_entry_left, standing_at-remove_entry_other}
@@ -12,9 +12,9 @@ invariant_of-self-then-next-self c =
     let above = c.if-next-self.true in
     let is = c.shift_remove.ensures.entries in
     kept_remove_entry _ _ _ _ _ _ _ (nat_eq c.args.id) _ _ k is
-      (k.lowest ∙ sym (least-remove_entry_above _ (nat_eq c.args.id) _ c.in-Some.next found (omega arith)) ∙ ap (least _) (sym is))
-      (k.counted ∙ sym (standing_at-remove_entry_other _ (nat_eq c.args.id) _ c.in-Some.next found (λ e. omega arith)) ∙ ap (standing_at _) (sym is))
-      refl
+    (k.lowest ∙ sym (least-remove_entry_above _ (nat_eq c.args.id) _ c.in-Some.next found (omega arith)) ∙ ap (least _) (sym is))
+    (k.counted ∙ sym (standing_at-remove_entry_other _ (nat_eq c.args.id) _ c.in-Some.next found (λ e. omega arith)) ∙ ap (standing_at _) (sym is))
+    refl
 
 pub returns-then-next-self : goal.returns-then-next-self
 returns-then-next-self c =

@@ -1,4 +1,4 @@
-use Rattle.std.proofs.Common.{◌≡◌, ◌++◌, ◌∷◌, ◌<◌, ◌≤◌, ◌+◌, [], nat_eq, refl, sym, ap, ◌∙◌, arith}
+use Rattle.std.proofs.Common.{◌++◌, ◌∷◌, ◌+◌, [], nat_eq, sym, ap, ◌∙◌, arith}
 use Rattle.indexmap.proofs.CallerLemmas.{insert_entry-new}
 use Rattle.hub_record.specs.Backlog.{Held}
 use Rattle.hub_record.proofs.Least.{standing_at-push_same, standing_at-push_other}
@@ -11,8 +11,8 @@ invariant_of-self-then-end-self c =
     let base = c.if-end-self.true in
     let new = lookup_unknown c.self.inside.given (c.self.inside.given + 1) c.self.inside.cursors.entries (omega arith) c.self.invariant.known in
     kept_stand _ _ _ _ _ _ _ c.self.invariant
-      (c.in-Ok.ensures.entries ∙ insert_entry-new nat_eq c.self.inside.cursors _ _ new ∙ ap (λ n. c.self.inside.cursors.entries ++ (c.self.inside.given + 1, n) ∷ []) end)
-      (ap (λ n. n + 1) c.self.invariant.counted ∙ sym (standing_at-push_same c.self.inside.base.number _ _ c.self.inside.cursors.entries (sym end ∙ base)))
+    (c.in-Ok.ensures.entries ∙ insert_entry-new nat_eq c.self.inside.cursors _ _ new ∙ ap (λ n. c.self.inside.cursors.entries ++ (c.self.inside.given + 1, n) ∷ []) end)
+    (ap (λ n. n + 1) c.self.invariant.counted ∙ sym (standing_at-push_same c.self.inside.base.number _ _ c.self.inside.cursors.entries (sym end ∙ base)))
 
 pub invariant_of-self-else-end-self : goal.invariant_of-self-else-end-self
 invariant_of-self-else-end-self c =
@@ -20,8 +20,8 @@ invariant_of-self-else-end-self c =
     let base = c.if-end-self.false in
     let new = lookup_unknown c.self.inside.given (c.self.inside.given + 1) c.self.inside.cursors.entries (omega arith) c.self.invariant.known in
     kept_stand _ _ _ _ _ _ _ c.self.invariant
-      (c.in-Ok.ensures.entries ∙ insert_entry-new nat_eq c.self.inside.cursors _ _ new ∙ ap (λ n. c.self.inside.cursors.entries ++ (c.self.inside.given + 1, n) ∷ []) end)
-      (c.self.invariant.counted ∙ sym (standing_at-push_other c.self.inside.base.number _ _ c.self.inside.cursors.entries (λ e. base (end ∙ e))))
+    (c.in-Ok.ensures.entries ∙ insert_entry-new nat_eq c.self.inside.cursors _ _ new ∙ ap (λ n. c.self.inside.cursors.entries ++ (c.self.inside.given + 1, n) ∷ []) end)
+    (c.self.invariant.counted ∙ sym (standing_at-push_other c.self.inside.base.number _ _ c.self.inside.cursors.entries (λ e. base (end ∙ e))))
 
 pub returns-then-end-self-clause-stands : goal.returns-then-end-self-clause-stands
 returns-then-end-self-clause-stands c =

@@ -1,9 +1,9 @@
-use Rattle.std.proofs.Common.{ℕ, ◌≡◌, ◌<◌, ◌≤◌, ◌+◌, ◌-◌, Some, length, drop, nat_eq, refl, sym, ap, subst, ◌∙◌, arith}
+use Rattle.std.proofs.Common.{◌≡◌, ◌+◌, length, nat_eq, refl, sym, ap, subst, ◌∙◌, arith}
 use Rattle.std.proofs.lemmas.Map.Steps.{set_value_same}
 use Rattle.std.proofs.lemmas.Bool.{eqb-true, eqb-false}
 use Rattle.std.specs.Map.{set_value}
 use Rattle.hub_record.specs.World.{least}
-use Rattle.hub_record.specs.Backlog.{Held, IsKept, standing_at, with_cursors}
+use Rattle.hub_record.specs.Backlog.{Held, IsKept, standing_at}
 use Rattle.hub_record.proofs.Least.{least_bound_at, least-set_value, least-set_value_above, standing_at-set_value_left, standing_at-set_value_other}
 use Rattle.hub_record.proofs.Keeps.{lookup_bound, kept_set_value, cut_held, uncut_held, takes_nothing, takes_some}
 use Rattle.hub_record.proofs.backlog.Backlog.take.Goals as goal
@@ -39,7 +39,7 @@ returns-then-is_empty c =
     let is = (c.get_mut.follows.holds c.in-Some.next.now).0 ∙ ap (set_value (nat_eq c.args.id) c.self.inside.cursors.entries) stays in
     let same = ap (least (c.self.inside.base.number + length c.self.inside.ring.items)) (ap (set_value (nat_eq c.args.id) c.self.inside.cursors.entries) (sym stays) ∙ set_value_same (nat_eq c.args.id) _ _ found) in
     takes_some _ _ _ c.args.id _ 0 _ _ _ c.self.view_is found (omega arith) low (omega arith) refl (omega arith) refl
-      (uncut_held _ _ _ _ _ _ _ is same)
+    (uncut_held _ _ _ _ _ _ _ is same)
 
 pub invariant_of-self-then-from-self : goal.invariant_of-self-then-from-self
 invariant_of-self-then-from-self c =
@@ -51,9 +51,9 @@ invariant_of-self-then-from-self c =
     let above = c.if-from-self.true in
     let within = lookup_bound _ _ (nat_eq c.args.id) c.self.inside.cursors.entries k.behind found in
     kept_set_value _ _ _ _ _ _ _ (c.in-Some.next.now + c.copy_out-count.result) (nat_eq c.args.id) _ _ k (omega arith) is
-      (low ∙ sym (least-set_value_above _ (nat_eq c.args.id) _ _ _ found (omega arith) (omega arith)) ∙ ap (least _) (sym is))
-      (k.counted ∙ sym (standing_at-set_value_other _ (nat_eq c.args.id) _ _ _ found above (omega arith)) ∙ ap (standing_at _) (sym is))
-      refl
+    (low ∙ sym (least-set_value_above _ (nat_eq c.args.id) _ _ _ found (omega arith) (omega arith)) ∙ ap (least _) (sym is))
+    (k.counted ∙ sym (standing_at-set_value_other _ (nat_eq c.args.id) _ _ _ found above (omega arith)) ∙ ap (standing_at _) (sym is))
+    refl
 
 pub returns-then-from-self : goal.returns-then-from-self
 returns-then-from-self c =
@@ -66,7 +66,7 @@ returns-then-from-self c =
     let apart = c.if-from-end.false in
     let is = (c.get_mut.follows.holds (c.in-Some.next.now + c.copy_out-count.result)).0 in
     takes_some _ _ _ c.args.id _ c.copy_out-count.result _ _ _ c.self.view_is found (omega arith) low (omega arith) refl c.copy_out-count.ensures.count c.copy_out-count.ensures.copied
-      (uncut_held _ _ _ _ _ _ _ is (least-set_value_above _ (nat_eq c.args.id) _ _ _ found (omega arith) (omega arith)))
+    (uncut_held _ _ _ _ _ _ _ is (least-set_value_above _ (nat_eq c.args.id) _ _ _ found (omega arith) (omega arith)))
 
 pub base_left-self-inside-requires-clause-counted : goal.base_left-self-inside-requires-clause-counted
 base_left-self-inside-requires-clause-counted c =
@@ -118,4 +118,4 @@ returns c =
     let more = least-set_value (c.self.inside.base.number + length c.self.inside.ring.items) (nat_eq c.args.id) c.self.inside.cursors.entries _ (c.in-Some.next.now + c.copy_out-count.result) found (omega arith) in
     let is = (c.get_mut.follows.holds (c.in-Some.next.now + c.copy_out-count.result)).0 in
     takes_some _ _ _ c.args.id _ c.copy_out-count.result _ _ _ c.self.view_is found (omega arith) low (omega arith) refl c.copy_out-count.ensures.count c.copy_out-count.ensures.copied
-      (cut_held _ _ _ c.self.inside.given _ _ _ _ _ low left.number is more left.cut)
+    (cut_held _ _ _ c.self.inside.given _ _ _ _ _ low left.number is more left.cut)

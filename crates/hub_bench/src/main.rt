@@ -1,0 +1,169 @@
+//! Measures a record: how many letters a second pass it, beside the same loop over a plain vector, so that the ratio holds on any machine.
+#![tactic(auto)]
+
+use anyhow::{Result, anyhow};
+use hub_letters::Letter;
+use hub_record::{Event, Kind, Limits, Record};
+use std::alloc::Global;
+use std::env;
+use std::process::ExitCode;
+use std::rt::{Clock, Runtime};
+use std::time::{Duration, Instant};
+
+/// How many events may wait.
+const WAITING: usize = 4096;
+
+/// How many bursts of each length are sent.
+const MEASURES: [(usize, u32); 2] = [(1, 1_000_000), (256, 20_000)];
+
+/// How many listeners there are.
+const LISTENERS: [u64; 3] = [1, 4, 16];
+
+fn main(rt: HostRuntime) -> ExitCode {
+    match run(&rt, rt.alloc()) {
+        Ok(()) => ExitCode::SUCCESS,
+        Err(fault) => {
+            let _ = eprintln!(rt; "hub_bench: {fault}");
+            ExitCode::FAILURE
+        }
+    }
+}
+
+fn run(rt: &impl Runtime, alloc: Global) -> Result<()> {
+    let word = env::args(rt)?.nth(1);
+    if word.is_none() {
+        println!(rt; "usage: hub_bench record")?;
+        return Ok(());
+    }
+    for (burst, bursts) in MEASURES {
+        let message = vec![in alloc; Letter::least(); burst]?;
+        for listeners in LISTENERS {
+            let sent = (burst as u64).saturating_mul(bursts as u64);
+            let record = through_record(rt, alloc, listeners, &message, bursts)?;
+            let vector = through_vector(rt, alloc, listeners, &message, bursts)?;
+            println!(rt;
+                "{listeners} listeners, bursts of {burst}: {} letters a second, through a vector {}",
+                rate(sent, record),
+                rate(sent, vector)
+            )?;
+        }
+    }
+    let message = vec![in alloc; Letter::least(); 256]?;
+    for listeners in LISTENERS {
+        let took = publishing_alone(rt, alloc, listeners, &message, 2_000)?;
+        println!(rt;
+            "{listeners} listeners, publishing alone: {} letters a second",
+            rate(16 * 256 * 2_000, took)
+        )?;
+    }
+    Ok(())
+}
+
+/// Letters a second.
+fn rate(letters: u64, took: Duration) -> u128 {
+    letters as u128 * 1_000_000 / took.as_micros().max(1)
+}
+
+fn filler() -> Event {
+    Event {
+        who: 0,
+        letter: Letter::least(),
+    }
+}
+
+/// A record with so many subscriptions, and their ids.
+fn subscribed(alloc: Global, listeners: u64) -> Result<(Record, Vec<u64>)> {
+    let limits = Limits::of(WAITING as u64, 1_000_000_000_000, listeners.max(1)).ok_or_else(
+        || anyhow!("no limits"),
+    )?;
+    let mut record = Record::new(alloc, Kind::Plain, limits)?;
+    let mut ids = Vec::new(alloc);
+    for _ in 0..listeners {
+        let (id, _mark) = record.subscribe()?;
+        ids.push(id)?;
+    }
+    Ok((record, ids))
+}
+
+/// Each burst is published, and then taken by each listener.
+fn through_record(
+    rt: &impl Clock,
+    alloc: Global,
+    listeners: u64,
+    message: &[Letter],
+    bursts: u32,
+) -> Result<Duration> {
+    let (mut record, ids) = subscribed(alloc, listeners)?;
+    let mut out = vec![in alloc; filler(); message.len()]?;
+    let start = Instant::now(rt)?;
+    for _ in 0..bursts {
+        record.publish(1, message)?;
+        for id in &ids {
+            record.take_into(*id, &mut out)?;
+        }
+    }
+    Ok(start.elapsed(rt)?)
+}
+
+/// The same with a vector and an index for each listener: nothing is numbered, bounded or refused.
+fn through_vector(
+    rt: &impl Clock,
+    alloc: Global,
+    listeners: u64,
+    message: &[Letter],
+    bursts: u32,
+) -> Result<Duration> {
+    let mut events: Vec<Event> = Vec::with_capacity(alloc, WAITING)?;
+    let mut nexts = vec![in alloc; 0_usize; listeners as usize]?;
+    let mut out = vec![in alloc; filler(); message.len()]?;
+    let start = Instant::now(rt)?;
+    for _ in 0..bursts {
+        for letter in message {
+            events.push(Event {
+                who: 1,
+                letter: *letter,
+            })?;
+        }
+        for next in nexts.iter_mut() {
+            *next = copied(&events, *next, &mut out);
+        }
+        events.clear();
+        for next in nexts.iter_mut() {
+            *next = 0;
+        }
+    }
+    Ok(start.elapsed(rt)?)
+}
+
+/// Copies the events from a place on, as far as the slice goes, and answers the next place.
+fn copied(events: &[Event], from: usize, out: &mut [Event]) -> usize {
+    let from = from.min(events.len());
+    let count = (events.len() - from).min(out.len());
+    out[..count].copy_from_slice(&events[from..from + count]);
+    from + count
+}
+
+/// The ring is filled by 16 messages, of which the time is taken, and emptied by the listeners, of which it isn't.
+fn publishing_alone(
+    rt: &impl Clock,
+    alloc: Global,
+    listeners: u64,
+    message: &[Letter],
+    rounds: u32,
+) -> Result<Duration> {
+    let (mut record, ids) = subscribed(alloc, listeners)?;
+    let mut out = vec![in alloc; filler(); WAITING]?;
+    let mut total = Duration::ZERO;
+    for _ in 0..rounds {
+        let start = Instant::now(rt)?;
+        for _ in 0..16 {
+            record.publish(1, message)?;
+        }
+        let took = start.elapsed(rt)?;
+        total = total.checked_add(took).unwrap_or(total);
+        for id in &ids {
+            record.take_into(*id, &mut out)?;
+        }
+    }
+    Ok(total)
+}
