@@ -7,5 +7,4 @@ pub mod Asking
 pub mod AskingFifodirs
 pub mod AskingSubscriptions
 mod ShortReplies
-mod TakenLetters
 pub mod Running

@@ -1,7 +1,8 @@
 -- The subscriptions of a world, after each change.
-use Rattle.std.proofs.Common.{◌≡◌, ℕ, ◌+◌, ◌<◌, true, false, List, [], ◌∷◌, ◌++◌, length, nat_eq, is_some, sym, ◌∙◌, inl, inr, true≢false, arith}
+use Rattle.std.proofs.Common.{◌≡◌, ℕ, ◌+◌, ◌<◌, true, false, List, [], ◌∷◌, ◌++◌, length, nat_eq, nat_lt, Option, None, Some, Err, is_some, sym, ◌∙◌, inl, inr, true≢false, arith}
 use Rattle.std.proofs.lemmas.Bool.{cases_Bool, eqb-true, ne_eqb, eq-eqb}
-use Rattle.hub_record.specs.World.{Subscription, found_from, changed_from}
+use Rattle.hub_record.specs.declared.NoId.{NoId}
+use Rattle.hub_record.specs.World.{World, found, reply_for, take_reply, Subscription, found_from, changed_from}
 
 -- one more
 pub found-push : (from : ℕ) (subs : List Subscription) (s : Subscription) (id : ℕ) → is_some (found_from from subs id) ≡ true → is_some (found_from from (subs ++ s ∷ []) id) ≡ true
@@ -60,3 +61,15 @@ found_changed f keep from (x ∷ rest) id other h =
             | inr e ↦ simp (e, o) (found_changed f keep (from + 1) rest id other k)
           ])
     ]
+
+-- a take of one that stands is not refused
+pub takes_some : (w : World) (id most : ℕ) (error : NoId) → is_some (found w id) ≡ true → Err error ≡ take_reply w id most → ⊥
+takes_some w id most error s e = by (found w id) s e
+  where
+    by : (o : Option Subscription) → is_some o ≡ true → Err error ≡ reply_for w most o → ⊥
+    by None t h = true≢false (sym t)
+    by (Some x) t h =
+        elim (cases_Bool (nat_lt x.next (length w.events))) [
+          | inl a ↦ (let k = simp a at h in cc)
+          | inr a ↦ elim (cases_Bool w.closed) [ inl b ↦ (let k = simp (a, b) at h in cc) | inr b ↦ (let k = simp (a, b) at h in cc) ]
+        ]

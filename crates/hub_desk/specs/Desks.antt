@@ -164,6 +164,7 @@ limits_by waiting total a b c d = None
 abbrev pub limits_of : ℕ → ℕ → Option Limits
 limits_of waiting total = limits_by waiting total (dec_le 1 waiting) (dec_le waiting 4096) (dec_le 1 total) (dec_le total 1000000000000)
 
+-- where the limits are not in their ranges, which no request is asked with, a number is refused
 abbrev pub made : Desk → List ℕ → Kind → Bool → Option Limits → Answer
 made d name kind notifies None = refused d no.Range
 made d name kind notifies (Some limits) = record {

@@ -17,6 +17,8 @@ use std::sync::Wait;
 mod fifodirs;
 mod laws;
 mod subscriptions;
+#[cfg(test)]
+mod tests;
 
 /// How many ids each fifodir has.
 const IDS: u64 = 1_000_000_000_000;

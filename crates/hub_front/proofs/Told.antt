@@ -6,6 +6,14 @@ pub Grows-none : (a : Option ℕ) → Grows a a 0
 Grows-none None = tt
 Grows-none (Some k) = let e : k ≡ k + 0 = omega arith in ap Some e
 
+pub Grows-add : (a b c : Option ℕ) (m n : ℕ) → Grows a b m → Grows b c n → Grows a c (m + n)
+Grows-add None b c m n p q = tt
+Grows-add (Some k) None c m n p q = cc
+Grows-add (Some k) (Some l) c m n p q =
+    let e : l ≡ k + m = cc in
+    let s : l + n ≡ k + (m + n) = omega arith in
+    q ∙ ap Some s
+
 pub Grows-trans : (a b c : Option ℕ) (n : ℕ) → Grows a b 0 → Grows b c n → Grows a c n
 Grows-trans None b c n p q = tt
 Grows-trans (Some k) None c n p q = cc

@@ -22,8 +22,10 @@ left (b ∷ bs) kept = if b == 10 then left bs [] else left bs (keep kept b)
 abbrev pub pieces_of : List ℕ → List (List ℕ)
 pieces_of bytes = done bytes [] ++ last_line (left bytes [])
 
--- A session after some reads, which gave at least so many bytes: the lines that ended were served, and the line that goes on was kept.
-pub record IsUnderWay {D : Type 0} (asks : Asking D) (old mid : D) (held holds had has : Option (List ℕ)) (line : List ℕ) (count least : ℕ) : Type 0 where
+-- A session after some reads, which gave at least so many bytes: the lines that ended were served, and of the line that
+-- goes on the front was kept.
+pub record IsUnderWay {D : Type 0} (asks : Asking D) (old mid : D) (held holds had has : Option (List ℕ))
+    (line : List ℕ) (count least : ℕ) : Type 0 where
   pub input : List ℕ
   pub consumed : Consumes had has input
   pub long : least ≤ length input

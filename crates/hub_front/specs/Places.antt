@@ -26,7 +26,8 @@ in_place (Err bad ∷ reads) given = No (refusal_of bad) ∷ in_place reads give
 -- a desk replies so to the requests, one after another
 abbrev pub Asked : {D : Type 0} → Asking D → D → List Request → List Reply → D → Type 0
 Asked asks old [] [] new = new ≡ old
-Asked {D} asks old (request ∷ requests) (reply ∷ replies) new = (mid : D) × asks old request reply mid × Asked asks mid requests replies new
+Asked {D} asks old (request ∷ requests) (reply ∷ replies) new =
+    (mid : D) × asks old request reply mid × Asked asks mid requests replies new
 Asked asks old [] (reply ∷ replies) new = ⊥
 Asked asks old (request ∷ requests) [] new = ⊥
 
@@ -35,7 +36,8 @@ abbrev pub NoneIsMemory : List Reply → Type 0
 NoneIsMemory replies = All (λ reply. reply ≢ No Memory) replies
 
 -- The lines are read, the desk is asked the requests among them, and each refusal stands in its line's place.
-pub record AreInPlace {D : Type 0} (asks : Asking D) (old : D) (lines : List (List ℕ)) (replies : List Reply) (new : D) : Type 0 where
+pub record AreInPlace {D : Type 0} (asks : Asking D) (old : D) (lines : List (List ℕ)) (replies : List Reply)
+    (new : D) : Type 0 where
   pub reads : List (Result Request Bad)
   pub readings : AllZip IsReading lines reads
   pub given : List Reply
@@ -46,5 +48,6 @@ pub record AreInPlace {D : Type 0} (asks : Asking D) (old : D) (lines : List (Li
 
 -- asked a request, a desk has one reply and goes on in one way, want of memory aside
 abbrev pub IsFunction : {D : Type 0} → Asking D → Type 0
-IsFunction {D} asks = (old new new' : D) (request : Request) (reply reply' : Reply) → reply ≢ No Memory → reply' ≢ No Memory
+IsFunction {D} asks = (old new new' : D) (request : Request) (reply reply' : Reply)
+    → reply ≢ No Memory → reply' ≢ No Memory
     → asks old request reply new → asks old request reply' new' → (reply ≡ reply') × (new ≡ new')

@@ -14,6 +14,7 @@ use Rattle.hub_front.specs.declared.fault.FrontError.TheVariants as fault
 use Rattle.hub_front.specs.declared.fault.FrontError.TheVariants.{Read, Write, Turns}
 use Rattle.hub_front.specs.Reading.{IsReading}
 use Rattle.hub_front.specs.Lines.{complete_of, lines_of}
+use Rattle.hub_front.specs.Telling.{Grows}
 
 -- the refusal of the rule that a line breaks
 abbrev pub refusal_of : Bad → Refusal
@@ -42,12 +43,15 @@ pub record Answers {D : Type 0} (asks : Asking D) (old : D) (line : List ℕ) (r
 -- the lines are given these replies, one after another
 abbrev pub Run : {D : Type 0} → Asking D → D → List (List ℕ) → List Reply → D → Type 0
 Run asks old [] [] new = new ≡ old
-Run {D} asks old (line ∷ lines) (reply ∷ replies) new = (mid : D) × Answers asks old line reply mid × Run asks mid lines replies new
+Run {D} asks old (line ∷ lines) (reply ∷ replies) new =
+    (mid : D) × Answers asks old line reply mid × Run asks mid lines replies new
 Run asks old [] (reply ∷ replies) new = ⊥
 Run asks old (line ∷ lines) [] new = ⊥
 
--- The lines were answered, and the texts of the replies were written, in order. held and holds are what the writer held before and after.
-pub record Served {D : Type 0} (asks : Asking D) (old : D) (lines : List (List ℕ)) (held holds : Option (List ℕ)) (new : D) : Type 0 where
+-- The lines were answered, and the texts of the replies were written, in order.
+-- held and holds are what the writer held before and after.
+pub record Served {D : Type 0} (asks : Asking D) (old : D) (lines : List (List ℕ))
+    (held holds : Option (List ℕ)) (new : D) : Type 0 where
   pub replies : List Reply
   pub run : Run asks old lines replies new
   pub written : Appends held holds (flat_map text_of replies)
@@ -59,7 +63,8 @@ pub record AppendsPart (held holds : Option (List ℕ)) (bytes : List ℕ) : Typ
   pub written : Appends held holds (take count bytes)
 
 -- Some of the lines were served, and the one after them was answered, but its reply wasn't written whole.
-pub record BreaksOff {D : Type 0} (asks : Asking D) (old : D) (lines : List (List ℕ)) (held holds : Option (List ℕ)) (new : D) : Type 0 where
+pub record BreaksOff {D : Type 0} (asks : Asking D) (old : D) (lines : List (List ℕ))
+    (held holds : Option (List ℕ)) (new : D) : Type 0 where
   pub front : List (List ℕ)
   pub line : List ℕ
   pub after : List (List ℕ)
@@ -71,13 +76,14 @@ pub record BreaksOff {D : Type 0} (asks : Asking D) (old : D) (lines : List (Lis
   pub answered : Answers asks mid line reply new
   pub written : AppendsPart between holds (text_of reply)
 
--- the lines that are due after input was read: the complete ones, and with them the last piece only where nothing is left
+-- the lines that are due after input was read: the complete ones, and with them the last piece where nothing is left
 abbrev pub AreDue : List ℕ → (has : Option (List ℕ)) → List (List ℕ) → Type 0
 AreDue input has lines = (lines ≡ complete_of input) ⊎ (IsAtEnd has × (lines ≡ lines_of input))
 
--- A session that ended with its input: each of its n lines was answered, and what was written are the replies' texts, in order.
--- had and has are what the reader had left before and has left after.
-pub record Finished {D : Type 0} (asks : Asking D) (ends : D → D → Type 0) (old new : D) (held holds had has : Option (List ℕ)) (n : ℕ) : Type 0 where
+-- A session that ended with its input: each of its n lines was answered, and what was written are the texts of the
+-- replies, in order. had and has are what the reader had left before and has left after.
+pub record Finished {D : Type 0} (asks : Asking D) (ends : D → D → Type 0) (old new : D)
+    (held holds had has : Option (List ℕ)) (n : ℕ) : Type 0 where
   pub input : List ℕ
   pub consumed : Consumes had has input
   pub whole : IsAtEnd has
@@ -90,17 +96,24 @@ pub record Finished {D : Type 0} (asks : Asking D) (ends : D → D → Type 0) (
 -- read that it may make, each complete line was served. Each read gave a byte at least.
 abbrev pub StopsAt : {D : Type 0} → Asking D → D → List ℕ → (held holds has : Option (List ℕ)) → D → FrontError → Type 0
 StopsAt asks old input held holds has mid Read = Served asks old (complete_of input) held holds mid
-StopsAt asks old input held holds has mid Turns = Served asks old (complete_of input) held holds mid × (10000000 ≤ length input)
-StopsAt asks old input held holds has mid Write = (lines : List (List ℕ)) × AreDue input has lines × BreaksOff asks old lines held holds mid
+StopsAt asks old input held holds has mid Turns =
+    Served asks old (complete_of input) held holds mid × (10000000 ≤ length input)
+StopsAt asks old input held holds has mid Write =
+    (lines : List (List ℕ)) × AreDue input has lines × BreaksOff asks old lines held holds mid
 StopsAt asks old input held holds has mid fault.Memory = (input ≡ []) × Served asks old [] held holds mid
 
 -- A session that stopped, and then ended its desk.
-pub record Stopped {D : Type 0} (asks : Asking D) (ends : D → D → Type 0) (old new : D) (held holds had has : Option (List ℕ)) (e : FrontError) : Type 0 where
+pub record Stopped {D : Type 0} (asks : Asking D) (ends : D → D → Type 0) (old new : D)
+    (held holds had has : Option (List ℕ)) (e : FrontError) : Type 0 where
   pub input : List ℕ
   pub consumed : Consumes had has input
   pub mid : D
   pub stopped : StopsAt asks old input held holds has mid e
   pub ended : ends mid new
+
+-- At most 10,000,000 reads were made, and at Turns just as many. made and makes are the counts before and after.
+abbrev pub ReadsWithin : {T : Type 0} → (made makes : Option ℕ) → Result T FrontError → Type 0
+ReadsWithin made makes result = (n : ℕ) × (n ≤ 10000000) × Grows made makes n × (result ≡ Err Turns → n ≡ 10000000)
 
 -- the faults of the reader that a session met: it stops at the first
 abbrev pub read_faults : {T : Type 0} → Result T FrontError → ℕ

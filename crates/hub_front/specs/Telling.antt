@@ -1,7 +1,7 @@
--- Faults that readers and writers tell.
+-- What readers and writers tell: how often they were called, and how often they failed.
 use Rattle.std.specs.Prelude.{◌≡◌, ℕ, zero, suc, ◌+◌, ⊤, Option, None, Some, Result, Ok, Err}
 
--- a count of faults, where it is known, grew by n
+-- a count, where it is known, grew by n
 abbrev pub Grows : Option ℕ → Option ℕ → ℕ → Type 0
 Grows None new n = ⊤
 Grows (Some k) new n = new ≡ Some (k + n)

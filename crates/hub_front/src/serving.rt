@@ -3,7 +3,7 @@ ghost use Rattle.std.specs.Prelude.{◌≡◌, ◌≢◌, ◌+◌, ◌*◌, ◌�
 ghost use Rattle.std.specs.Io.KnownBytes.{Consumes, IsAtEnd};
 ghost use Rattle.hub_front.specs.Lines.{lines_of};
 ghost use Rattle.hub_front.specs.Telling.{Grows};
-ghost use Rattle.hub_front.specs.Serving.{Finished, Stopped, StopsAt, Served, read_faults, write_faults};
+ghost use Rattle.hub_front.specs.Serving.{Finished, Stopped, StopsAt, Served, ReadsWithin, read_faults, write_faults};
 ghost use Rattle.hub_front.specs.Pieces.{IsUnderWay};
 
 #[cfg(test)]
@@ -42,13 +42,17 @@ fn serve_reads<H: Wait, D: Desk, R: Source, W: Sink>(
     requires line { session.old.line.items ≡ [] }
     requires count { session.old.count ≡ 0 }
     requires chunk { length chunk.old ≡ 65536 }
-    ensures under_way { OnOk result (IsUnderWay D.asks desk.old desk.new (W.contents writer.old) (W.contents writer.new)
-        (R.remaining reader.old) (R.remaining reader.new) session.new.line.items session.new.count 0) }
+    ensures under_way { OnOk result (IsUnderWay D.asks desk.old desk.new
+        (W.contents writer.old) (W.contents writer.new) (R.remaining reader.old) (R.remaining reader.new)
+        session.new.line.items session.new.count 0) }
     ensures few { OnOk result (session.new.count ≤ 10000000 * 65536) }
     ensures end { OnOk result (IsAtEnd (R.remaining reader.new)) }
-    ensures err { IfErr result (λ e. (input : List ℕ) × Consumes (R.remaining reader.old) (R.remaining reader.new) input
-        × StopsAt D.asks desk.old input (W.contents writer.old) (W.contents writer.new) (R.remaining reader.new) desk.new e) }
+    ensures err { IfErr result (λ e. (input : List ℕ)
+        × Consumes (R.remaining reader.old) (R.remaining reader.new) input
+        × StopsAt D.asks desk.old input (W.contents writer.old) (W.contents writer.new)
+        (R.remaining reader.new) desk.new e) }
     ensures memory { result ≢ Err FrontError.Memory }
+    ensures reads { ReadsWithin (R.reads reader.old) (R.reads reader.new) result }
     ensures read_faults { Grows (R.faults reader.old) (R.faults reader.new) (read_faults result) }
     ensures write_faults { Grows (W.faults writer.old) (W.faults writer.new) (write_faults result) }
 {
@@ -71,12 +75,16 @@ fn serve_lines<H: Wait, D: Desk, R: Source, W: Sink>(
     reader: &mut R,
     writer: &mut W,
 ) -> Result<u64, FrontError>
-    ensures ok { IfOk result (λ n. (input : List ℕ) × Consumes (R.remaining reader.old) (R.remaining reader.new) input
+    ensures ok { IfOk result (λ n. (input : List ℕ)
+        × Consumes (R.remaining reader.old) (R.remaining reader.new) input
         × IsAtEnd (R.remaining reader.new) × (n ≡ length (lines_of input))
         × Served D.asks desk.old (lines_of input) (W.contents writer.old) (W.contents writer.new) desk.new) }
-    ensures err { IfErr result (λ e. (input : List ℕ) × Consumes (R.remaining reader.old) (R.remaining reader.new) input
-        × StopsAt D.asks desk.old input (W.contents writer.old) (W.contents writer.new) (R.remaining reader.new) desk.new e) }
+    ensures err { IfErr result (λ e. (input : List ℕ)
+        × Consumes (R.remaining reader.old) (R.remaining reader.new) input
+        × StopsAt D.asks desk.old input (W.contents writer.old) (W.contents writer.new)
+        (R.remaining reader.new) desk.new e) }
     ensures memory { result ≡ Err FrontError.Memory → (reader.new ≡ reader.old) × (writer.new ≡ writer.old) }
+    ensures reads { ReadsWithin (R.reads reader.old) (R.reads reader.new) result }
     ensures read_faults { Grows (R.faults reader.old) (R.faults reader.new) (read_faults result) }
     ensures write_faults { Grows (W.faults writer.old) (W.faults writer.new) (write_faults result) }
 {
@@ -96,13 +104,16 @@ pub fn serve<H: Wait, D: Desk, R: Source, W: Sink>(
     writer: &mut W,
 ) -> Result<u64, FrontError>
     // What is written are the texts of one reply for each line, however the reader cut its bytes.
-    ensures finished { IfOk result (Finished D.asks D.ends desk.old desk.new (W.contents writer.old) (W.contents writer.new)
-        (R.remaining reader.old) (R.remaining reader.new)) }
-    ensures stopped { IfErr result (Stopped D.asks D.ends desk.old desk.new (W.contents writer.old) (W.contents writer.new)
-        (R.remaining reader.old) (R.remaining reader.new)) }
+    ensures finished { IfOk result (Finished D.asks D.ends desk.old desk.new
+        (W.contents writer.old) (W.contents writer.new) (R.remaining reader.old) (R.remaining reader.new)) }
+    ensures stopped { IfErr result (Stopped D.asks D.ends desk.old desk.new
+        (W.contents writer.old) (W.contents writer.new) (R.remaining reader.old) (R.remaining reader.new)) }
 
     // Memory comes before the first read.
     ensures memory { result ≡ Err FrontError.Memory → (reader.new ≡ reader.old) × (writer.new ≡ writer.old) }
+
+    // It ends by a count of its own.
+    ensures reads { ReadsWithin (R.reads reader.old) (R.reads reader.new) result }
 
     // A fault is answered where it was told, and nowhere else.
     ensures read_faults { Grows (R.faults reader.old) (R.faults reader.new) (read_faults result) }

@@ -1,4 +1,4 @@
-//! Readers that tell their faults.
+//! Readers that tell their reads and their faults.
 ghost use Rattle.std.specs.Prelude.{ℕ, Option, Some, None};
 ghost use Rattle.std.specs.Io.{ReadsAtMost};
 ghost use Rattle.std.specs.Io.KnownBytes.{ReadConsumes};
@@ -8,8 +8,11 @@ use std::io;
 use std::io::{Read, Stdin};
 use std::os::unix::net::UnixStream;
 
-/// What a session reads: a reader whose failed reads a contract can count.
+/// What a session reads: a reader whose reads, and those that failed, a contract can count.
 pub trait Source: Read {
+    /// How many reads were made, where that is known.
+    ghost reads: { Self → Option ℕ };
+
     /// How many reads have failed, where that is known.
     ghost faults: { Self → Option ℕ };
 
@@ -17,10 +20,13 @@ pub trait Source: Read {
     fn pull(&mut self, buf: &mut [u8]) -> io::Result<usize>
         ensures bound { ReadsAtMost result buf.new }
         ensures bytes { ReadConsumes (Self.remaining self.old) (Self.remaining self.new) result buf.new }
+        ensures counted { Grows (reads self.old) (reads self.new) 1 }
         ensures told { Grows (faults self.old) (faults self.new) (faults_of_read result) };
 }
 
 impl Source for &[u8] {
+    ghost reads = { λ _. None };
+
     ghost faults = { λ _. Some 0 };
 
     fn pull(&mut self, buf: &mut [u8]) -> io::Result<usize> {
@@ -29,6 +35,8 @@ impl Source for &[u8] {
 }
 
 impl Source for Stdin {
+    ghost reads = { λ _. None };
+
     ghost faults = { λ _. None };
 
     fn pull(&mut self, buf: &mut [u8]) -> io::Result<usize> {
@@ -37,6 +45,8 @@ impl Source for Stdin {
 }
 
 impl Source for UnixStream {
+    ghost reads = { λ _. None };
+
     ghost faults = { λ _. None };
 
     fn pull(&mut self, buf: &mut [u8]) -> io::Result<usize> {

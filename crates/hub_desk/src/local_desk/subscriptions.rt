@@ -104,7 +104,7 @@ fn release(fifodirs: &mut IndexMap<Name, LocalFifodir>, holding: &Holding)
     ensures { (model : List Fifodir) → AreKept fifodirs.old.entries model → AreKept fifodirs.new.entries (without_held model holding.now) }
 {
     if let Some(fifodir) = fifodirs.get_mut(&holding.name) {
-        let _was = fifodir.kept.cancel(holding.id);
+        let _ = fifodir.kept.cancel(holding.id);
     }
 }
 

@@ -70,6 +70,8 @@ impl Read for Dripping<'_> {
 }
 
 impl Source for Dripping<'_> {
+    ghost reads = { λ _. None };
+
     ghost faults = { λ it. Some (if it.failed then 1 else 0) };
 
     fn pull(&mut self, buf: &mut [u8]) -> io::Result<usize> {
@@ -100,6 +102,8 @@ impl Read for Endless {
 }
 
 impl Source for Endless {
+    ghost reads = { λ _. None };
+
     ghost faults = { λ _. Some 0 };
 
     fn pull(&mut self, buf: &mut [u8]) -> io::Result<usize> {

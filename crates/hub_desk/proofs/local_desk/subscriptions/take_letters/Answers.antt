@@ -1,4 +1,4 @@
-use Rattle.hub_desk.proofs.TakenLetters.{takes_some}
+use Rattle.hub_desk.proofs.Worlds.{takes_some}
 use Rattle.hub_desk.proofs.local_desk.subscriptions.take_letters.Goals as goal
 
 pub unreachable-requires-in-Err : goal.unreachable-requires-in-Err
