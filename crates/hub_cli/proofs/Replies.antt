@@ -42,30 +42,30 @@ runs_of (request ∷ requests) (reply ∷ given) old new asked_all =
 replies_placed : (lines : List (List ℕ)) (replies : List Reply) (old new : Local) → Stands old new_desk
     → AreInPlace Asked old lines replies new → NoneIsMemory replies → AreReplies lines replies
 replies_placed lines replies old new stands p none = record {
-    reads = p.reads;
-    readings = p.readings;
-    enough = p.read_whole none;
-    placed = p.placed ∙ ap (in_place p.reads) (runs_answer old new (requests_of p.reads) p.given new_desk (runs_of (requests_of p.reads) p.given old new p.asked) (p.given_whole none) stands).0;
-  }
+  reads = p.reads;
+  readings = p.readings;
+  enough = p.read_whole none;
+  placed = p.placed ∙ ap (in_place p.reads) (runs_answer old new (requests_of p.reads) p.given new_desk (runs_of (requests_of p.reads) p.given old new p.asked) (p.given_whole none) stands).0;
+}
 
 -- a session over a new desk that ended with its input
 pub session_serves : (old new : Local) (held holds had has : Option (List ℕ)) (n : ℕ) → Stands old new_desk
     → Finished Asked Ended old new held holds had has n → Serves held holds had has n
 session_serves old new held holds had has n stands f = record {
-    input = f.input;
-    consumed = f.consumed;
-    whole = f.whole;
-    counted = f.counted;
+  input = f.input;
+  consumed = f.consumed;
+  whole = f.whole;
+  counted = f.counted;
+  replies = f.served.replies;
+  each = run_length (lines_of f.input) f.served.replies old f.mid f.served.run ∙ sym f.counted;
+  written = f.served.written;
+  output = λ none. record {
     replies = f.served.replies;
-    each = run_length (lines_of f.input) f.served.replies old f.mid f.served.run ∙ sym f.counted;
-    written = f.served.written;
-    output = λ none. record {
-      replies = f.served.replies;
-      answered = replies_placed (lines_of f.input) f.served.replies old f.mid stands
+    answered = replies_placed (lines_of f.input) f.served.replies old f.mid stands
         (run_in_place Asked old f.mid (lines_of f.input) f.served.replies f.served.run) none;
-      texts = refl;
-    };
-  }
+    texts = refl;
+  };
+}
 
 -- lines are read in one way
 same_reads : (lines : List (List ℕ)) (a b : List (Result Request Bad)) → AllZip IsReading lines a → AllZip IsReading lines b

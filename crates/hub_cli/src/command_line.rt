@@ -109,7 +109,11 @@ mod tests {
             for word in line.split(' ') {
                 words.push(String::from_str(rt.alloc(), word)?)?;
             }
-            assert_eq!(rt; early_status(rt.alloc(), words.as_slice())?, status, "at {line}");
+            assert_eq!(rt;
+                early_status(rt.alloc(), words.as_slice())?,
+                status,
+                "at {line}"
+            );
         }
         Ok(())
     }

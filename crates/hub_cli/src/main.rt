@@ -9,11 +9,10 @@ use command_line::{Plan, read_words, status_of};
 use hub_front::{FrontError, Sink, Source};
 use script::script;
 use std::alloc::{AllocGlobal, Global};
-use std::env;
-use std::io;
 use std::process::ExitCode;
 use std::rt::Runtime;
 use std::sync::Wait;
+use std::{env, io};
 
 /// The status of a command line that was refused.
 const REFUSED: u8 = 2;

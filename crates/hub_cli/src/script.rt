@@ -27,5 +27,7 @@ pub fn script<H: Wait, R: Source, W: Sink>(
 /// A law: an input has one output.
 pub fn input_has_one_output()
     ensures { (input a b : List ℕ) → IsOutput input a → IsOutput input b → a ≡ b }
-{
-}
+{}
+
+#[cfg(test)]
+mod tests;
