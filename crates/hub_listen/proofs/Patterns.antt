@@ -1,0 +1,60 @@
+-- What a search by `regex` says of the text of its pattern.
+use Rattle.std.proofs.Common.{◌≡◌, ℕ, zero, ◌+◌, ◌<◌, ◌≤◌, Bool, true, false, List, [], ◌∷◌, ◌++◌, take, length, get_or, Option, None, Some, All, IsSomeAnd, IsSome, is_some, rules, option_map, refl, sym, ap, subst, ◌∙◌, arith, string_bytes}
+use Rattle.std.specs.Option.{option_map_or}
+use Rattle.std.specs.Str.{IsAscii}
+use Rattle.std.proofs.lemmas.Str.Ascii.{All-from_ascii}
+use Rattle.regex.specs.Patterns.{Re, find_str, default_config, Config, Reads, SameCaptures}
+use Rattle.regex.specs.Strings.{regex_pattern, regex_source, regex_config, IsReadFromSource}
+use Rattle.regex.specs.declared.string.regex.Regex.{Regex}
+use Rattle.regex_hir.specs.declared.hir.Hir.{Hir}
+use Rattle.regex_hir.specs.Meaning.{meaning}
+use Rattle.regex_syntax.specs.Brackets.{Nested}
+use Rattle.regex_syntax.specs.Grammar.{Names, read, group_count}
+use Rattle.regex_syntax.proofs.CapturesLemmas.{spans, find_str_alike}
+use Rattle.regex_syntax.proofs.Written.{is_some-option_map}
+use Rattle.hub_listen.specs.Hit.{finds, IsPattern}
+
+bytes_of : (bs : List ℕ) → All (λ b. b < 128) bs → All (λ x. x < 256) bs
+bytes_of bs h = λ k d within. omega (arith, h k d within)
+
+by_reading : (a : Re) (most : ℕ) (names : Names) (hay : List ℕ) → All (λ x. x < 256) hay → (o : Option (Nested Re × Names))
+    → IsSomeAnd o (λ (re, found). (re.depth ≤ most) × SameCaptures a re.value × (names ≡ found) × (group_count a ≤ length names))
+    → is_some (find_str a hay 0) ≡ option_map_or (λ r. is_some (find_str r.0.value hay 0)) o false
+by_reading a most names hay bytes None h = absurd h
+by_reading a most names hay bytes (Some r) h =
+    sym (is_some-option_map spans (find_str a hay 0)) ∙ ap is_some (find_str_alike a r.0.value h.1 hay bytes 0)
+    ∙ is_some-option_map spans (find_str r.0.value hay 0)
+
+reads-finds : (config : Config) (source : List ℕ) (hir : Hir) (names : Names) → Reads config source hir names → config ≡ default_config
+    → (hay : List ℕ) → IsAscii hay → is_some (find_str (meaning hir) hay 0) ≡ finds source hay
+unfolding finds Reads
+reads-finds config source hir names reads same hay ascii =
+    let reads' : Reads default_config source hir names = subst (λ c. Reads c source hir names) same reads in
+    by_reading (meaning hir) _ names hay (bytes_of hay (All-from_ascii hay ascii)) _ reads'
+
+-- a regex, made with the default options, finds in an ASCII text what the text of its pattern does
+pub regex-finds : (r : Regex) → IsReadFromSource r → regex_config r ≡ default_config → (hay : List ℕ) → IsAscii hay
+    → is_some (find_str (regex_pattern r) hay 0) ≡ finds (regex_source r) hay
+regex-finds r reads same hay ascii = reads-finds _ _ _ _ reads same hay ascii
+
+-- what a search in the text answered, of the text as it is spelled elsewhere
+pub search-finds : (r : Regex) → IsReadFromSource r → regex_config r ≡ default_config → (p : Re) → p ≡ regex_pattern r → (hay text : List ℕ)
+    → hay ≡ text → IsAscii text → (b : Bool) → b ≡ is_some (find_str p hay 0) → (spelled : List ℕ) → text ≡ spelled → finds (regex_source r) spelled ≡ b
+search-finds r reads same p is hay text shown ascii b found spelled e =
+    ap (finds (regex_source r)) (sym e) ∙ sym (regex-finds r reads same text ascii)
+    ∙ ap (λ h. is_some (find_str (regex_pattern r) h 0)) (sym shown) ∙ ap (λ q. is_some (find_str q hay 0)) (sym is) ∙ sym found
+
+-- ---- which texts are patterns
+
+IsSome-from_IsSomeAnd : (o : Option (Nested Re × Names)) (P : Nested Re × Names → Type 0) → IsSomeAnd o P → IsSome o
+IsSome-from_IsSomeAnd None P h = absurd h
+IsSome-from_IsSomeAnd (Some r) P h = search rules
+
+reads-pattern : (config : Config) (source : List ℕ) (hir : Hir) (names : Names) → Reads config source hir names → config ≡ default_config → IsPattern source
+unfolding Reads
+reads-pattern config source hir names reads same =
+    IsSome-from_IsSomeAnd _ _ (subst (λ c. Reads c source hir names) same reads)
+
+-- the text of a regex is a pattern
+pub regex_source-IsPattern : (r : Regex) → IsReadFromSource r → regex_config r ≡ default_config → (text : List ℕ) → regex_source r ≡ text → IsPattern text
+regex_source-IsPattern r reads same text e = subst IsPattern e (reads-pattern _ _ _ _ reads same)

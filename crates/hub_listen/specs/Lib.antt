@@ -1,0 +1,5 @@
+pub mod Hit
+pub mod Listening
+pub mod Kept
+pub mod Pieces
+pub mod Each

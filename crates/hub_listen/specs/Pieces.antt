@@ -1,0 +1,68 @@
+-- How the answers to pieces of letters hang together.
+use Rattle.std.specs.Prelude.{◌≡◌, ◌≢◌, ◌⊎◌, ◌↔◌, ℕ, ◌+◌, ◌≤◌, false, List, [], ◌∷◌, ◌++◌, length, Option, Some, None, Result, Ok, Err}
+use Rattle.hub_listen.specs.Hit.{IsHit, HasNoHit, hit_length}
+use Rattle.hub_listen.specs.Listening.{Listening, Feeds, is_spent}
+use Rattle.hub_listen.specs.declared.feed.Feed.{Feed}
+use Rattle.hub_listen.specs.declared.feed.Feed.TheVariants.{Spent, Hit, Quiet}
+use Rattle.hub_listen.specs.declared.feed.FeedError.{FeedError}
+use Rattle.hub_listen.specs.declared.feed.FeedError.TheVariants.{Overlong, Memory}
+
+-- the answer, with a hit counted from so many letters earlier
+abbrev pub counted_from : ℕ → Result Feed FeedError → Result Feed FeedError
+counted_from before (Ok Spent) = Ok Spent
+counted_from before (Ok (Hit k)) = Ok (Hit (before + k))
+counted_from before (Ok Quiet) = Ok Quiet
+counted_from before (Err e) = Err e
+
+-- a refusal leaves the listener unchanged, and any other answer leaves the new one
+abbrev pub left_by : Result Feed FeedError → Listening → Listening → Listening
+left_by (Ok feed) unchanged new = new
+left_by (Err e) unchanged new = unchanged
+
+-- Fed one piece, quietly, and then another, a listener answers and ends as it would have on both in one.
+abbrev pub CutsAnywhere : Type 0
+CutsAnywhere = (old between new : Listening) (first second : List ℕ) (answer : Result Feed FeedError)
+    → Feeds old first (Ok Quiet) between → Feeds between second answer new
+    → Feeds old (first ++ second) (counted_from (length first) answer) (left_by answer old new)
+
+-- Want of memory aside, a listener has an answer to each piece,
+abbrev pub Answers : Type 0
+Answers = (old : Listening) (piece : List ℕ)
+    → (answer : Result Feed FeedError) × (new : Listening) × (answer ≢ Err Memory) × Feeds old piece answer new
+
+-- and one only, with one way to go on.
+abbrev pub AnswersOnce : Type 0
+AnswersOnce = (old new new' : Listening) (piece : List ℕ) (answer answer' : Result Feed FeedError)
+    → answer ≢ Err Memory → answer' ≢ Err Memory → Feeds old piece answer new → Feeds old piece answer' new'
+    → (answer ≡ answer') × (new ≡ new')
+
+-- The letters were fed one at a time, in their order, up to the first answer other than Quiet.
+abbrev pub FedSingly : Listening → List ℕ → Result Feed FeedError → Listening → Type 0
+FedSingly old [] answer new = (answer ≡ Ok Quiet) × (new ≡ old)
+FedSingly old (x ∷ letters) answer new =
+    (Feeds old (x ∷ []) answer new × (answer ≢ Ok Quiet))
+    ⊎ ((between : Listening) × (later : Result Feed FeedError)
+    × Feeds old (x ∷ []) (Ok Quiet) between × FedSingly between letters later new × (answer ≡ counted_from 1 later))
+
+-- Letters fed one at a time are heard as one piece.
+abbrev pub SinglyIsAtOnce : Type 0
+SinglyIsAtOnce = (old new : Listening) (letters : List ℕ) (answer : Result Feed FeedError)
+    → is_spent old ≡ false → length old.gathered ≤ 4096 → FedSingly old letters answer new
+    → Feeds old letters answer (left_by answer old new)
+
+-- A hit in a front is a hit in the whole.
+abbrev pub FrontsShowHits : Type 0
+FrontsShowHits = (pattern gathered front rest : List ℕ) (k : ℕ)
+    → IsHit pattern gathered front k → IsHit pattern gathered (front ++ rest) k
+
+-- Where a front without a hit leaves no room, there is no hit in the whole.
+abbrev pub FullFrontsShowNone : Type 0
+FullFrontsShowNone = (pattern gathered front rest : List ℕ)
+    → HasNoHit pattern gathered front → 4096 ≤ length gathered + length front → HasNoHit pattern gathered (front ++ rest)
+
+-- The function gives just the hit, and none just where there is none.
+abbrev pub LengthIsHit : Type 0
+LengthIsHit = (pattern gathered piece : List ℕ) (k : ℕ) → (hit_length pattern gathered piece ≡ Some k) ↔ IsHit pattern gathered piece k
+
+abbrev pub NoLengthIsNoHit : Type 0
+NoLengthIsNoHit = (pattern gathered piece : List ℕ) → (hit_length pattern gathered piece ≡ None) ↔ HasNoHit pattern gathered piece

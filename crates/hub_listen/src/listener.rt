@@ -1,0 +1,164 @@
+//! Listeners.
+ghost use Rattle.std.specs.Prelude.{◌≡◌, ◌≤◌, length, IfOk, OnOk};
+
+use crate::feed::{Feed, FeedError};
+use crate::search::first_hit;
+use hub_letters::Letter;
+use regex::Regex;
+use std::alloc::{AllocError, Global};
+use std::marker::Model;
+use std::mem;
+use thiserror::Error;
+
+/// How many letters a listener gathers at most.
+pub(crate) const ROOM: usize = 4096;
+
+/// Whether a listener goes on after a hit.
+#[derive(Clone, Copy, Debug, PartialEq, Eq)]
+pub enum Mode {
+    /// It has one hit, and is spent from then on.
+    Once,
+    /// It gathers anew after each hit.
+    Repeat,
+}
+
+/// Why there is no listener.
+#[derive(Clone, Copy, Debug, PartialEq, Eq, Error)]
+pub enum ListenError {
+    /// The text is no pattern, or one that is too large.
+    #[error("no pattern can be read")]
+    Pattern,
+    #[error("out of memory")]
+    Memory,
+}
+
+impl From<AllocError> for ListenError {
+    ghost use Rattle.std.specs.Prelude.{◌≡◌};
+    ghost use Rattle.hub_listen.specs.declared.listener.ListenError.TheVariants.{Memory};
+
+    ghost from_gives = { λ _ error. error ≡ Memory };
+
+    fn from(_: AllocError) -> ListenError {
+        ListenError::Memory
+    }
+}
+
+impl From<regex::Error> for ListenError {
+    ghost use Rattle.std.specs.Prelude.{◌≡◌, ◌≢◌};
+    ghost use Rattle.regex.specs.declared.error.Error.TheVariants.{OutOfMemory};
+    ghost use Rattle.hub_listen.specs.declared.listener.ListenError.TheVariants.{Pattern, Memory};
+
+    ghost from_gives = { λ refused error.
+        (refused ≡ OutOfMemory → error ≡ Memory) × (refused ≢ OutOfMemory → error ≡ Pattern) };
+
+    fn from(refused: regex::Error) -> ListenError {
+        match refused {
+            regex::Error::OutOfMemory => ListenError::Memory,
+            _ => ListenError::Pattern,
+        }
+    }
+}
+
+/// A pattern, and the letters that were heard since its last hit.
+#[derive(Drop)]
+pub struct Listener {
+    /// Where each search takes its memory.
+    alloc: Global,
+    regex: Regex,
+    mode: Mode,
+    /// The bytes of `letters`, to be searched.
+    text: String,
+    /// The letters since the last hit.
+    letters: Vec<Letter>,
+    /// The letters of the last hit.
+    hit: Vec<Letter>,
+}
+
+impl Model for Listener {
+    ghost use Rattle.hub_listen.specs.Listening.{Listening};
+
+    ghost Value = { Listening };
+
+    ghost use Rattle.hub_listen.specs.Kept.{listening_of, IsKept};
+
+    ghost view = { listening_of };
+
+    ghost invariant = { IsKept };
+}
+
+impl Listener {
+    ghost use Rattle.hub_listen.specs.Hit.{IsPattern};
+    ghost use Rattle.hub_listen.specs.Listening.{Feeds, unheard, is_spent};
+
+    /// A listener that has heard nothing. All of its room is made here.
+    pub fn new(alloc: Global, pattern: &str, mode: Mode) -> Result<Listener, ListenError>
+        ensures ok { IfOk result (λ listener. listener ≡ unheard pattern.now mode) }
+        ensures read { OnOk result (IsPattern pattern.now) }
+    {
+        let regex = Regex::new(alloc, pattern)?;
+        let text = String::with_capacity(alloc, ROOM)?;
+        let letters = Vec::with_capacity(alloc, ROOM)?;
+        let hit = Vec::with_capacity(alloc, ROOM)?;
+        Ok(Listener {
+            alloc,
+            regex,
+            mode,
+            text,
+            letters,
+            hit,
+        })
+    }
+
+    /// The letters gathered since the last hit.
+    pub fn text(&self) -> &[Letter]
+        ensures value { result.now ≡ self.now.gathered }
+        ensures short { length self.now.gathered ≤ 4096 }
+    {
+        self.letters.as_slice()
+    }
+
+    /// The letters of the last hit, none before the first.
+    pub fn hit(&self) -> &[Letter]
+        ensures value { result.now ≡ self.now.hit }
+        ensures short { length self.now.hit ≤ 4096 }
+    {
+        self.hit.as_slice()
+    }
+
+    /// Whether the one hit of mode `Once` was had.
+    pub fn is_spent(&self) -> bool
+        ensures { result ≡ is_spent self.now }
+    {
+        match self.mode {
+            Mode::Once => !self.hit.is_empty(),
+            Mode::Repeat => false,
+        }
+    }
+
+    /// Hears a piece of letters, up to the first hit in it.
+    pub fn feed(&mut self, piece: &[Letter]) -> Result<Feed, FeedError>
+        ensures { Feeds self.old piece.now result self.new }
+    {
+        if self.is_spent() {
+            return Ok(Feed::Spent);
+        }
+        let before = self.letters.len();
+        match first_hit(self.alloc, &self.regex, &mut self.text, piece)? {
+            Some(count) => {
+                self.letters.extend_from_slice(&piece[..count]).unwrap();
+                mem::swap(&mut self.letters, &mut self.hit);
+                self.letters.clear();
+                self.text.clear();
+                Ok(Feed::Hit(count))
+            }
+            None => {
+                if piece.len() > ROOM - before {
+                    self.text.truncate(before);
+                    return Err(FeedError::Overlong);
+                }
+                self.letters.extend_from_slice(piece).unwrap();
+                Ok(Feed::Quiet)
+            }
+        }
+    }
+}
