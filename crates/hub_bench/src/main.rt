@@ -1,4 +1,5 @@
-//! Measures a record: how many letters a second pass it, beside the same loop over a plain vector, so that the ratio holds on any machine.
+//! Measures a record: how many letters a second pass it, beside the same loop over a plain vector, so that the ratio
+//! holds on any machine.
 #![tactic(auto)]
 
 use anyhow::{Result, anyhow};

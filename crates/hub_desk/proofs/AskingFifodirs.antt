@@ -123,7 +123,7 @@ module _ (old new : Local) (name message : List ℕ) (r : LocalFifodir) (kept : 
         answer = refused d (refusal_of_pub error);
         unrefused = named d name w t.1;
         done_is = ap (in_world d (λ v. published d name message v (publish_reply v message))) t.1
-          ∙ ap (published d name message w) (sym (publish_reply_is w message (Err error) (replies w t.2)));
+            ∙ ap (published d name message w) (sym (publish_reply_is w message (Err error) (replies w t.2)));
         said = is;
         stands = stands_still old new name r kept put d st w t.1 (subst (λ (k : Kept). StandsFor k w) (sym still) t.2);
       })

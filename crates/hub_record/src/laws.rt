@@ -1,4 +1,5 @@
-//! Laws of the model, which no clause of a single call says. They are of the definitions alone, and so of every record that stands for a world.
+//! Laws of the model, which no clause of a single call says. They are of the definitions alone, and so of every
+//! record that stands for a world.
 ghost use Rattle.std.specs.Prelude.{◌≡◌, ◌≤◌, ℕ, List, [], length};
 ghost use Rattle.hub_record.specs.World.{World, empty_world, standing};
 ghost use Rattle.hub_record.specs.Kept.{Kept, StandsFor};
@@ -6,7 +7,8 @@ ghost use Rattle.hub_record.specs.Runs.{IsRun, SaidTo, AllFollow, after_call, by
 
 use crate::{Call, Kind, Limits, Said};
 
-/// After every run each subscription, cancelled or not, has gathered what came between its mark and its cursor, each event once and in order, and the letters of a publisher are those of its accepted messages.
+/// After every run each subscription, cancelled or not, has gathered what came between its mark and its cursor, each
+/// event once and in order, and the letters of a publisher are those of its accepted messages.
 pub fn each_event_once_and_in_order()
     ensures since { (kind : Kind) (limits : Limits) (calls : List Call) (replies : List Said) → IsRun (empty_world kind limits) calls replies → AllFollow (world_after (empty_world kind limits) calls replies) }
     ensures own { (kind : Kind) (limits : Limits) (calls : List Call) (replies : List Said) (p : ℕ) → IsRun (empty_world kind limits) calls replies → by p (world_after (empty_world kind limits) calls replies).events ≡ published p calls replies }

@@ -1,14 +1,23 @@
 //! The record of a fifodir, without threads.
 //!
-//! In s6 a fifodir is a directory in which a notifier meets its listeners: each listener has a named pipe there, and `s6-ftrig-notify` writes each letter of a message to every pipe (s6's pages "fifodir" and "s6-ftrig-notify"). Here the meeting point is a value: one list of numbered events, and for each subscription a cursor, the number of the event that it takes next.
+//! In s6 a fifodir is a directory in which a notifier meets its listeners: each listener has a named pipe there, and
+//! `s6-ftrig-notify` writes each letter of a message to every pipe (s6's pages "fifodir" and "s6-ftrig-notify"). Here
+//! the meeting point is a value: one list of numbered events, and for each subscription a cursor, the number of the
+//! event that it takes next.
 //!
-//! **Who gets what.** A subscription gets the events from its mark on, which is the number of events there were when it subscribed: each once, in their order, and none that was there before.
+//! **Who gets what.** A subscription gets the events from its mark on, which is the number of events there were when
+//! it subscribed: each once, in their order, and none that was there before.
 //!
-//! **A slow listener.** A pipe that nobody reads loses letters in silence. Here nothing that a subscription waits for is let go. The events from the least cursor on stand in a ring that is made with the record, and a message that doesn't fit is refused whole: `PubError::Full`. Room comes back where the slowest subscription takes or is cancelled. Where no subscription stands nothing is kept, and no message is too long for the ring.
+//! **A slow listener.** A pipe that nobody reads loses letters in silence. Here nothing that a subscription waits for
+//! is let go. The events from the least cursor on stand in a ring that is made with the record, and a message that
+//! doesn't fit is refused whole: `PubError::Full`. Room comes back where the slowest subscription takes or is
+//! cancelled. Where no subscription stands nothing is kept, and no message is too long for the ring.
 //!
-//! **Closing.** A closed record takes no event and no subscription any more. What waits may still be taken, and then a take answers `Taken::End`.
+//! **Closing.** A closed record takes no event and no subscription any more. What waits may still be taken, and then
+//! a take answers `Taken::End`.
 //!
-//! Each call is the model's call on one list of all events (`specs/World.antt`); `specs/Kept.antt` says when a record stands for a world of the model.
+//! Each call is the model's call on one list of all events (`specs/World.antt`); `specs/Kept.antt` says when a record
+//! stands for a world of the model.
 #![tactic(auto)]
 
 mod backlog;
@@ -77,13 +86,15 @@ pub enum PubError {
     /// The record is closed.
     #[error("the fifodir is closed")]
     Closed,
-    /// A service can't send the letter at this place of the message, counted from 0, after its letters so far and those before it in the message.
+    /// A service can't send the letter at this place of the message, counted from 0, after its letters so far and
+    /// those before it in the message.
     #[error("letter {0} is unlawful")]
     Unlawful(u64),
     /// The record would have more events than it may have in all.
     #[error("no number is left")]
     Spent,
-    /// The slowest subscription would have more events waiting than may wait. It is free to go on after a take or a cancel.
+    /// The slowest subscription would have more events waiting than may wait. It is free to go on after a take or a
+    /// cancel.
     #[error("too many events wait")]
     Full,
 }

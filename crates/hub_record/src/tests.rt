@@ -250,7 +250,8 @@ fn replay_gives_the_replies_and_what_was_gathered(rt: HostRuntime) -> Result<(),
     check_run(&rt, &world)
 }
 
-/// With one growth refused, whichever it is, the call that met it changes nothing, and the same call made again goes as with no refusal.
+/// With one growth refused, whichever it is, the call that met it changes nothing, and the same call made again goes
+/// as with no refusal.
 #[test]
 fn a_refused_growth_changes_nothing(rt: HostRuntime) -> Result<(), Fail> {
     let limits = Limits::of(4, 10, 1000).ok_or("no limits")?;
