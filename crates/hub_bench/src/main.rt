@@ -1,14 +1,18 @@
-//! Measures a record: how many letters a second pass it, beside the same loop over a plain vector, so that the ratio
-//! holds on any machine.
+//! Measures what the hub stands on, beside plain forms of the same work, so that the ratios hold on any machine:
+//! `record`, how many letters a second pass a record, and `fifodir`, looks and publishing among threads.
 #![tactic(auto)]
+
+mod shared;
 
 use anyhow::{Result, anyhow};
 use hub_letters::Letter;
 use hub_record::{Event, Kind, Limits, Record};
-use std::alloc::Global;
+use std::alloc::{AllocGlobal, Global};
 use std::env;
 use std::process::ExitCode;
 use std::rt::{Clock, Runtime};
+use std::sync::Wait;
+use std::thread::Threads;
 use std::time::{Duration, Instant};
 
 /// How many events may wait.
@@ -30,12 +34,33 @@ fn main(rt: HostRuntime) -> ExitCode {
     }
 }
 
-fn run(rt: &impl Runtime, alloc: Global) -> Result<()> {
+fn run(
+    rt: &(impl Runtime + AllocGlobal + Wait + Threads + Sync + Send + 'static),
+    alloc: Global,
+) -> Result<()> {
     let word = env::args(rt)?.nth(1);
-    if word.is_none() {
-        println!(rt; "usage: hub_bench record")?;
-        return Ok(());
+    match word.as_ref().map(|word| word.as_str()) {
+        Some("record") => measure_record(rt, alloc),
+        Some("fifodir") => measure_fifodir(rt, alloc),
+        _ => {
+            println!(rt; "usage: hub_bench record|fifodir")?;
+            Ok(())
+        }
     }
+}
+
+fn measure_fifodir(
+    rt: &(impl Runtime + AllocGlobal + Wait + Threads + Sync + Send + 'static),
+    alloc: Global,
+) -> Result<()> {
+    shared::looks(rt, alloc)?;
+    for listeners in LISTENERS {
+        shared::threads(rt, alloc, listeners)?;
+    }
+    Ok(())
+}
+
+fn measure_record(rt: &impl Runtime, alloc: Global) -> Result<()> {
     for (burst, bursts) in MEASURES {
         let message = vec![in alloc; Letter::least(); burst]?;
         for listeners in LISTENERS {

@@ -62,7 +62,9 @@ FullFrontsShowNone = (pattern gathered front rest : List ℕ)
 
 -- The function gives just the hit, and none just where there is none.
 abbrev pub LengthIsHit : Type 0
-LengthIsHit = (pattern gathered piece : List ℕ) (k : ℕ) → (hit_length pattern gathered piece ≡ Some k) ↔ IsHit pattern gathered piece k
+LengthIsHit = (pattern gathered piece : List ℕ) (k : ℕ)
+    → (hit_length pattern gathered piece ≡ Some k) ↔ IsHit pattern gathered piece k
 
 abbrev pub NoLengthIsNoHit : Type 0
-NoLengthIsNoHit = (pattern gathered piece : List ℕ) → (hit_length pattern gathered piece ≡ None) ↔ HasNoHit pattern gathered piece
+NoLengthIsNoHit = (pattern gathered piece : List ℕ)
+    → (hit_length pattern gathered piece ≡ None) ↔ HasNoHit pattern gathered piece

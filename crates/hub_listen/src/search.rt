@@ -34,9 +34,12 @@ pub(crate) fn first_hit(
     requires short { string_len text.old ≤ 4096 }
     requires room { 4096 ≤ string_capacity text.old }
     requires ascii { IsAscii (string_bytes text.old) }
-    ensures hit { IfOk result (λ found. IfSome found (IsHit (regex_source regex.now) (string_bytes text.old) piece.now)) }
-    ensures none { IfOk result (λ found. IfNone found (HasNoHit (regex_source regex.now) (string_bytes text.old) piece.now)) }
-    ensures grown_to_hit { IfOk result (λ found. IfSome found (λ k. string_bytes text.new ≡ string_bytes text.old ++ take k piece.now)) }
+    ensures hit { IfOk result (λ found. IfSome found
+        (IsHit (regex_source regex.now) (string_bytes text.old) piece.now)) }
+    ensures none { IfOk result (λ found. IfNone found
+        (HasNoHit (regex_source regex.now) (string_bytes text.old) piece.now)) }
+    ensures grown_to_hit { IfOk result (λ found. IfSome found (λ k. string_bytes text.new
+        ≡ string_bytes text.old ++ take k piece.now)) }
     ensures grown { IfOk result (λ found. IfNone found (string_bytes text.new
         ≡ string_bytes text.old ++ take (4096 - string_len text.old) piece.now)) }
     ensures err { OnErr result (string_bytes text.new ≡ string_bytes text.old) }

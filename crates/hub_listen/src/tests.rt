@@ -3,6 +3,7 @@ ghost use Rattle.hub_listen.specs.Listening.{unheard};
 
 use crate::{Each, Feed, FeedError, ListenError, Listener, Mode, feed_each};
 use hub_letters::Letter;
+use regex::Regex;
 use std::alloc::{AllocError, Global};
 use std::process::Abort;
 use std::test::Fail;
@@ -197,23 +198,29 @@ fn letters_one_at_a_time(rt: HostRuntime) -> Result<(), Fail> {
     Ok(())
 }
 
-/// The last three are too large once their counts are written out.
+/// Whether `regex` reads the text, and refuses it for its size.
+fn is_too_large(alloc: Global, text: &str) -> bool {
+    matches!(Regex::new(alloc, text), Err(regex::Error::CompiledTooBig))
+}
+
 #[test]
 fn texts_that_are_no_pattern(rt: HostRuntime) -> Result<(), Fail> {
-    for text in [
-        "(",
-        "a)",
-        "[b-a]",
-        "*",
-        "\\",
-        "a{4000000000}",
-        "(?:a{1000}){1000}",
-        "(?:(?:\\w{99}){99}){99}",
+    for (text, large) in [
+        ("(", false),
+        ("a)", false),
+        ("[b-a]", false),
+        ("*", false),
+        ("\\", false),
+        ("a{4000000000}", true),
+        ("(?:a{1000}){1000}", true),
+        ("(?:(?:\\w{99}){99}){99}", true),
     ] {
         match listener_for(rt.alloc(), text, Mode::Once) {
             Ok(_) => assert!(rt; false, "{text} is refused"),
             Err(error) => assert_eq!(rt; error, ListenError::Pattern, "at {text}"),
         }
+        let is_large = is_too_large(rt.alloc(), text) || is_too_large(rt.alloc(), text);
+        assert_eq!(rt; is_large, large, "the size of {text}");
     }
     Ok(())
 }

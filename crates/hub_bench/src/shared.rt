@@ -1,0 +1,153 @@
+//! Measures a fifodir: looks without its lock beside a bare load and a lock, and publishing to listeners on threads.
+ghost use Rattle.hub_fifodir.specs.Passes.{IsTicketOf};
+
+use crate::{filler, rate};
+use anyhow::{Result, anyhow};
+use hub_fifodir::{Fifodir, Ticket};
+use hub_letters::Letter;
+use hub_record::{Kind, Limits, PubError, Record, Taken};
+use std::alloc::{AllocGlobal, Global};
+use std::rt::Runtime;
+use std::sync::atomic::{AtomicU64, Ordering};
+use std::sync::{Arc, Mutex, Wait};
+use std::thread;
+use std::thread::{JoinHandle, Threads};
+use std::time::{Duration, Instant};
+
+/// How many looks are taken of each kind.
+const LOOKS: u64 = 5_000_000;
+
+/// How many letters one message has, and how many a listener takes at once.
+const BURST: usize = 256;
+
+/// How many messages are published.
+const BURSTS: u64 = 8_000;
+
+fn limits() -> Result<Limits> {
+    Limits::of(4096, 1_000_000_000_000, 1_000).ok_or_else(|| anyhow!("no limits"))
+}
+
+/// Looks a second: at a bare word, at a fifodir's status and front, and at the same record behind a mutex.
+pub fn looks<R: Runtime + Wait>(rt: &R, alloc: Global) -> Result<()> {
+    let word = AtomicU64::new(69);
+    let start = Instant::now(rt)?;
+    let mut all = 0_u64;
+    for _ in 0..LOOKS {
+        all = all.wrapping_add(word.load(Ordering::SeqCst));
+    }
+    let bare = start.elapsed(rt)?;
+    let fifodir = Fifodir::new(alloc, Kind::Plain, limits()?)?;
+    let mut ticket = fifodir.subscribe(rt)?;
+    let start = Instant::now(rt)?;
+    all = all.wrapping_add(statuses(&fifodir, &mut ticket));
+    let status = start.elapsed(rt)?;
+    let start = Instant::now(rt)?;
+    all = all.wrapping_add(fronts(&fifodir, &mut ticket));
+    let front = start.elapsed(rt)?;
+    fifodir.cancel(rt, ticket);
+    let behind = behind_a_mutex(rt, alloc, &mut all)?;
+    println!(rt;
+        "looks a second: bare load {}, status {}, front {}, mutex {} ({all})",
+        rate(LOOKS, bare),
+        rate(LOOKS, status),
+        rate(LOOKS, front),
+        rate(LOOKS, behind)
+    )?;
+    Ok(())
+}
+
+fn statuses(fifodir: &Fifodir, ticket: &mut Ticket) -> u64
+    requires { IsTicketOf fifodir.now ticket.old }
+    ensures { IsTicketOf fifodir.now ticket.new }
+{
+    let mut all = 0_u64;
+    for _look in 0..LOOKS {
+        all = all.wrapping_add(fifodir.status(ticket).number);
+    }
+    all
+}
+
+fn fronts(fifodir: &Fifodir, ticket: &mut Ticket) -> u64
+    requires { IsTicketOf fifodir.now ticket.old }
+    ensures { IsTicketOf fifodir.now ticket.new }
+{
+    let mut all = 0_u64;
+    for _look in 0..LOOKS {
+        all = all.wrapping_add(fifodir.front(ticket));
+    }
+    all
+}
+
+fn behind_a_mutex<R: Runtime + Wait>(rt: &R, alloc: Global, all: &mut u64) -> Result<Duration> {
+    let record = Mutex::new(Record::new(alloc, Kind::Plain, limits()?)?);
+    let start = Instant::now(rt)?;
+    for _ in 0..LOOKS {
+        *all = all.wrapping_add(record.lock(rt).end());
+    }
+    Ok(start.elapsed(rt)?)
+}
+
+/// Letters a second from one publisher to so many listeners, each on a thread of its own.
+pub fn threads<R: Runtime + AllocGlobal + Wait + Threads + Sync + Send + 'static>(
+    rt: &R,
+    alloc: Global,
+    listeners: u64,
+) -> Result<()> {
+    let fifodir = Arc::new(alloc, Fifodir::new(alloc, Kind::Plain, limits()?)?)?;
+    let mut running: Vec<JoinHandle<u64>> = Vec::new(alloc);
+    for _ in 0..listeners {
+        let theirs = Arc::try_clone(&fifodir)?;
+        let own = rt.clone()?;
+        running.push(thread::spawn(rt, move || -> u64 { took(&own, &theirs) })?)?;
+    }
+    let start = Instant::now(rt)?;
+    publish_all(rt, alloc, &fifodir)?;
+    let mut taken = 0_u64;
+    'joins: while !running.is_empty() {
+        taken = taken.saturating_add(running.remove(0).join(rt));
+    }
+    let elapsed = start.elapsed(rt)?;
+    println!(rt;
+        "{listeners} listeners on threads: {} letters a second published, {} taken",
+        rate(BURSTS * BURST as u64, elapsed),
+        rate(taken, elapsed)
+    )?;
+    Ok(())
+}
+
+fn publish_all<R: Wait>(rt: &R, alloc: Global, fifodir: &Fifodir) -> Result<()> {
+    let message = vec![in alloc; Letter::least(); BURST]?;
+    let mut publisher = fifodir.publisher(rt)?;
+    let mut left = BURSTS;
+    'messages: for _ in rt.forever() {
+        match fifodir.publish(rt, &mut publisher, &message) {
+            Ok(_) => left = left.saturating_sub(1),
+            Err(PubError::Full) => thread::yield_now(),
+            Err(error) => return Err(anyhow::Error::from(error)),
+        }
+        if left == 0 {
+            break;
+        }
+    }
+    let _ = fifodir.close(rt, &mut publisher);
+    fifodir.leave(rt, publisher);
+    Ok(())
+}
+
+/// How many letters a listener took until the end.
+fn took<R: Wait>(rt: &R, fifodir: &Fifodir) -> u64 {
+    let Ok(mut ticket) = fifodir.subscribe(rt) else {
+        return 0;
+    };
+    let mut out = [filler(); BURST];
+    let mut all = 0_u64;
+    'takes: for _ in rt.forever() {
+        match fifodir.take_into(rt, &mut ticket, &mut out) {
+            Taken::Got(count) => all = all.saturating_add(count as u64),
+            Taken::Nothing => thread::yield_now(),
+            Taken::End => break,
+        }
+    }
+    fifodir.cancel(rt, ticket);
+    all
+}

@@ -1,0 +1,16 @@
+pub mod Logs
+pub mod ViewLists
+pub mod OneSeat
+pub mod Looks
+pub mod Locking
+pub mod Stores
+pub mod Unlocks
+pub mod Notes
+pub mod Asked
+pub mod Meeting
+pub mod Subscriptions
+pub mod Rests
+pub mod Opening
+pub mod Publishing
+pub mod Taking
+pub mod RuleLaws

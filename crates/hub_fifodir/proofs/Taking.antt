@@ -1,0 +1,334 @@
+-- A ticket's calls, from step to step: m0 before, m1 with the lock, m3 after.
+use Rattle.std.proofs.Common.{◌≡◌, ◌≢◌, ℕ, suc, ◌+◌, ◌-◌, ◌<◌, ◌≤◌, nat_lt, true, false, List, [], ◌∷◌, ◌++◌, length, take, drop, min, Option, Some, None, Ok, sym, refl, ap, ◌∙◌, subst, inl, inr, arith, length-append, length-drop, Result, IsOk}
+use Rattle.std.proofs.lemmas.Bool.{cases_Bool, ltb-true, ltb-false}
+use Rattle.std.proofs.lemmas.List.{length-take-le}
+use mathlib.Core.Path.{Path}
+use Rattle.hub_record.specs.declared.Event.{Event}
+use Rattle.hub_record.specs.declared.NoId.{NoId}
+use Rattle.hub_record.specs.declared.Taken.{Taken}
+use Rattle.hub_record.specs.declared.Taken.TheVariants.{Got, Nothing, End}
+use Rattle.hub_record.specs.World.{World, Subscription, found, with_changed, moved_on, taken, stopped, new_subscription, after_subscribe, take_reply, reply_for, take_events, moved_for, after_take, after_take_for, cancel_reply, cancel_for, after_cancel, after_cancel_for}
+use Rattle.hub_fifodir.specs.declared.views.Book.{Book}
+use Rattle.hub_fifodir.specs.declared.views.Sight.{Sight}
+use Rattle.hub_fifodir.specs.declared.views.View.{View}
+use Rattle.hub_fifodir.specs.declared.views.Role.{Role}
+use Rattle.hub_fifodir.specs.declared.views.Role.TheVariants.{Visitor}
+use Rattle.hub_fifodir.specs.declared.locked.Locked.{Locked}
+use Rattle.hub_fifodir.specs.Events.{slice}
+use Rattle.hub_fifodir.specs.Locks.{Stands, stands, KeepsPublishers}
+use Rattle.hub_fifodir.specs.Rule.{IsSane, IsGiven, IsBounded, cursor_of, book_of, IsBehind, IsSound}
+use Rattle.hub_fifodir.specs.Steps.{M, Locks, Changes, Gives, IsInBook, IsTaker, rested, taker, new_taker, moved, taking_of, got_of, gone_taker}
+use Rattle.hub_fifodir.proofs.Logs.{slice_none, slice_join}
+use Rattle.hub_fifodir.proofs.Subscriptions.{found_changed, found_stopped, found_else, found_new, found_old, found_stands, length-changed, next_of, cursor_found, subscription_of}
+use Rattle.hub_fifodir.proofs.Publishing.{open_when, closed_when}
+use Rattle.hub_fifodir.proofs.Rests.{none_between, bounded_after}
+
+some_inside : {A : Type 0} (x y : A) → Path (Option A) (Some x) (Some y) → x ≡ y
+some_inside x y p = cc
+
+-- the same publishers stand, so only they do
+still_low : (b b' : Locked) → IsBounded (book_of b) → KeepsPublishers b b' → (n : ℕ) → stands b'.standing.keys n ≡ true → IsGiven n b'.given
+still_low b b' low others n at = let g = low.standing n (sym (ap (λ (l : List ℕ). stands l n) others.0) ∙ at) in let e = others.1 in (g.0, let a = g.1 in omega arith)
+
+-- ---- a visitor becomes the ticket with the next id
+
+pub rests_as_ticket : (m : M) (b b' : Locked) → m.0.role ≡ Visitor → m.0.held ≡ Some (book_of b) → IsBounded (book_of b) → (h : IsBehind m.0.rules m.0.sight.seen m.0.sight.closed b) → (given : ℕ × ℕ)
+    → Stands b' (after_subscribe h.world (Ok given)) → KeepsPublishers b b' → Gives m b' (rested m.0 (new_taker b' m.0.sight.seen))
+rests_as_ticket m b b' role held low h given after others =
+    let k : Book = book_of b in let w : World = h.world in let w' : World = after_subscribe h.world (Ok given) in
+    let i0 : ℕ = b'.kept.given in let len : ℕ = length m.0.sight.seen in
+    let count : length (w.subscriptions ++ new_subscription w ∷ []) ≡ length w.subscriptions + 1 = length-append w.subscriptions (new_subscription w ∷ []) in
+    let up : b'.kept.given ≡ b.kept.given + 1 = after.for.given ∙ count ∙ ap (λ (n : ℕ). n + 1) (sym h.for.for.given) in
+    let place : i0 ≡ 1 + length w.subscriptions = let e : b.kept.given ≡ length w.subscriptions = h.for.for.given in omega arith in
+    let own : cursor_of b'.kept.cursors i0 ≡ Some len =
+    cursor_found b'.kept w' i0 after.for ∙ ap next_of (found_new 1 w.subscriptions (new_subscription w) i0 place refl) ∙ ap (λ (l : List Event). Some (length l)) h.events in
+    let numbers : b'.given ≡ b.given = others.1 in (
+      k,
+      new_taker b' m.0.sight.seen,
+      i0,
+      suc k.numbers,
+      held,
+      refl,
+      record { world = w'; for = after; events = h.events; closed = h.closed; kind = h.kind; limits = h.limits },
+      subst (λ (r : Role). Changes m.0.sight.seen r (new_taker b' m.0.sight.seen) k (book_of b') i0 (suc k.numbers)) (sym role) record {
+        ids_up = omega arith;
+        numbers_up = omega arith;
+        cursors = λ i ne. cursor_found b'.kept w' i after.for ∙ ap next_of (found_old 1 w.subscriptions (new_subscription w) i (λ e. ne (e ∙ sym place))) ∙ sym (cursor_found b.kept w i h.for.for);
+        standing = λ n ne. ap (λ (l : List ℕ). stands l n) others.0;
+        live = tt;
+        live' = tt;
+        own_id = λ f g j x. inl (omega arith);
+        own_number = λ f g j x. inl (omega arith);
+        id_kept = λ i x. absurd x;
+        number_kept = λ n x. absurd x;
+        id_given = λ i a c. (omega arith, omega arith);
+        number_given = λ n a c. absurd (none_between n b.given a (omega arith));
+        bounded = bounded_after b' w' after (still_low b b' low others);
+        fits = λ f g j x at _. record {
+          its_seat = at;
+          given = (omega arith, omega arith);
+          sane = (omega arith, omega arith, sym (slice_none len m.0.sight.seen));
+          cursor = own;
+        };
+      },
+    )
+
+-- the ticket that was made
+pub is_new_taker : (m m3 : M) (b' : Locked) (id mark : ℕ) → id ≡ b'.kept.given → mark ≡ length m.0.sight.seen → IsSound m.0.rules m.0.sight.seen → m3 ≡ (rested m.0 (new_taker b' m.0.sight.seen), []) → IsTaker m3 id mark mark
+is_new_taker m m3 b' id mark is at ok e = subst (λ (x : M). IsTaker x id mark mark) (sym e) record {
+  role = λ i. taker (sym is i) (sym at i) (sym at i) [];
+  held = refl;
+  out = refl;
+  met = refl;
+  began = omega arith;
+  ended = omega arith;
+  got = sym (slice_none mark m.0.sight.seen);
+  within = ok.0;
+}
+
+-- ---- what the answer to a take says of a standing subscription
+
+got_says : (w : World) (most : ℕ) (s : Subscription) (n : ℕ) → Ok (Got n) ≡ reply_for w most (Some s) → (s.next < length w.events) × (n ≡ taken w s most)
+got_says w most s n e = elim (cases_Bool (nat_lt s.next (length w.events))) [
+  | inl t ↦ (let k = simp t at e in let is : n ≡ taken w s most = cc in let lt : s.next < length w.events = ltb-true s.next (length w.events) t in (lt, is))
+  | inr f ↦ (let k = simp f at e in elim (cases_Bool w.closed) [ inl c ↦ (let j = simp c at k in cc) | inr o ↦ (let j = simp o at k in cc) ])
+]
+
+nothing_says : (w : World) (most : ℕ) (s : Subscription) → Ok Nothing ≡ reply_for w most (Some s) → (length w.events ≤ s.next) × (w.closed ≡ false)
+nothing_says w most s e = elim (cases_Bool (nat_lt s.next (length w.events))) [
+  | inl t ↦ (let k = simp t at e in cc)
+  | inr f ↦ (let k = simp f at e in let le : length w.events ≤ s.next = ltb-false s.next (length w.events) f in elim (cases_Bool w.closed) [ inl c ↦ (let j = simp c at k in cc) | inr o ↦ (le, o) ])
+]
+
+end_says : (w : World) (most : ℕ) (s : Subscription) → Ok End ≡ reply_for w most (Some s) → (length w.events ≤ s.next) × (w.closed ≡ true)
+end_says w most s e = elim (cases_Bool (nat_lt s.next (length w.events))) [
+  | inl t ↦ (let k = simp t at e in cc)
+  | inr f ↦ (let k = simp f at e in let le : length w.events ≤ s.next = ltb-false s.next (length w.events) f in elim (cases_Bool w.closed) [ inl c ↦ (le, c) | inr o ↦ (let j = simp o at k in cc) ])
+]
+
+-- the id and the mark that a subscription is given
+pub id_given : (b' : Locked) (w : World) (given : ℕ × ℕ) → given ≡ (length w.subscriptions + 1, length w.events) → Stands b' (after_subscribe w (Ok given)) → given.0 ≡ b'.kept.given
+id_given b' w given e after = ap (λ (p : ℕ × ℕ). p.0) e ∙ sym (after.for.given ∙ length-append w.subscriptions (new_subscription w ∷ []))
+
+-- a standing subscription has an answer
+answered : (w : World) (most : ℕ) (s : Subscription) → IsOk (reply_for w most (Some s))
+answered w most s = elim (cases_Bool (nat_lt s.next (length w.events))) [ inl t ↦ simp t refl | inr f ↦ elim (cases_Bool w.closed) [ inl c ↦ simp (f, c) refl | inr o ↦ simp (f, o) refl ] ]
+
+module _ (m0 m1 : M) (id mark next : ℕ) (b : Locked) (w : IsTaker m0 id mark next) (h : Locks book_of IsBehind IsSound m0.0 m1.0 b) where
+  role_is : m1.0.role ≡ taker id mark next (got_of m0.0.role)
+  role_is = ap (λ (v : View). v.role) h.renews.is ∙ w.role
+
+  held_is : m1.0.held ≡ Some (book_of b)
+  held_is = ap (λ (v : View). v.held) h.renews.is
+
+  in_book : IsGiven id b.kept.given × (cursor_of b.kept.cursors id ≡ Some next)
+  in_book = subst (IsInBook (book_of b)) role_is h.in_book
+
+  sane_is : IsSane m1.0.sight.seen (taker id mark next (got_of m0.0.role))
+  sane_is = subst (IsSane m1.0.sight.seen) role_is h.renews.sane
+
+  -- its subscription
+  subscribed : (s : Subscription) × (found h.behind.world id ≡ Some s) × (s.next ≡ next)
+  subscribed = subscription_of (found h.behind.world id) next (sym (cursor_found b.kept h.behind.world id h.behind.for.for) ∙ in_book.1)
+
+  pub still_taker : (m3 : M) → m3 ≡ (rested m1.0 m1.0.role, []) → IsTaker m3 id mark next
+  still_taker m3 e = subst (λ (m : M). IsTaker m id mark next) (sym e) record {
+    role = role_is ∙ ap (taker id mark next) (sym (ap got_of role_is));
+    held = refl;
+    out = refl;
+    met = refl;
+    began = sane_is.0;
+    ended = sane_is.1;
+    got = ap got_of role_is ∙ sane_is.2;
+    within = h.renews.sound_is.0;
+  }
+
+  pub got_still : (m3 : M) → m3 ≡ (rested m1.0 m1.0.role, []) → got_of m3.0.role ≡ got_of m0.0.role
+  got_still m3 e = ap (λ (m : M). got_of m.0.role) e ∙ ap got_of role_is
+
+  -- ---- a take
+
+  pub is_answered : (most : ℕ) (answer : Result Taken NoId) → answer ≡ take_reply h.behind.world id most → IsOk answer
+  is_answered most answer e = subst IsOk (sym (e ∙ ap (reply_for h.behind.world most) subscribed.1)) (answered h.behind.world most subscribed.0)
+
+  -- how many events were taken
+  abbrev pub count : ℕ → ℕ
+  count most = min most (length m1.0.sight.seen - next)
+
+  count_is : (most : ℕ) → taken h.behind.world subscribed.0 most ≡ count most
+  count_is most = λ i. min most (length (h.behind.events i) - subscribed.2 i)
+
+  says : (most : ℕ) (answer : Result Taken NoId) (x : Taken) → answer ≡ take_reply h.behind.world id most → answer ≡ Ok x → Ok x ≡ reply_for h.behind.world most (Some subscribed.0)
+  says most answer x e is = sym is ∙ e ∙ ap (reply_for h.behind.world most) subscribed.1
+
+  pub on_got : (most n : ℕ) (answer : Result Taken NoId) → answer ≡ take_reply h.behind.world id most → answer ≡ Ok (Got n) → (next < length m1.0.sight.seen) × (n ≡ count most)
+  on_got most n answer e is = let t = got_says h.behind.world most subscribed.0 n (says most answer (Got n) e is) in
+      let long : length h.behind.world.events ≡ length m1.0.sight.seen = ap length h.behind.events in let at : subscribed.0.next ≡ next = subscribed.2 in let lt = t.0 in
+      (omega arith, t.1 ∙ count_is most)
+
+  pub on_nothing : (most : ℕ) (answer : Result Taken NoId) → answer ≡ take_reply h.behind.world id most → answer ≡ Ok Nothing → (next ≡ length m1.0.sight.seen) × (m1.0.sight.closed ≡ 0)
+  on_nothing most answer e is = let t = nothing_says h.behind.world most subscribed.0 (says most answer Nothing e is) in
+      let long : length h.behind.world.events ≡ length m1.0.sight.seen = ap length h.behind.events in let at : subscribed.0.next ≡ next = subscribed.2 in let le = t.0 in let in_it = sane_is.1 in
+      (omega arith, open_when m1.0.sight.closed h.behind.world.closed h.behind.closed t.1)
+
+  pub on_end : (most : ℕ) (answer : Result Taken NoId) → answer ≡ take_reply h.behind.world id most → answer ≡ Ok End → (next ≡ length m1.0.sight.seen) × (m1.0.sight.closed ≢ 0)
+  on_end most answer e is = let t = end_says h.behind.world most subscribed.0 (says most answer End e is) in
+      let long : length h.behind.world.events ≡ length m1.0.sight.seen = ap length h.behind.events in let at : subscribed.0.next ≡ next = subscribed.2 in let le = t.0 in let in_it = sane_is.1 in
+      (omega arith, closed_when m1.0.sight.closed h.behind.world.closed h.behind.closed t.1)
+
+  events_moved : (most : ℕ) → take_events h.behind.world id most ≡ slice next (next + count most) m1.0.sight.seen
+  events_moved most = let k : next + count most - next ≡ count most = omega arith in
+      ap (moved_for h.behind.world most) subscribed.1 ∙ (λ i. take (count_is most i) (drop (subscribed.2 i) (h.behind.events i))) ∙ ap (λ (n : ℕ). take n (drop next m1.0.sight.seen)) (sym k)
+
+  length_moved : (most : ℕ) → length (slice next (next + count most) m1.0.sight.seen) ≡ count most
+  length_moved most = let k : next + count most - next ≡ count most = omega arith in
+      let room : count most ≤ length (drop next m1.0.sight.seen) = omega (arith, length-drop next m1.0.sight.seen) in
+      ap (λ (n : ℕ). length (take n (drop next m1.0.sight.seen))) k ∙ length-take-le (count most) (drop next m1.0.sight.seen) room
+
+  pub filled_moved : (most : ℕ) (out out' : List Event) → out' ≡ take_events h.behind.world id most ++ drop (length (take_events h.behind.world id most)) out
+      → out' ≡ slice next (next + count most) m1.0.sight.seen ++ drop (count most) out
+  filled_moved most out out' e = e ∙ (λ i. events_moved most i ++ drop (length (events_moved most i)) out) ∙ ap (λ (n : ℕ). slice next (next + count most) m1.0.sight.seen ++ drop n out) (length_moved most)
+
+  pub filled_still : (most : ℕ) (out out' : List Event) → next ≡ length m1.0.sight.seen → out' ≡ take_events h.behind.world id most ++ drop (length (take_events h.behind.world id most)) out → out' ≡ out
+  filled_still most out out' at e = let none : count most ≡ 0 = omega arith in let same : next + count most ≡ next = omega arith in
+      filled_moved most out out' e ∙ (λ i. slice next (same i) m1.0.sight.seen ++ drop (none i) out) ∙ ap (λ (l : List Event). l ++ out) (slice_none next m1.0.sight.seen)
+
+  module _ (b' : Locked) (most : ℕ) (after : Stands b' (after_take h.behind.world id most)) (others : KeepsPublishers b b') where
+    world' : World
+    world' = with_changed h.behind.world id (moved_on h.behind.world most)
+
+    stands' : Stands b' (with_changed h.behind.world id (moved_on h.behind.world most))
+    stands' = subst (λ (o : Option Subscription). Stands b' (after_take_for h.behind.world id most o)) subscribed.1 after
+
+    cursor_own : cursor_of b'.kept.cursors id ≡ Some (next + count most)
+    cursor_own = cursor_found b'.kept (with_changed h.behind.world id (moved_on h.behind.world most)) id stands'.for
+        ∙ ap next_of (found_changed (moved_on h.behind.world most) 1 h.behind.world.subscriptions id subscribed.0 subscribed.1 (found_stands 1 h.behind.world.subscriptions id subscribed.0 subscribed.1))
+        ∙ (λ i. Some (subscribed.2 i + count_is most i))
+
+    cursor_else : (i : ℕ) → i ≢ id → cursor_of b'.kept.cursors i ≡ cursor_of b.kept.cursors i
+    cursor_else i ne = cursor_found b'.kept (with_changed h.behind.world id (moved_on h.behind.world most)) i stands'.for
+        ∙ ap next_of (found_else (moved_on h.behind.world most) 1 h.behind.world.subscriptions id i ne) ∙ sym (cursor_found b.kept h.behind.world i h.behind.for.for)
+
+    ids_same : b'.kept.given ≡ b.kept.given
+    ids_same = stands'.for.given ∙ length-changed (moved_on h.behind.world most) 1 h.behind.world.subscriptions id ∙ sym h.behind.for.for.given
+
+    behind' : IsBehind m1.0.rules m1.0.sight.seen m1.0.sight.closed b'
+    behind' = record { world = with_changed h.behind.world id (moved_on h.behind.world most); for = stands'; events = h.behind.events; closed = h.behind.closed; kind = h.behind.kind; limits = h.behind.limits }
+
+    changes : (next' : ℕ) (got' : List Event) → next' ≡ next + count most → next' ≤ length m1.0.sight.seen → got' ≡ slice mark next' m1.0.sight.seen
+        → Changes m1.0.sight.seen (taker id mark next (got_of m0.0.role)) (taker id mark next' got') (book_of b) (book_of b') id (suc b.given)
+    changes next' got' to within whole = let le = sane_is.0 in let numbers : b'.given ≡ b.given = others.1 in let ids = ids_same in record {
+      ids_up = omega arith;
+      numbers_up = omega arith;
+      cursors = cursor_else;
+      standing = λ n ne. ap (λ (l : List ℕ). stands l n) others.0;
+      live = tt;
+      live' = tt;
+      own_id = λ f g j x. inr x.its_seat;
+      own_number = λ f g j x. inl (omega arith);
+      id_kept = λ i x. x;
+      number_kept = λ n x. absurd x;
+      id_given = λ i a c. absurd (none_between i b.kept.given a (omega arith));
+      number_given = λ n a c. absurd (none_between n b.given a (omega arith));
+      bounded = bounded_after b' (with_changed h.behind.world id (moved_on h.behind.world most)) stands' (still_low b b' h.bounded others);
+      fits = λ f g j x _ _. record {
+        its_seat = x.its_seat;
+        given = (x.given.0, let q = x.given.1 in omega arith);
+        sane = (omega arith, within, whole);
+        cursor = cursor_own ∙ ap (λ (n : ℕ). Some n) (sym to);
+      };
+    }
+
+    -- nothing was taken
+    pub rests_still : next ≡ length m1.0.sight.seen → Gives m1 b' (rested m1.0 m1.0.role)
+    rests_still at = let none : next ≡ next + count most = omega arith in subst (λ (r : Role). Gives m1 b' (rested m1.0 r)) (sym role_is) (
+      book_of b,
+      taker id mark next (got_of m0.0.role),
+      id,
+      suc b.given,
+      held_is,
+      refl,
+      behind',
+      subst (λ (r : Role). Changes m1.0.sight.seen r (taker id mark next (got_of m0.0.role)) (book_of b) (book_of b') id (suc b.given)) (sym role_is) (changes next (got_of m0.0.role) none sane_is.1 sane_is.2),
+    )
+
+    within_moved : (n : ℕ) → n ≡ count most → next + n ≤ length m1.0.sight.seen
+    within_moved n is = let p : next ≤ length m1.0.sight.seen = sane_is.1 in omega arith
+
+    got_longer : (n : ℕ) → got_of m0.0.role ++ slice next (next + n) m1.0.sight.seen ≡ slice mark (next + n) m1.0.sight.seen
+    got_longer n = ap (λ (l : List Event). l ++ slice next (next + n) m1.0.sight.seen) sane_is.2 ∙ slice_join mark next (next + n) m1.0.sight.seen sane_is.0 (omega arith)
+
+    -- n events were taken
+    pub rests_moved : (n : ℕ) → n ≡ count most → Gives m1 b' (rested m1.0 (moved m1.0.sight.seen (taking_of m1.0.role) n))
+    rests_moved n is = subst (λ (r : Role). Gives m1 b' (rested m1.0 (moved m1.0.sight.seen (taking_of r) n))) (sym role_is) (
+      book_of b,
+      taker id mark (next + n) (got_of m0.0.role ++ slice next (next + n) m1.0.sight.seen),
+      id,
+      suc b.given,
+      held_is,
+      refl,
+      behind',
+      subst (λ (r : Role). Changes m1.0.sight.seen r (taker id mark (next + n) (got_of m0.0.role ++ slice next (next + n) m1.0.sight.seen)) (book_of b) (book_of b') id (suc b.given)) (sym role_is)
+          (changes (next + n) (got_of m0.0.role ++ slice next (next + n) m1.0.sight.seen) (ap (λ (k : ℕ). next + k) is) (within_moved n is) (got_longer n)),
+    )
+
+    module _ (n : ℕ) (is : n ≡ count most) (m3 : M) (e3 : m3 ≡ (rested m1.0 (moved m1.0.sight.seen (taking_of m1.0.role) n), [])) where
+      now : m3 ≡ (rested m1.0 (taker id mark (next + n) (got_of m0.0.role ++ slice next (next + n) m1.0.sight.seen)), [])
+      now = e3 ∙ ap (λ (r : Role). (rested m1.0 (moved m1.0.sight.seen (taking_of r) n), [])) role_is
+
+      pub moved_taker : IsTaker m3 id mark (next + n)
+      moved_taker = let le = sane_is.0 in subst (λ (m : M). IsTaker m id mark (next + n)) (sym now) record {
+        role = refl;
+        held = refl;
+        out = refl;
+        met = refl;
+        began = omega arith;
+        ended = within_moved n is;
+        got = got_longer n;
+        within = h.renews.sound_is.0;
+      }
+
+      pub sight_moved : m3.0.sight ≡ m1.0.sight
+      sight_moved = ap (λ (m : M). m.0.sight) now
+
+      pub got_moved : got_of m3.0.role ≡ got_of m0.0.role ++ slice next (next + n) m3.0.sight.seen
+      got_moved = ap (λ (m : M). got_of m.0.role) now ∙ ap (λ (s : Sight). got_of m0.0.role ++ slice next (next + n) s.seen) (sym sight_moved)
+
+  -- ---- a cancel
+
+  pub is_cancelled : (answer : Result (Unit {0}) NoId) → answer ≡ cancel_reply h.behind.world id → IsOk answer
+  is_cancelled answer e = subst IsOk (sym (e ∙ ap cancel_for subscribed.1)) refl
+
+  module _ (b' : Locked) (after : Stands b' (after_cancel h.behind.world id)) (others : KeepsPublishers b b') where
+    stands_on : Stands b' (with_changed h.behind.world id stopped)
+    stands_on = subst (λ (o : Option Subscription). Stands b' (after_cancel_for h.behind.world id o)) subscribed.1 after
+
+    pub rests_cancelled : Gives m1 b' (rested m1.0 (gone_taker m1.0.role))
+    rests_cancelled = let numbers : b'.given ≡ b.given = others.1 in
+        let ids : b'.kept.given ≡ b.kept.given = stands_on.for.given ∙ length-changed stopped 1 h.behind.world.subscriptions id ∙ sym h.behind.for.for.given in
+        let own : cursor_of b'.kept.cursors id ≡ None = cursor_found b'.kept (with_changed h.behind.world id stopped) id stands_on.for ∙ ap next_of (found_stopped 1 h.behind.world.subscriptions id subscribed.0 subscribed.1) in
+        subst (λ (r : Role). Gives m1 b' (rested m1.0 (gone_taker r))) (sym role_is) (
+          book_of b,
+          gone_taker (taker id mark next (got_of m0.0.role)),
+          id,
+          suc b.given,
+          held_is,
+          refl,
+          record { world = with_changed h.behind.world id stopped; for = stands_on; events = h.behind.events; closed = h.behind.closed; kind = h.behind.kind; limits = h.behind.limits },
+          subst (λ (r : Role). Changes m1.0.sight.seen r (gone_taker (taker id mark next (got_of m0.0.role))) (book_of b) (book_of b') id (suc b.given)) (sym role_is) record {
+            ids_up = omega arith;
+            numbers_up = omega arith;
+            cursors = λ i ne. cursor_found b'.kept (with_changed h.behind.world id stopped) i stands_on.for ∙ ap next_of (found_else stopped 1 h.behind.world.subscriptions id i ne) ∙ sym (cursor_found b.kept h.behind.world i h.behind.for.for);
+            standing = λ n ne. ap (λ (l : List ℕ). stands l n) others.0;
+            live = tt;
+            live' = tt;
+            own_id = λ f g j x. inr x.its_seat;
+            own_number = λ f g j x. inl (omega arith);
+            id_kept = λ i x. x;
+            number_kept = λ n x. absurd x;
+            id_given = λ i a c. absurd (none_between i b.kept.given a (omega arith));
+            number_given = λ n a c. absurd (none_between n b.given a (omega arith));
+            bounded = bounded_after b' (with_changed h.behind.world id stopped) stands_on (still_low b b' h.bounded others);
+            fits = λ f g j x _ _. record { its_seat = x.its_seat; given = (x.given.0, let q = x.given.1 in omega arith); sane = x.sane; cursor = own };
+          },
+        )

@@ -1,0 +1,10 @@
+use Rattle.std.proofs.Common.{ap, ◌∙◌}
+use Rattle.hub_fifodir.specs.declared.views.View.{View}
+use Rattle.hub_fifodir.specs.Steps.{mine_of}
+use Rattle.hub_fifodir.proofs.Rests.{rests_left}
+use Rattle.hub_fifodir.proofs.fifodir.Fifodir.leave.Goals as goal
+
+pub rest_left-requires-clause-gives : goal.rest_left-requires-clause-gives
+rest_left-requires-clause-gives g c = let h = c.take_turn-held.ensures.holding.1 in let me = c.args.me in
+    rests_left c.take_turn-held.new.seat.me c.take_turn-held.result.locked c.leave.new.self me.number (mine_of me.seat.me.0.role)
+    (ap (λ (v : View). v.role) h.renews.is ∙ me.is_writer.role) (ap (λ (v : View). v.held) h.renews.is) h.bounded h.behind c.leave.ensures.left c.leave.ensures.record

@@ -1,0 +1,9 @@
+use Rattle.std.proofs.Common.{length}
+use Rattle.hub_letters.specs.Flags.{flags_of}
+use Rattle.hub_record.specs.World.{letters}
+use Rattle.hub_fifodir.specs.Events.{is_closed}
+use Rattle.hub_fifodir.proofs.fifodir.Fifodir.status.Goals as goal
+
+pub returns-clause-status : goal.returns-clause-status
+returns-clause-status g c = let t = g.A.Pass.sight c.look.new.self in
+    let u = c.unpack.ensures (length t.seen) (is_closed t.closed) (flags_of (letters t.seen)) c.look.ensures.word in (u.0, u.2, u.1)

@@ -1,0 +1,6 @@
+use Rattle.std.proofs.Common.{[]}
+use Rattle.hub_fifodir.specs.Steps.{rested, writer}
+use Rattle.hub_fifodir.proofs.steps.rest_as_publisher.Given as goal
+
+abbrev pub ghosts-give_back : goal.ghosts-give_back
+ghosts-give_back a = record { view = rested a.seat.now.me.0 (writer a.held.locked.given []) }

@@ -1,0 +1,72 @@
+-- What the rule says of any table under it.
+use Rattle.std.specs.Prelude.{◌≢◌, slice_index, length, ◌≡◌, ◌⊎◌, ◌≤◌, ◌∷◌, [], ℕ, Option, Some, true, false}
+use mathlib.Core.Option.{some}
+use lib.ListN.{get_elem?}
+use Rattle.atomic_table.specs.Table.{State}
+use Rattle.hub_letters.specs.Flags.{flags_of}
+use Rattle.hub_record.specs.World.{World, base, letters}
+use Rattle.hub_fifodir.specs.declared.views.Rules.{Rules}
+use Rattle.hub_fifodir.specs.declared.views.View.{View}
+use Rattle.hub_fifodir.specs.declared.views.Taking.{Taking}
+use Rattle.hub_fifodir.specs.declared.views.Writing.{Writing}
+use Rattle.hub_fifodir.specs.declared.views.Role.TheVariants.{Ticket, Publisher}
+use Rattle.hub_fifodir.specs.declared.locked.Locked.{Locked}
+use Rattle.hub_fifodir.specs.Events.{StartsWith}
+use Rattle.hub_fifodir.specs.Word.{packed}
+use Rattle.hub_fifodir.specs.Locks.{Stands, stands}
+use Rattle.hub_fifodir.specs.Rule.{Kept, IsLive, cursor_of}
+
+abbrev Board : Type 0
+Board = State (Option Locked) View
+
+-- the seat j is this ticket's
+abbrev pub HasTicket : State (Option Locked) View → ℕ → Taking → Type 0
+HasTicket s j t = (v : View) × (get_elem? s.views j ≡ some v) × (v.role ≡ Ticket t)
+
+abbrev pub HasPublisher : State (Option Locked) View → ℕ → Writing → Type 0
+HasPublisher s j p = (v : View) × (get_elem? s.views j ≡ some v) × (v.role ≡ Publisher p)
+
+-- the lock is free, and b is behind it
+abbrev pub IsFree : State (Option Locked) View → Locked → Type 0
+IsFree s b = s.homes ≡ some (Some b) ∷ []
+
+-- two tickets have different ids, and two publishers different numbers
+abbrev pub TicketsDiffer : Type 0
+TicketsDiffer = (rules : Rules) (s : Board) (j k : ℕ) (t u : Taking) → Kept rules s → HasTicket s j t → HasTicket s k u → t.id ≡ u.id → j ≡ k
+
+abbrev pub PublishersDiffer : Type 0
+PublishersDiffer = (rules : Rules) (s : Board) (j k : ℕ) (p q : Writing) → Kept rules s → HasPublisher s j p → HasPublisher s k q → p.number ≡ q.number → j ≡ k
+
+-- of what two seats have seen one is a beginning of the other
+abbrev pub SeatsAgree : Type 0
+SeatsAgree = (rules : Rules) (s : Board) (j k : ℕ) (v w : View) → Kept rules s → get_elem? s.views j ≡ some v → get_elem? s.views k ≡ some w → IsLive v.role → IsLive w.role
+    → StartsWith v.sight.seen w.sight.seen ⊎ StartsWith w.sight.seen v.sight.seen
+
+-- a ticket that stands has its cursor, and a cursor has its ticket
+abbrev pub TicketsHaveCursors : Type 0
+TicketsHaveCursors = (rules : Rules) (s : Board) (b : Locked) (j : ℕ) (t : Taking) → Kept rules s → IsFree s b → HasTicket s j t → t.gone ≡ false → cursor_of b.kept.cursors t.id ≡ Some t.next
+
+abbrev pub CursorsHaveTickets : Type 0
+CursorsHaveTickets = (rules : Rules) (s : Board) (b : Locked) (id next : ℕ) → Kept rules s → IsFree s b → cursor_of b.kept.cursors id ≡ Some next
+    → (j : ℕ) × (t : Taking) × HasTicket s j t × (t.id ≡ id) × (t.next ≡ next) × (t.gone ≡ false)
+
+-- a number that stands has its publisher
+abbrev pub StandingHavePublishers : Type 0
+StandingHavePublishers = (rules : Rules) (s : Board) (b : Locked) (n : ℕ) → Kept rules s → IsFree s b → stands b.standing.keys n ≡ true
+    → (j : ℕ) × (p : Writing) × HasPublisher s j p × (p.number ≡ n) × (p.gone ≡ false)
+
+-- the base has not passed what a ticket that stands takes next
+abbrev pub BaseIsBehind : Type 0
+BaseIsBehind = (rules : Rules) (s : Board) (b : Locked) (w : World) (j : ℕ) (t : Taking) → Kept rules s → IsFree s b → Stands b w → HasTicket s j t → t.gone ≡ false → base w ≤ t.next
+
+-- the record behind it stands for one history, of which each seat has seen a beginning, and all of it where it has seen the close; the front word says how it stands
+pub record IsHistory (rules : Rules) (s : State (Option Locked) View) (b : Locked) (w : World) : Type 0 where
+  pub stands : Stands b w
+  pub kind : w.kind ≡ rules.kind
+  pub limits : w.limits ≡ rules.limits
+  pub front : slice_index s.words 0 ≡ packed (length w.events) w.closed (flags_of (letters w.events))
+  pub seen : (j : ℕ) (v : View) → get_elem? s.views j ≡ some v → IsLive v.role → StartsWith w.events v.sight.seen
+  pub shut : (j : ℕ) (v : View) → get_elem? s.views j ≡ some v → IsLive v.role → v.sight.closed ≢ 0 → (v.sight.seen ≡ w.events) × (w.closed ≡ true)
+
+abbrev pub RecordIsHistory : Type 0
+RecordIsHistory = (rules : Rules) (s : Board) (b : Locked) → Kept rules s → IsFree s b → (w : World) × IsHistory rules s b w

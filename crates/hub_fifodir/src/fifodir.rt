@@ -1,0 +1,97 @@
+//! The fifodir, and what its passes read of it without the lock.
+ghost use Rattle.std.specs.Prelude.{◌≡◌, length, IfOk};
+ghost use Rattle.hub_fifodir.specs.Notes.{IsSized};
+ghost use Rattle.hub_fifodir.specs.Rule.{IsSound};
+
+use crate::locked::Locked;
+use crate::pass::Pass;
+use crate::rule::{Board, OneHistory};
+use crate::views::{Rules, View};
+use crate::word;
+use atomic_table::{Refused, Table};
+use hub_record::{Kind, Limits, Status};
+use std::alloc::{AllocError, Global};
+use std::sync::Wait;
+
+/// A record that threads share.
+#[derive(Drop)]
+pub struct Fifodir {
+    table: Table<Option<Locked>, View, Rules, OneHistory, Global>,
+    rules: Rules,
+    ghost sized: { IsSized table.shared.table_id },
+    ghost ruled: { table.shared.key ≡ rules },
+}
+
+impl Fifodir {
+    ghost use Rattle.hub_fifodir.specs.Passes.{IsOf, IsStatusOf, Learns, table_of, kind_of, limits_of};
+
+    /// An open fifodir with no event.
+    pub fn new(alloc: Global, kind: Kind, limits: Limits) -> Result<Fifodir, AllocError>
+        ensures { IfOk result (λ f. (kind_of f ≡ kind) × (limits_of f ≡ limits)) }
+    {
+        let rules = Rules { kind, limits };
+        let mut slots = Vec::with_capacity(alloc, 1)?;
+        slots.push_reserved(Some(Locked::new(alloc, kind, limits)?));
+        match Table::new(alloc, &[0, 0], slots, &rules) {
+            Ok((table, _seat)) => Ok(Fifodir { table, rules }),
+            Err(Refused { slots: _ }) => Err(AllocError),
+        }
+    }
+
+    pub fn kind(&self) -> Kind
+        ensures { result ≡ kind_of self.now }
+    {
+        self.rules.kind
+    }
+
+    pub(crate) fn board(&self) -> &Board
+        ensures { (result.now.table_id ≡ table_of self.now) × IsSized result.now.table_id × (result.now.key ≡ self.now.rules) }
+    {
+        &self.table.shared
+    }
+
+    /// The number of events, the flags and whether it is closed, as they stand at one moment. It waits for nobody.
+    pub fn status<A: Pass>(&self, me: &mut A) -> Status
+        requires { IsOf self.now (A.table me.old) (A.rules me.old) }
+        ensures pass { IsOf self.now (A.table me.new) (A.rules me.new) × (A.role me.new ≡ A.role me.old) × (A.numbers me.new ≡ A.numbers me.old) }
+        ensures sound { IsSound (A.rules me.new) (A.sight me.new).seen }
+        ensures seen { Learns (A.role me.old) (A.sight me.old) (A.sight me.new) }
+        ensures status { IsStatusOf result (A.sight me.new) }
+    {
+        word::unpack(me.look(self.board()))
+    }
+
+    /// The number of events. It waits for nobody.
+    pub fn front<A: Pass>(&self, me: &mut A) -> u64
+        requires { IsOf self.now (A.table me.old) (A.rules me.old) }
+        ensures pass { IsOf self.now (A.table me.new) (A.rules me.new) × (A.role me.new ≡ A.role me.old) × (A.numbers me.new ≡ A.numbers me.old) }
+        ensures sound { IsSound (A.rules me.new) (A.sight me.new).seen }
+        ensures seen { Learns (A.role me.old) (A.sight me.old) (A.sight me.new) }
+        ensures number { result ≡ length (A.sight me.new).seen }
+    {
+        self.status(me).number
+    }
+
+    /// Afterwards both know the same record. It takes no lock, and looks again until the front stayed the same meanwhile.
+    pub fn meet<R: Wait, A: Pass, B: Pass>(&self, rt: &R, one: &mut A, other: &mut B)
+        requires one { IsOf self.now (A.table one.old) (A.rules one.old) }
+        requires other { IsOf self.now (B.table other.old) (B.rules other.old) }
+        ensures one { IsOf self.now (A.table one.new) (A.rules one.new) × (A.role one.new ≡ A.role one.old) × (A.numbers one.new ≡ A.numbers one.old) }
+        ensures other { IsOf self.now (B.table other.new) (B.rules other.new) × (B.role other.new ≡ B.role other.old) × (B.numbers other.new ≡ B.numbers other.old) }
+        ensures sound { IsSound (A.rules one.new) (A.sight one.new).seen }
+        ensures one_seen { Learns (A.role one.old) (A.sight one.old) (A.sight one.new) }
+        ensures other_seen { Learns (B.role other.old) (B.sight other.old) (B.sight other.new) }
+        ensures same { B.sight other.new ≡ A.sight one.new }
+    {
+        let board = self.board();
+        for _ in rt.forever() {
+            let first = one.look(board);
+            let note = one.note(board);
+            let last = other.read(board, note);
+            if first == last {
+                return;
+            }
+        }
+        unreachable!()
+    }
+}

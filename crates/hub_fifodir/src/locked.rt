@@ -1,0 +1,131 @@
+//! The value behind the lock.
+ghost use Rattle.std.specs.Prelude.{◌≡◌, ◌++◌, [], length, drop, IfOk, OnErr, OnOk};
+ghost use Rattle.hub_record.specs.World.{World, empty_world, SubscribeReply, after_subscribe, PublishReply, after_publish, take_reply, take_events, after_take, cancel_reply, after_cancel, close_reply, after_close};
+ghost use Rattle.hub_fifodir.specs.Locks.{Stands, PublisherReply, IsAfterPublisher, HasLeft, KeepsPublishers, KeepsRecord};
+
+use crate::PassError;
+use hub_letters::Letter;
+use hub_record::{Closed, Event, Kind, Limits, NoId, PubError, Record, Status, SubError, Taken};
+use indexmap::IndexSet;
+use std::alloc::{AllocError, Global};
+
+/// A record, the numbers of the publishers that stand, and how many numbers were given.
+#[derive(Drop)]
+pub struct Locked {
+    kept: Record,
+    /// How many numbers may be given in all.
+    ids: u64,
+    standing: IndexSet<u64>,
+    given: u64,
+}
+
+impl Locked {
+    pub fn new(alloc: Global, kind: Kind, limits: Limits) -> Result<Locked, AllocError>
+        ensures { IfOk result (λ b. Stands b (empty_world kind limits) × (b.standing.keys ≡ []) × (b.given ≡ 0)) }
+    {
+        Ok(Locked {
+            kept: Record::new(alloc, kind, limits)?,
+            ids: limits.ids,
+            standing: IndexSet::new(alloc),
+            given: 0,
+        })
+    }
+
+    /// Gives the next number, to a publisher that stands from now on.
+    pub fn publisher(&mut self) -> Result<u64, PassError>
+        ensures reply { PublisherReply self.old result }
+        ensures after { IsAfterPublisher self.old result self.new }
+        ensures record { KeepsRecord self.old self.new }
+    {
+        if self.standing.len() >= 1024 {
+            return Err(PassError::Many);
+        }
+        if self.given >= self.ids {
+            return Err(PassError::Spent);
+        }
+        let number = self.given + 1;
+        match self.standing.insert(number) {
+            Ok(_) => {
+                self.given = number;
+                Ok(number)
+            }
+            Err(_) => Err(PassError::Memory),
+        }
+    }
+
+    /// Gives the next id, with the number of events so far.
+    pub fn subscribe(&mut self) -> Result<(u64, u64), SubError>
+        ensures reply { (w : World) → Stands self.old w → SubscribeReply w result }
+        ensures world { (w : World) → Stands self.old w → Stands self.new (after_subscribe w result) }
+        ensures others { KeepsPublishers self.old self.new }
+        ensures err { OnErr result (self.new ≡ self.old) }
+    {
+        self.kept.subscribe()
+    }
+
+    /// Adds the whole message, or nothing. It doesn't test whether the publisher stands.
+    pub fn publish(&mut self, number: u64, letters: &[Letter]) -> Result<u64, PubError>
+        ensures reply { (w : World) → Stands self.old w → PublishReply w letters.now result }
+        ensures world { (w : World) → Stands self.old w → Stands self.new (after_publish w number letters.now result) }
+        ensures others { KeepsPublishers self.old self.new }
+        ensures err { OnErr result (self.new ≡ self.old) }
+    {
+        self.kept.publish(number, letters)
+    }
+
+    /// Takes what waits behind a cursor, as far as the slice goes.
+    pub fn take_into(&mut self, id: u64, out: &mut [Event]) -> Result<Taken, NoId>
+        ensures reply { (w : World) → Stands self.old w → result ≡ take_reply w id (length out.old) }
+        ensures world { (w : World) → Stands self.old w → Stands self.new (after_take w id (length out.old)) }
+        ensures filled { (w : World) → Stands self.old w → out.new ≡ take_events w id (length out.old) ++ drop (length (take_events w id (length out.old))) out.old }
+        ensures others { KeepsPublishers self.old self.new }
+        ensures err { OnErr result (self.new ≡ self.old) }
+    {
+        self.kept.take_into(id, out)
+    }
+
+    /// Ends a subscription.
+    pub fn cancel(&mut self, id: u64) -> Result<(), NoId>
+        ensures reply { (w : World) → Stands self.old w → result ≡ cancel_reply w id }
+        ensures world { (w : World) → Stands self.old w → Stands self.new (after_cancel w id) }
+        ensures others { KeepsPublishers self.old self.new }
+        ensures err { OnErr result (self.new ≡ self.old) }
+    {
+        self.kept.cancel(id)
+    }
+
+    /// Takes a publisher out of those that stand. Where it doesn't stand, nothing changes.
+    pub fn leave(&mut self, number: u64)
+        ensures left { HasLeft self.old number self.new }
+        ensures record { KeepsRecord self.old self.new }
+    {
+        self.standing.shift_remove(&number);
+    }
+
+    /// Closes for events and subscriptions.
+    pub fn close(&mut self) -> Result<(), Closed>
+        ensures reply { (w : World) → Stands self.old w → result ≡ close_reply w }
+        ensures world { (w : World) → Stands self.old w → Stands self.new (after_close w) }
+        ensures others { KeepsPublishers self.old self.new }
+        ensures err { OnErr result (self.new ≡ self.old) }
+    {
+        self.kept.close()
+    }
+
+    pub fn status(&self) -> Status
+        ensures { (result.number ≡ self.now.kept.end) × (result.flags ≡ self.now.kept.flags) × (result.closed ≡ self.now.kept.closed) }
+    {
+        Status {
+            number: self.kept.end(),
+            flags: self.kept.flags(),
+            closed: self.kept.closed(),
+        }
+    }
+
+    /// The number of events so far.
+    pub fn front(&self) -> u64
+        ensures { result ≡ self.now.kept.end }
+    {
+        self.kept.end()
+    }
+}

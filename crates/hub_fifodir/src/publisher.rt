@@ -1,0 +1,143 @@
+//! Publishers, and the calls of a fifodir that take one.
+ghost use Rattle.std.specs.Prelude.{◌≡◌, ◌≢◌, ◌<◌, [], ◌∷◌, IfOk, IfErr, OnErr, OnOk};
+ghost use Rattle.hub_fifodir.specs.Steps.{IsWriter, Grows};
+
+use crate::fifodir::Fifodir;
+use crate::pass::Pass;
+use crate::rule::{Board, Seat};
+use crate::{PassError, steps, word};
+use hub_letters::Letter;
+use hub_record::{Closed, PubError};
+use std::sync::Wait;
+
+/// Who may publish to a fifodir. It can't be copied, and `Fifodir::leave` takes it back.
+#[derive(Drop)]
+pub struct Publisher {
+    number: u64,
+    seat: Seat,
+    pub ghost is_writer: { IsWriter seat.me number },
+    pub ghost positive: { 0 < number },
+}
+
+impl Publisher {
+    pub fn number(&self) -> u64
+        ensures { result ≡ self.now.number }
+    {
+        self.number
+    }
+}
+
+impl Fifodir {
+    ghost use Rattle.hub_fifodir.specs.Passes.{IsPublisherOf, IsPublisherSound, publisher_sight, closed_mark, mine, KnewOwnClose, HasPublished, IsRefusedAt};
+
+    /// A new publisher, which has published nothing. A closed fifodir gives publishers too.
+    pub fn publisher<R: Wait>(&self, rt: &R) -> Result<Publisher, PassError>
+        ensures { IfOk result (λ p. IsPublisherOf self.now p × IsPublisherSound p × (mine p ≡ []) × (closed_mark p ≢ p.number)) }
+    {
+        let board = self.board();
+        let mut seat = steps::enter(board);
+        let mut held = steps::take_turn(rt, board, &mut seat);
+        match held.locked.publisher() {
+            Ok(number) => {
+                steps::rest_as_publisher(board, &mut seat, held);
+                Ok(Publisher { number, seat })
+            }
+            Err(refusal) => {
+                steps::rest(board, &mut seat, held);
+                Err(refusal)
+            }
+        }
+    }
+
+    /// Adds the whole message, or nothing, and answers the number of its first event.
+    pub fn publish<R: Wait>(
+        &self,
+        rt: &R,
+        me: &mut Publisher,
+        letters: &[Letter],
+    ) -> Result<u64, PubError>
+        requires { IsPublisherOf self.now me.old }
+        ensures pass { IsPublisherOf self.now me.new × (me.new.number ≡ me.old.number) }
+        ensures sound { IsPublisherSound me.new }
+        ensures seen { Grows (publisher_sight me.old) (publisher_sight me.new) }
+        ensures own { KnewOwnClose me.old me.new }
+        ensures ok { IfOk result (λ n. HasPublished me.old letters.now n me.new) }
+        ensures err { OnErr result (mine me.new ≡ mine me.old) }
+        ensures refused { IfErr result (λ e. IsRefusedAt me.new letters.now e) }
+    {
+        let board = self.board();
+        let mut held = steps::take_turn(rt, board, &mut me.seat);
+        match held.locked.publish(me.number, letters) {
+            Ok(first) => {
+                let word = word::pack(held.locked.status());
+                steps::write_message(board, &mut me.seat, word, letters);
+                steps::rest(board, &mut me.seat, held);
+                Ok(first)
+            }
+            Err(refusal) => {
+                steps::rest(board, &mut me.seat, held);
+                Err(refusal)
+            }
+        }
+    }
+
+    /// Closes the fifodir for events and subscriptions.
+    pub fn close<R: Wait>(&self, rt: &R, me: &mut Publisher) -> Result<(), Closed>
+        requires { IsPublisherOf self.now me.old }
+        ensures pass { IsPublisherOf self.now me.new × (me.new.number ≡ me.old.number) × (mine me.new ≡ mine me.old) }
+        ensures sound { IsPublisherSound me.new }
+        ensures seen { Grows (publisher_sight me.old) (publisher_sight me.new) }
+        ensures ok { OnOk result ((closed_mark me.old ≡ 0) × (closed_mark me.new ≡ me.old.number)) }
+        ensures err { OnErr result ((closed_mark me.new ≢ 0) × KnewOwnClose me.old me.new) }
+    {
+        let board = self.board();
+        let mut held = steps::take_turn(rt, board, &mut me.seat);
+        match held.locked.close() {
+            Ok(()) => {
+                let word = word::pack(held.locked.status());
+                steps::write_mark(board, &mut me.seat, word);
+                steps::rest(board, &mut me.seat, held);
+                Ok(())
+            }
+            Err(refusal) => {
+                steps::rest(board, &mut me.seat, held);
+                Err(refusal)
+            }
+        }
+    }
+
+    /// Takes the publisher back, so that there is room for another.
+    pub fn leave<R: Wait>(&self, rt: &R, me: Publisher)
+        requires { IsPublisherOf self.now me }
+    {
+        let Publisher { number, mut seat } = me;
+        let board = self.board();
+        let mut held = steps::take_turn(rt, board, &mut seat);
+        held.locked.leave(number);
+        steps::rest_left(board, &mut seat, held);
+    }
+}
+
+impl Pass for Publisher {
+    ghost table = { λ p. p.seat.table_id };
+
+    ghost rules = { λ p. p.seat.me.0.rules };
+
+    ghost sight = { λ p. p.seat.me.0.sight };
+
+    ghost role = { λ p. p.seat.me.0.role };
+
+    ghost numbers = { λ p. p.number ∷ [] };
+
+    fn look(&mut self, board: &Board) -> u64 {
+        steps::look(board, &mut self.seat)
+    }
+
+    fn note(&mut self, board: &Board) -> Seat {
+        steps::note(board, &mut self.seat)
+    }
+
+    fn read(&mut self, board: &Board, note: Seat) -> u64 {
+        steps::read(board, &mut self.seat, note)
+    }
+}

@@ -1,0 +1,97 @@
+//! The rule of the table, and the names of its steps. Word 0 is the front and word 1 the turn; the one slot has the locked value.
+use crate::locked::Locked;
+use crate::views::{Rules, View};
+use atomic_table::{Join, Play, Shared, Split, TableRule};
+use std::marker::{Brand, PhantomData};
+
+pub struct OneHistory;
+
+impl TableRule<Option<Locked>, View, Rules> for OneHistory {
+    ghost use Rattle.std.specs.Prelude.{[]};
+    ghost use Rattle.hub_fifodir.specs.Rule.{Kept, visitor};
+
+    ghost holds = { Kept };
+
+    ghost first = { λ rules. visitor rules [] 0 };
+}
+
+pub type Board = Shared<Option<Locked>, View, Rules, OneHistory>;
+
+pub type Seat = atomic_table::Seat<Option<Locked>, View>;
+
+pub struct Enter;
+
+impl Play<Option<Locked>, View> for Enter {
+    ghost use Rattle.hub_fifodir.specs.Steps.{entered};
+
+    ghost then = { entered };
+}
+
+pub struct Look;
+
+impl Play<Option<Locked>, View> for Look {
+    ghost use Rattle.hub_fifodir.specs.Steps.{looked};
+
+    ghost then = { looked };
+}
+
+pub struct Lock;
+
+impl Play<Option<Locked>, View> for Lock {
+    ghost use Rattle.hub_fifodir.specs.Steps.{locked};
+
+    ghost then = { locked };
+}
+
+/// The view that a store leaves its seat with. Each call picks it.
+pub trait Next {
+    ghost use Rattle.hub_fifodir.specs.declared.views.View.{View};
+
+    ghost view: { View };
+}
+
+impl Next for Brand {
+    ghost use Rattle.hub_fifodir.specs.Rule.{spent};
+
+    ghost view = { spent };
+}
+
+pub struct Write<N> {
+    next: PhantomData<N>,
+}
+
+impl<N: Next> Play<Option<Locked>, View> for Write<N> {
+    ghost use Rattle.std.specs.Prelude.{◌≡◌};
+
+    ghost then = { λ st m n r. (r.0 ≡ N.view) × (r.1 ≡ m.1) };
+}
+
+pub struct Unlock<N> {
+    next: PhantomData<N>,
+}
+
+impl<N: Next> Play<Option<Locked>, View> for Unlock<N> {
+    ghost use Rattle.std.specs.Prelude.{◌≡◌, []};
+
+    ghost then = { λ st m n r. (r.0 ≡ N.view) × (r.1 ≡ []) };
+}
+
+/// A note of what a seat has seen, split off it and joined by another.
+pub struct Notes;
+
+impl Split<View> for Notes {
+    ghost use Rattle.hub_fifodir.specs.Steps.{note_of};
+
+    ghost left = { λ v. v };
+
+    ghost right = { note_of };
+}
+
+impl Join<View> for Notes {
+    ghost use Rattle.hub_fifodir.specs.Steps.{with_note};
+    ghost use Rattle.hub_fifodir.specs.Rule.{spent};
+
+    ghost both = { with_note };
+
+    ghost spent = { spent };
+}

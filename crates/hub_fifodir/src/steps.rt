@@ -1,0 +1,203 @@
+//! Each kind of step, on one seat.
+ghost use Rattle.std.specs.Prelude.{◌≡◌, ◌∷◌, [], None};
+ghost use Rattle.hub_fifodir.specs.Rule.{IsSound, visitor};
+ghost use Rattle.hub_fifodir.specs.Steps.{IsIdle, Holding, Gives, Front, WritesMessage, WritesMark, grown, closing, writing_of, taking_of, writer, rested, new_taker, moved, gone_taker, gone_writer, Looks, Grows, note_of};
+ghost use Rattle.hub_fifodir.specs.Notes.{IsSized, IsNote, note_sight};
+
+use crate::locked::Locked;
+use crate::rule::{Board, Enter, Lock, Look, Next, Notes, Seat, Unlock, Write};
+use hub_letters::Letter;
+use std::marker::Brand;
+use std::sync::Wait;
+
+// Has no `Drop`, so that what carries it has to be given back.
+struct Key;
+
+/// The value behind the lock, while a seat has it. It can't be let go: `rest` and its like take it back.
+pub(crate) struct Held {
+    pub(crate) locked: Locked,
+    key: Key,
+}
+
+// Takes the lock, and the value behind it.
+pub(crate) fn take_turn<R: Wait>(rt: &R, board: &Board, seat: &mut Seat) -> Held
+    requires table { (seat.old.table_id ≡ board.now.table_id) × IsSized board.now.table_id }
+    requires idle { IsIdle seat.old.me }
+    ensures table { (seat.new.table_id ≡ seat.old.table_id) × (seat.new.id ≡ seat.old.id) }
+    ensures holding { Holding seat.old.me result.locked seat.new.me }
+{
+    for _ in rt.forever() {
+        let found = board.swap::<Lock>(seat, 1, 1);
+        if found == 0 {
+            let locked = board.exchange(seat, 0, None).unwrap();
+            return Held { locked, key: Key };
+        }
+        board.park(rt, 1, 1);
+    }
+    unreachable!()
+}
+
+// Puts the value back, and gives the lock back. The events are those that were taken, for the view that is picked.
+fn give_back<N: Next>(board: &Board, seat: &mut Seat, held: Held, _taken: u64)
+    requires table { (seat.old.table_id ≡ board.now.table_id) × IsSized board.now.table_id }
+    requires held { seat.old.me.1 ≡ (0, None) ∷ [] }
+    requires gives { Gives seat.old.me held.locked N.view }
+    ensures table { (seat.new.table_id ≡ seat.old.table_id) × (seat.new.id ≡ seat.old.id) }
+    ensures view { seat.new.me ≡ (N.view, []) }
+{
+    let Held { locked, key: Key } = held;
+    drop(board.exchange(seat, 0, Some(locked)));
+    board.store::<Unlock<N>>(seat, 1, 0);
+    board.wake_one(1);
+}
+
+// Gives the lock back, as what the seat was.
+pub(crate) fn rest(board: &Board, seat: &mut Seat, held: Held)
+    requires table { (seat.old.table_id ≡ board.now.table_id) × IsSized board.now.table_id }
+    requires held { seat.old.me.1 ≡ (0, None) ∷ [] }
+    requires gives { Gives seat.old.me held.locked (rested seat.old.me.0 seat.old.me.0.role) }
+    ensures table { (seat.new.table_id ≡ seat.old.table_id) × (seat.new.id ≡ seat.old.id) }
+    ensures view { seat.new.me ≡ (rested seat.old.me.0 seat.old.me.0.role, []) }
+{
+    give_back::<Brand>(board, seat, held, 0);
+}
+
+// Gives the lock back, as the publisher with the last number given.
+pub(crate) fn rest_as_publisher(board: &Board, seat: &mut Seat, held: Held)
+    requires table { (seat.old.table_id ≡ board.now.table_id) × IsSized board.now.table_id }
+    requires held { seat.old.me.1 ≡ (0, None) ∷ [] }
+    requires gives { Gives seat.old.me held.locked (rested seat.old.me.0 (writer held.locked.given [])) }
+    ensures table { (seat.new.table_id ≡ seat.old.table_id) × (seat.new.id ≡ seat.old.id) }
+    ensures view { seat.new.me ≡ (rested seat.old.me.0 (writer held.locked.given []), []) }
+{
+    give_back::<Brand>(board, seat, held, 0);
+}
+
+// Gives the lock back, as the ticket with the last id given.
+pub(crate) fn rest_as_ticket(board: &Board, seat: &mut Seat, held: Held)
+    requires table { (seat.old.table_id ≡ board.now.table_id) × IsSized board.now.table_id }
+    requires held { seat.old.me.1 ≡ (0, None) ∷ [] }
+    requires gives { Gives seat.old.me held.locked (rested seat.old.me.0 (new_taker held.locked seat.old.me.0.sight.seen)) }
+    ensures table { (seat.new.table_id ≡ seat.old.table_id) × (seat.new.id ≡ seat.old.id) }
+    ensures view { seat.new.me ≡ (rested seat.old.me.0 (new_taker held.locked seat.old.me.0.sight.seen), []) }
+{
+    give_back::<Brand>(board, seat, held, 0);
+}
+
+// Gives the lock back, as a ticket that took some events.
+pub(crate) fn rest_moved(board: &Board, seat: &mut Seat, held: Held, taken: u64)
+    requires table { (seat.old.table_id ≡ board.now.table_id) × IsSized board.now.table_id }
+    requires held { seat.old.me.1 ≡ (0, None) ∷ [] }
+    requires gives { Gives seat.old.me held.locked (rested seat.old.me.0 (moved seat.old.me.0.sight.seen (taking_of seat.old.me.0.role) taken)) }
+    ensures table { (seat.new.table_id ≡ seat.old.table_id) × (seat.new.id ≡ seat.old.id) }
+    ensures view { seat.new.me ≡ (rested seat.old.me.0 (moved seat.old.me.0.sight.seen (taking_of seat.old.me.0.role) taken), []) }
+{
+    give_back::<Brand>(board, seat, held, taken);
+}
+
+// Gives the lock back, as a ticket that was cancelled.
+pub(crate) fn rest_cancelled(board: &Board, seat: &mut Seat, held: Held)
+    requires table { (seat.old.table_id ≡ board.now.table_id) × IsSized board.now.table_id }
+    requires held { seat.old.me.1 ≡ (0, None) ∷ [] }
+    requires gives { Gives seat.old.me held.locked (rested seat.old.me.0 (gone_taker seat.old.me.0.role)) }
+    ensures table { (seat.new.table_id ≡ seat.old.table_id) × (seat.new.id ≡ seat.old.id) }
+    ensures view { seat.new.me ≡ (rested seat.old.me.0 (gone_taker seat.old.me.0.role), []) }
+{
+    give_back::<Brand>(board, seat, held, 0);
+}
+
+// Gives the lock back, as a publisher that left.
+pub(crate) fn rest_left(board: &Board, seat: &mut Seat, held: Held)
+    requires table { (seat.old.table_id ≡ board.now.table_id) × IsSized board.now.table_id }
+    requires held { seat.old.me.1 ≡ (0, None) ∷ [] }
+    requires gives { Gives seat.old.me held.locked (rested seat.old.me.0 (gone_writer seat.old.me.0.role)) }
+    ensures table { (seat.new.table_id ≡ seat.old.table_id) × (seat.new.id ≡ seat.old.id) }
+    ensures view { seat.new.me ≡ (rested seat.old.me.0 (gone_writer seat.old.me.0.role), []) }
+{
+    give_back::<Brand>(board, seat, held, 0);
+}
+
+// Stores the front word with a message more.
+fn store_message<N: Next>(board: &Board, seat: &mut Seat, word: u64, _message: &[Letter])
+    requires table { (seat.old.table_id ≡ board.now.table_id) × IsSized board.now.table_id }
+    requires writes { WritesMessage seat.old.me word _message.now N.view }
+    ensures table { (seat.new.table_id ≡ seat.old.table_id) × (seat.new.id ≡ seat.old.id) }
+    ensures view { seat.new.me ≡ (N.view, seat.old.me.1) }
+{
+    board.store::<Write<N>>(seat, 0, word);
+}
+
+// Stores the front word with the closed mark.
+fn store_mark<N: Next>(board: &Board, seat: &mut Seat, word: u64)
+    requires table { (seat.old.table_id ≡ board.now.table_id) × IsSized board.now.table_id }
+    requires writes { WritesMark seat.old.me word N.view }
+    ensures table { (seat.new.table_id ≡ seat.old.table_id) × (seat.new.id ≡ seat.old.id) }
+    ensures view { seat.new.me ≡ (N.view, seat.old.me.1) }
+{
+    board.store::<Write<N>>(seat, 0, word);
+}
+
+// The record grows by a message. An empty one changes no word.
+pub(crate) fn write_message(board: &Board, seat: &mut Seat, word: u64, message: &[Letter])
+    requires table { (seat.old.table_id ≡ board.now.table_id) × IsSized board.now.table_id }
+    requires writes { WritesMessage seat.old.me word message.now (grown seat.old.me.0 (writing_of seat.old.me.0.role) message.now) }
+    ensures table { (seat.new.table_id ≡ seat.old.table_id) × (seat.new.id ≡ seat.old.id) }
+    ensures view { seat.new.me ≡ (grown seat.old.me.0 (writing_of seat.old.me.0.role) message.now, seat.old.me.1) }
+{
+    if message.is_empty() {
+        return;
+    }
+    store_message::<Brand>(board, seat, word, message);
+}
+
+// The record is closed.
+pub(crate) fn write_mark(board: &Board, seat: &mut Seat, word: u64)
+    requires table { (seat.old.table_id ≡ board.now.table_id) × IsSized board.now.table_id }
+    requires writes { WritesMark seat.old.me word (closing seat.old.me.0 (writing_of seat.old.me.0.role)) }
+    ensures table { (seat.new.table_id ≡ seat.old.table_id) × (seat.new.id ≡ seat.old.id) }
+    ensures view { seat.new.me ≡ (closing seat.old.me.0 (writing_of seat.old.me.0.role), seat.old.me.1) }
+{
+    store_mark::<Brand>(board, seat, word);
+}
+
+// A new seat, which has seen the record so far.
+pub(crate) fn enter(board: &Board) -> Seat
+    requires { IsSized board.now.table_id }
+    ensures table { (result.table_id ≡ board.now.table_id) × (result.me.1 ≡ []) }
+    ensures view { result.me.0 ≡ visitor board.now.key result.me.0.sight.seen result.me.0.sight.closed }
+{
+    board.load_new_seat::<Enter>(0).1
+}
+
+// One look at the front.
+pub(crate) fn look(board: &Board, seat: &mut Seat) -> u64
+    requires table { (seat.old.table_id ≡ board.now.table_id) × IsSized board.now.table_id }
+    requires idle { IsIdle seat.old.me }
+    ensures table { (seat.new.table_id ≡ seat.old.table_id) × (seat.new.id ≡ seat.old.id) }
+    ensures seen { Looks seat.old.me seat.new.me × Front result seat.new.me.0.sight }
+{
+    board.load::<Look>(seat, 0)
+}
+
+// A note of what the seat has seen.
+pub(crate) fn note(board: &Board, seat: &mut Seat) -> Seat
+    requires table { (seat.old.table_id ≡ board.now.table_id) × IsSized board.now.table_id }
+    requires idle { IsIdle seat.old.me }
+    ensures table { (seat.new.table_id ≡ seat.old.table_id) × (seat.new.id ≡ seat.old.id) × (seat.new.me ≡ seat.old.me) }
+    ensures note { IsNote seat.old.table_id seat.old.me.0.sight result }
+{
+    board.split_seat::<Notes>(seat)
+}
+
+// The seat takes a note in, and looks.
+pub(crate) fn read(board: &Board, seat: &mut Seat, note: Seat) -> u64
+    requires table { (seat.old.table_id ≡ board.now.table_id) × IsSized board.now.table_id }
+    requires idle { IsIdle seat.old.me }
+    requires note { IsNote seat.old.table_id (note_sight note) note }
+    ensures table { (seat.new.table_id ≡ seat.old.table_id) × (seat.new.id ≡ seat.old.id) }
+    ensures seen { Looks seat.old.me seat.new.me × Front result seat.new.me.0.sight }
+    ensures noted { Grows (note_sight note) seat.new.me.0.sight }
+{
+    board.join_seat::<Notes>(seat, note);
+    board.load::<Look>(seat, 0)
+}

@@ -1,0 +1,142 @@
+//! Tickets, and the calls of a fifodir that take one.
+ghost use Rattle.std.specs.Prelude.{◌≡◌, [], ◌∷◌, length, IfOk};
+ghost use Rattle.hub_fifodir.specs.Steps.{IsTaker, Grows};
+
+use crate::fifodir::Fifodir;
+use crate::pass::Pass;
+use crate::rule::{Board, Seat};
+use crate::steps;
+use hub_record::{Event, SubError, Taken};
+use std::sync::Wait;
+
+/// A subscription. It can't be copied, and `Fifodir::cancel` takes it back: one that is let go otherwise stands on,
+/// and what waits behind its cursor fills the fifodir.
+#[derive(Drop)]
+pub struct Ticket {
+    id: u64,
+    /// The number of events when it subscribed.
+    mark: u64,
+    /// The number of the next event that it takes.
+    next: u64,
+    seat: Seat,
+    pub ghost is_taker: { IsTaker seat.me id mark next },
+}
+
+impl Ticket {
+    pub fn id(&self) -> u64
+        ensures { result ≡ self.now.id }
+    {
+        self.id
+    }
+
+    /// The number of events when it subscribed.
+    pub fn mark(&self) -> u64
+        ensures { result ≡ self.now.mark }
+    {
+        self.mark
+    }
+
+    /// The number of the next event that it takes.
+    pub fn next(&self) -> u64
+        ensures { result ≡ self.now.next }
+    {
+        self.next
+    }
+}
+
+impl Fifodir {
+    ghost use Rattle.hub_fifodir.specs.Passes.{IsTicketOf, IsTicketSound, ticket_sight, HasSubscribed, HasTaken, filled};
+
+    /// A new ticket, which begins at the end of the record.
+    pub fn subscribe<R: Wait>(&self, rt: &R) -> Result<Ticket, SubError>
+        ensures { IfOk result (λ t. IsTicketOf self.now t × IsTicketSound t × HasSubscribed t) }
+    {
+        let board = self.board();
+        let mut seat = steps::enter(board);
+        let mut held = steps::take_turn(rt, board, &mut seat);
+        match held.locked.subscribe() {
+            Ok((id, mark)) => {
+                steps::rest_as_ticket(board, &mut seat, held);
+                Ok(Ticket {
+                    id,
+                    mark,
+                    next: mark,
+                    seat,
+                })
+            }
+            Err(refusal) => {
+                steps::rest(board, &mut seat, held);
+                Err(refusal)
+            }
+        }
+    }
+
+    /// Takes what waits behind the ticket's cursor, as far as the slice goes.
+    pub fn take_into<R: Wait>(&self, rt: &R, me: &mut Ticket, out: &mut [Event]) -> Taken
+        requires { IsTicketOf self.now me.old }
+        ensures pass { IsTicketOf self.now me.new × (me.new.id ≡ me.old.id) × (me.new.mark ≡ me.old.mark) }
+        ensures sound { IsTicketSound me.new }
+        ensures seen { Grows (ticket_sight me.old) (ticket_sight me.new) }
+        ensures took { HasTaken me.old (length out.old) result me.new }
+        ensures filled { out.new ≡ filled me.old result me.new out.old }
+    {
+        let board = self.board();
+        let mut held = steps::take_turn(rt, board, &mut me.seat);
+        let taken = held.locked.take_into(me.id, out).unwrap();
+        match taken {
+            Taken::Got(count) => {
+                steps::rest_moved(board, &mut me.seat, held, count as u64);
+                me.next += count as u64;
+                Taken::Got(count)
+            }
+            Taken::Nothing => {
+                steps::rest(board, &mut me.seat, held);
+                Taken::Nothing
+            }
+            Taken::End => {
+                steps::rest(board, &mut me.seat, held);
+                Taken::End
+            }
+        }
+    }
+
+    /// Ends a subscription.
+    pub fn cancel<R: Wait>(&self, rt: &R, me: Ticket)
+        requires { IsTicketOf self.now me }
+    {
+        let Ticket {
+            id,
+            mark: _,
+            next: _,
+            mut seat,
+        } = me;
+        let board = self.board();
+        let mut held = steps::take_turn(rt, board, &mut seat);
+        held.locked.cancel(id).unwrap();
+        steps::rest_cancelled(board, &mut seat, held);
+    }
+}
+
+impl Pass for Ticket {
+    ghost table = { λ t. t.seat.table_id };
+
+    ghost rules = { λ t. t.seat.me.0.rules };
+
+    ghost sight = { λ t. t.seat.me.0.sight };
+
+    ghost role = { λ t. t.seat.me.0.role };
+
+    ghost numbers = { λ t. t.id ∷ t.mark ∷ t.next ∷ [] };
+
+    fn look(&mut self, board: &Board) -> u64 {
+        steps::look(board, &mut self.seat)
+    }
+
+    fn note(&mut self, board: &Board) -> Seat {
+        steps::note(board, &mut self.seat)
+    }
+
+    fn read(&mut self, board: &Board, note: Seat) -> u64 {
+        steps::read(board, &mut self.seat, note)
+    }
+}

@@ -1,0 +1,81 @@
+//! Programs over fifodirs: two threads publish at once, and events go on from one fifodir to another.
+ghost use Rattle.std.specs.Prelude.{◌≡◌, ◌++◌, [], OnOk, IfOk};
+ghost use Rattle.hub_record.specs.Runs.{by};
+ghost use Rattle.hub_fifodir.specs.Passes.{IsPublisherOf, IsTicketOf, seen, mine, sent_on};
+
+use crate::fifodir::Fifodir;
+use crate::publisher::Publisher;
+use crate::ticket::Ticket;
+use hub_letters::Letter;
+use hub_record::{Event, PubError, Taken};
+use std::sync::Wait;
+use std::thread;
+use std::thread::Threads;
+
+type Sent = (Publisher, Result<u64, PubError>);
+
+// One publisher's message, from a thread of its own.
+fn send<R: Wait>(rt: &R, fifodir: &Fifodir, mut me: Publisher, letters: &[Letter]) -> Sent
+    requires { IsPublisherOf fifodir.now me × (mine me ≡ []) }
+    ensures pass { IsPublisherOf fifodir.now result.0 }
+    ensures mine { OnOk result.1 (mine result.0 ≡ letters.now) }
+{
+    let answer = fifodir.publish(rt, &mut me, letters);
+    (me, answer)
+}
+
+/// Sends two messages at once, each from a thread of its own, and brings the two publishers together.
+/// What both then know of the record is one list, in which each one's own letters are just those of its message.
+pub fn send_both<R: Threads + Wait + Sync>(
+    rt: &R,
+    fifodir: &Fifodir,
+    one: Publisher,
+    other: Publisher,
+    first: &[Letter],
+    second: &[Letter],
+) -> (Sent, Sent)
+    requires one { IsPublisherOf fifodir.now one × (mine one ≡ []) }
+    requires other { IsPublisherOf fifodir.now other × (mine other ≡ []) }
+    ensures one { IsPublisherOf fifodir.now result.0.0 × OnOk result.0.1 (by result.0.0.number (seen result.0.0) ≡ first.now) }
+    ensures other { IsPublisherOf fifodir.now result.1.0 × OnOk result.1.1 (by result.1.0.number (seen result.1.0) ≡ second.now) }
+    ensures same { seen result.1.0 ≡ seen result.0.0 }
+{
+    let (mut one, mut other) = thread::join(
+        rt,
+        move || -> Sent
+            requires { IsPublisherOf fifodir.now one × (mine one ≡ []) }
+            ensures { IsPublisherOf fifodir.entry.now result.0 × OnOk result.1 (mine result.0 ≡ first.entry.now) }
+        { send(rt, fifodir, one, first) },
+        move || -> Sent
+            requires { IsPublisherOf fifodir.now other × (mine other ≡ []) }
+            ensures { IsPublisherOf fifodir.entry.now result.0 × OnOk result.1 (mine result.0 ≡ second.entry.now) }
+        { send(rt, fifodir, other, second) },
+    );
+    fifodir.meet(rt, &mut one.0, &mut other.0);
+    (one, other)
+}
+
+/// Takes one event from a fifodir, and sends its letter on to another.
+pub fn send_on<R: Wait>(
+    rt: &R,
+    from: &Fifodir,
+    ticket: &mut Ticket,
+    to: &Fifodir,
+    publisher: &mut Publisher,
+) -> Result<Taken, PubError>
+    requires from { IsTicketOf from.now ticket.old }
+    requires to { IsPublisherOf to.now publisher.old }
+    ensures from { IsTicketOf from.now ticket.new }
+    ensures to { IsPublisherOf to.now publisher.new }
+    ensures sent { IfOk result (λ taken. mine publisher.new ≡ mine publisher.old ++ sent_on ticket.old taken ticket.new) }
+{
+    let mut out = [Event {
+        who: 0,
+        letter: Letter::least(),
+    }];
+    let taken = from.take_into(rt, ticket, &mut out);
+    if let Taken::Got(_) = taken {
+        to.publish(rt, publisher, &[out[0].letter])?;
+    }
+    Ok(taken)
+}

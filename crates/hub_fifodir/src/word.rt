@@ -1,0 +1,25 @@
+//! The front word: the number of events, whether the record is closed, and its flags, in one `u64`.
+ghost use Rattle.std.specs.Prelude.{◌≡◌, ◌≤◌, Bool, ℕ};
+ghost use Rattle.hub_letters.specs.declared.flags.Flags.{Flags};
+ghost use Rattle.hub_fifodir.specs.Word.{packed};
+
+use hub_letters::Flags;
+use hub_record::Status;
+
+pub(crate) fn pack(status: Status) -> u64
+    requires { status.number ≤ 1000000000000 }
+    ensures { result ≡ packed status.number status.closed status.flags }
+{
+    let closed = if status.closed { 1 } else { 0 };
+    status.number * 32 + closed * 16 + status.flags.code()
+}
+
+pub(crate) fn unpack(word: u64) -> Status
+    ensures { (number : ℕ) (closed : Bool) (flags : Flags) → word ≡ packed number closed flags → (result.number ≡ number) × (result.closed ≡ closed) × (result.flags ≡ flags) }
+{
+    Status {
+        number: word / 32,
+        flags: Flags::of_code(word % 16).unwrap(),
+        closed: word / 16 % 2 == 1,
+    }
+}

@@ -1,0 +1,111 @@
+-- A watch beside its ticket, after a take.
+use Rattle.std.proofs.Common.{◌≡◌, ◌≢◌, ℕ, ◌+◌, ◌-◌, ◌≤◌, List, ◌++◌, take, drop, length, true, sym, ap, subst, ◌∙◌, arith}
+use Rattle.std.proofs.lemmas.List.{take-append-le, length-append, length-take-le, length-drop, length-map, drop-take, take-take, drop-map, take-map, map-append}
+use Rattle.hub_letters.specs.Flags.{flags_of}
+use Rattle.hub_record.specs.declared.Event.{Event}
+use Rattle.hub_record.specs.declared.Taken.TheVariants.{Got}
+use Rattle.hub_record.specs.World.{letters}
+use Rattle.hub_fifodir.specs.declared.ticket.Ticket.{Ticket}
+use Rattle.hub_fifodir.specs.Events.{StartsWith, slice}
+use Rattle.hub_fifodir.specs.Passes.{ticket_seen, ticket_closed, ticket_sight, HasTaken, filled}
+use Rattle.hub_fifodir.specs.Steps.{Grows}
+use Rattle.hub_wait.specs.Watching.{Watching, stepped}
+use Rattle.hub_wait.specs.Histories.{Follows, IsSlice}
+use Rattle.hub_wait.specs.Reading.{Reads}
+use Rattle.hub_wait.proofs.Steps.{Follows-stepped}
+
+-- a history that goes on is followed still
+pub Follows-append : (w : Watching) (seen longer : List Event) → StartsWith longer seen → Follows w (letters seen) → Follows w (letters longer)
+Follows-append w seen longer on f =
+    let rest = on.0 in
+    let is : letters longer ≡ letters seen ++ letters rest = ap letters on.1 ∙ map-append _ seen rest in
+    let long : length (letters longer) ≡ length (letters seen) + length (letters rest) = ap length is ∙ length-append (letters seen) (letters rest) in
+    let inside = f.within in
+    record {
+      within = omega (arith, long, inside);
+      flags = f.flags ∙ ap flags_of (sym (take-append-le w.at (letters seen) (letters rest) inside) ∙ ap (take w.at) (sym is));
+    }
+
+-- the letters of events that lie in the history from number a on are a slice of it
+length-slice : (seen : List Event) (a n : ℕ) → a + n ≤ length seen → length (letters (take n (drop a seen))) ≡ n
+length-slice seen a n h = length-map (take n (drop a seen)) _ ∙ length-take-le n (drop a seen) (omega (arith, length-drop a seen, h))
+
+IsSlice-slice : (seen : List Event) (a n : ℕ) → a + n ≤ length seen → IsSlice (letters seen) a (letters (take n (drop a seen)))
+IsSlice-slice seen a n h =
+    let many = length-slice seen a n h in
+    let all : length (letters seen) ≡ length seen = length-map seen _ in
+    record {
+      within = omega (arith, many, all, h);
+      same = sym (take-map _ n (drop a seen)) ∙ ap (take n) (sym (drop-map _ a seen)) ∙ sym (drop-take a n (letters seen)) ∙ ap (λ k. drop a (take (a + k) (letters seen))) (sym many);
+    }
+
+-- what a take has put into the front of the slice
+front_of_filled : (seen out : List Event) (a n : ℕ) → a + n ≤ length seen → take n (slice a (a + n) seen ++ drop n out) ≡ take n (drop a seen)
+front_of_filled seen out a n h =
+    let count : a + n - a ≡ n = omega arith in
+    let long : length (take n (drop a seen)) ≡ n = length-take-le n (drop a seen) (omega (arith, length-drop a seen, h)) in
+    ap (λ k. take n (take k (drop a seen) ++ drop n out)) count
+    ∙ take-append-le n (take n (drop a seen)) (drop n out) (omega (arith, long))
+    ∙ take-take n n (drop a seen) (omega arith)
+
+Reads-stepped_there : (old new : Ticket) (w : Watching) (most n : ℕ) (out : List Event) → Reads old w → Grows (ticket_sight old) (ticket_sight new) → new.mark ≡ old.mark
+    → HasTaken old most (Got n) new → Reads new (stepped w old.next (letters (take n (filled old (Got n) new out))))
+Reads-stepped_there old new w most n out r grows mark took =
+    let within : old.next + n ≤ length (ticket_seen new) = omega (arith, took.0, took.1) in
+    let news = letters (take n (filled old (Got n) new out)) in
+    let are : news ≡ letters (take n (drop old.next (ticket_seen new))) = ap letters (front_of_filled (ticket_seen new) out old.next n within) in
+    let part : IsSlice (letters (ticket_seen new)) old.next news = subst (IsSlice (letters (ticket_seen new)) old.next) (sym are) (IsSlice-slice (ticket_seen new) old.next n within) in
+    let follows = Follows-append w (ticket_seen old) (ticket_seen new) grows.0 r.follows in
+    let many : length news ≡ n = ap length are ∙ length-slice (ticket_seen new) old.next n within in
+    let moved : new.next ≡ old.next + n = took.2 in
+    let marked = r.marked in
+    let inside : w.at ≤ length (ticket_seen old) = subst (λ k. w.at ≤ k) (length-map (ticket_seen old) _) r.follows.within in
+    record {
+      follows = Follows-stepped w (letters (ticket_seen new)) news old.next r.reached follows part;
+      marked = omega (arith, mark, marked);
+      reached = omega (arith, many, moved);
+      ended = λ is.
+          let was = r.ended is in
+          let same = grows.1 was.0 in
+          let here : length (ticket_seen new) ≡ length (ticket_seen old) = ap (λ z. length z.seen) same in
+          let at : w.at ≡ length (ticket_seen old) = was.1 in
+          (subst (λ z. z.closed ≢ 0) (sym same) was.0, omega (arith, here, at, many, within));
+    }
+
+-- after a take that gave events, to which the watch was stepped
+pub Reads-stepped : (old new : Ticket) (w v : Watching) (most n first : ℕ) (out events : List Event) → Reads old w → Grows (ticket_sight old) (ticket_sight new) → new.mark ≡ old.mark
+    → HasTaken old most (Got n) new → events ≡ filled old (Got n) new out → first ≡ old.next → v ≡ stepped w first (letters (take n events)) → Reads new v
+Reads-stepped old new w v most n first out events r grows mark took fill begin is =
+    subst (Reads new)
+    (sym (is ∙ ap (λ k. stepped w k (letters (take n events))) begin ∙ ap (λ z. stepped w old.next (letters (take n z))) fill))
+    (Reads-stepped_there old new w most n out r grows mark took)
+
+-- after a take that gave none
+pub Reads-kept : (old new : Ticket) (w : Watching) → Reads old w → Grows (ticket_sight old) (ticket_sight new) → new.mark ≡ old.mark → new.next ≡ old.next → Reads new w
+Reads-kept old new w r grows mark next =
+    let marked = r.marked in let reached = r.reached in
+    record {
+      follows = Follows-append w (ticket_seen old) (ticket_seen new) grows.0 r.follows;
+      marked = omega (arith, mark, marked);
+      reached = omega (arith, next, reached);
+      ended = λ is.
+          let was = r.ended is in
+          let same = grows.1 was.0 in
+          (subst (λ z. z.closed ≢ 0) (sym same) was.0, was.1 ∙ ap (λ z. length z.seen) (sym same));
+    }
+
+-- a watch whose ticket has taken all that it has seen has come to its end
+pub at_end : (new : Ticket) (w : Watching) → Reads new w → new.next ≡ length (ticket_seen new) → w.at ≡ length (ticket_seen new)
+at_end new w r all =
+    let reached = r.reached in
+    let inside : w.at ≤ length (ticket_seen new) = subst (λ k. w.at ≤ k) (length-map (ticket_seen new) _) r.follows.within in
+    omega (arith, all, reached, inside)
+
+-- after a take that told of the close
+pub Reads-ended : (new : Ticket) (w : Watching) → Reads new w → new.next ≡ length (ticket_seen new) → ticket_closed new ≢ 0 → Reads new (record w { ended = true })
+Reads-ended new w r all closed = record {
+  follows = record { within = r.follows.within; flags = r.follows.flags };
+  marked = r.marked;
+  reached = r.reached;
+  ended = λ is. (closed, at_end new w r all);
+}

@@ -1,0 +1,65 @@
+-- A watch along the history of its service: the word of all its letters.
+use Rattle.std.specs.Prelude.{ℕ, ◌≡◌, ◌+◌, ◌≤◌, max, Bool, true, false, ◌||◌, List, [], ◌∷◌, length, take, drop}
+use Rattle.std.specs.List.{list_any}
+use Rattle.hub_letters.specs.Flags.{flags_of}
+use Rattle.hub_wait.specs.Watching.{Watching, stepped}
+
+-- the watch shows the flags of the first `at` letters of the history
+pub record Follows (watch : Watching) (history : List ℕ) : Type 0 where
+  pub within : watch.at ≤ length history
+  pub flags : watch.flags ≡ flags_of (take watch.at history)
+
+-- the letters are those of the history from number `first` on
+pub record IsSlice (history : List ℕ) (first : ℕ) (letters : List ℕ) : Type 0 where
+  pub within : first + length letters ≤ length history
+  pub same : letters ≡ drop first (take (first + length letters) history)
+
+-- what becomes of a watch
+pub data Move : Type 0 where
+  Step : ℕ → List ℕ → Move  -- it is given letters, numbered from the first number
+  End : Move  -- it is told that no more will come
+
+abbrev pub moved : Watching → Move → Watching
+moved w (Step first letters) = stepped w first letters
+moved w End = record w { ended = true }
+
+abbrev pub moved_by : Watching → List Move → Watching
+moved_by w [] = w
+moved_by w (m ∷ ms) = moved_by (moved w m) ms
+
+abbrev pub is_end : Move → Bool
+is_end (Step first letters) = false
+is_end End = true
+
+-- the greater of a number and a slice's end
+abbrev pub reach : ℕ → Move → ℕ
+reach at (Step first letters) = max at (first + length letters)
+reach at End = at
+
+-- the greatest of a number and the slices' ends
+abbrev pub furthest : ℕ → List Move → ℕ
+furthest at [] = at
+furthest at (m ∷ ms) = furthest (reach at m) ms
+
+-- letters are a slice of the history that leaves no gap after number `at`
+abbrev pub IsMoveAlong : List ℕ → ℕ → Move → Type 0
+IsMoveAlong history at (Step first letters) = (first ≤ at) × IsSlice history first letters
+IsMoveAlong history at End = Unit {0}
+
+abbrev pub AreMovesAlong : List ℕ → ℕ → List Move → Type 0
+AreMovesAlong history at [] = Unit {0}
+AreMovesAlong history at (m ∷ ms) = IsMoveAlong history at m × AreMovesAlong history (reach at m) ms
+
+-- what the moves have made of a watch
+pub record HasMoved (history : List ℕ) (moves : List Move) (old new : Watching) : Type 0 where
+  pub follows : Follows new history
+  pub at : new.at ≡ furthest old.at moves
+  pub want : new.want ≡ old.want
+  pub notifies : new.notifies ≡ old.notifies
+  pub ended : new.ended ≡ (old.ended || list_any is_end moves)
+
+-- A watch that follows a history and is given slices of it, cut anywhere and overlapping, follows it as far as the
+-- greatest of their ends.
+abbrev pub FollowAnySlices : Type 0
+FollowAnySlices = (history : List ℕ) (moves : List Move) (watch : Watching) → Follows watch history → AreMovesAlong history watch.at moves
+    → HasMoved history moves watch (moved_by watch moves)

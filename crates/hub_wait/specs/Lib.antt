@@ -1,0 +1,6 @@
+pub mod Watching
+pub mod Histories
+pub mod Verdicts
+pub mod Reading
+pub mod Posts
+pub mod Waits

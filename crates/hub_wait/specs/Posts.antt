@@ -1,0 +1,68 @@
+-- What the calls on a post leave it with.
+use Rattle.std.specs.Prelude.{ℕ, ◌≡◌, ◌≢◌, ◌+◌, ◌≤◌, ◌⊎◌, Bool, true, false, List, length}
+use Rattle.std.specs.Arc.{arc_value}
+use Rattle.hub_letters.specs.declared.want.Want.{Want}
+use Rattle.hub_letters.specs.Flags.{flags_of}
+use Rattle.hub_record.specs.declared.Event.{Event}
+use Rattle.hub_record.specs.declared.Status.{Status}
+use Rattle.hub_record.specs.World.{letters}
+use Rattle.hub_fifodir.specs.declared.fifodir.Fifodir.{Fifodir}
+use Rattle.hub_fifodir.specs.Events.{StartsWith, is_closed}
+use Rattle.hub_fifodir.specs.Passes.{ticket_seen, ticket_closed}
+use Rattle.hub_wait.specs.declared.post.Post.{Post}
+use Rattle.hub_wait.specs.Watching.{Watching, started}
+use Rattle.hub_wait.specs.Histories.{Follows}
+
+abbrev pub fifodir_of : Post → Fifodir
+fifodir_of p = arc_value p.fifodir
+
+-- the record, as far as its ticket has seen it
+abbrev pub seen_of : Post → List Event
+seen_of p = ticket_seen p.ticket
+
+-- 0, or the number of the publisher that closed, as far as its ticket has seen
+abbrev pub closed_of : Post → ℕ
+closed_of p = ticket_closed p.ticket
+
+-- the status of what its ticket has seen
+abbrev pub status_of : Post → Status
+status_of p = record { number = length (seen_of p); flags = flags_of (letters (seen_of p)); closed = is_closed (closed_of p) }
+
+abbrev pub mark_of : Post → ℕ
+mark_of p = p.ticket.mark
+
+-- the number of the next event that it takes
+abbrev pub next_of : Post → ℕ
+next_of p = p.ticket.next
+
+abbrev pub watch_of : Post → Watching
+watch_of p = p.watch
+
+pub record HasOpened (fifodir : Fifodir) (want : Want) (notifies : Bool) (post : Post) : Type 0 where
+  pub its_fifodir : fifodir_of post ≡ fifodir
+  pub watch : watch_of post ≡ started want notifies (status_of post)
+  pub marked : mark_of post ≤ (watch_of post).at
+
+-- it waits for what it did, has gone back in nothing, and shows the flags of what it has seen, as far as its number
+pub record IsKept (old new : Post) : Type 0 where
+  pub fifodir : fifodir_of new ≡ fifodir_of old
+  pub mark : mark_of new ≡ mark_of old
+  pub want : (watch_of new).want ≡ (watch_of old).want
+  pub notifies : (watch_of new).notifies ≡ (watch_of old).notifies
+  pub ended : (watch_of old).ended ≡ true → (watch_of new).ended ≡ true
+  pub forward : (watch_of old).at ≤ (watch_of new).at
+  pub taken : next_of old ≤ next_of new
+  pub seen : StartsWith (seen_of new) (seen_of old)
+  pub follows : Follows (watch_of new) (letters (seen_of new))
+
+-- it has come to the end of what it has seen, but for 4,096 events; and it knows of the close, where it has come so far
+pub record HasCaughtUp (old new : Post) : Type 0 where
+  pub all : ((watch_of new).at ≡ length (seen_of new)) ⊎ (next_of new ≡ next_of old + 4096)
+  pub ended_only : (watch_of new).ended ≡ true → (closed_of new ≢ 0) × ((watch_of new).at ≡ length (seen_of new))
+  pub ended : closed_of new ≢ 0 → next_of new ≡ next_of old → (watch_of new).ended ≡ true
+
+-- a slice was whole, or there is no more
+pub record HasTakenSlice (old : Post) (whole : Bool) (new : Post) : Type 0 where
+  pub more : whole ≡ true → next_of new ≡ next_of old + 256
+  pub all : whole ≡ false → (watch_of new).at ≡ length (seen_of new)
+  pub ended : closed_of new ≢ 0 → next_of new ≡ next_of old → (watch_of new).ended ≡ true

@@ -1,0 +1,47 @@
+-- What a watch knows of a service, and what letters add to it. A word is a list of letters, each seen as its byte.
+use Rattle.std.specs.Prelude.{ℕ, ◌+◌, ◌-◌, max, Bool, ◌||◌, List, length, drop, map, Option, Some, None}
+use Rattle.hub_letters.specs.declared.flags.Flags.{Flags}
+use Rattle.hub_letters.specs.declared.want.Want.{Want}
+use Rattle.hub_letters.specs.Marks.{Mark, mark, last_among, is_life, is_supervision, is_hope, is_began, is_gave_up}
+use Rattle.hub_letters.specs.Flags.{up_by, settled_by}
+use Rattle.hub_letters.specs.Wants.{is_met, is_hopeless}
+use Rattle.hub_record.specs.declared.Status.{Status}
+
+-- what is wanted of a service, the number of its events that are known, their flags, and whether no more will come
+pub record Watching : Type 0 where
+  pub want : Want
+  pub notifies : Bool
+  pub at : ℕ
+  pub flags : Flags
+  pub ended : Bool
+
+abbrev pub started : Want → Bool → Status → Watching
+started want notifies status = record { want = want; notifies = notifies; at = status.number; flags = status.flags; ended = status.closed }
+
+-- a flag by the last letter that bears on it, or as it was where none does
+abbrev pub flag_after : Bool → (Option Mark → Bool) → Option Mark → Bool
+flag_after before by None = before
+flag_after before by (Some m) = by (Some m)
+
+abbrev pub flags_after_marks : Flags → List Mark → Flags
+flags_after_marks f ms = record {
+  up = flag_after f.up up_by (last_among is_life ms);
+  settled = flag_after f.settled settled_by (last_among is_life ms);
+  supervised = flag_after f.supervised is_began (last_among is_supervision ms);
+  failed = flag_after f.failed is_gave_up (last_among is_hope ms);
+}
+
+-- the flags after more letters: each by the last of these that bears on it, or as it was where none does
+abbrev pub flags_after : Flags → List ℕ → Flags
+flags_after f letters = flags_after_marks f (map mark letters)
+
+-- after letters that are numbered from `first`: those below `at` are passed over
+abbrev pub stepped : Watching → ℕ → List ℕ → Watching
+stepped w first letters = record w { at = max w.at (first + length letters); flags = flags_after w.flags (drop (w.at - first) letters) }
+
+abbrev pub is_met_at : Watching → Bool
+is_met_at w = is_met w.want w.flags w.notifies
+
+-- nothing more is to be hoped for
+abbrev pub is_lost_at : Watching → Bool
+is_lost_at w = is_hopeless w.want w.flags || w.ended

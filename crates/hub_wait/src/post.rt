@@ -1,0 +1,135 @@
+//! A watch with the ticket that feeds it.
+ghost use Rattle.std.specs.Prelude.{◌≡◌, ◌+◌, ◌≤◌, ◌^◌, length, IfOk};
+ghost use Rattle.std.specs.Arc.{arc_value};
+ghost use Rattle.hub_fifodir.specs.Passes.{IsTicketOf};
+ghost use Rattle.hub_record.specs.World.{letters};
+ghost use Rattle.hub_wait.specs.Reading.{Reads};
+ghost use Rattle.hub_wait.specs.Watching.{stepped};
+
+use crate::Watch;
+use hub_fifodir::{Fifodir, Ticket};
+use hub_letters::{Letter, Want};
+use hub_record::{Event, SubError, Taken};
+use std::alloc::Global;
+use std::sync::{Arc, Wait};
+
+/// How many events a take may give.
+const SLICE: usize = 256;
+
+/// How many takes one `catch_up` makes.
+const SLICES: u64 = 16;
+
+/// A subscription to a service's events, and what is known of the service by it. It is given back by `end`; one that is
+/// let go otherwise leaves its subscription standing, and what waits behind it fills the fifodir.
+#[derive(Drop)]
+pub struct Post {
+    fifodir: Arc<Fifodir, Global>,
+    ticket: Ticket,
+    watch: Watch,
+    ghost of: { IsTicketOf (arc_value fifodir) ticket },
+    ghost reads: { Reads ticket watch },
+}
+
+impl Post {
+    ghost use Rattle.hub_wait.specs.Posts.{HasOpened, IsKept, HasCaughtUp, HasTakenSlice, watch_of, mark_of};
+
+    /// Subscribes, and then reads the status by the new ticket: a change between the two is told by the status, and its
+    /// letter is passed over when it is taken. The other way round it would be lost.
+    pub fn open<R: Wait>(
+        rt: &R,
+        fifodir: Arc<Fifodir, Global>,
+        want: Want,
+        notifies: bool,
+    ) -> Result<Post, SubError>
+        ensures { IfOk result (λ post. HasOpened (arc_value fifodir) want notifies post) }
+    {
+        let mut ticket = fifodir.subscribe(rt)?;
+        let status = fifodir.status(&mut ticket);
+        let watch = Watch::new(want, notifies, status);
+        Ok(Post {
+            fifodir,
+            ticket,
+            watch,
+        })
+    }
+
+    pub fn watch(&self) -> &Watch
+        ensures { result.now ≡ watch_of self.now }
+    {
+        &self.watch
+    }
+
+    /// The number of events when it subscribed.
+    pub fn mark(&self) -> u64
+        ensures { result ≡ mark_of self.now }
+    {
+        self.ticket.mark()
+    }
+
+    /// Takes what came meanwhile: slices of 256 events, until one isn't whole or 16 were taken.
+    pub fn catch_up<R: Wait>(&mut self, rt: &R)
+        ensures kept { IsKept self.old self.new }
+        ensures caught_up { HasCaughtUp self.old self.new }
+    {
+        for _ in 0..SLICES {
+            if !self.take_slice(rt) {
+                return;
+            }
+        }
+    }
+
+    /// Takes a slice of events, and tells whether it was whole.
+    fn take_slice<R: Wait>(&mut self, rt: &R) -> bool
+        ensures kept { IsKept self.old self.new }
+        ensures took { HasTakenSlice self.old result self.new }
+    {
+        let mut events = [Event {
+            who: 0,
+            letter: Letter::least(),
+        }; SLICE];
+        let first = self.ticket.next();
+        match self.fifodir.take_into(rt, &mut self.ticket, &mut events) {
+            Taken::Got(count) => {
+                step_by_events(&mut self.watch, first, &events[..count]);
+                count == SLICE
+            }
+            Taken::Nothing => false,
+            Taken::End => {
+                self.watch.end();
+                false
+            }
+        }
+    }
+
+    /// Gives the subscription back.
+    pub fn end<R: Wait>(self, rt: &R) {
+        let Post {
+            fifodir,
+            ticket,
+            watch: _,
+        } = self;
+        fifodir.cancel(rt, ticket);
+    }
+}
+
+/// Steps a watch by the letters of events.
+fn step_by_events(watch: &mut Watch, first: u64, events: &[Event])
+    requires fits { length events.now ≤ 256 }
+    requires overlaps { first ≤ watch.old.at }
+    requires small { first + length events.now ≤ 10 ^ 12 }
+    ensures { watch.new ≡ stepped watch.old first (letters events.now) }
+{
+    let mut letters = [Letter::least(); SLICE];
+    let letters = &mut letters[..events.len()];
+    copy_letters(events, letters);
+    watch.step(first, letters);
+}
+
+fn copy_letters(events: &[Event], out: &mut [Letter])
+    requires { length out.old ≡ length events.now }
+    ensures { out.new ≡ letters events.now }
+{
+    for i in 0..events.len() {
+        out[i] = events[i].letter;
+    }
+}

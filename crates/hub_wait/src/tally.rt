@@ -1,0 +1,90 @@
+//! The verdict over several services.
+ghost use Rattle.std.specs.Prelude.{◌≡◌, List, [], ◌∷◌, ◌++◌};
+
+use crate::watch::Watch;
+use std::marker::Model;
+
+/// How many of the services a wait is for, as `-a` and `-o` of `s6-svwait` say.
+#[derive(Clone, Copy, Debug, PartialEq, Eq)]
+pub enum Span {
+    All,
+    Any,
+}
+
+/// How a wait ends.
+#[derive(Clone, Copy, Debug, PartialEq, Eq)]
+pub enum Verdict {
+    /// What was wanted holds.
+    Yes,
+    /// It doesn't, and can't be hoped for.
+    Never,
+    /// Neither was known when the patience was at its end.
+    Late,
+}
+
+/// The watches looked at so far.
+#[derive(Clone, Copy, Debug)]
+pub struct Tally {
+    span: Span,
+    yes: bool,
+    never: bool,
+}
+
+impl Model for Tally {
+    ghost use Rattle.hub_wait.specs.Verdicts.{Tallied};
+
+    ghost Value = { Tallied };
+
+    ghost view = { λ t. record { span = t.span; yes = t.yes; never = t.never } };
+
+    ghost inverse = { λ v. record { span = v.span; yes = v.yes; never = v.never } };
+}
+
+impl Tally {
+    ghost use Rattle.hub_wait.specs.Watching.{Watching};
+    ghost use Rattle.hub_wait.specs.Verdicts.{tally_of, verdict};
+
+    #[tactic(auto, unfolding(crate::specs::Verdicts::tally_of))]
+    pub fn new(span: Span) -> Tally
+        ensures { result ≡ tally_of span [] }
+    {
+        Tally {
+            span,
+            yes: span == Span::All,
+            never: span == Span::Any,
+        }
+    }
+
+    /// Adds a watch as it stands.
+    pub fn add(&mut self, watch: &Watch)
+        ensures { (span : Span) (watches : List Watching) → self.old ≡ tally_of span watches → self.new ≡ tally_of span (watches ++ watch.now ∷ []) }
+    {
+        let met = watch.met();
+        let lost = watch.lost();
+        match self.span {
+            Span::All => {
+                self.yes &= met;
+                self.never |= !met && lost;
+            }
+            Span::Any => {
+                self.yes |= met;
+                self.never &= lost;
+            }
+        }
+    }
+
+    /// The verdict over the watches that were added; none where one may still come. Over no watch at all it is Yes for
+    /// `All` and Never for `Any`.
+    #[tactic(auto, unfolding(crate::specs::Verdicts::tally_of))]
+    pub fn answer(&self) -> Option<Verdict>
+        ensures { (span : Span) (watches : List Watching) → self.now ≡ tally_of span watches → result ≡ verdict span watches }
+    {
+        if self.yes {
+            Some(Verdict::Yes)
+        } else if self.never {
+            Some(Verdict::Never)
+        } else {
+            None
+        }
+    }
+}

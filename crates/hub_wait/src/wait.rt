@@ -1,0 +1,77 @@
+//! Waits over several services.
+ghost use Rattle.std.specs.Prelude.{◌≡◌};
+ghost use Rattle.std.specs.Fn.{FnOnceReturnsAt};
+ghost use Rattle.hub_wait.specs.Verdicts.{verdict};
+ghost use Rattle.hub_wait.specs.Waits.{AreKept, IsAnswer, watches_of};
+
+use crate::{Go, Pause, Post, Span, Tally, Verdict};
+use std::sync::Wait;
+
+/// Waits for the services of the posts, as `s6-svwait` does, for as many turns: a pause, and then each post takes what
+/// came meanwhile. It looks before the first turn and after each; `Late` is answered where the turns or the pause's
+/// patience are at an end without a verdict. The posts stay subscribed.
+pub fn svwait<R: Wait, P: Pause>(
+    rt: &R,
+    posts: &mut [Post],
+    span: Span,
+    turns: u64,
+    pause: &mut P,
+) -> Verdict
+    ensures answer { IsAnswer span (watches_of posts.new) result }
+    ensures kept { AreKept posts.old posts.new }
+    ensures still { turns ≡ 0 → posts.new ≡ posts.old }
+{
+    for _ in 0..turns {
+        if let Some(verdict) = look(span, posts) {
+            return verdict;
+        }
+        if pause.pause(rt) == Go::Expired {
+            return Verdict::Late;
+        }
+        catch_up_all(rt, posts);
+    }
+    look(span, posts).unwrap_or(Verdict::Late)
+}
+
+/// Runs `act`, and then waits for what it leads to, as `s6-svlisten` does: the posts are subscribed before it runs, so
+/// no change that it makes is missed.
+pub fn svlisten<R: Wait, P: Pause, T, F: FnOnce(&[Post]) -> T>(
+    rt: &R,
+    posts: &mut [Post],
+    span: Span,
+    turns: u64,
+    pause: &mut P,
+    act: F,
+) -> (T, Verdict)
+    requires { F.IsAlwaysCallable act }
+    ensures acted { FnOnceReturnsAt F.FnOnce act posts.old result.0 }
+    ensures answer { IsAnswer span (watches_of posts.new) result.1 }
+    ensures kept { AreKept posts.old posts.new }
+    ensures still { turns ≡ 0 → posts.new ≡ posts.old }
+{
+    let acted = act(posts);
+    let verdict = svwait(rt, posts, span, turns, pause);
+    (acted, verdict)
+}
+
+/// The verdict of the posts as they stand.
+fn look(span: Span, posts: &[Post]) -> Option<Verdict>
+    ensures { result ≡ verdict span (watches_of posts.now) }
+{
+    let mut tally = Tally::new(span);
+    for post in posts {
+        tally.add(post.watch());
+    }
+    tally.answer()
+}
+
+fn catch_up_all<R: Wait>(rt: &R, posts: &mut [Post])
+    ensures { AreKept posts.old posts.new }
+{
+    for i in 0..posts.len() {
+        posts[i].catch_up(rt);
+    }
+}
+
+#[cfg(test)]
+mod tests;

@@ -1,0 +1,111 @@
+//! What is known of one service.
+ghost use Rattle.std.specs.Prelude.{◌≡◌, ◌+◌, ◌≤◌, ◌^◌, length, true};
+
+use hub_letters::{Flags, Letter, Want};
+use hub_record::Status;
+use std::marker::Model;
+
+/// What a waiter knows of a service, and what it wants of it.
+#[derive(Clone, Copy, Debug, PartialEq, Eq)]
+pub struct Watch {
+    want: Want,
+    notifies: bool,
+    at: u64,
+    flags: Flags,
+    ended: bool,
+}
+
+impl Model for Watch {
+    ghost use Rattle.hub_wait.specs.Watching.{Watching};
+
+    ghost Value = { Watching };
+
+    ghost view = { λ w. record { want = w.want; notifies = w.notifies; at = w.at; flags = w.flags; ended = w.ended } };
+
+    ghost inverse = { λ v. record { want = v.want; notifies = v.notifies; at = v.at; flags = v.flags; ended = v.ended } };
+}
+
+impl Watch {
+    ghost use Rattle.hub_letters.specs.Wants.{is_hopeless};
+    ghost use Rattle.hub_wait.specs.Watching.{started, stepped, is_met_at, is_lost_at};
+    ghost use Rattle.hub_wait.specs.Histories.{FollowAnySlices};
+
+    /// A watch that begins at a status. `notifies` says whether the service reports that it is ready.
+    pub fn new(want: Want, notifies: bool, status: Status) -> Watch
+        ensures { result ≡ started want notifies status }
+    {
+        Watch {
+            want,
+            notifies,
+            at: status.number,
+            flags: status.flags,
+            ended: status.closed,
+        }
+    }
+
+    /// Applies letters that are numbered from `first`. Those below `at()` are told already and passed over.
+    pub fn step(&mut self, first: u64, letters: &[Letter])
+        requires overlaps { first ≤ self.old.at }
+        requires small { first + length letters.now ≤ 10 ^ 12 }
+        ensures { self.new ≡ stepped self.old first letters.now }
+    {
+        let told = self.at - first;
+        if told < letters.len() as u64 {
+            self.flags = self.flags.after_all(&letters[told as usize..]);
+            self.at = first + letters.len() as u64;
+        }
+    }
+
+    /// Notes that the fifodir is closed and no event is left to take.
+    pub fn end(&mut self)
+        ensures { self.new ≡ record self.old { ended = true } }
+    {
+        self.ended = true;
+    }
+
+    /// How many of the service's events the flags tell of.
+    pub fn at(&self) -> u64
+        ensures { result ≡ self.now.at }
+    {
+        self.at
+    }
+
+    pub fn flags(&self) -> Flags
+        ensures { result ≡ self.now.flags }
+    {
+        self.flags
+    }
+
+    /// Whether what is wanted holds.
+    pub fn met(&self) -> bool
+        ensures { result ≡ is_met_at self.now }
+    {
+        self.want.met(self.flags, self.notifies)
+    }
+
+    /// Whether the service has failed for good, where that bars what is wanted.
+    pub fn hopeless(&self) -> bool
+        ensures { result ≡ is_hopeless self.now.want self.now.flags }
+    {
+        self.want.hopeless(self.flags)
+    }
+
+    /// Whether the fifodir is closed and no event is left to take.
+    pub fn ended(&self) -> bool
+        ensures { result ≡ self.now.ended }
+    {
+        self.ended
+    }
+
+    /// Whether nothing more is to be hoped for.
+    pub(crate) fn lost(&self) -> bool
+        ensures { result ≡ is_lost_at self.now }
+    {
+        self.hopeless() || self.ended
+    }
+
+    /// A law: a watch shows the flags of its service's history as far as it has come, however that is cut.
+    pub fn follow_any_slices()
+        ensures { FollowAnySlices }
+    {}
+}
