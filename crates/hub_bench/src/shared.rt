@@ -15,13 +15,13 @@ use std::thread::{JoinHandle, Threads};
 use std::time::{Duration, Instant};
 
 /// How many looks are taken of each kind.
-const LOOKS: u64 = 5_000_000;
+const LOOKS: u64 = 200_000_000;
 
 /// How many letters one message has, and how many a listener takes at once.
 const BURST: usize = 256;
 
 /// How many messages are published.
-const BURSTS: u64 = 8_000;
+const BURSTS: u64 = 20_000;
 
 fn limits() -> Result<Limits> {
     Limits::of(4096, 1_000_000_000_000, 1_000).ok_or_else(|| anyhow!("no limits"))
@@ -94,11 +94,19 @@ pub fn threads<R: Runtime + AllocGlobal + Wait + Threads + Sync + Send + 'static
     listeners: u64,
 ) -> Result<()> {
     let fifodir = Arc::new(alloc, Fifodir::new(alloc, Kind::Plain, limits()?)?)?;
+    let ready = Arc::new(alloc, AtomicU64::new(0))?;
     let mut running: Vec<JoinHandle<u64>> = Vec::new(alloc);
     for _ in 0..listeners {
         let theirs = Arc::try_clone(&fifodir)?;
+        let subscribed = Arc::try_clone(&ready)?;
         let own = rt.clone()?;
-        running.push(thread::spawn(rt, move || -> u64 { took(&own, &theirs) })?)?;
+        running.push(thread::spawn(rt, move || -> u64 { took(&own, &theirs, &subscribed) })?)?;
+    }
+    'subscribing: for _ in rt.forever() {
+        if ready.load(Ordering::SeqCst) >= listeners {
+            break;
+        }
+        thread::yield_now();
     }
     let start = Instant::now(rt)?;
     publish_all(rt, alloc, &fifodir)?;
@@ -135,10 +143,11 @@ fn publish_all<R: Wait>(rt: &R, alloc: Global, fifodir: &Fifodir) -> Result<()> 
 }
 
 /// How many letters a listener took until the end.
-fn took<R: Wait>(rt: &R, fifodir: &Fifodir) -> u64 {
+fn took<R: Wait>(rt: &R, fifodir: &Fifodir, subscribed: &AtomicU64) -> u64 {
     let Ok(mut ticket) = fifodir.subscribe(rt) else {
         return 0;
     };
+    subscribed.fetch_add(1, Ordering::SeqCst);
     let mut out = [filler(); BURST];
     let mut all = 0_u64;
     'takes: for _ in rt.forever() {

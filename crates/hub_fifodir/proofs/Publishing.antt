@@ -95,16 +95,6 @@ module _ (m0 m1 : M) (n : ℕ) (b : Locked) (w : IsWriter m0 n) (h : Locks book_
   pub rests_refused : (b' : Locked) → b' ≡ b → Gives m1 b' (rested m1.0 m1.0.role)
   rests_refused b' e = rests m1 b b' live_held is_held h.bounded (ap book_of e) (subst (IsBehind m1.0.rules m1.0.sight.seen m1.0.sight.closed) (sym e) h.behind)
 
-  pub still_writer : (m3 : M) → m3 ≡ (rested m1.0 m1.0.role, []) → IsWriter m3 n
-  still_writer m3 e = subst (λ (m : M). IsWriter m n) (sym e) record {
-    role = role_held ∙ ap (writer n) (sym (ap mine_of role_held));
-    held = refl;
-    out = refl;
-    met = refl;
-    own = mine_held ∙ sym (ap mine_of role_held);
-    within = h.renews.sound_is.0;
-  }
-
   is_n : (writing_of m1.0.role).number ≡ n
   is_n = ap (λ (r : Role). (writing_of r).number) role_held
 
@@ -162,9 +152,6 @@ module _ (m0 m1 : M) (n : ℕ) (b : Locked) (w : IsWriter m0 n) (h : Locks book_
         seen_is : m3.0.sight.seen ≡ m1.0.sight.seen ++ stamped n message
         seen_is = ap (λ (m : M). m.0.sight.seen) now ∙ ap (λ (k : ℕ). m1.0.sight.seen ++ stamped k message) is_n
 
-        rules_are : m3.0.rules ≡ m1.0.rules
-        rules_are = ap (λ (m : M). m.0.rules) now
-
         pub closed_now : m3.0.sight.closed ≡ 0
         closed_now = ap (λ (m : M). m.0.sight.closed) now ∙ is_open
 
@@ -201,9 +188,6 @@ module _ (m0 m1 : M) (n : ℕ) (b : Locked) (w : IsWriter m0 n) (h : Locks book_
     was_open : m1.0.sight.closed ≡ 0
     was_open = open_when m1.0.sight.closed h.behind.world.closed h.behind.closed shut
 
-    pub open_before : m0.0.sight.closed ≡ 0
-    open_before = dite (ℕ_discrete m0.0.sight.closed 0) (λ z. z) (λ k. absurd (k (sym (ap (λ (s : Sight). s.closed) (h.renews.grows.1 k)) ∙ was_open)))
-
     is_shut : true ≡ is_closed (writing_of m1.0.role).number
     is_shut = sym (ap is_closed is_n ∙ ap not (ne_eqb n 0 (λ e. let p : 0 < n = pos in absurd (omega arith))))
 
@@ -223,32 +207,3 @@ module _ (m0 m1 : M) (n : ℕ) (b : Locked) (w : IsWriter m0 n) (h : Locks book_
       rests_shut = subst (λ (m : M). Gives m b' (rested m.0 m.0.role)) (sym e2)
           (rests (closing m1.0 (writing_of m1.0.role), m1.1) b b' live_held is_held h.bounded (same_book b b' h.behind.world (after_close h.behind.world) h.behind.for after refl others)
           record { world = after_close h.behind.world; for = after; events = h.behind.events; closed = is_shut; kind = h.behind.kind; limits = h.behind.limits })
-
-      module _ (m3 : M) (e3 : m3 ≡ (rested m2.0 m2.0.role, [])) where
-        shut_now : m3 ≡ (rested (closing m1.0 (writing_of m1.0.role)) m1.0.role, [])
-        shut_now = e3 ∙ ap (λ (m : M). (rested m.0 m.0.role, [])) e2
-
-        role_now : m3.0.role ≡ writer n (mine_of m0.0.role)
-        role_now = ap (λ (m : M). m.0.role) shut_now ∙ role_held
-
-        pub mine_shut : mine_of m3.0.role ≡ mine_of m0.0.role
-        mine_shut = ap mine_of role_now
-
-        pub mark_shut : m3.0.sight.closed ≡ n
-        mark_shut = ap (λ (m : M). m.0.sight.closed) shut_now ∙ is_n
-
-        pub sound_shut : IsSound m3.0.rules m3.0.sight.seen
-        sound_shut = subst (λ (m : M). IsSound m.0.rules m.0.sight.seen) (sym shut_now) h.renews.sound_is
-
-        pub grows_shut : Grows m0.0.sight m3.0.sight
-        grows_shut = (subst (λ (m : M). StartsWith m.0.sight.seen m0.0.sight.seen) (sym shut_now) h.renews.grows.0, λ k. absurd (k open_before))
-
-        pub writer_shut : IsWriter m3 n
-        writer_shut = record {
-          role = role_now ∙ ap (writer n) (sym mine_shut);
-          held = ap (λ (m : M). m.0.held) shut_now;
-          out = ap (λ (m : M). m.1) shut_now;
-          met = ap (λ (m : M). m.0.met) shut_now;
-          own = ap (λ (m : M). by n m.0.sight.seen) shut_now ∙ mine_held ∙ sym mine_shut;
-          within = sound_shut.0;
-        }

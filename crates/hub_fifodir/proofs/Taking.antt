@@ -2,7 +2,6 @@
 use Rattle.std.proofs.Common.{◌≡◌, ◌≢◌, ℕ, suc, ◌+◌, ◌-◌, ◌<◌, ◌≤◌, nat_lt, true, false, List, [], ◌∷◌, ◌++◌, length, take, drop, min, Option, Some, None, Ok, sym, refl, ap, ◌∙◌, subst, inl, inr, arith, length-append, length-drop, Result, IsOk}
 use Rattle.std.proofs.lemmas.Bool.{cases_Bool, ltb-true, ltb-false}
 use Rattle.std.proofs.lemmas.List.{length-take-le}
-use mathlib.Core.Path.{Path}
 use Rattle.hub_record.specs.declared.Event.{Event}
 use Rattle.hub_record.specs.declared.NoId.{NoId}
 use Rattle.hub_record.specs.declared.Taken.{Taken}
@@ -22,9 +21,6 @@ use Rattle.hub_fifodir.proofs.Logs.{slice_none, slice_join}
 use Rattle.hub_fifodir.proofs.Subscriptions.{found_changed, found_stopped, found_else, found_new, found_old, found_stands, length-changed, next_of, cursor_found, subscription_of}
 use Rattle.hub_fifodir.proofs.Publishing.{open_when, closed_when}
 use Rattle.hub_fifodir.proofs.Rests.{none_between, bounded_after}
-
-some_inside : {A : Type 0} (x y : A) → Path (Option A) (Some x) (Some y) → x ≡ y
-some_inside x y p = cc
 
 -- the same publishers stand, so only they do
 still_low : (b b' : Locked) → IsBounded (book_of b) → KeepsPublishers b b' → (n : ℕ) → stands b'.standing.keys n ≡ true → IsGiven n b'.given
@@ -131,18 +127,6 @@ module _ (m0 m1 : M) (id mark next : ℕ) (b : Locked) (w : IsTaker m0 id mark n
   subscribed : (s : Subscription) × (found h.behind.world id ≡ Some s) × (s.next ≡ next)
   subscribed = subscription_of (found h.behind.world id) next (sym (cursor_found b.kept h.behind.world id h.behind.for.for) ∙ in_book.1)
 
-  pub still_taker : (m3 : M) → m3 ≡ (rested m1.0 m1.0.role, []) → IsTaker m3 id mark next
-  still_taker m3 e = subst (λ (m : M). IsTaker m id mark next) (sym e) record {
-    role = role_is ∙ ap (taker id mark next) (sym (ap got_of role_is));
-    held = refl;
-    out = refl;
-    met = refl;
-    began = sane_is.0;
-    ended = sane_is.1;
-    got = ap got_of role_is ∙ sane_is.2;
-    within = h.renews.sound_is.0;
-  }
-
   pub got_still : (m3 : M) → m3 ≡ (rested m1.0 m1.0.role, []) → got_of m3.0.role ≡ got_of m0.0.role
   got_still m3 e = ap (λ (m : M). got_of m.0.role) e ∙ ap got_of role_is
 
@@ -189,14 +173,7 @@ module _ (m0 m1 : M) (id mark next : ℕ) (b : Locked) (w : IsTaker m0 id mark n
       → out' ≡ slice next (next + count most) m1.0.sight.seen ++ drop (count most) out
   filled_moved most out out' e = e ∙ (λ i. events_moved most i ++ drop (length (events_moved most i)) out) ∙ ap (λ (n : ℕ). slice next (next + count most) m1.0.sight.seen ++ drop n out) (length_moved most)
 
-  pub filled_still : (most : ℕ) (out out' : List Event) → next ≡ length m1.0.sight.seen → out' ≡ take_events h.behind.world id most ++ drop (length (take_events h.behind.world id most)) out → out' ≡ out
-  filled_still most out out' at e = let none : count most ≡ 0 = omega arith in let same : next + count most ≡ next = omega arith in
-      filled_moved most out out' e ∙ (λ i. slice next (same i) m1.0.sight.seen ++ drop (none i) out) ∙ ap (λ (l : List Event). l ++ out) (slice_none next m1.0.sight.seen)
-
   module _ (b' : Locked) (most : ℕ) (after : Stands b' (after_take h.behind.world id most)) (others : KeepsPublishers b b') where
-    world' : World
-    world' = with_changed h.behind.world id (moved_on h.behind.world most)
-
     stands' : Stands b' (with_changed h.behind.world id (moved_on h.behind.world most))
     stands' = subst (λ (o : Option Subscription). Stands b' (after_take_for h.behind.world id most o)) subscribed.1 after
 

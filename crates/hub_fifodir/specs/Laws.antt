@@ -59,7 +59,8 @@ StandingHavePublishers = (rules : Rules) (s : Board) (b : Locked) (n : ℕ) → 
 abbrev pub BaseIsBehind : Type 0
 BaseIsBehind = (rules : Rules) (s : Board) (b : Locked) (w : World) (j : ℕ) (t : Taking) → Kept rules s → IsFree s b → Stands b w → HasTicket s j t → t.gone ≡ false → base w ≤ t.next
 
--- the record behind it stands for one history, of which each seat has seen a beginning, and all of it where it has seen the close; the front word says how it stands
+-- the record behind it stands for one history, of which each seat has seen a beginning, and all of it where it has
+-- seen the close; the front word says how it stands
 pub record IsHistory (rules : Rules) (s : State (Option Locked) View) (b : Locked) (w : World) : Type 0 where
   pub stands : Stands b w
   pub kind : w.kind ≡ rules.kind

@@ -57,9 +57,6 @@ closed_mark p = p.seat.me.0.sight.closed
 abbrev pub mine : Publisher → List ℕ
 mine p = mine_of p.seat.me.0.role
 
-abbrev pub publisher_rules : Publisher → Rules
-publisher_rules p = p.seat.me.0.rules
-
 -- what it has seen keeps the total, and is lawful for a service
 abbrev pub IsPublisherSound : Publisher → Type 0
 IsPublisherSound p = IsSound p.seat.me.0.rules p.seat.me.0.sight.seen

@@ -90,7 +90,8 @@ module _ {B : Type 0} where
   home (free b) = maybe.some (Some b)
   home (taken j) = maybe.none
 
--- the record with its closed mark, and the state; ticket_at and writer_at say which seat has an id, and which a publisher's number
+-- the record with its closed mark, and the state; ticket_at and writer_at say which seat has an id, and which a
+-- publisher's number
 pub record Account (B : Type 0) : Type 0 where
   pub log : List Event
   pub mark : ℕ

@@ -170,7 +170,8 @@ WritesMark m new w = (k : Book) × (m.0.held ≡ Some k) × (m.0.sight.closed �
 abbrev pub put : (ℕ → ℕ) → ℕ → ℕ → ℕ → ℕ
 put f n0 j n = cond (n == n0) j (f n)
 
--- How the state changes while a seat in the role r, which becomes r', has the lock: at the id i0 and the number n0 alone, which are its own or new
+-- How the state changes while a seat in the role r, which becomes r', has the lock: at the id i0 and the number n0
+-- alone, which are its own or new
 pub record Changes (seen : List Event) (r r' : Role) (k k' : Book) (i0 n0 : ℕ) : Type 0 where
   pub ids_up : k.ids ≤ k'.ids
   pub numbers_up : k.numbers ≤ k'.numbers

@@ -72,7 +72,8 @@ impl Fifodir {
         self.status(me).number
     }
 
-    /// Afterwards both know the same record. It takes no lock, and looks again until the front stayed the same meanwhile.
+    /// Afterwards both know the same record. It takes no lock, and looks again until the front stayed the same
+    /// meanwhile.
     pub fn meet<R: Wait, A: Pass, B: Pass>(&self, rt: &R, one: &mut A, other: &mut B)
         requires one { IsOf self.now (A.table one.old) (A.rules one.old) }
         requires other { IsOf self.now (B.table other.old) (B.rules other.old) }

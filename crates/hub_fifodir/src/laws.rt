@@ -47,7 +47,8 @@ pub fn base_is_behind()
     ensures { BaseIsBehind }
 {}
 
-/// What a ticket took, followed by what waits behind its cursor, is the record since it subscribed, each event once and in order.
+/// What a ticket took, followed by what waits behind its cursor, is the record since it subscribed, each event once
+/// and in order.
 pub fn takes_each_once(_ticket: &Ticket)
     ensures { got _ticket.now ++ drop _ticket.now.next (ticket_seen _ticket.now) ≡ drop _ticket.now.mark (ticket_seen _ticket.now) }
 {}

@@ -4,7 +4,8 @@
 //! record as it stood when the pass last looked, and contracts speak of that alone: there is no other way to say what
 //! stands in a record that others change. Two passes that meet know the same.
 //!
-//! A ticket gets every event from its mark on. Where the slowest of them leaves no room, `publish` is refused as Full and
+//! A ticket gets every event from its mark on. Where the slowest of them leaves no room, `publish` is refused as Full
+//! and
 //! nothing is lost. After a close nothing is added, and what waits may still be taken; then a take answers End.
 //!
 //! `status` and `front` read one word without the lock, so that who only looks never waits for who writes.

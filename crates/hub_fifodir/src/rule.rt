@@ -1,4 +1,5 @@
-//! The rule of the table, and the names of its steps. Word 0 is the front and word 1 the turn; the one slot has the locked value.
+//! The rule of the table, and the names of its steps. Word 0 is the front and word 1 the turn; the one slot has the
+//! locked value.
 use crate::locked::Locked;
 use crate::views::{Rules, View};
 use atomic_table::{Join, Play, Shared, Split, TableRule};

@@ -1,6 +1,7 @@
 ghost use Rattle.std.specs.Prelude.{◌≡◌, IfOk};
 ghost use Rattle.hub_fifodir.specs.Passes.{IsPublisherOf, IsTicketOf};
 
+use crate::together::{send_both, send_on};
 use crate::{Fifodir, PassError, Publisher, Ticket, word};
 use hub_letters::{Flags, Letter};
 use hub_record::{Closed, Event, Kind, Limits, PubError, Status, SubError, Taken};
@@ -366,5 +367,65 @@ fn threads_one_list(rt: HostRuntime) -> Result<(), Fail> {
     assert_eq!(rt; (early.next(), late.next()), (798, 798));
     fifodir.cancel(&rt, early);
     fifodir.cancel(&rt, late);
+    Ok(())
+}
+
+#[test]
+fn two_send_at_once(rt: HostRuntime) -> Result<(), Fail> {
+    let fifodir = open(rt.alloc(), Kind::Plain, 64, 1000, 10)?;
+    let one = fifodir.publisher(&rt)?;
+    let other = fifodir.publisher(&rt)?;
+    let a = [letter(b'a')];
+    let b = [letter(b'b')];
+    let ((mut one, first), (other, second)) = send_both(&rt, &fifodir, one, other, &a, &b);
+    assert!(rt; first.is_ok() && second.is_ok() && first != second);
+    assert_eq!(rt; fifodir.front(&mut one), 2);
+    fifodir.leave(&rt, one);
+    fifodir.leave(&rt, other);
+    Ok(())
+}
+
+#[test]
+fn letters_go_on(rt: HostRuntime) -> Result<(), Fail> {
+    let from = open(rt.alloc(), Kind::Plain, 64, 1000, 10)?;
+    let to = open(rt.alloc(), Kind::Plain, 64, 1000, 10)?;
+    let mut ticket = from.subscribe(&rt)?;
+    let mut source = from.publisher(&rt)?;
+    let mut sink = to.publisher(&rt)?;
+    let a = [letter(b'a')];
+    assert_eq!(rt; from.publish(&rt, &mut source, &a), Ok(0));
+    assert_eq!(rt;
+        send_on(&rt, &from, &mut ticket, &to, &mut sink),
+        Ok(Taken::Got(1))
+    );
+    assert_eq!(rt;
+        send_on(&rt, &from, &mut ticket, &to, &mut sink),
+        Ok(Taken::Nothing)
+    );
+    assert_eq!(rt; to.front(&mut sink), 1);
+    Ok(())
+}
+
+/// With one growth refused, whichever it is, the call that met it gives no pass, and the same call made again goes as
+/// with no refusal.
+#[test]
+fn a_refused_growth_gives_nothing(rt: HostRuntime) -> Result<(), Fail> {
+    let limits = Limits::of(4, 100, 1000).ok_or("no limits")?;
+    let fifodir = match Fifodir::new(rt.alloc(), Kind::Plain, limits) {
+        Ok(fifodir) => fifodir,
+        Err(_) => Fifodir::new(rt.alloc(), Kind::Plain, limits)?,
+    };
+    for given in 1..101 {
+        let ticket = match fifodir.subscribe(&rt) {
+            Err(SubError::Memory) => fifodir.subscribe(&rt)?,
+            answer => answer?,
+        };
+        assert_eq!(rt; ticket.id(), given);
+        let publisher = match fifodir.publisher(&rt) {
+            Err(PassError::Memory) => fifodir.publisher(&rt)?,
+            answer => answer?,
+        };
+        assert_eq!(rt; publisher.number(), given);
+    }
     Ok(())
 }

@@ -48,7 +48,8 @@ pub struct Sight {
     pub closed: u64,
 }
 
-/// What one seat knows: what it has seen, what it is, the state of the locked value while it holds that, and a note that it joined.
+/// What one seat knows: what it has seen, what it is, the state of the locked value while it holds that, and a note
+/// that it joined.
 pub struct View {
     pub rules: Rules,
     pub sight: Sight,

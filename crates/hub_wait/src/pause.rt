@@ -24,7 +24,8 @@ pub trait Pause {
 pub const BRIEF_TURNS: u32 = 32;
 
 /// A pause for programs, without a deadline. At first it only lets other threads run, since what is waited for may be
-/// about to happen; after `BRIEF_TURNS` turns it also sleeps about a millisecond a turn, so that a long wait uses hardly
+/// about to happen; after `BRIEF_TURNS` turns it also sleeps about a millisecond a turn, so that a long wait uses
+/// hardly
 /// any of a processor. A copy of a new one begins each wait.
 #[derive(Clone, Copy, Debug)]
 pub struct Backoff<C> {

@@ -1,5 +1,5 @@
-use Rattle.std.proofs.Common.{sym, ap, ◌∙◌, subst}
-use Rattle.hub_fifodir.specs.Steps.{M}
+use Rattle.std.proofs.Common.{◌≡◌, [], sym, ap, ◌∙◌, subst}
+use Rattle.hub_fifodir.specs.Steps.{M, rested}
 use Rattle.hub_fifodir.specs.Passes.{IsRefusedBy}
 use Rattle.hub_fifodir.proofs.Publishing.{refused_by, rests_refused, knew_own, may_write, rests_longer, writer_longer, sound_now, closed_now, mine_longer, seen_longer, grows_longer, count_longer}
 use Rattle.hub_fifodir.proofs.fifodir.Fifodir.publish.Goals as goal
@@ -51,6 +51,7 @@ returns-in-Err-clause-own g c = let me = c.args.me.now in let t = c.take_turn-he
     λ e. knew_own me.seat.me t.new.seat.me me.number t.result.locked me.is_writer t.ensures.holding.1 me.positive (sym (ap (λ (m : M). m.0.sight.closed) c.rest-in-Err.ensures.view) ∙ e)
 
 pub returns-in-Err-clause-refused : goal.returns-in-Err-clause-refused
-returns-in-Err-clause-refused g c = let t = c.take_turn-held in let h = t.ensures.holding.1 in
-    subst (λ (m : M). IsRefusedBy m.0.rules m.0.sight c.args.letters.now c.in-Err.refusal) (sym c.rest-in-Err.ensures.view)
-    (refused_by t.new.seat.me.0.rules t.new.seat.me.0.sight t.result.locked c.args.letters.now c.in-Err.refusal h.behind (c.in-Err.ensures.reply h.behind.world h.behind.for))
+returns-in-Err-clause-refused g c = let t = c.take_turn-held in let h = t.ensures.holding.1 in let m : M = t.new.seat.me in let m' : M = c.rest-in-Err.new.seat.me in
+    let rested_is : m' ≡ (rested m.0 m.0.role, []) = c.rest-in-Err.ensures.view in
+    subst (λ (x : M). IsRefusedBy x.0.rules x.0.sight c.args.letters.now c.in-Err.refusal) (sym rested_is)
+    (refused_by m.0.rules m.0.sight t.result.locked c.args.letters.now c.in-Err.refusal h.behind (c.in-Err.ensures.reply h.behind.world h.behind.for))
