@@ -38,6 +38,7 @@ impl Fifodir {
         }
     }
 
+    /// Whether it takes the letters of a service alone.
     pub fn kind(&self) -> Kind
         ensures { result ≡ kind_of self.now }
     {

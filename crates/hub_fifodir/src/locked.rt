@@ -9,7 +9,8 @@ use hub_record::{Closed, Event, Kind, Limits, NoId, PubError, Record, Status, Su
 use indexmap::IndexSet;
 use std::alloc::{AllocError, Global};
 
-/// A record, the numbers of the publishers that stand, and how many numbers were given.
+/// A record, the numbers of the publishers that stand, and how many numbers were given. Its calls are those of a
+/// `Fifodir`, for one thread and with ids and numbers in place of passes.
 #[derive(Drop)]
 pub struct Locked {
     kept: Record,
@@ -20,6 +21,7 @@ pub struct Locked {
 }
 
 impl Locked {
+    /// An empty open record, with no publisher.
     pub fn new(alloc: Global, kind: Kind, limits: Limits) -> Result<Locked, AllocError>
         ensures { IfOk result (λ b. Stands b (empty_world kind limits) × (b.standing.keys ≡ []) × (b.given ≡ 0)) }
     {
@@ -112,6 +114,7 @@ impl Locked {
         self.kept.close()
     }
 
+    /// What the record comes to.
     pub fn status(&self) -> Status
         ensures { (result.number ≡ self.now.kept.end) × (result.flags ≡ self.now.kept.flags) × (result.closed ≡ self.now.kept.closed) }
     {

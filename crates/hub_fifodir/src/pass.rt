@@ -29,6 +29,7 @@ pub trait Pass {
     // The numbers that it shows.
     ghost numbers: { Self → List ℕ };
 
+    /// Looks at the front.
     fn look(&mut self, board: &Board) -> u64
         requires { (table self.old ≡ board.now.table_id) × IsSized board.now.table_id }
         ensures kept { (table self.new ≡ table self.old) × (rules self.new ≡ rules self.old) × (role self.new ≡ role self.old) × (numbers self.new ≡ numbers self.old) }
@@ -36,12 +37,14 @@ pub trait Pass {
         ensures seen { Learns (role self.old) (sight self.old) (sight self.new) }
         ensures word { Front result (sight self.new) };
 
+    /// Cuts off a note of what it has seen, for another pass to take in.
     fn note(&mut self, board: &Board) -> Seat
         requires { (table self.old ≡ board.now.table_id) × IsSized board.now.table_id }
         ensures kept { (table self.new ≡ table self.old) × (rules self.new ≡ rules self.old) × (role self.new ≡ role self.old) × (numbers self.new ≡ numbers self.old) }
         ensures seen { sight self.new ≡ sight self.old }
         ensures note { IsNote (table self.old) (sight self.old) result };
 
+    /// Takes a note in, and looks at the front.
     fn read(&mut self, board: &Board, note: Seat) -> u64
         requires board { (table self.old ≡ board.now.table_id) × IsSized board.now.table_id }
         requires note { IsNote (table self.old) (note_sight note) note }

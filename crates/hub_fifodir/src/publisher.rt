@@ -20,6 +20,7 @@ pub struct Publisher {
 }
 
 impl Publisher {
+    /// The number that its events carry.
     pub fn number(&self) -> u64
         ensures { result ≡ self.now.number }
     {

@@ -5,6 +5,7 @@ use crate::views::{Rules, View};
 use atomic_table::{Join, Play, Shared, Split, TableRule};
 use std::marker::{Brand, PhantomData};
 
+/// The rule: one history, of which each seat has seen a beginning.
 pub struct OneHistory;
 
 impl TableRule<Option<Locked>, View, Rules> for OneHistory {
@@ -16,10 +17,13 @@ impl TableRule<Option<Locked>, View, Rules> for OneHistory {
     ghost first = { λ rules. visitor rules [] 0 };
 }
 
+/// The table as the calls step on it.
 pub type Board = Shared<Option<Locked>, View, Rules, OneHistory>;
 
+/// What a pass steps with.
 pub type Seat = atomic_table::Seat<Option<Locked>, View>;
 
+/// The first load of the front, by a new seat.
 pub struct Enter;
 
 impl Play<Option<Locked>, View> for Enter {
@@ -28,6 +32,7 @@ impl Play<Option<Locked>, View> for Enter {
     ghost then = { entered };
 }
 
+/// A load of the front.
 pub struct Look;
 
 impl Play<Option<Locked>, View> for Look {
@@ -36,6 +41,7 @@ impl Play<Option<Locked>, View> for Look {
     ghost then = { looked };
 }
 
+/// The swap of 1 into the turn.
 pub struct Lock;
 
 impl Play<Option<Locked>, View> for Lock {
@@ -57,6 +63,7 @@ impl Next for Brand {
     ghost view = { spent };
 }
 
+/// A store to the front.
 pub struct Write<N> {
     next: PhantomData<N>,
 }
@@ -67,6 +74,7 @@ impl<N: Next> Play<Option<Locked>, View> for Write<N> {
     ghost then = { λ st m n r. (r.0 ≡ N.view) × (r.1 ≡ m.1) };
 }
 
+/// The store of 0 into the turn.
 pub struct Unlock<N> {
     next: PhantomData<N>,
 }

@@ -23,6 +23,7 @@ pub struct Ticket {
 }
 
 impl Ticket {
+    /// The number of the subscription; the first is 1.
     pub fn id(&self) -> u64
         ensures { result ≡ self.now.id }
     {

@@ -1,7 +1,7 @@
 //! Programs over fifodirs: two threads publish at once, and events go on from one fifodir to another.
-ghost use Rattle.std.specs.Prelude.{◌≡◌, ◌++◌, [], OnOk, IfOk};
+ghost use Rattle.std.specs.Prelude.{◌≡◌, ℕ, ◌++◌, [], ◌∷◌, OnOk, IfOk, IfErr};
 ghost use Rattle.hub_record.specs.Runs.{by};
-ghost use Rattle.hub_fifodir.specs.Passes.{IsPublisherOf, IsTicketOf, seen, mine, sent_on};
+ghost use Rattle.hub_fifodir.specs.Passes.{IsPublisherOf, IsTicketOf, HasTaken, IsRefusedAt, seen, mine, sent_on};
 
 use crate::fifodir::Fifodir;
 use crate::publisher::Publisher;
@@ -17,7 +17,7 @@ type Sent = (Publisher, Result<u64, PubError>);
 // One publisher's message, from a thread of its own.
 fn send<R: Wait>(rt: &R, fifodir: &Fifodir, mut me: Publisher, letters: &[Letter]) -> Sent
     requires { IsPublisherOf fifodir.now me × (mine me ≡ []) }
-    ensures pass { IsPublisherOf fifodir.now result.0 }
+    ensures pass { IsPublisherOf fifodir.now result.0 × (result.0.number ≡ me.number) }
     ensures mine { OnOk result.1 (mine result.0 ≡ letters.now) }
 {
     let answer = fifodir.publish(rt, &mut me, letters);
@@ -38,17 +38,18 @@ pub fn send_both<R: Threads + Wait + Sync>(
     requires other { IsPublisherOf fifodir.now other × (mine other ≡ []) }
     ensures one { IsPublisherOf fifodir.now result.0.0 × OnOk result.0.1 (by result.0.0.number (seen result.0.0) ≡ first.now) }
     ensures other { IsPublisherOf fifodir.now result.1.0 × OnOk result.1.1 (by result.1.0.number (seen result.1.0) ≡ second.now) }
+    ensures numbers { (result.0.0.number ≡ one.number) × (result.1.0.number ≡ other.number) }
     ensures same { seen result.1.0 ≡ seen result.0.0 }
 {
     let (mut one, mut other) = thread::join(
         rt,
         move || -> Sent
             requires { IsPublisherOf fifodir.now one × (mine one ≡ []) }
-            ensures { IsPublisherOf fifodir.entry.now result.0 × OnOk result.1 (mine result.0 ≡ first.entry.now) }
+            ensures { IsPublisherOf fifodir.entry.now result.0 × (result.0.number ≡ one.number) × OnOk result.1 (mine result.0 ≡ first.entry.now) }
         { send(rt, fifodir, one, first) },
         move || -> Sent
             requires { IsPublisherOf fifodir.now other × (mine other ≡ []) }
-            ensures { IsPublisherOf fifodir.entry.now result.0 × OnOk result.1 (mine result.0 ≡ second.entry.now) }
+            ensures { IsPublisherOf fifodir.entry.now result.0 × (result.0.number ≡ other.number) × OnOk result.1 (mine result.0 ≡ second.entry.now) }
         { send(rt, fifodir, other, second) },
     );
     fifodir.meet(rt, &mut one.0, &mut other.0);
@@ -67,6 +68,8 @@ pub fn send_on<R: Wait>(
     requires to { IsPublisherOf to.now publisher.old }
     ensures from { IsTicketOf from.now ticket.new }
     ensures to { IsPublisherOf to.now publisher.new }
+    ensures took { IfOk result (λ taken. HasTaken ticket.old 1 taken ticket.new) }
+    ensures refused { IfErr result (λ e. HasTaken ticket.old 1 (Taken.Got 1) ticket.new × ((letter : ℕ) × IsRefusedAt publisher.new (letter ∷ []) e)) }
     ensures sent { IfOk result (λ taken. mine publisher.new ≡ mine publisher.old ++ sent_on ticket.old taken ticket.new) }
 {
     let mut out = [Event {
