@@ -3,7 +3,7 @@ use Rattle.std.proofs.Common.{◌≡◌, ◌≢◌, ℕ, suc, List, [], ◌∷�
 use Rattle.std.specs.Prelude.{All, IfOk, flat_map}
 use Rattle.std.proofs.lemmas.List.Elements.{All-head, All-tail}
 use Rattle.std.specs.List.{AllZip}
-use Rattle.hub_desk.specs.Desks.{Desk, new_desk, answers}
+use Rattle.hub_desk.specs.Desks.{new_desk, answers}
 use Rattle.hub_desk.specs.Standing.{Local, Stands, Asked, Ended, Runs, over, asked}
 use Rattle.hub_desk.specs.Texts.{text_of}
 use Rattle.hub_desk.specs.declared.reply.Reply.{Reply}

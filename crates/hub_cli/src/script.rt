@@ -1,6 +1,7 @@
 //! The subcommand `script`: one session, over a desk of its own.
-ghost use Rattle.std.specs.Prelude.{◌≡◌, ◌≢◌, ℕ, List, All, IfOk};
-ghost use Rattle.std.specs.Io.KnownBytes.{Appends, Consumes, IsAtEnd};
+ghost use Rattle.std.specs.Prelude.{◌≡◌, ℕ, List, Err, IfOk};
+ghost use Rattle.hub_front.specs.Serving.{ReadsWithin, read_faults, write_faults};
+ghost use Rattle.hub_front.specs.Telling.{Grows};
 ghost use Rattle.hub_cli.specs.Output.{IsOutput, Serves};
 
 use hub_desk::LocalDesk;
@@ -16,7 +17,16 @@ pub fn script<H: Wait, R: Source, W: Sink>(
     writer: &mut W,
 ) -> Result<u64, FrontError>
     // Where no reply is `no memory`, what is written is the output of the input: a function of its bytes alone.
-    ensures { IfOk result (λ n. Serves (W.contents writer.old) (W.contents writer.new) (R.remaining reader.old) (R.remaining reader.new) n) }
+    ensures output { IfOk result (λ n. Serves
+        (W.contents writer.old) (W.contents writer.new) (R.remaining reader.old) (R.remaining reader.new) n) }
+
+    // Want of memory comes before the first read.
+    ensures memory { result ≡ Err FrontError.Memory → (reader.new ≡ reader.old) × (writer.new ≡ writer.old) }
+
+    // It ends by a count of its own, and a fault is answered where it was told, and nowhere else.
+    ensures reads { ReadsWithin (R.reads reader.old) (R.reads reader.new) result }
+    ensures read_faults { Grows (R.faults reader.old) (R.faults reader.new) (read_faults result) }
+    ensures write_faults { Grows (W.faults writer.old) (W.faults writer.new) (write_faults result) }
 {
     let Ok(mut desk) = LocalDesk::new(alloc) else {
         return Err(FrontError::Memory);
