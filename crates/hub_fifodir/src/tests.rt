@@ -375,11 +375,11 @@ fn two_send_at_once(rt: HostRuntime) -> Result<(), Fail> {
     let fifodir = open(rt.alloc(), Kind::Plain, 64, 1000, 10)?;
     let one = fifodir.publisher(&rt)?;
     let other = fifodir.publisher(&rt)?;
-    let a = [letter(b'a')];
-    let b = [letter(b'b')];
+    let a = [letter(b'a'); 100];
+    let b = [letter(b'b'); 100];
     let ((mut one, first), (other, second)) = send_both(&rt, &fifodir, one, other, &a, &b);
-    assert!(rt; first.is_ok() && second.is_ok() && first != second);
-    assert_eq!(rt; fifodir.front(&mut one), 2);
+    assert!(rt; matches!((first, second), (Ok(0), Ok(100)) | (Ok(100), Ok(0))));
+    assert_eq!(rt; fifodir.front(&mut one), 200);
     fifodir.leave(&rt, one);
     fifodir.leave(&rt, other);
     Ok(())
