@@ -12,9 +12,11 @@ mod local_desk;
 mod name;
 mod reply;
 mod request;
+mod texts;
 
 pub use desk::Desk;
 pub use local_desk::LocalDesk;
 pub use name::Name;
 pub use reply::{Refusal, Reply};
 pub use request::Request;
+pub use texts::{Names, Numbers, PatternText};

@@ -1,5 +1,6 @@
 //! What a client is answered.
 
+use crate::texts::Numbers;
 use hub_record::{Letters, PubError, Status, SubError};
 
 /// What a client is answered, one reply to each line.
@@ -7,16 +8,24 @@ use hub_record::{Letters, PubError, Status, SubError};
 pub enum Reply {
     /// It was done.
     Done,
-    /// A handle (to `sub`) or the number of a message's first event (to `pub`).
+    /// A handle (to `sub` and `listen`) or the number of a message's first event (to `pub`).
     Number(u64),
     /// What a fifodir shows.
     State(Status),
     /// The letters of the events that were taken.
     Got(Letters),
-    /// No event waits.
+    /// The letters of a listener's hit.
+    Hit(Letters),
+    /// No event waits, or none that brings a hit.
     Nothing,
     /// No event waits, and none will come: the fifodir is closed.
     End,
+    /// The services are as wanted.
+    Yes(Numbers),
+    /// They aren't, and can't be hoped to be.
+    Never,
+    /// Neither was known at the end of the wait.
+    Late,
     /// It was refused, and nothing has changed.
     No(Refusal),
 }
@@ -38,7 +47,9 @@ pub enum Refusal {
     Name,
     /// A fifodir has this name already.
     Exists,
-    /// No handle of this session has this number.
+    /// A service is waited for, and the fifodir of this name is plain.
+    Kind,
+    /// No handle of this session has this number and is of the sort that was asked for.
     Id,
     /// As many stand already as may: names, handles or subscriptions.
     Many,
@@ -50,6 +61,10 @@ pub enum Refusal {
     Unlawful(u64),
     /// More events would wait behind the slowest subscription than may.
     Full,
+    /// The text is no pattern, or one that is too large.
+    Pattern,
+    /// The listener has gathered as many letters without a hit as it may.
+    Overlong,
     /// There is no memory for it.
     Memory,
 }

@@ -1,7 +1,11 @@
 //! What a client asks for.
 
 use crate::name::Name;
+use crate::texts::{Names, PatternText};
+use hub_letters::Want;
+use hub_listen::Mode;
 use hub_record::Letters;
+use hub_wait::Span;
 
 /// What a client asks for. Each is spelled by one line, whose word is the variant's.
 #[derive(Drop)]
@@ -35,7 +39,7 @@ pub enum Request {
         id: u64,
         max: u64,
     },
-    /// End a subscription.
+    /// End a subscription or a listener.
     Cancel {
         id: u64,
     },
@@ -46,5 +50,23 @@ pub enum Request {
     /// What a fifodir shows now.
     Status {
         name: Name,
+    },
+    /// Subscribe a listener: from now on it hears all letters, for hits of the pattern, one or again and again.
+    Listen {
+        name: Name,
+        mode: Mode,
+        pattern: PatternText,
+    },
+    /// Look for a listener's next hit.
+    Poll {
+        id: u64,
+    },
+    /// Wait for at most `turns` turns (0 to 1,000,000) until all of the services named (1 to 32), or any of them, are as
+    /// wanted.
+    Wait {
+        span: Span,
+        want: Want,
+        turns: u64,
+        names: Names,
     },
 }
