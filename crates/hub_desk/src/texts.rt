@@ -11,7 +11,7 @@ pub struct PatternText {
 }
 
 impl Model for PatternText {
-    ghost use Rattle.std.specs.Prelude.{List, ℕ};
+    ghost use Rattle.std.specs.Prelude.{List, ℕ, string_bytes};
 
     ghost Value = { List ℕ };
 
