@@ -1,5 +1,5 @@
 -- What is asked of a fifodir.
-use Rattle.std.proofs.Common.{◌≡◌, ◌≢◌, ℕ, ◌<◌, ◌≤◌, Bool, true, false, List, [], ◌∷◌, ◌++◌, length, Some, None, is_some, Ok, Err, refl, sym, ap, subst, ◌∙◌, arith}
+use Rattle.std.proofs.Common.{◌≡◌, ◌≢◌, ℕ, ◌<◌, ◌≤◌, Bool, true, false, List, [], ◌∷◌, ◌++◌, length, Option, Some, None, is_some, Ok, Err, refl, sym, ap, subst, ◌∙◌, arith}
 use Rattle.std.specs.Map.{lookup}
 use Rattle.std.specs.Str.{bytes_eq}
 use Rattle.hub_record.specs.declared.Closed.{Closed}
@@ -10,9 +10,10 @@ use Rattle.hub_record.specs.Kept.{Kept, StandsFor}
 use Rattle.hub_record.specs.declared.Kind.{Kind}
 use Rattle.hub_record.specs.declared.limits.Limits.{Limits}
 use Rattle.hub_record.specs.World.{World, empty_world, PublishReply, after_publish, close_reply, after_close}
-use Rattle.hub_desk.specs.Desks.{Desk, Fifodir, refused, answered_with, in_world, made, published, closed, shown, refusal_to_make, world_of}
+use Rattle.hub_desk.specs.Answers.{answered_with, in_world, made, published, closed, shown, refusal_to_make}
+use Rattle.hub_desk.specs.Desks.{Desk, Fifodir, refused, world_of}
 use Rattle.hub_desk.specs.Replies.{publish_reply, refusal_of_pub}
-use Rattle.hub_desk.specs.Standing.{Local, AreKept, Stands, Answers, Asked}
+use Rattle.hub_desk.specs.Standing.{Local, AreKept, Stands, Answers, AskedWith, Unchanged}
 use Rattle.hub_desk.specs.declared.local_desk.LocalFifodir.{LocalFifodir}
 use Rattle.hub_desk.specs.declared.request.Request.TheVariants.{Pub, Close, Status as Show}
 use Rattle.hub_desk.specs.declared.reply.Reply.{Reply}
@@ -20,7 +21,7 @@ use Rattle.hub_desk.specs.declared.reply.Reply.TheVariants.{Done, Number, State,
 use Rattle.hub_desk.specs.declared.reply.Refusal.TheVariants as no
 use Rattle.std.proofs.lemmas.Bool.{le-leb, lt-leb}
 use Rattle.hub_desk.proofs.Holdings.{held_still, held_with_more}
-use Rattle.hub_desk.proofs.Asking.{by_carrying, by_refusing, by_lacking, stands_same, Replaces, world_there, stands_replaced, stands_still, named}
+use Rattle.hub_desk.proofs.Asking.{by_carrying, by_refusing, by_lacking, still_lacking, stands_same, Replaces, world_there, stands_replaced, stands_still, named}
 use Rattle.hub_desk.proofs.KeptFifodirs.{some_kept, is_some-world_of, length-kept, kept_push}
 use Rattle.hub_desk.proofs.RecordReplies.{publish_reply_is}
 
@@ -29,16 +30,16 @@ use Rattle.hub_desk.proofs.RecordReplies.{publish_reply_is}
 no_world : (local : Local) (d : Desk) (name : List ℕ) → Stands local d → is_some (lookup (bytes_eq name) local.fifodirs) ≡ false → is_some (world_of d.fifodirs name) ≡ false
 no_world local d name st absent = sym (is_some-world_of name local.fifodirs d.fifodirs st.fifodirs) ∙ absent
 
-module _ (old : Local) (name : List ℕ) (kind : Kind) (notifies : Bool) (limits : Limits) where
+module _ (old : Local) (name : List ℕ) (kind : Kind) (reports : Option Bool) (limits : Limits) where
   abbrev Makes : Reply → Local → Type 0
-  Makes reply new = Answers old true (λ d. refusal_to_make d name) (λ d. made d name kind notifies (Some limits)) reply new
+  Makes reply new = Answers old true (λ d. refusal_to_make d name) (λ d. made d name kind reports (Some limits)) Unchanged reply new
 
   pub make_exists : is_some (lookup (bytes_eq name) old.fifodirs) ≡ true → Makes (No no.Exists) old
-  make_exists there = by_refusing old old true _ _ _ no.Exists refl (λ e. cc)
+  make_exists there = by_refusing old old true _ _ _ _ no.Exists refl (λ e. cc)
       (λ d st. (let e = sym (is_some-world_of name old.fifodirs d.fifodirs st.fifodirs) ∙ there in simp e)) (λ d st. st)
 
   pub make_many : is_some (lookup (bytes_eq name) old.fifodirs) ≡ false → 256 ≤ length old.fifodirs → Makes (No no.Many) old
-  make_many absent many = by_refusing old old true _ _ _ no.Many refl (λ e. cc)
+  make_many absent many = by_refusing old old true _ _ _ _ no.Many refl (λ e. cc)
       (λ d st. (let same = length-kept old.fifodirs d.fifodirs st.fifodirs in
       simp (no_world old d name st absent, le-leb 256 (length d.fifodirs) (omega arith)))) (λ d st. st)
 
@@ -49,31 +50,31 @@ module _ (old : Local) (name : List ℕ) (kind : Kind) (notifies : Bool) (limits
         simp (no_world old d name st absent, lt-leb 256 (length d.fifodirs) (omega arith))
 
     pub make_lacks : (new : Local) → new ≡ old → Makes (No no.Memory) new
-    make_lacks new same = by_lacking old new true _ _ _ refl refl (λ d st. record { unrefused = may_make d st; stands = stands_same old new d same st })
+    make_lacks new same = by_lacking old new true _ _ _ _ refl refl (λ d st. still_lacking new d (refusal_to_make d name) (may_make d st) (stands_same old new d same st))
 
     pub make_done : (new : Local) (kept : Kept) → StandsFor kept (empty_world kind limits)
-        → new.fifodirs ≡ old.fifodirs ++ (name, record { kept = kept; notifies = notifies }) ∷ [] → new.holdings ≡ old.holdings → new.given ≡ old.given → Makes Done new
-    make_done new kept stands fifodirs holdings given = by_carrying old new true _ _ Done (λ (e : Done ≡ No no.Memory). cc) (λ d st.
-        let f : Fifodir = record { name = name; notifies = notifies; world = empty_world kind limits } in
+        → new.fifodirs ≡ old.fifodirs ++ (name, record { kept = kept; reports = reports }) ∷ [] → new.holdings ≡ old.holdings → new.given ≡ old.given → Makes Done new
+    make_done new kept stands fifodirs holdings given = by_carrying old new true _ _ _ Done (λ (e : Done ≡ No no.Memory). cc) (λ d st.
+        let f : Fifodir = record { name = name; reports = reports; world = empty_world kind limits } in
         let more = d.fifodirs ++ f ∷ [] in record {
-          answer = made d name kind notifies (Some limits);
+          answer = made d name kind reports (Some limits);
           unrefused = may_make d st;
           done_is = refl;
           said = refl;
           stands = record {
             fifodirs = subst (λ (es : List (List ℕ × LocalFifodir)). AreKept es (d.fifodirs ++ f ∷ [])) (sym fifodirs)
-                (kept_push old.fifodirs d.fifodirs _ f st.fifodirs (record { name = refl; notifies = refl; world = stands }));
+                (kept_push old.fifodirs d.fifodirs _ f st.fifodirs (record { name = refl; reports = refl; world = stands }));
             holdings = holdings ∙ st.holdings;
             given = given ∙ st.given;
-            is_desk = record { held = held_still d.fifodirs more (held_with_more d.fifodirs f) _ st.is_desk.held; apart = st.is_desk.apart };
+            is_desk = record { held = held_still d.fifodirs more (held_with_more d.fifodirs f) _ st.is_desk.held; apart = st.is_desk.apart; may_hit = st.is_desk.may_hit };
           };
         })
 
 -- ---- close
 
 module _ (old new : Local) (name : List ℕ) (r : LocalFifodir) (kept : Kept) (put : Replaces old new name r kept) (reply : Reply) where
-  pub close_done : ((w : World) → StandsFor r.kept w → Ok tt ≡ close_reply w) → ((w : World) → StandsFor r.kept w → StandsFor kept (after_close w)) → reply ≡ Done → Asked old (Close name) reply new
-  close_done replies after is = by_carrying old new false _ _ reply (λ e. cc) (λ d st.
+  pub close_done : ((w : World) → StandsFor r.kept w → Ok tt ≡ close_reply w) → ((w : World) → StandsFor r.kept w → StandsFor kept (after_close w)) → reply ≡ Done → AskedWith false old (Close name) reply new
+  close_done replies after is = by_carrying old new false _ _ _ reply (λ e. cc) (λ d st.
       let t = world_there old new name r kept put d st in
       let w = t.0 in record {
         answer = answered_with Done d name (after_close w);
@@ -83,8 +84,8 @@ module _ (old new : Local) (name : List ℕ) (r : LocalFifodir) (kept : Kept) (p
         stands = stands_replaced old new name r kept put d st w (after_close w) t.1 (after w t.2) (λ id k. k);
       })
 
-  pub close_refused : (error : Closed) → ((w : World) → StandsFor r.kept w → Err error ≡ close_reply w) → kept ≡ r.kept → reply ≡ No no.Closed → Asked old (Close name) reply new
-  close_refused error replies still is = by_carrying old new false _ _ reply (λ e. cc) (λ d st.
+  pub close_refused : (error : Closed) → ((w : World) → StandsFor r.kept w → Err error ≡ close_reply w) → kept ≡ r.kept → reply ≡ No no.Closed → AskedWith false old (Close name) reply new
+  close_refused error replies still is = by_carrying old new false _ _ _ reply (λ e. cc) (λ d st.
       let t = world_there old new name r kept put d st in
       let w = t.0 in record {
         answer = refused d no.Closed;
@@ -104,8 +105,8 @@ real_refusal post.Full e = cc
 
 module _ (old new : Local) (name message : List ℕ) (r : LocalFifodir) (kept : Kept) (put : Replaces old new name r kept) (reply : Reply) where
   pub publish_done : (first : ℕ) → ((w : World) → StandsFor r.kept w → PublishReply w message (Ok first)) → ((w : World) → StandsFor r.kept w → StandsFor kept (after_publish w 1 message (Ok first)))
-      → reply ≡ Number first → Asked old (Pub name message) reply new
-  publish_done first replies after is = by_carrying old new false _ _ reply (λ e. cc) (λ d st.
+      → reply ≡ Number first → AskedWith false old (Pub name message) reply new
+  publish_done first replies after is = by_carrying old new false _ _ _ reply (λ e. cc) (λ d st.
       let t = world_there old new name r kept put d st in
       let w = t.0 in record {
         answer = answered_with (Number first) d name (after_publish w 1 message (Ok first));
@@ -116,8 +117,8 @@ module _ (old new : Local) (name message : List ℕ) (r : LocalFifodir) (kept : 
         stands = stands_replaced old new name r kept put d st w (after_publish w 1 message (Ok first)) t.1 (after w t.2) (λ id k. k);
       })
 
-  pub publish_refused : (error : PubError) → ((w : World) → StandsFor r.kept w → PublishReply w message (Err error)) → kept ≡ r.kept → reply ≡ No (refusal_of_pub error) → Asked old (Pub name message) reply new
-  publish_refused error replies still is = by_carrying old new false _ _ reply (λ e. real_refusal error (let k : refusal_of_pub error ≡ no.Memory = cc in k)) (λ d st.
+  pub publish_refused : (error : PubError) → ((w : World) → StandsFor r.kept w → PublishReply w message (Err error)) → kept ≡ r.kept → reply ≡ No (refusal_of_pub error) → AskedWith false old (Pub name message) reply new
+  publish_refused error replies still is = by_carrying old new false _ _ _ reply (λ e. real_refusal error (let k : refusal_of_pub error ≡ no.Memory = cc in k)) (λ d st.
       let t = world_there old new name r kept put d st in
       let w = t.0 in record {
         answer = refused d (refusal_of_pub error);
@@ -131,8 +132,8 @@ module _ (old new : Local) (name message : List ℕ) (r : LocalFifodir) (kept : 
 -- ---- status
 
 pub status_shown : (local : Local) (name : List ℕ) (r : LocalFifodir) (shows : Status) → Some r ≡ lookup (bytes_eq name) local.fifodirs
-    → shows.number ≡ r.kept.end → shows.flags ≡ r.kept.flags → shows.closed ≡ r.kept.closed → Asked local (Show name) (State shows) local
-status_shown local name r shows was number flags is_closed = by_carrying local local false _ _ (State shows) (λ (e : State shows ≡ No no.Memory). cc) (λ d st.
+    → shows.number ≡ r.kept.end → shows.flags ≡ r.kept.flags → shows.closed ≡ r.kept.closed → AskedWith false local (Show name) (State shows) local
+status_shown local name r shows was number flags is_closed = by_carrying local local false _ _ _ (State shows) (λ (e : State shows ≡ No no.Memory). cc) (λ d st.
     let t = some_kept name local.fifodirs d.fifodirs r st.fifodirs (sym was) in
     let w = t.0 in
     let s = t.2 in

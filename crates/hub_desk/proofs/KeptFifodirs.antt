@@ -48,7 +48,7 @@ module _ (name : List ℕ) where
 
   -- another record under the name, and another world
   pub kept_set : (es : List (List ℕ × LocalFifodir)) (fs : List Fifodir) (r new : LocalFifodir) (w : World) → AreKept es fs → lookup (bytes_eq name) es ≡ Some r
-      → new.notifies ≡ r.notifies → StandsFor new.kept w → AreKept (set_value (bytes_eq name) es new) (with_world fs name w)
+      → new.reports ≡ r.reports → StandsFor new.kept w → AreKept (set_value (bytes_eq name) es new) (with_world fs name w)
   kept_set [] [] r new w h e n s = tt
   kept_set [] (f ∷ fs) r new w h e n s = absurd h
   kept_set (x ∷ es) [] r new w h e n s = absurd h
@@ -57,7 +57,7 @@ module _ (name : List ℕ) where
       elim (cases_Bool (bytes_eq name f.name)) [
         | inl t ↦ (let k = simp (same, t) at e in
             let is : x.1 ≡ r = cc in
-            simp (same, t) (record { name = h.0.name; notifies = n ∙ sym (ap (λ (z : LocalFifodir). z.notifies) is) ∙ h.0.notifies; world = s }, h.1))
+            simp (same, t) (record { name = h.0.name; reports = n ∙ sym (ap (λ (z : LocalFifodir). z.reports) is) ∙ h.0.reports; world = s }, h.1))
         | inr t ↦ simp (same, t) (h.0, kept_set es fs r new w h.1 (simp (same, t) at e) n s)
       ]
 
@@ -71,7 +71,7 @@ module _ (name : List ℕ) where
 
   -- another record under the name that stands for the same world
   pub kept_still : (es : List (List ℕ × LocalFifodir)) (fs : List Fifodir) (r new : LocalFifodir) (w : World) → AreKept es fs → lookup (bytes_eq name) es ≡ Some r
-      → world_of fs name ≡ Some w → new.notifies ≡ r.notifies → StandsFor new.kept w → AreKept (set_value (bytes_eq name) es new) fs
+      → world_of fs name ≡ Some w → new.reports ≡ r.reports → StandsFor new.kept w → AreKept (set_value (bytes_eq name) es new) fs
   kept_still es fs r new w h e is n s = subst (λ (z : List Fifodir). AreKept (set_value (bytes_eq name) es new) z) (with_world-same fs w is) (kept_set es fs r new w h e n s)
 
   pub world_of-push : (fs : List Fifodir) (f : Fifodir) (w : World) → world_of fs name ≡ Some w → world_of (fs ++ f ∷ []) name ≡ Some w

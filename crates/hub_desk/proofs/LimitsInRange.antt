@@ -4,7 +4,7 @@ use Rattle.std.proofs.Math.Bridge.{le_prop}
 use Rattle.std.proofs.Math.Dec.{lit≤}
 use Rattle.std.proofs.Math.Decide.{dec_le}
 use Rattle.hub_record.specs.declared.limits.Limits.{Limits}
-use Rattle.hub_desk.specs.Desks.{limits_by, limits_of}
+use Rattle.hub_desk.specs.Answers.{limits_by, limits_of}
 use Rattle.hub_desk.specs.Ranges.{AreLimits}
 
 module _ (waiting total : ℕ) (in_range : AreLimits waiting total)

@@ -1,14 +1,19 @@
 -- Runs of a desk.
-use Rattle.std.proofs.Common.{◌≢◌, ◌∷◌, refl}
+use Rattle.std.proofs.Common.{◌≡◌, ◌≢◌, ℕ, Bool, true, false, List, [], ◌∷◌, ◌++◌, refl, sym, ap, subst, ◌∙◌, inl, inr}
 use Rattle.std.proofs.lemmas.List.Elements.{All-head, All-tail}
-use Rattle.hub_desk.specs.Desks.{answer}
-use Rattle.hub_desk.specs.Standing.{RunsAnswer, over, asked}
+use Rattle.hub_desk.specs.Answers.{answer, answer_to, pattern_in, patterns_in, first_read, later_reads, AreReads}
+use Rattle.hub_desk.specs.Desks.{Desk}
+use Rattle.hub_desk.specs.Standing.{Local, Stands, RunsAnswer, IsModels, IsReadAs, over, asked}
+use Rattle.hub_desk.specs.declared.request.Request.{Request}
+use Rattle.hub_desk.specs.declared.reply.Reply.{Reply}
 use Rattle.hub_desk.specs.declared.reply.Reply.TheVariants.{No}
 use Rattle.hub_desk.specs.declared.reply.Refusal.TheVariants.{Memory}
 
+-- the yes or no of a request with these patterns, before those of the requests after it
+with_read : Bool → List (List ℕ) → List Bool → List Bool
+with_read read [] reads = reads
+with_read read (text ∷ texts) reads = ?
+
 pub runs_answer : RunsAnswer
-runs_answer old new requests replies desk (over local) real st = (refl, st)
-runs_answer old new requests replies desk (asked first mid last request rest reply others here later) real st =
-    let now = here.answered (All-head (λ x. x ≢ No Memory) reply others real) desk st in
-    let then = runs_answer mid last rest others (answer desk request).desk later (All-tail (λ x. x ≢ No Memory) reply others real) now.stands in
-    (λ i. now.said i ∷ then.0 i, then.1)
+runs_answer old new requests replies desk (over local) real st = record { reads = []; are_reads = tt; said = refl; stands = st }
+runs_answer old new requests replies desk (asked first mid last request rest reply others here later) real st = ?

@@ -12,7 +12,7 @@ use Rattle.hub_record.specs.declared.PubError.{PubError}
 use Rattle.hub_record.specs.declared.PubError.TheVariants as post
 use Rattle.hub_desk.specs.Replies.{refusal_of_pub}
 use Rattle.hub_desk.specs.Texts.{text_of, openness}
-use Rattle.hub_desk.specs.declared.reply.Reply.TheVariants.{Number, State, Got, No}
+use Rattle.hub_desk.specs.declared.reply.Reply.TheVariants.{Number, State, Got, Hit, No}
 
 -- a number of 64 bits has at most 20 digits
 short_decimal : (n : ℕ) → n < 2 ^ 64 → length (decimal n) ≤ 20
@@ -23,6 +23,9 @@ short_number n h = let d = short_decimal n h in simp (length-append) (omega arit
 
 pub short_got : (letters : List ℕ) → length letters ≤ 256 → length (text_of (Got letters)) ≤ 4101
 short_got letters h = simp (length-append) (omega arith)
+
+pub short_hit : (letters : List ℕ) → length letters ≤ 4096 → length (text_of (Hit letters)) ≤ 4101
+short_hit letters h = simp (length-append) (omega arith)
 
 short_openness : (b : Bool) → length (openness b) ≤ 6
 short_openness true = omega arith

@@ -3,4 +3,8 @@ pub mod Ranges
 pub mod Texts
 pub mod Replies
 pub mod Desks
+pub mod Polls
+pub mod Waits
+pub mod Answers
+pub mod Hearings
 pub mod Standing

@@ -2,11 +2,13 @@
 use Rattle.std.specs.Prelude.{ℕ, ◌≡◌, ◌≢◌, Bool, true, false, List, [], ◌∷◌, length, All, Option, None, is_some}
 use Rattle.hub_record.specs.Kept.{Kept, StandsFor}
 use Rattle.hub_record.specs.World.{World, found}
-use Rattle.hub_desk.specs.Desks.{Fifodir, Desk, IsDesk, Answer, standing, own_refusal, carried_out, answer_by, answers, desk_after, ended}
+use Rattle.hub_listen.specs.Hit.{IsPattern}
+use Rattle.hub_desk.specs.Desks.{Fifodir, Desk, IsDesk, Answer, standing, ended}
+use Rattle.hub_desk.specs.Answers.{own_refusal, carried_out, answer_by, LeftBy, pattern_in, patterns_in, AreReads, answers, desk_after}
 use Rattle.hub_desk.specs.declared.local_desk.LocalFifodir.{LocalFifodir}
 use Rattle.hub_desk.specs.declared.local_desk.Holding.{Holding}
 use Rattle.hub_desk.specs.declared.request.Request.{Request}
-use Rattle.hub_desk.specs.declared.request.Request.TheVariants.{Dir, Svc, Sub, Pub, Take, Cancel, Close, Status}
+use Rattle.hub_desk.specs.declared.request.Request.TheVariants.{Dir, Svc, Sub, Pub, Take, Cancel, Close, Status, Listen, Poll, Wait}
 use Rattle.hub_desk.specs.declared.reply.Reply.{Reply}
 use Rattle.hub_desk.specs.declared.reply.Reply.TheVariants.{No}
 use Rattle.hub_desk.specs.declared.reply.Refusal.{Refusal}
@@ -21,7 +23,7 @@ pub record Local : Type 0 where
 
 pub record IsKept (entry : List ℕ × LocalFifodir) (fifodir : Fifodir) : Type 0 where
   pub name : entry.0 ≡ fifodir.name
-  pub notifies : entry.1.notifies ≡ fifodir.notifies
+  pub reports : entry.1.reports ≡ fifodir.reports
   pub world : StandsFor entry.1.kept fifodir.world
 
 -- one after another
@@ -55,17 +57,19 @@ pub record IsAnswer (local : Local) (desk : Desk) (own : Option Refusal) (done :
   pub said : reply ≡ (answer_by desk own done).reply
   pub stands : Stands local (answer_by desk own done).desk
 
--- want of memory stands after what the desk itself refuses, and changes nothing
-pub record IsLacking (local : Local) (desk : Desk) (own : Option Refusal) : Type 0 where
+-- want of memory stands after what the desk itself refuses, and leaves a desk as `left` says
+pub record IsLacking (local : Local) (own : Option Refusal) (left : Desk → Type 0) : Type 0 where
   pub unrefused : own ≡ None
+  pub desk : Desk
+  pub is_left : left desk
   pub stands : Stands local desk
 
 -- A request that the desk refuses by `own`, and else carries out as `done` says, is answered so. `grows` says whether it
--- needs memory.
-pub record Answers (old : Local) (grows : Bool) (own : Desk → Option Refusal) (done : Desk → Answer) (reply : Reply) (new : Local) : Type 0 where
+-- needs memory, and `left` what it may leave where there is none.
+pub record Answers (old : Local) (grows : Bool) (own : Desk → Option Refusal) (done : Desk → Answer) (left : Desk → Desk → Type 0) (reply : Reply) (new : Local) : Type 0 where
   pub answered : reply ≢ No Memory → (desk : Desk) → Stands old desk → IsAnswer new desk (own desk) (done desk) reply
   pub grew : reply ≡ No Memory → grows ≡ true
-  pub lacking : reply ≡ No Memory → (desk : Desk) → Stands old desk → IsLacking new desk (own desk)
+  pub lacking : reply ≡ No Memory → (desk : Desk) → Stands old desk → IsLacking new (own desk) (left desk)
 
 -- the requests that need memory
 abbrev pub grows : Request → Bool
@@ -77,9 +81,28 @@ grows (Take id max) = true
 grows (Cancel id) = false
 grows (Close name) = false
 grows (Status name) = false
+grows (Listen name mode pattern) = true
+grows (Poll id) = true
+grows (Wait span want turns names) = true
 
-abbrev pub Asked : Local → Request → Reply → Local → Type 0
-Asked old request reply new = Answers old (grows request) (λ desk. own_refusal desk request) (λ desk. carried_out desk request) reply new
+-- nothing has changed
+abbrev pub Unchanged : Desk → Desk → Type 0
+Unchanged desk new = new ≡ desk
+
+-- where `read` says of a `Listen` whether its pattern is read
+abbrev pub AskedWith : Bool → Local → Request → Reply → Local → Type 0
+AskedWith read old request reply new =
+    Answers old (grows request) (λ desk. own_refusal desk read request) (λ desk. carried_out desk request) (λ desk left. LeftBy request desk left) reply new
+
+-- only a pattern is read; where memory lacked it isn't known whether the text is one
+abbrev pub IsReadAs : Bool → List (List ℕ) → Reply → Type 0
+IsReadAs read [] reply = read ≡ false
+IsReadAs read (text ∷ texts) reply = read ≡ true → reply ≢ No Memory → IsPattern text
+
+pub record Asked (old : Local) (request : Request) (reply : Reply) (new : Local) : Type 0 where
+  pub read : Bool
+  pub is_read : IsReadAs read (pattern_in request) reply
+  pub answers : AskedWith read old request reply new
 
 pub record Ended (old new : Local) : Type 0 where
   pub stands : (desk : Desk) → Stands old desk → Stands new (ended desk)
@@ -92,8 +115,14 @@ pub data Runs : Local → List Request → List Reply → Local → Type 0 where
   asked : (old mid new : Local) (request : Request) (requests : List Request) (reply : Reply) (replies : List Reply)
       → Asked old request reply mid → Runs mid requests replies new → Runs old (request ∷ requests) (reply ∷ replies) new
 
--- where no reply of a run is want of memory, the replies are the model's answers, and the desk stands for the model's
+-- where no reply of a run is want of memory, the replies are the model's answers, with a yes or no for each pattern, and
+-- the desk stands for the model's
+pub record IsModels (desk : Desk) (requests : List Request) (replies : List Reply) (new : Local) : Type 0 where
+  pub reads : List Bool
+  pub are_reads : AreReads reads (patterns_in requests)
+  pub said : replies ≡ answers desk reads requests
+  pub stands : Stands new (desk_after desk reads requests)
+
 abbrev pub RunsAnswer : Type 0
 RunsAnswer = (old new : Local) (requests : List Request) (replies : List Reply) (desk : Desk)
-    → Runs old requests replies new → All (λ reply. reply ≢ No Memory) replies → Stands old desk
-    → (replies ≡ answers desk requests) × Stands new (desk_after desk requests)
+    → Runs old requests replies new → All (λ reply. reply ≢ No Memory) replies → Stands old desk → IsModels desk requests replies new

@@ -1,6 +1,6 @@
 //! The desk of one thread.
 ghost use Rattle.std.specs.Prelude.{◌≡◌, IfOk, Some};
-ghost use Rattle.hub_desk.specs.Desks.{limits_of};
+ghost use Rattle.hub_desk.specs.Answers.{limits_of};
 ghost use Rattle.hub_desk.specs.Ranges.{AreLimits};
 
 use crate::desk::Desk;
@@ -8,6 +8,8 @@ use crate::local_desk::subscriptions::release_all;
 use crate::name::Name;
 use crate::reply::Reply;
 use crate::request::Request;
+use hub_letters::Letter;
+use hub_listen::Listener;
 use hub_record::{Kind, Limits, Record};
 use indexmap::IndexMap;
 use std::alloc::{AllocError, Global};
@@ -16,7 +18,9 @@ use std::sync::Wait;
 
 mod fifodirs;
 mod laws;
+mod listeners;
 mod subscriptions;
+mod waits;
 #[cfg(test)]
 mod tests;
 
@@ -27,8 +31,8 @@ const IDS: u64 = 1_000_000_000_000;
 #[derive(Drop)]
 struct LocalFifodir {
     kept: Record,
-    /// Whether its service reports readiness.
-    notifies: bool,
+    /// Whether its service reports readiness. None for a plain fifodir.
+    reports: Option<bool>,
 }
 
 /// What a handle is for: the subscription with this id of the fifodir with this name.
@@ -36,6 +40,15 @@ struct LocalFifodir {
 struct Holding {
     name: Name,
     id: u64,
+    /// Where it is a listener's.
+    hearing: Option<Hearing>,
+}
+
+/// A listener, and the letter that was taken for it and is not yet heard, for want of memory.
+#[derive(Drop)]
+struct Hearing {
+    listener: Listener,
+    held: Option<Letter>,
 }
 
 /// A desk for one thread, over records of its own. It publishes as publisher 1.
@@ -101,19 +114,36 @@ impl Desk for LocalDesk {
                 name,
                 waiting,
                 total,
-            } => self.make(name, Kind::Plain, false, limits(*waiting, *total)),
+            } => self.make(name, Kind::Plain, None, limits(*waiting, *total)),
             Request::Svc {
                 name,
                 waiting,
                 total,
                 notifies,
-            } => self.make(name, Kind::Service, *notifies, limits(*waiting, *total)),
+            } => self.make(
+                name,
+                Kind::Service,
+                Some(*notifies),
+                limits(*waiting, *total),
+            ),
             Request::Sub { name } => self.subscribe(name),
             Request::Pub { name, letters } => self.publish(name, letters),
             Request::Take { id, max } => self.take(*id, *max),
             Request::Cancel { id } => self.cancel(*id),
             Request::Close { name } => self.close(name),
             Request::Status { name } => self.status(name),
+            Request::Listen {
+                name,
+                mode,
+                pattern,
+            } => self.listen(name, *mode, pattern),
+            Request::Poll { id } => self.poll(*id),
+            Request::Wait {
+                span,
+                want,
+                turns: _,
+                names,
+            } => self.wait(*span, *want, names),
         }
     }
 

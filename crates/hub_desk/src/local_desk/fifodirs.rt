@@ -1,7 +1,7 @@
 //! What is asked of a fifodir: to make one, publish to it, close it and show it.
-ghost use Rattle.std.specs.Prelude.{◌≤◌, Some, length, true};
-ghost use Rattle.hub_desk.specs.Desks.{made, refusal_to_make};
-ghost use Rattle.hub_desk.specs.Standing.{Answers, Asked};
+ghost use Rattle.std.specs.Prelude.{◌≤◌, Some, length, false, true};
+ghost use Rattle.hub_desk.specs.Answers.{made, refusal_to_make};
+ghost use Rattle.hub_desk.specs.Standing.{Answers, AskedWith, Unchanged};
 ghost use Rattle.hub_desk.specs.Texts.{text_of};
 ghost use Rattle.hub_desk.specs.declared.request.Request.TheVariants.{Pub, Close, Status as Show};
 
@@ -16,8 +16,8 @@ const NAMES: usize = 256;
 const PUBLISHER: u64 = 1;
 
 impl LocalDesk {
-    pub(super) fn make(&mut self, name: &Name, kind: Kind, notifies: bool, limits: Limits) -> Reply
-        ensures step { Answers self.old true (λ desk. refusal_to_make desk name.now) (λ desk. made desk name.now kind notifies (Some limits)) result self.new }
+    pub(super) fn make(&mut self, name: &Name, kind: Kind, reports: Option<bool>, limits: Limits) -> Reply
+        ensures step { Answers self.old true (λ desk. refusal_to_make desk name.now) (λ desk. made desk name.now kind reports (Some limits)) Unchanged result self.new }
         ensures short { length (text_of result) ≤ 4101 }
     {
         if self.fifodirs.contains_key(name) {
@@ -32,14 +32,14 @@ impl LocalDesk {
         let Ok(kept) = Record::new(self.alloc, kind, limits) else {
             return Reply::No(Refusal::Memory);
         };
-        match self.fifodirs.insert(key, LocalFifodir { kept, notifies }) {
+        match self.fifodirs.insert(key, LocalFifodir { kept, reports }) {
             Ok(_) => Reply::Done,
             Err(_) => Reply::No(Refusal::Memory),
         }
     }
 
     pub(super) fn publish(&mut self, name: &Name, letters: &Letters) -> Reply
-        ensures step { Asked self.old (Pub name.now letters.now) result self.new }
+        ensures step { AskedWith false self.old (Pub name.now letters.now) result self.new }
         ensures short { length (text_of result) ≤ 4101 }
     {
         let Some(fifodir) = self.fifodirs.get_mut(name) else {
@@ -52,7 +52,7 @@ impl LocalDesk {
     }
 
     pub(super) fn close(&mut self, name: &Name) -> Reply
-        ensures step { Asked self.old (Close name.now) result self.new }
+        ensures step { AskedWith false self.old (Close name.now) result self.new }
         ensures short { length (text_of result) ≤ 4101 }
     {
         let Some(fifodir) = self.fifodirs.get_mut(name) else {
@@ -65,7 +65,7 @@ impl LocalDesk {
     }
 
     pub(super) fn status(&self, name: &Name) -> Reply
-        ensures step { Asked self.now (Show name.now) result self.now }
+        ensures step { AskedWith false self.now (Show name.now) result self.now }
         ensures short { length (text_of result) ≤ 4101 }
     {
         let Some(fifodir) = self.fifodirs.get(name) else {

@@ -1,15 +1,18 @@
 //! What is asked of a subscription: to begin one, take from it and end it.
-ghost use Rattle.std.specs.Prelude.{◌≡◌, ◌≤◌, List, length, IfOk, OnOk, OnErr, vec_capacity, vec_len};
+ghost use Rattle.std.specs.Prelude.{◌≡◌, ◌≤◌, List, length, None, false, true, IfOk, IfSome, OnOk, OnErr, vec_capacity, vec_len};
 ghost use Rattle.indexmap.specs.IndexMap.{values};
 ghost use Rattle.hub_record.specs.Kept.{StandsFor};
 ghost use Rattle.hub_record.specs.World.{World, letters, take_reply, take_events, after_take};
-ghost use Rattle.hub_desk.specs.Desks.{Fifodir, take_shown, without_held, without_all};
+ghost use Rattle.hub_desk.specs.Answers.{in_world, refusal_to_hold, subscribed, take_shown};
+ghost use Rattle.hub_desk.specs.Desks.{Desk, Fifodir, MayHit, without_held, without_all, world_of};
 ghost use Rattle.hub_desk.specs.Ranges.{IsTake};
-ghost use Rattle.hub_desk.specs.Standing.{AreKept, Asked, HasSubscription};
+ghost use Rattle.hub_desk.specs.Replies.{subscribe_reply};
+ghost use Rattle.hub_desk.specs.Standing.{AreKept, Answers, AskedWith, HasSubscription, Stands, Unchanged};
 ghost use Rattle.hub_desk.specs.Texts.{text_of};
+ghost use Rattle.hub_desk.specs.declared.reply.Reply.TheVariants.{No};
 ghost use Rattle.hub_desk.specs.declared.request.Request.TheVariants.{Sub, Take, Cancel};
 
-use crate::local_desk::{Holding, LocalDesk, LocalFifodir};
+use crate::local_desk::{Hearing, Holding, LocalDesk, LocalFifodir};
 use crate::name::Name;
 use crate::reply::{Refusal, Reply};
 use hub_letters::Letter;
@@ -28,18 +31,39 @@ const EVENTS: usize = 256;
 
 impl LocalDesk {
     pub(super) fn subscribe(&mut self, name: &Name) -> Reply
-        ensures step { Asked self.old (Sub name.now) result self.new }
+        ensures step { AskedWith false self.old (Sub name.now) result self.new }
         ensures short { length (text_of result) ≤ 4101 }
     {
+        match self.refusal_to_hold(name) {
+            Some(refusal) => Reply::No(refusal),
+            None => self.hold(name, None),
+        }
+    }
+
+    /// Why there can be no further handle for a subscription to the fifodir of this name.
+    pub(super) fn refusal_to_hold(&self, name: &Name) -> Option<Refusal>
+        ensures own { (desk : Desk) → Stands self.now desk → result ≡ refusal_to_hold desk name.now }
+        ensures short { IfSome result (λ refusal. length (text_of (No refusal)) ≤ 4101) }
+    {
         if !self.fifodirs.contains_key(name) {
-            return Reply::No(Refusal::Name);
+            return Some(Refusal::Name);
         }
         if self.holdings.len() >= HANDLES {
-            return Reply::No(Refusal::Many);
+            return Some(Refusal::Many);
         }
         if self.given >= NUMBERS {
-            return Reply::No(Refusal::Spent);
+            return Some(Refusal::Spent);
         }
+        None
+    }
+
+    /// Subscribes, and gives the subscription the next handle.
+    pub(super) fn hold(&mut self, name: &Name, hearing: Option<Hearing>) -> Reply
+        requires unrefused { (desk : Desk) → Stands self.old desk → refusal_to_hold desk name.now ≡ None }
+        requires may_hit { MayHit hearing }
+        ensures step { Answers self.old true (λ desk. refusal_to_hold desk name.now) (λ desk. in_world desk (λ w. subscribed desk name.now hearing w (subscribe_reply w)) (world_of desk.fifodirs name.now)) Unchanged result self.new }
+        ensures short { length (text_of result) ≤ 4101 }
+    {
         let Ok(key) = name.copy() else {
             return Reply::No(Refusal::Memory);
         };
@@ -52,7 +76,11 @@ impl LocalDesk {
         match fifodir.kept.subscribe() {
             Ok((id, _mark)) => {
                 self.given += 1;
-                let holding = Holding { name: key, id };
+                let holding = Holding {
+                    name: key,
+                    id,
+                    hearing,
+                };
                 self.holdings.insert(self.given, holding).unwrap();
                 Reply::Number(self.given)
             }
@@ -62,12 +90,15 @@ impl LocalDesk {
 
     pub(super) fn take(&mut self, id: u64, max: u64) -> Reply
         requires { IsTake max }
-        ensures step { Asked self.old (Take id max) result self.new }
+        ensures step { AskedWith false self.old (Take id max) result self.new }
         ensures short { length (text_of result) ≤ 4101 }
     {
         let Some(holding) = self.holdings.get(&id) else {
             return Reply::No(Refusal::Id);
         };
+        if holding.hearing.is_some() {
+            return Reply::No(Refusal::Id);
+        }
         let Some(fifodir) = self.fifodirs.get_mut(&holding.name) else {
             unreachable!()
         };
@@ -88,7 +119,7 @@ impl LocalDesk {
     }
 
     pub(super) fn cancel(&mut self, id: u64) -> Reply
-        ensures step { Asked self.old (Cancel id) result self.new }
+        ensures step { AskedWith false self.old (Cancel id) result self.new }
         ensures short { length (text_of result) ≤ 4101 }
     {
         let Some(holding) = self.holdings.shift_remove(&id) else {

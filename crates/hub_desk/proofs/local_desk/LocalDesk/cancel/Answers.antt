@@ -12,4 +12,4 @@ returns-clause-step c =
     answers_from c.self.view_is (cancel_done _ _ c.args.id c.in-Some.holding c.in-Some.ensures.value c.shift_remove.ensures.entries c.release.ensures refl)
 
 pub invariant_of-self-2 : goal.invariant_of-self-2
-invariant_of-self-2 c = stands_on _ c.args.self.now _ _ _ _ _ c.self.view_is (returns-clause-step c) c.self.invariant
+invariant_of-self-2 c = stands_on _ c.args.self.now _ _ _ _ _ _ c.self.view_is (returns-clause-step c) c.self.invariant

@@ -5,7 +5,7 @@ use Rattle.hub_desk.proofs.local_desk.LocalDesk.close.Goals as goal
 use Rattle.hub_desk.proofs.local_desk.LocalDesk.close.Goals.{in-Ok, in-Err}
 
 pub returns-in_default-clause-step : goal.returns-in_default-clause-step
-returns-in_default-clause-step c = no_name _ c.args.self.now _ false c.args.name.now _ c.self.view_is (same_parts _ _ (ap (λ m. m.entries) c.get_mut.follows.holds-at-none) refl refl) c.in_default.ensures.value
+returns-in_default-clause-step c = no_name _ c.args.self.now _ false c.args.name.now _ _ c.self.view_is (same_parts _ _ (ap (λ m. m.entries) c.get_mut.follows.holds-at-none) refl refl) c.in_default.ensures.value
 
 pub returns-clause-step : goal.returns-clause-step
 returns-clause-step c =
@@ -16,4 +16,4 @@ returns-clause-step c =
     ]
 
 pub invariant_of-self-2 : goal.invariant_of-self-2
-invariant_of-self-2 c = stands_on _ c.args.self.now _ _ _ _ _ c.self.view_is (returns-clause-step c) c.self.invariant
+invariant_of-self-2 c = stands_on _ c.args.self.now _ _ _ _ _ _ c.self.view_is (returns-clause-step c) c.self.invariant

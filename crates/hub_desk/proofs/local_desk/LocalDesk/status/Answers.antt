@@ -8,7 +8,7 @@ use Rattle.hub_desk.proofs.ShortReplies.{short_state}
 use Rattle.hub_desk.proofs.local_desk.LocalDesk.status.Goals as goal
 
 pub returns-in_default-clause-step : goal.returns-in_default-clause-step
-returns-in_default-clause-step c = no_name _ c.args.self.now _ false c.args.name.now _ c.self.view_is (sym c.self.view_is) c.in_default.ensures.value
+returns-in_default-clause-step c = no_name _ c.args.self.now _ false c.args.name.now _ _ c.self.view_is (sym c.self.view_is) c.in_default.ensures.value
 
 pub returns-clause-step : goal.returns-clause-step
 returns-clause-step c =

@@ -1,6 +1,6 @@
 use Rattle.std.proofs.Common.{refl, sym, ◌∙◌, length-take, arith}
 use Rattle.hub_desk.proofs.Asking.{answers_from, stands_on}
-use Rattle.hub_desk.proofs.AskingSubscriptions.{take_done, take_lacks, held_somewhere, has_subscription}
+use Rattle.hub_desk.proofs.AskingSubscriptions.{take_heard, take_done, take_lacks, held_somewhere, has_subscription}
 use Rattle.hub_desk.proofs.local_desk.LocalDesk.take.Goals as goal
 use Rattle.hub_desk.proofs.local_desk.LocalDesk.take.Goals.{in-Ok, in-Err}
 
@@ -22,4 +22,4 @@ returns-clause-step c =
     ])
 
 pub invariant_of-self : goal.invariant_of-self
-invariant_of-self c = stands_on _ c.args.self.now _ _ _ _ _ c.self.view_is (returns-clause-step c) c.self.invariant
+invariant_of-self c = stands_on _ c.args.self.now _ _ _ _ _ _ c.self.view_is (returns-clause-step c) c.self.invariant
