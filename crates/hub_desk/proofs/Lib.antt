@@ -5,6 +5,7 @@ pub mod Worlds
 pub mod Holdings
 pub mod Asking
 pub mod AskingFifodirs
+pub mod Takings
 pub mod AskingHolds
 pub mod AskingSubscriptions
 mod ShortReplies
