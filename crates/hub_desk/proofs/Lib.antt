@@ -6,6 +6,7 @@ pub mod Holdings
 pub mod Asking
 pub mod AskingFifodirs
 pub mod Takings
+pub mod HearingLetters
 pub mod AskingHolds
 pub mod AskingSubscriptions
 mod ShortReplies
