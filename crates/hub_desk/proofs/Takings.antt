@@ -1,6 +1,6 @@
 -- Takes of the letters behind a cursor, one at a time.
-use Rattle.std.proofs.Common.{◌≡◌, ℕ, zero, suc, ◌+◌, ◌-◌, ◌<◌, ◌≤◌, Bool, true, false, if◌then◌else◌, List, [], ◌∷◌, ◌++◌, length, take, drop, get_or, min, nat_eq, nat_lt, Option, Some, None, is_some, option_map, Result, Ok, Err, refl, sym, ap, subst, ◌∙◌, inl, inr, true≢false, append_assoc, append-nil, length-append, arith}
-use Rattle.std.proofs.lemmas.Bool.{cases_Bool, eqb-true, ltb-true, ltb-false}
+use Rattle.std.proofs.Common.{◌≡◌, ℕ, zero, suc, ◌+◌, ◌-◌, ◌<◌, ◌≤◌, Bool, true, false, if◌then◌else◌, List, [], ◌∷◌, ◌++◌, length, take, drop, get_or, min, nat_eq, nat_lt, Option, Some, None, is_some, option_map, Result, Ok, Err, refl, sym, ap, subst, ◌∙◌, inl, inr, true≢false, append_assoc, append-nil, length-append, ⊎_elim, arith}
+use Rattle.std.proofs.lemmas.Bool.{cases_Bool, cases_lt, eqb-true, ltb-true, ltb-false}
 use Rattle.std.proofs.lemmas.List.{length-drop, length-map, drop-drop, drop-map}
 use Rattle.hub_record.specs.Kept.{Kept, StandsFor}
 use Rattle.hub_record.specs.World.{World, Subscription, letters, found, found_from, changed_from, with_changed, taken, moved, moved_on, reply_for, take_reply, take_events, moved_for, after_take, after_take_for}
@@ -12,6 +12,22 @@ use Rattle.hub_desk.specs.Polls.{waiting_for}
 use Rattle.hub_desk.specs.Hearings.{behind}
 
 -- ---- lists
+
+drop-none : {X : Type 0} (xs : List X) → drop (length xs) xs ≡ []
+drop-none [] = refl
+drop-none (x ∷ xs) = drop-none xs
+
+drop-all : {X : Type 0} (xs : List X) (n : ℕ) → length xs ≤ n → drop n xs ≡ []
+drop-all [] zero le = refl
+drop-all [] (suc n) le = refl
+drop-all (x ∷ xs) zero le = absurd (let no : ⊥ = omega arith in no)
+drop-all (x ∷ xs) (suc n) le = drop-all xs n (omega arith)
+
+drop-min : {X : Type 0} (xs : List X) (m : ℕ) → drop (min m (length xs)) xs ≡ drop m xs
+drop-min xs m =
+    ⊎_elim (λ (l : m < length xs). let e : min m (length xs) ≡ m = omega arith in ap (λ (n : ℕ). drop n xs) e)
+    (λ (le : length xs ≤ m). let e : min m (length xs) ≡ length xs = omega arith in ap (λ (n : ℕ). drop n xs) e ∙ drop-none xs ∙ sym (drop-all xs m le))
+    (cases_lt m (length xs))
 
 drop-one : {X : Type 0} (xs : List X) (n : ℕ) → n < length xs → (x : X) × (drop n xs ≡ x ∷ drop (suc n) xs)
 drop-one [] zero l = absurd (let no : ⊥ = omega arith in no)
@@ -140,15 +156,19 @@ module _ (w : World) (id : ℕ) (s : Subscription) (is : found w id ≡ Some s) 
   length-behind = ap length behind_is ∙ length-map (drop s.next w.events) (λ (e : Event). e.letter) ∙ length-drop s.next w.events
 
   -- the letters then
-  pub behind_then : (m : ℕ) → s.next + m ≤ length w.events → behind (after_take w id m) id ≡ drop m (behind w id)
-  behind_then m within =
+  pub behind_then : (m : ℕ) → behind (after_take w id m) id ≡ drop m (behind w id)
+  behind_then m =
       let v = with_changed w id (moved_on w m) in
       let first : after_take w id m ≡ v = after_take_is w id s is m in
       let later : found v id ≡ Some (moved_on w m s) = sym (ap (λ (u : World). found u id) first) ∙ found_then w id s is m in
-      let all : min m (length w.events - s.next) ≡ m = omega arith in
+      let all = length-drop s.next w.events in
       ap (λ (u : World). behind u id) first ∙ ap (λ (o : Option Subscription). letters (waiting_for v o)) later
-      ∙ ap (λ (n : ℕ). letters (drop (s.next + n) w.events)) all
-      ∙ ap letters (sym (drop-drop m s.next w.events)) ∙ sym (drop-map (λ (e : Event). e.letter) m (drop s.next w.events)) ∙ sym (ap (drop m) behind_is)
+      ∙ ap letters (sym (drop-drop (min m (length w.events - s.next)) s.next w.events))
+      ∙ ap (λ (n : ℕ). letters (drop (min m n) (drop s.next w.events))) (sym all)
+      ∙ ap letters (drop-min (drop s.next w.events) m) ∙ sym (drop-map (λ (e : Event). e.letter) m (drop s.next w.events)) ∙ sym (ap (drop m) behind_is)
+
+  pub closed_then : (m : ℕ) → (after_take w id m).closed ≡ w.closed
+  closed_then m = ap (λ (u : World). u.closed) (after_take_is w id s is m)
 
   -- ---- one take
 
