@@ -61,7 +61,7 @@ module _ (g : Hearing) (w : World) (id : ℕ) (s : Subscription) (is : found w i
   left_at : ℕ → Subscription
   left_at n = moved_on w (n - length (option_to_list g.held)) s
 
-  found_left : (n : ℕ) → found (taken_from g w id n) id ≡ Some (moved_on w (n - length (option_to_list g.held)) s)
+  pub found_left : (n : ℕ) → found (taken_from g w id n) id ≡ Some (moved_on w (n - length (option_to_list g.held)) s)
   found_left n = found_then w id s is (n - length (option_to_list g.held))
 
   drop_held : (o : Option ℕ) (xs : List ℕ) (m : ℕ) → drop (suc m - length (option_to_list o)) xs ≡ drop (suc m) (option_to_list o ++ xs)
