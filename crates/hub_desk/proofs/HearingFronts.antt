@@ -26,6 +26,7 @@ held_after g (suc n) = None
 pub record HeardFront (g : Hearing) (w : World) (id : ℕ) (n : ℕ) (new : Hearing) (kept : Kept) : Type 0 where
   pub within : n ≤ length (to_hear g w id)
   pub quiet : Feeds g.listener (take n (to_hear g w id)) (Ok fed.Quiet) new.listener
+  pub mode_is : new.mode ≡ g.mode
   pub held_is : new.held ≡ held_after g n
   pub stands : StandsFor kept (taken_from g w id n)
 
@@ -53,6 +54,7 @@ module _ (g : Hearing) (w : World) (id : ℕ) (s : Subscription) (is : found w i
   front_none kept unspent short stands = record {
     within = omega arith;
     quiet = nothing_is_quiet g.listener unspent short;
+    mode_is = refl;
     held_is = refl;
     stands = (let t : taken w s (0 - length (option_to_list g.held)) ≡ 0 = omega arith in subst (StandsFor kept) (sym (take_none w id s is (0 - length (option_to_list g.held)) t)) stands);
   }
@@ -136,20 +138,21 @@ module _ (g : Hearing) (w : World) (id : ℕ) (s : Subscription) (is : found w i
       none_after : held_after g (n + 1) ≡ None
       none_after = let e : n + 1 ≡ suc n = omega arith in ap (held_after g) e
 
-      pub front_more : (new' : Hearing) (kept' : Kept) → Feeds new.listener (x ∷ []) (Ok fed.Quiet) new'.listener → new'.held ≡ None → StandsFor kept' (taken_from new (taken_from g w id n) id 1)
+      pub front_more : (new' : Hearing) (kept' : Kept) → Feeds new.listener (x ∷ []) (Ok fed.Quiet) new'.listener → new'.mode ≡ new.mode → new'.held ≡ None → StandsFor kept' (taken_from new (taken_from g w id n) id 1)
           → HeardFront g w id (n + 1) new' kept'
-      front_more new' kept' hears held stands = record {
+      front_more new' kept' hears mode held stands = record {
         within = (let l = inside in omega arith);
         quiet = one_more g.listener new.listener new'.listener letters n inside (Ok fed.Quiet) front.quiet (subst (λ (p : List ℕ). Feeds new.listener p (Ok fed.Quiet) new'.listener) piece hears);
+        mode_is = mode ∙ front.mode_is;
         held_is = held ∙ sym none_after;
         stands = subst (StandsFor kept') (taken_one_more n new front.held_is inside) stands;
       }
 
-      pub front_hit : (k : ℕ) (new' : Hearing) (kept' : Kept) → Feeds new.listener (x ∷ []) (Ok (fed.Hit k)) new'.listener → new'.held ≡ None → StandsFor kept' (taken_from new (taken_from g w id n) id 1)
+      pub front_hit : (k : ℕ) (new' : Hearing) (kept' : Kept) → Feeds new.listener (x ∷ []) (Ok (fed.Hit k)) new'.listener → new'.mode ≡ new.mode → new'.held ≡ None → StandsFor kept' (taken_from new (taken_from g w id n) id 1)
           → Hears g w id Hit new' kept'
-      front_hit k new' kept' hears held stands =
+      front_hit k new' kept' hears mode held stands =
           let hit = one_more_hit g.listener new.listener new'.listener letters n k inside front.quiet (subst (λ (p : List ℕ). Feeds new.listener p (Ok (fed.Hit k)) new'.listener) piece hears) in
-          (n + 1, hit.0, record { listener_is = hit.1; held_is = held; stands = subst (StandsFor kept') (taken_one_more n new front.held_is inside) stands })
+          (n + 1, hit.0, record { listener_is = hit.1; mode_is = mode ∙ front.mode_is; held_is = held; stands = subst (StandsFor kept') (taken_one_more n new front.held_is inside) stands })
 
       pub front_lacks : length g.listener.gathered + n < 4096 → (new' : Hearing) (kept' : Kept) → IsAt new (taken_from g w id n) id 1 new.listener (Some x) new' kept' → Hears g w id Lacking new' kept'
       front_lacks room new' kept' at = (
@@ -158,16 +161,17 @@ module _ (g : Hearing) (w : World) (id : ℕ) (s : Subscription) (is : found w i
         front.quiet.1,
         record {
           listener_is = at.listener_is ∙ front.quiet.3;
+          mode_is = at.mode_is ∙ front.mode_is;
           held_is = at.held_is ∙ sym at_next;
           stands = subst (StandsFor kept') (taken_one_more n new front.held_is inside) at.stands;
         },
       )
 
     -- all that there was room for
-    pub front_is : (new' : Hearing) (kept' : Kept) → n ≡ fitting g.listener letters → new'.listener ≡ new.listener → new'.held ≡ None → StandsFor kept' (taken_from g w id n)
+    pub front_is : (new' : Hearing) (kept' : Kept) → n ≡ fitting g.listener letters → new'.listener ≡ new.listener → new'.mode ≡ new.mode → new'.held ≡ None → StandsFor kept' (taken_from g w id n)
         → IsAt g w id (fitting g.listener letters) (after_quiet g.listener (take (fitting g.listener letters) letters)) None new' kept'
-    front_is new' kept' all listener held stands = subst (λ (k : ℕ). IsAt g w id k (after_quiet g.listener (take k letters)) None new' kept') all
-        (record { listener_is = listener ∙ front.quiet.3; held_is = held; stands = stands })
+    front_is new' kept' all listener mode held stands = subst (λ (k : ℕ). IsAt g w id k (after_quiet g.listener (take k letters)) None new' kept') all
+        (record { listener_is = listener ∙ front.quiet.3; mode_is = mode ∙ front.mode_is; held_is = held; stands = stands })
 
     module _ (none : to_hear new (taken_from g w id n) id ≡ []) (room : length g.listener.gathered + n < 4096) where
       all_heard : n ≡ length letters
@@ -181,7 +185,7 @@ module _ (g : Hearing) (w : World) (id : ℕ) (s : Subscription) (is : found w i
 
       module _ (new' : Hearing) (kept' : Kept) (at : IsAt new (taken_from g w id n) id 0 new.listener None new' kept') where
         at_end : IsAt g w id (fitting g.listener letters) (after_quiet g.listener (take (fitting g.listener letters) letters)) None new' kept'
-        at_end = front_is new' kept' all_fit at.listener_is at.held_is (subst (StandsFor kept') (none_more n new) at.stands)
+        at_end = front_is new' kept' all_fit at.listener_is at.mode_is at.held_is (subst (StandsFor kept') (none_more n new) at.stands)
 
         pub front_nothing : (taken_from g w id n).closed ≡ false → Hears g w id Nothing new' kept'
         front_nothing is_open = (no_hit, inr (sym (closed_then w id s is (n - length (option_to_list g.held))) ∙ is_open), at_end)
@@ -198,7 +202,7 @@ module _ (g : Hearing) (w : World) (id : ℕ) (s : Subscription) (is : found w i
           subst (HasNoHit g.listener.pattern g.listener.gathered) (take-append-drop n letters)
               (HasNoHit-append g.listener.pattern g.listener.gathered (take n letters) (drop n letters) front.quiet.1 (omega arith)),
           inl (omega arith),
-          front_is new kept fits refl (front.held_is ∙ none_held n (omega arith)) front.stands,
+          front_is new kept fits refl refl (front.held_is ∙ none_held n (omega arith)) front.stands,
         )
       where
         none_held : (m : ℕ) → 1 ≤ m → held_after g m ≡ None
@@ -208,7 +212,7 @@ module _ (g : Hearing) (w : World) (id : ℕ) (s : Subscription) (is : found w i
     -- ---- what the next letter leads to, or that there is none
 
     pub front_then : length g.listener.gathered + n < 4096 → (heard : Heard) (new' : Hearing) (kept' : Kept) → HearsOne new (taken_from g w id n) id (Some heard) new' kept' → Hears g w id heard new' kept'
-    front_then room Hit new' kept' h = front_hit h.0 h.1 h.3 h.2 new' kept' h.4 h.5.held_is h.5.stands
+    front_then room Hit new' kept' h = front_hit h.0 h.1 h.3 h.2 new' kept' h.4 h.5.mode_is h.5.held_is h.5.stands
     front_then room Nothing new' kept' h = front_nothing h.0 room new' kept' h.2 h.1
     front_then room End new' kept' h = front_end h.0 room new' kept' h.2 h.1
     front_then room Lacking new' kept' h = front_lacks h.0 h.1 h.2 room new' kept' h.3

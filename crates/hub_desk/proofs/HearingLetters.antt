@@ -41,7 +41,7 @@ module _ (g : Hearing) (w : World) (id : ℕ) (s : Subscription) (is : found w i
   nothing_next held none = ap (λ (o : Option ℕ). option_to_list o ++ behind w id) held ∙ none
 
   pub none_next : g.held ≡ None → (heard : Heard) (kept : Kept) → TakesOne w id (Err heard) kept → HearsOne g w id (Some heard) g kept
-  none_next held Nothing kept t = (nothing_next held t.0, t.1, record { listener_is = refl; held_is = held; stands = none_used kept t.2 0 (sym (ap (λ (o : Option ℕ). length (option_to_list o)) held)) })
-  none_next held End kept t = (nothing_next held t.0, t.1, record { listener_is = refl; held_is = held; stands = none_used kept t.2 0 (sym (ap (λ (o : Option ℕ). length (option_to_list o)) held)) })
+  none_next held Nothing kept t = (nothing_next held t.0, t.1, record { listener_is = refl; mode_is = refl; held_is = held; stands = none_used kept t.2 0 (sym (ap (λ (o : Option ℕ). length (option_to_list o)) held)) })
+  none_next held End kept t = (nothing_next held t.0, t.1, record { listener_is = refl; mode_is = refl; held_is = held; stands = none_used kept t.2 0 (sym (ap (λ (o : Option ℕ). length (option_to_list o)) held)) })
   none_next held Hit kept t = absurd t
   none_next held Lacking kept t = absurd t

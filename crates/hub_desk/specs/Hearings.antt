@@ -25,6 +25,7 @@ TakesOne w id (Err heard) kept = ⊥
 -- the hearing `new` has this listener and this letter held, and the record has given the first n of the letters
 pub record IsAt (g : Hearing) (w : World) (id : ℕ) (n : ℕ) (listener : Listening) (held : Option ℕ) (new : Hearing) (kept : Kept) : Type 0 where
   pub listener_is : new.listener ≡ listener
+  pub mode_is : new.mode ≡ g.mode
   pub held_is : new.held ≡ held
   pub stands : StandsFor kept (taken_from g w id n)
 

@@ -38,11 +38,12 @@ impl LocalDesk {
         if let Some(refusal) = self.refusal_to_hold(name) {
             return Reply::No(refusal);
         }
-        match Listener::new(self.alloc, pattern.items(), mode) {
+        match Listener::new(self.alloc, pattern.items(), Mode::Repeat) {
             Ok(listener) => self.hold(
                 name,
                 Some(Hearing {
                     listener,
+                    mode,
                     held: None,
                 }),
             ),
@@ -76,7 +77,7 @@ impl LocalDesk {
             Heard::Lacking => Reply::No(Refusal::Memory),
             Heard::Hit => {
                 letters.extend_from_slice(hearing.listener.hit()).unwrap();
-                if hearing.listener.is_spent() {
+                if hearing.mode == Mode::Once {
                     let _ = self.cancel(id);
                 }
                 Reply::Hit(Letters::of(letters))
@@ -88,7 +89,7 @@ impl LocalDesk {
 /// Hears what waits, letter by letter up to a hit, for as long as there is room.
 fn hear(hearing: &mut Hearing, kept: &mut Record, id: u64) -> Heard
     requires stands { HasSubscription kept.old id }
-    requires may_hit { is_spent hearing.old.listener ≡ false }
+    requires unspent { is_spent hearing.old.listener ≡ false }
     requires room { length hearing.old.listener.gathered < 4096 }
     ensures { (w : World) (s : Subscription) → StandsFor kept.old w → found w id ≡ Some s → Hears hearing.old w id result hearing.new kept.new }
 {
@@ -104,7 +105,7 @@ fn hear(hearing: &mut Hearing, kept: &mut Record, id: u64) -> Heard
 /// Hears the letter that is held, or else the next one that waits. None where it brings no hit.
 fn hear_one(hearing: &mut Hearing, kept: &mut Record, id: u64) -> Option<Heard>
     requires stands { HasSubscription kept.old id }
-    requires may_hit { is_spent hearing.old.listener ≡ false }
+    requires unspent { is_spent hearing.old.listener ≡ false }
     requires room { length hearing.old.listener.gathered < 4096 }
     ensures { (w : World) (s : Subscription) → StandsFor kept.old w → found w id ≡ Some s → HearsOne hearing.old w id result hearing.new kept.new }
 {

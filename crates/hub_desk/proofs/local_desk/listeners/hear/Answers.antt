@@ -6,7 +6,7 @@ pub loop-init : goal.loop-init
 loop-init c = λ w s st is.
     let e : 0 ≡ length c.text-counter.result.now - length c.args.hearing.now.listener.gathered = (let l = ap length c.text-counter.ensures.value in omega arith) in
     subst (λ (n : ℕ). HeardFront c.args.hearing.now w c.args.id n c.args.hearing.now c.args.kept.now) e
-    (front_none c.args.hearing.now w c.args.id s is c.args.kept.now c.requires.may_hit (let r = c.requires.room in omega arith) st)
+    (front_none c.args.hearing.now w c.args.id s is c.args.kept.now c.requires.unspent (let r = c.requires.room in omega arith) st)
 
 pub hear_one-requires-clause-stands : goal.hear_one-requires-clause-stands
 hear_one-requires-clause-stands c =
@@ -14,8 +14,8 @@ hear_one-requires-clause-stands c =
     let f = has_found _ c.requires.stands.subscribed in
     front_stands c.args.hearing.now w c.args.id f.0 f.1 _ _ _ (c.loop.invariant w f.0 c.requires.stands.stands f.1)
 
-pub hear_one-requires-clause-may_hit : goal.hear_one-requires-clause-may_hit
-hear_one-requires-clause-may_hit c =
+pub hear_one-requires-clause-unspent : goal.hear_one-requires-clause-unspent
+hear_one-requires-clause-unspent c =
     let w = c.requires.stands.world in
     let f = has_found _ c.requires.stands.subscribed in
     front_unspent c.args.hearing.now w c.args.id f.0 f.1 _ _ _ (c.loop.invariant w f.0 c.requires.stands.stands f.1)
@@ -34,7 +34,7 @@ loop-preserved c = λ w s st is.
     let e : (c.loop.counter - length c.args.hearing.now.listener.gathered) + 1 ≡ (c.loop.counter + 1) - length c.args.hearing.now.listener.gathered =
     (let l = ap length c.text-counter.ensures.value in let a = c.loop.auto.counter in omega arith) in
     subst (λ (n : ℕ). HeardFront c.args.hearing.now w c.args.id n c.hear_one.new.hearing c.hear_one.new.kept) e
-    (front_more c.args.hearing.now w c.args.id s is _ _ _ front heard.0 heard.1 heard.2 _ _ heard.3 heard.4.held_is heard.4.stands)
+    (front_more c.args.hearing.now w c.args.id s is _ _ _ front heard.0 heard.1 heard.2 _ _ heard.3 heard.4.mode_is heard.4.held_is heard.4.stands)
 
 pub returns-in-Some : goal.returns-in-Some
 returns-in-Some c = λ w s st is.
