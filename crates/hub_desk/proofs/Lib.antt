@@ -11,4 +11,6 @@ pub mod HearingFronts
 pub mod AskingHolds
 pub mod AskingSubscriptions
 mod ShortReplies
+pub mod OtherHoldings
+pub mod AskingPolls
 pub mod Running
