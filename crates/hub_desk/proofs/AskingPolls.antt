@@ -1,6 +1,7 @@
 -- What is asked of a listener that stands.
 use Rattle.std.proofs.Common.{◌≡◌, ◌≢◌, ◌⊎◌, ℕ, ◌+◌, ◌-◌, ◌<◌, ◌≤◌, Bool, true, false, ◌&&◌, if◌then◌else◌, List, [], ◌∷◌, ◌++◌, length, take, nat_eq, nat_lt, slice_get, Option, Some, None, is_some, option_to_list, refl, sym, ap, subst, ◌∙◌, inl, inr, true≢false, ⊎_elim, arith}
 use Rattle.std.proofs.lemmas.Bool.{cases_Bool, le-leb, lt-leb, le-ltb, lt-ltb}
+use Rattle.std.proofs.lemmas.Map.Steps.{set_value_same}
 use Rattle.std.specs.Map.{lookup, set_value}
 use Rattle.std.specs.Str.{bytes_eq}
 use Rattle.hub_listen.specs.Each.{fitting}
@@ -15,7 +16,7 @@ use Rattle.hub_desk.specs.Answers.{in_world, for_holding, for_hearing, refusal_t
 use Rattle.hub_desk.specs.Desks.{Desk, Answer, standing, held, world_of, with_world, subscription_of, with_holding_from, without_handle, AreHeld, AreApart, GoesOn, AllGoOn}
 use Rattle.hub_desk.specs.Hearings.{IsAt, Hears}
 use Rattle.hub_desk.specs.Polls.{to_hear, taken_from, heard_to_hit, heard_quietly, heard_on, ended_by, heard, polled, LeftByPoll}
-use Rattle.hub_desk.specs.Standing.{Local, AreKept, Stands, HasSubscription, AskedWith}
+use Rattle.hub_desk.specs.Standing.{Local, Stands, StandsForSome, AskedWith}
 use Rattle.hub_desk.specs.declared.local_desk.Hearing.{Hearing}
 use Rattle.hub_desk.specs.declared.local_desk.Holding.{Holding}
 use Rattle.hub_desk.specs.declared.local_desk.LocalFifodir.{LocalFifodir}
@@ -40,9 +41,6 @@ pub record Rehears (old new : Local) (n : ℕ) (h : Holding) (hearing : Hearing)
   pub given : new.given ≡ old.given
 
 module _ (old new : Local) (n : ℕ) (h : Holding) (was : Some h ≡ lookup (nat_eq n) old.holdings) (hearing : Hearing) (r : LocalFifodir) (kept : Kept) (put : Rehears old new n h hearing r kept) (d : Desk) (st : Stands old d) where
-  between : Local
-  between = record { fifodirs = new.fifodirs; holdings = old.holdings; given = old.given }
-
   replaced : Replaces old (record { fifodirs = new.fifodirs; holdings = old.holdings; given = old.given }) h.name r kept
   replaced = record { was = put.was; fifodirs = put.fifodirs; holdings = refl; given = refl }
 
@@ -71,6 +69,23 @@ module _ (old new : Local) (n : ℕ) (h : Holding) (was : Some h ≡ lookup (nat
           go_on = subst AllGoOn (sym set) (go_on_set (standing d) n other st.is_desk.go_on goes_on);
         };
       }
+
+-- what was found under a number, put back
+pub same_hearing : (es : List (ℕ × Holding)) (n : ℕ) (h : Holding) (o : Option Hearing) → h.hearing ≡ o → lookup (nat_eq n) es ≡ Some h → set_value (nat_eq n) es (record h { hearing = o }) ≡ es
+same_hearing es n h o is there = ap (λ (x : Option Hearing). set_value (nat_eq n) es (record h { hearing = x })) (sym is) ∙ set_value_same (nat_eq n) es h there
+
+-- a listener that goes on is never spent
+pub never_spent : (l : Listening) → l.mode ≡ Repeat → is_spent l ≡ false
+never_spent l goes_on = ap (λ (m : Mode). spent_by m l.hit) goes_on
+
+-- ---- replies without a hit
+
+quiet_nothing : (count : ℕ) (closed : Bool) → (4096 ≤ count) ⊎ (closed ≡ false) → (if nat_lt count 4096 && closed then End else Nothing) ≡ Nothing
+quiet_nothing count closed (inl full) = simp (le-ltb count 4096 full)
+quiet_nothing count closed (inr is_open) = elim (cases_Bool (nat_lt count 4096)) [ inl t ↦ simp (t, is_open) | inr t ↦ simp t ]
+
+quiet_end : (count : ℕ) (closed : Bool) → count < 4096 → closed ≡ true → (if nat_lt count 4096 && closed then End else Nothing) ≡ End
+quiet_end count closed room is_closed = simp (lt-ltb count 4096 room, is_closed)
 
 -- ---- refusals
 
@@ -109,3 +124,125 @@ module _ (old new : Local) (n : ℕ) where
             ap (for_holding d (λ (k : Holding). for_hearing d (λ (q : Hearing). in_world d (polled d n k q) (world_of d.fifodirs k.name)) k.hearing)) (there_held d st)
             ∙ ap (for_hearing d (λ (q : Hearing). in_world d (polled d n h q) (world_of d.fifodirs h.name))) hears
             ∙ ap (in_world d (polled d n h g)) there
+
+        module _ (hearing : Hearing) (r : LocalFifodir) (kept : Kept) (put : Rehears old new n h hearing r kept) where
+          -- the desk then
+          module _ (d : Desk) (st : Stands old d) (w : World) (there : world_of d.fifodirs h.name ≡ Some w) (m : ℕ) (l : Listening) (o : Option ℕ) (at : IsAt g w h.id m l o hearing kept) (goes_on : l.mode ≡ g.listener.mode) where
+            stands_then : Stands new (heard_on d n h (record { listener = l; mode = g.mode; held = o }) (taken_from g w h.id m))
+            stands_then = subst (λ (q : Hearing). Stands new (heard_on d n h q (taken_from g w h.id m))) (λ i. record { listener = at.listener_is i; mode = at.mode_is i; held = at.held_is i })
+                (stands_heard old new n h was hearing r kept put d st w (m - length (option_to_list g.held)) there at.stands (ap (λ (x : Listening). x.mode) at.listener_is ∙ goes_on ∙ unspent d st))
+
+          pub poll_nothing : ((w : World) (s : Subscription) → StandsFor r.kept w → found w h.id ≡ Some s → Hears g w h.id heard.Nothing hearing kept) → AskedWith false old (Poll n) Nothing new
+          poll_nothing says = by_carrying old new true _ _ _ Nothing (λ (e : Nothing ≡ No no.Memory). cc) (λ d st.
+              let t = world_heard old new n h was hearing r kept put d st in
+              let w = t.0 in
+              let f = found_heard old new n h was hearing r kept put d st w t.1 in
+              let k = says w f.0 t.2 f.1 in
+              let letters = to_hear g w h.id in
+              let m = fitting g.listener letters in
+              let after = heard_on d n h (heard_quietly g (take m letters)) (taken_from g w h.id m) in record {
+                answer = record { reply = Nothing; desk = after };
+                unrefused = may_poll d st;
+                done_is = polled_is d st w t.1 ∙ ap (heard d n h g w letters) ((no_length_is_no_hit g.listener.pattern g.listener.gathered letters).1 k.0)
+                    ∙ ap (λ (x : Reply). record { reply = x; desk = after }) (quiet_nothing (length g.listener.gathered + length letters) w.closed k.1);
+                said = refl;
+                stands = stands_then d st w t.1 m (after_quiet g.listener (take m letters)) None k.2 refl;
+              })
+
+          pub poll_end : ((w : World) (s : Subscription) → StandsFor r.kept w → found w h.id ≡ Some s → Hears g w h.id heard.End hearing kept) → AskedWith false old (Poll n) End new
+          poll_end says = by_carrying old new true _ _ _ End (λ (e : End ≡ No no.Memory). cc) (λ d st.
+              let t = world_heard old new n h was hearing r kept put d st in
+              let w = t.0 in
+              let f = found_heard old new n h was hearing r kept put d st w t.1 in
+              let k = says w f.0 t.2 f.1 in
+              let letters = to_hear g w h.id in
+              let m = fitting g.listener letters in
+              let after = heard_on d n h (heard_quietly g (take m letters)) (taken_from g w h.id m) in record {
+                answer = record { reply = End; desk = after };
+                unrefused = may_poll d st;
+                done_is = polled_is d st w t.1 ∙ ap (heard d n h g w letters) ((no_length_is_no_hit g.listener.pattern g.listener.gathered letters).1 k.0)
+                    ∙ ap (λ (x : Reply). record { reply = x; desk = after }) (quiet_end (length g.listener.gathered + length letters) w.closed k.1 k.2);
+                said = refl;
+                stands = stands_then d st w t.1 m (after_quiet g.listener (take m letters)) None k.3 refl;
+              })
+
+          pub poll_stops : ((w : World) (s : Subscription) → StandsFor r.kept w → found w h.id ≡ Some s → Hears g w h.id heard.Lacking hearing kept) → AskedWith false old (Poll n) (No no.Memory) new
+          poll_stops says = by_lacking old new true _ _ _ _ refl refl (λ d st.
+              let t = world_heard old new n h was hearing r kept put d st in
+              let w = t.0 in
+              let f = found_heard old new n h was hearing r kept put d st w t.1 in
+              let k = says w f.0 t.2 f.1 in
+              let letters = to_hear g w h.id in record {
+                unrefused = may_poll d st;
+                desk = heard_on d n h (record g { listener = after_quiet g.listener (take k.0 letters); held = slice_get letters k.0 }) (taken_from g w h.id (k.0 + 1));
+                is_left = inr (record {
+                  holding = h;
+                  hearing = g;
+                  world = w;
+                  count = k.0;
+                  held_is = there_held d st;
+                  hears = hears;
+                  there = t.1;
+                  stopped = record { inside = k.1; none = k.2; desk = refl };
+                });
+                stands = stands_then d st w t.1 (k.0 + 1) (after_quiet g.listener (take k.0 letters)) (slice_get letters k.0) k.3 refl;
+              })
+
+          module _ (says : (w : World) (s : Subscription) → StandsFor r.kept w → found w h.id ≡ Some s → Hears g w h.id heard.Hit hearing kept) where
+            pub hit_stands : (d : Desk) → Stands old d → StandsForSome new
+            hit_stands d st =
+                let t = world_heard old new n h was hearing r kept put d st in
+                let w = t.0 in
+                let f = found_heard old new n h was hearing r kept put d st w t.1 in
+                let k = says w f.0 t.2 f.1 in record {
+                  desk = heard_on d n h (heard_to_hit g (to_hear g w h.id) k.0) (taken_from g w h.id k.0);
+                  stands = stands_then d st w t.1 k.0 (after_hit g.listener (to_hear g w h.id) k.0) None k.2 refl;
+                }
+
+            module _ (letters : List ℕ) (shows : letters ≡ hearing.listener.hit) where
+              pub poll_hit : hearing.mode ≡ Repeat → AskedWith false old (Poll n) (Hit letters) new
+              poll_hit goes_on = by_carrying old new true _ _ _ (Hit letters) (λ e. cc) (λ d st.
+                  let t = world_heard old new n h was hearing r kept put d st in
+                  let w = t.0 in
+                  let f = found_heard old new n h was hearing r kept put d st w t.1 in
+                  let k = says w f.0 t.2 f.1 in
+                  let heard_all = to_hear g w h.id in
+                  let said_then = Hit (g.listener.gathered ++ take k.0 heard_all) in
+                  let after = heard_on d n h (heard_to_hit g heard_all k.0) (taken_from g w h.id k.0) in record {
+                    answer = record { reply = said_then; desk = after };
+                    unrefused = may_poll d st;
+                    done_is = polled_is d st w t.1 ∙ ap (heard d n h g w heard_all) ((length_is_hit g.listener.pattern g.listener.gathered heard_all k.0).1 k.1)
+                        ∙ ap (λ (x : Mode). record { reply = said_then; desk = ended_by x after n h }) (sym k.2.mode_is ∙ goes_on);
+                    said = ap (λ (x : List ℕ). Hit x) (shows ∙ ap (λ (l : Listening). l.hit) k.2.listener_is);
+                    stands = stands_then d st w t.1 k.0 (after_hit g.listener heard_all k.0) None k.2 refl;
+                  })
+
+              -- and its subscription is cancelled
+              pub poll_hit_once : hearing.mode ≡ Once → (over : Local) (reply : Reply) → AskedWith false new (Cancel n) reply over → AskedWith false old (Poll n) (Hit letters) over
+              poll_hit_once ends over reply cancels = by_carrying old over true _ _ _ (Hit letters) (λ e. cc) (λ d st.
+                  let t = world_heard old new n h was hearing r kept put d st in
+                  let w = t.0 in
+                  let f = found_heard old new n h was hearing r kept put d st w t.1 in
+                  let k = says w f.0 t.2 f.1 in
+                  let heard_all = to_hear g w h.id in
+                  let said_then = Hit (g.listener.gathered ++ take k.0 heard_all) in
+                  let model = heard_to_hit g heard_all k.0 in
+                  let other : Holding = record h { hearing = Some model } in
+                  let after = heard_on d n h model (taken_from g w h.id k.0) in
+                  let stands = stands_then d st w t.1 k.0 (after_hit g.listener heard_all k.0) None k.2 refl in
+                  let e : held after n ≡ Some other = ap (lookup (nat_eq n)) (standing-with 1 d.handles n h other (there_held d st)) ∙ lookup_set (standing d) n h other (there_held d st) in
+                  let a = cancels.answered (λ x. true≢false (sym (cancels.grew x))) after stands in record {
+                    answer = record { reply = said_then; desk = without_handle after n h };
+                    unrefused = may_poll d st;
+                    done_is = polled_is d st w t.1 ∙ ap (heard d n h g w heard_all) ((length_is_hit g.listener.pattern g.listener.gathered heard_all k.0).1 k.1)
+                        ∙ ap (λ (x : Mode). record { reply = said_then; desk = ended_by x after n h }) (sym k.2.mode_is ∙ ends);
+                    said = ap (λ (x : List ℕ). Hit x) (shows ∙ ap (λ (l : Listening). l.hit) k.2.listener_is);
+                    stands = subst (Stands over) (ap (λ (o : Option Holding). (answer_by after (refusal_to_cancel o) (for_holding after (cancelled after n) o)).desk) e) a.stands;
+                  })
+
+              -- spelled by another name of the desk
+              pub poll_ended : hearing.mode ≡ Once → (over final : Local) (reply : Reply) → AskedWith false new (Cancel n) reply over → final ≡ over → AskedWith false old (Poll n) (Hit letters) final
+              poll_ended ends over final reply cancels same = subst (λ (z : Local). AskedWith false old (Poll n) (Hit letters) z) (sym same) (poll_hit_once ends over reply cancels)
+
+              pub poll_goes_on : hearing.mode ≡ Repeat → (final : Local) → final ≡ new → AskedWith false old (Poll n) (Hit letters) final
+              poll_goes_on goes_on final same = subst (λ (z : Local). AskedWith false old (Poll n) (Hit letters) z) (sym same) (poll_hit goes_on)
