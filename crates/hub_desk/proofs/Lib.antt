@@ -8,4 +8,6 @@ pub mod AskingFifodirs
 pub mod AskingHolds
 pub mod AskingSubscriptions
 mod ShortReplies
+pub mod Posts
+pub mod AskingServices
 pub mod Running
