@@ -1,5 +1,5 @@
 -- What is asked of a subscription or a listener that is to begin: one more handle.
-use Rattle.std.proofs.Common.{◌≡◌, ◌≢◌, ℕ, ◌+◌, ◌<◌, ◌≤◌, true, false, List, [], ◌∷◌, ◌++◌, length, nat_eq, nat_le, Option, Some, None, is_some, Ok, Err, refl, sym, ap, subst, ◌∙◌, inl, inr, length-append, arith}
+use Rattle.std.proofs.Common.{◌≡◌, ◌≢◌, ℕ, ◌+◌, ◌<◌, ◌≤◌, Bool, true, false, List, [], ◌∷◌, ◌++◌, length, nat_eq, nat_le, Option, Some, None, is_some, Ok, Err, refl, sym, ap, subst, ◌∙◌, inl, inr, length-append, arith}
 use Rattle.std.proofs.lemmas.Bool.{cases_Bool, le-leb, lt-leb, leb-false}
 use Rattle.std.proofs.lemmas.Slice.Eq.{bytes_eq-Decides}
 use Rattle.std.specs.Map.{lookup}
@@ -71,6 +71,10 @@ numbers_left local name d st may =
       ]
       | inr t ↦ absurd (some_none no.Name (simp t at may))
     ]
+
+-- spelled by another name of the desk
+pub unrefused_at : {before old : Local} (name : List ℕ) → before ≡ old → ((d : Desk) → Stands old d → refusal_to_hold d name ≡ None) → (d : Desk) → Stands before d → refusal_to_hold d name ≡ None
+unrefused_at {before} {old} name same may = subst (λ (z : Local). (d : Desk) → Stands z d → refusal_to_hold d name ≡ None) (sym same) may
 
 -- the next number is none of those that stand
 pub fresh_number : (local : Local) (d : Desk) → Stands local d → lookup (nat_eq (local.given + 1)) local.holdings ≡ None

@@ -1,5 +1,5 @@
 -- What a desk answers to requests, and what it is afterwards.
-use Rattle.std.specs.Prelude.{ℕ, ◌≡◌, ◌≢◌, ◌+◌, ◌≤◌, Bool, true, false, if◌then◌else◌, List, [], ◌∷◌, ◌++◌, length, drop, nat_le, Option, Some, None, is_some, Result, Ok, Err}
+use Rattle.std.specs.Prelude.{ℕ, ◌≡◌, ◌≢◌, ◌+◌, ◌≤◌, Bool, true, false, if◌then◌else◌, List, [], ◌∷◌, ◌++◌, length, drop, nat_le, Option, Some, None, option_to_list, is_some, Result, Ok, Err}
 use Rattle.std.specs.List.{list_all}
 use Rattle.std.proofs.Math.Decide.{dec_le}
 use Rattle.std.proofs.Math.Dec.{lit≤}
@@ -203,17 +203,18 @@ LeftBy request d new = new ≡ d
 -- ---- runs of requests, with a yes or no for each `Listen` among them: whether its pattern is read
 
 -- the pattern that is to be read
-abbrev pub pattern_in : Request → List (List ℕ)
-pattern_in (Listen name mode pattern) = pattern ∷ []
-pattern_in request = []
+abbrev pub pattern_in : Request → Option (List ℕ)
+pattern_in (Listen name mode pattern) = Some pattern
+pattern_in request = None
 
--- for a request that has such patterns
-abbrev pub first_read : List (List ℕ) → List Bool → Bool
-first_read (pattern ∷ rest) (read ∷ reads) = read
-first_read patterns reads = false
+-- for a request with this pattern, or with none
+abbrev pub first_read : Option (List ℕ) → List Bool → Bool
+first_read (Some text) (read ∷ rest) = read
+first_read pattern reads = false
 
-abbrev pub later_reads : List (List ℕ) → List Bool → List Bool
-later_reads patterns reads = drop (length patterns) reads
+abbrev pub later_reads : Option (List ℕ) → List Bool → List Bool
+later_reads None reads = reads
+later_reads (Some text) reads = drop 1 reads
 
 abbrev pub answer_to : Desk → List Bool → Request → Answer
 answer_to d reads request = answer d (first_read (pattern_in request) reads) request
@@ -230,7 +231,7 @@ desk_after d reads (request ∷ rest) = desk_after (answer_to d reads request).d
 
 abbrev pub patterns_in : List Request → List (List ℕ)
 patterns_in [] = []
-patterns_in (request ∷ rest) = pattern_in request ++ patterns_in rest
+patterns_in (request ∷ rest) = option_to_list (pattern_in request) ++ patterns_in rest
 
 -- one for each text, and yes only for a pattern
 abbrev pub AreReads : List Bool → List (List ℕ) → Type 0

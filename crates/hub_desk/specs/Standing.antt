@@ -1,5 +1,5 @@
 -- What a `LocalDesk` stands for.
-use Rattle.std.specs.Prelude.{ℕ, ◌≡◌, ◌≢◌, Bool, true, false, List, [], ◌∷◌, length, All, Option, None, is_some}
+use Rattle.std.specs.Prelude.{ℕ, ◌≡◌, ◌≢◌, Bool, true, false, List, [], ◌∷◌, length, All, Option, None, Some, is_some}
 use Rattle.hub_record.specs.Kept.{Kept, StandsFor}
 use Rattle.hub_record.specs.World.{World, found}
 use Rattle.hub_listen.specs.Hit.{IsPattern}
@@ -95,9 +95,9 @@ AskedWith read old request reply new =
     Answers old (grows request) (λ desk. own_refusal desk read request) (λ desk. carried_out desk request) (λ desk left. LeftBy request desk left) reply new
 
 -- only a pattern is read; where memory lacked it isn't known whether the text is one
-abbrev pub IsReadAs : Bool → List (List ℕ) → Reply → Type 0
-IsReadAs read [] reply = read ≡ false
-IsReadAs read (text ∷ texts) reply = read ≡ true → reply ≢ No Memory → IsPattern text
+abbrev pub IsReadAs : Bool → Option (List ℕ) → Reply → Type 0
+IsReadAs read None reply = read ≡ false
+IsReadAs read (Some text) reply = read ≡ true → reply ≢ No Memory → IsPattern text
 
 pub record Asked (old : Local) (request : Request) (reply : Reply) (new : Local) : Type 0 where
   pub read : Bool
