@@ -184,3 +184,6 @@ fn verdict_shown(span: Span, posts: &[Post], mut numbers: Vec<Option<u64>>) -> R
         Some(Verdict::Late) | None => Reply::Late,
     }
 }
+
+#[cfg(test)]
+mod tests;
