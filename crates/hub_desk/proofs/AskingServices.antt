@@ -89,7 +89,7 @@ pub record StandsBeside (now : List Fifodir) (names : List (List ℕ)) (before p
   pub beside : AreBeside names more g
   pub stands : is_some (subscription_of now g) ≡ true
 
-given_is : (w : World) (given : ℕ × ℕ) → subscribe_reply w ≡ Ok given → given.0 ≡ length w.subscriptions + 1
+pub given_is : (w : World) (given : ℕ × ℕ) → subscribe_reply w ≡ Ok given → given.0 ≡ length w.subscriptions + 1
 given_is w given said = let replies = subst (SubscribeReply w) said (subscribe_is_of w).0 in ap (λ (g : ℕ × ℕ). g.0) replies.1
 
 stays_stopped : (want : Want) (names : List (List ℕ)) (fs now : List Fifodir) (before posts : List Post) (refusal : Refusal) → fold (with_post want) (stopped fs before refusal) names ≡ so_far now posts → ⊥

@@ -10,4 +10,5 @@ pub mod AskingSubscriptions
 mod ShortReplies
 pub mod Posts
 pub mod AskingServices
+mod UsedIds
 pub mod Running

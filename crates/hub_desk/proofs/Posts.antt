@@ -14,6 +14,8 @@ use Rattle.hub_record.specs.declared.SubError.{SubError}
 use Rattle.hub_record.specs.declared.SubError.TheVariants as sub
 use Rattle.hub_record.specs.Kept.{Kept, StandsFor}
 use Rattle.hub_record.specs.World.{World, SubscribeReply, after_subscribe}
+use Rattle.hub_wait.specs.declared.tally.Span.{Span}
+use Rattle.hub_wait.specs.Verdicts.{Tallied, tally_of}
 use Rattle.hub_wait.specs.Watching.{Watching, started}
 use Rattle.hub_desk.specs.Desks.{Fifodir, world_of, reports_of, with_world}
 use Rattle.hub_desk.specs.Opening.{OpensPost, OpensAll}
@@ -108,6 +110,10 @@ opens_until want names i d model entries new posts refusal below t ends =
 
 pub map_more : {X Y : Type 0} (f : X → Y) (xs : List X) (i : ℕ) (x : X) → i < length xs → x ≡ get_or xs i x → map f (take (i + 1) xs) ≡ map f (take i xs) ++ f x ∷ []
 map_more f xs i x below is = ap (map f) (take_more xs i x below) ∙ map-append f (take i xs) (get_or xs i x ∷ []) ∙ ap (λ z. map f (take i xs) ++ f z ∷ []) (sym is)
+
+pub tallied_more : (span : Span) (posts : List Post) (i : ℕ) (post : Post) (tally : Tallied) → i < length posts → post ≡ get_or posts i post
+    → tally ≡ tally_of span (map (λ p. p.watch) (take i posts) ++ post.watch ∷ []) → tally ≡ tally_of span (map (λ p. p.watch) (take (i + 1) posts))
+tallied_more span posts i post tally below is e = e ∙ ap (tally_of span) (sym (map_more (λ (p : Post). p.watch) posts i post below is))
 
 -- a number of 64 bits has at most 20 digits, and a space before it
 short_shown : (number : Option ℕ) → IfSome number (λ n. n < 2 ^ 64) → length (number_or_dash number) ≤ 20

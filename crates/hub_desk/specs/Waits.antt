@@ -1,8 +1,9 @@
 -- Waits for services: the posts that one opens, what they show, and what it leaves.
 use Rattle.std.specs.Prelude.{ℕ, ◌≡◌, ◌≢◌, Bool, false, if◌then◌else◌, List, [], ◌∷◌, ◌++◌, length, map, fold, take, Option, Some, None, is_some, unwrap_or, Result, Ok, Err}
+use Rattle.std.specs.List.{list_any}
 use Rattle.hub_letters.specs.Flags.{flags_of}
 use Rattle.hub_letters.specs.declared.want.Want.{Want}
-use Rattle.hub_record.specs.World.{World, letters, after_subscribe}
+use Rattle.hub_record.specs.World.{World, Subscription, letters, after_subscribe}
 use Rattle.hub_record.specs.declared.Status.{Status}
 use Rattle.hub_record.specs.declared.SubError.{SubError}
 use Rattle.hub_wait.specs.Watching.{Watching, started, is_met_at}
@@ -105,3 +106,21 @@ pub record LeftByWait (d : Desk) (want : Want) (names : List (List ℕ)) (new : 
   pub count : ℕ
   pub unrefused : (opened want d.fifodirs (take count names)).refusal ≡ None
   pub left : new ≡ record d { fifodirs = left_by (opened want d.fifodirs (take count names)) names }
+
+-- ---- a law: whatever a wait answers, it leaves each fifodir as it was, but for ids that are used
+
+-- more ids were given, none of them stands, and nothing else has changed
+pub record HasUsedIds (old new : World) : Type 0 where
+  pub used : List Subscription
+  pub none_stands : list_any (λ s. s.stands) used ≡ false
+  pub same : new ≡ record old { subscriptions = old.subscriptions ++ used }
+
+abbrev pub HasUsedIdsThere : Option World → Option World → Type 0
+HasUsedIdsThere None None = Unit {0}
+HasUsedIdsThere None (Some new) = ⊥
+HasUsedIdsThere (Some old) None = ⊥
+HasUsedIdsThere (Some old) (Some new) = HasUsedIds old new
+
+abbrev pub WaitsUseIds : Type 0
+WaitsUseIds = (d : Desk) (span : Span) (want : Want) (names : List (List ℕ)) (name : List ℕ)
+    → HasUsedIdsThere (world_of d.fifodirs name) (world_of (waited d span want names).desk.fifodirs name)

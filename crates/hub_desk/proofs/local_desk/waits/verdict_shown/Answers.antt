@@ -1,10 +1,7 @@
 use Rattle.std.proofs.Common.{◌≡◌, ◌≤◌, ◌*◌, ◌+◌, ◌++◌, ◌∷◌, [], List, ℕ, Option, length, map, take, ap, sym, subst, ◌∙◌, arith}
-use Rattle.hub_wait.specs.Verdicts.{tally_of}
-use Rattle.hub_wait.specs.Watching.{Watching}
 use Rattle.hub_desk.specs.Texts.{numbers_text}
 use Rattle.hub_desk.specs.Waits.{number_of}
-use Rattle.hub_desk.specs.declared.local_desk.waits.Post.{Post}
-use Rattle.hub_desk.proofs.Posts.{map_more, numbers_text-push}
+use Rattle.hub_desk.proofs.Posts.{map_more, tallied_more, numbers_text-push}
 use Rattle.hub_desk.proofs.local_desk.waits.verdict_shown.Goals as goal
 
 pub loop-post-preserved : goal.loop-post-preserved
@@ -13,8 +10,7 @@ loop-post-preserved c =
     let xs = c.args.posts.now in
     let post = c.post-item.result in
     record {
-      tally = c.add.ensures c.args.span _ c.loop-post.invariant.tally
-          ∙ ap (tally_of c.args.span) (sym (map_more (λ (p : Post). p.watch) xs i post c.loop-post-test.true c.post-item.is));
+      tally = tallied_more c.args.span xs i post c.add.new.self c.loop-post-test.true c.post-item.is (c.add.ensures c.args.span _ c.loop-post.invariant.tally);
       shown = c.push_reserved.ensures.items
           ∙ ap (λ (ns : List (Option ℕ)). ns ++ c.number_of.result ∷ []) c.loop-post.invariant.shown
           ∙ ap (λ (n : Option ℕ). map number_of (take i xs) ++ n ∷ []) c.number_of.ensures.number
