@@ -140,7 +140,7 @@ module _ (old new : Local) (name : List ℕ) (r : LocalFifodir) (kept : Kept) (p
     fifodirs = subst (λ (es : List (List ℕ × LocalFifodir)). AreKept es (with_world d.fifodirs name w')) (sym put.fifodirs) (kept_set name old.fifodirs d.fifodirs r (record { kept = kept; reports = r.reports }) w' st.fifodirs put.was refl stands);
     holdings = put.holdings ∙ st.holdings;
     given = put.given ∙ st.given;
-    is_desk = record { held = held_still d.fifodirs (with_world d.fifodirs name w') (λ h. held_in_changed d.fifodirs name w w' is h (λ _. keep h.id)) _ st.is_desk.held; apart = st.is_desk.apart; may_hit = st.is_desk.may_hit };
+    is_desk = record { held = held_still d.fifodirs (with_world d.fifodirs name w') (λ h. held_in_changed d.fifodirs name w w' is h (λ _. keep h.id)) _ st.is_desk.held; apart = st.is_desk.apart; go_on = st.is_desk.go_on };
   }
 
   -- where it stands for the same world

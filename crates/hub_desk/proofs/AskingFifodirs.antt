@@ -66,7 +66,7 @@ module _ (old : Local) (name : List ℕ) (kind : Kind) (reports : Option Bool) (
                 (kept_push old.fifodirs d.fifodirs _ f st.fifodirs (record { name = refl; reports = refl; world = stands }));
             holdings = holdings ∙ st.holdings;
             given = given ∙ st.given;
-            is_desk = record { held = held_still d.fifodirs more (held_with_more d.fifodirs f) _ st.is_desk.held; apart = st.is_desk.apart; may_hit = st.is_desk.may_hit };
+            is_desk = record { held = held_still d.fifodirs more (held_with_more d.fifodirs f) _ st.is_desk.held; apart = st.is_desk.apart; go_on = st.is_desk.go_on };
           };
         })
 

@@ -9,7 +9,7 @@ use Rattle.hub_record.specs.declared.SubError.TheVariants as sub
 use Rattle.hub_record.specs.Kept.{Kept, StandsFor}
 use Rattle.hub_record.specs.World.{World, new_subscription, SubscribeReply, after_subscribe}
 use Rattle.hub_desk.specs.Answers.{in_world, refusal_to_hold, subscribed}
-use Rattle.hub_desk.specs.Desks.{Desk, Handle, standing, world_of, with_world, subscription_of, AreHeld, AreApart, MayHit, AllMayHit, refused}
+use Rattle.hub_desk.specs.Desks.{Desk, Handle, standing, world_of, with_world, subscription_of, AreHeld, AreApart, GoesOn, AllGoOn, refused}
 use Rattle.hub_desk.specs.Replies.{subscribe_reply, refusal_of_sub}
 use Rattle.hub_desk.specs.Standing.{Local, AreKept, Stands, Answers, Unchanged}
 use Rattle.hub_desk.specs.declared.local_desk.Hearing.{Hearing}
@@ -20,7 +20,7 @@ use Rattle.hub_desk.specs.declared.reply.Reply.TheVariants.{Number, No}
 use Rattle.hub_desk.specs.declared.reply.Refusal.{Refusal}
 use Rattle.hub_desk.specs.declared.reply.Refusal.TheVariants as no
 use Rattle.hub_desk.proofs.Asking.{by_carrying, by_lacking, still_lacking, stands_same, Replaces, world_there, stands_replaced, stands_still}
-use Rattle.hub_desk.proofs.Holdings.{none_above, standing-push, held_push, apart_push, may_hit_push, unheld_id}
+use Rattle.hub_desk.proofs.Holdings.{none_above, standing-push, held_push, apart_push, go_on_push, unheld_id}
 use Rattle.hub_desk.proofs.KeptFifodirs.{is_some-world_of, none_kept, world_of-with_world}
 use Rattle.hub_desk.proofs.RecordReplies.{subscribe_reply_is}
 use Rattle.hub_desk.proofs.Worlds.{found-push, found_new}
@@ -92,10 +92,10 @@ module _ (old : Local) (name : List ℕ) (hearing : Option Hearing) where
 
     -- `mid` has the record's answer, and then `new` the handle
     module _ (mid new : Local) (r : LocalFifodir) (kept : Kept) (put : Replaces old mid name r kept) where
-      pub hold_done : MayHit hearing → (given : ℕ × ℕ) → ((w : World) → StandsFor r.kept w → SubscribeReply w (Ok given)) → ((w : World) → StandsFor r.kept w → StandsFor kept (after_subscribe w (Ok given)))
+      pub hold_done : GoesOn hearing → (given : ℕ × ℕ) → ((w : World) → StandsFor r.kept w → SubscribeReply w (Ok given)) → ((w : World) → StandsFor r.kept w → StandsFor kept (after_subscribe w (Ok given)))
           → new.fifodirs ≡ mid.fifodirs → new.holdings ≡ old.holdings ++ (old.given + 1, record { name = name; id = given.0; hearing = hearing }) ∷ [] → new.given ≡ old.given + 1
           → Holds (Number (old.given + 1)) new
-      hold_done may_hit given replies after fifodirs holdings number = by_carrying old new true _ _ _ _ (λ e. cc) (λ d st.
+      hold_done goes_on given replies after fifodirs holdings number = by_carrying old new true _ _ _ _ (λ e. cc) (λ d st.
           let t = world_there old mid name r kept put d st in
           let w = t.0 in
           let says = replies w t.2 in
@@ -120,7 +120,7 @@ module _ (old : Local) (name : List ℕ) (hearing : Option Hearing) where
                 held = subst (AreHeld fs) (sym stood) (held_push fs (standing d) (old.given + 1, h) was.is_desk.held there_now);
                 apart = subst AreApart (sym stood) (apart_push d.fifodirs (standing d) (old.given + 1, h) st.is_desk.apart st.is_desk.held
                     (λ g s name_is id_is. unheld_id d.fifodirs name w next t.1 g s name_is (id_is ∙ id)));
-                may_hit = subst AllMayHit (sym stood) (may_hit_push (standing d) (old.given + 1, h) st.is_desk.may_hit may_hit);
+                go_on = subst AllGoOn (sym stood) (go_on_push (standing d) (old.given + 1, h) st.is_desk.go_on goes_on);
               };
             };
           })

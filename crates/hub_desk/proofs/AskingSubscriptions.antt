@@ -8,7 +8,7 @@ use Rattle.hub_record.specs.declared.Taken.TheVariants as taken
 use Rattle.hub_record.specs.Kept.{Kept, StandsFor}
 use Rattle.hub_record.specs.World.{World, Subscription, letters, found, after_cancel, moved_on, take_reply, take_events, after_take, after_take_for}
 use Rattle.hub_desk.specs.Answers.{in_world, for_holding, refusal_to_take, take_shown, took, cancelled}
-use Rattle.hub_desk.specs.Desks.{Desk, Fifodir, standing, held, world_of, subscription_of, AreHeld, AreApart, AllMayHit, end_in, without_held, without_all, ended}
+use Rattle.hub_desk.specs.Desks.{Desk, Fifodir, standing, held, world_of, subscription_of, AreHeld, AreApart, AllGoOn, end_in, without_held, without_all, ended}
 use Rattle.hub_desk.specs.Standing.{Local, AreKept, Stands, HasSubscription, AskedWith, Ended}
 use Rattle.hub_desk.specs.declared.local_desk.Holding.{Holding}
 use Rattle.hub_desk.specs.declared.local_desk.LocalFifodir.{LocalFifodir}
@@ -17,7 +17,7 @@ use Rattle.hub_desk.specs.declared.reply.Reply.{Reply}
 use Rattle.hub_desk.specs.declared.reply.Reply.TheVariants.{Done, No}
 use Rattle.hub_desk.specs.declared.reply.Refusal.TheVariants as no
 use Rattle.hub_desk.proofs.Asking.{by_carrying, by_refusing, by_lacking, still_lacking, stands_same, Replaces, world_there, stands_replaced, stands_still}
-use Rattle.hub_desk.proofs.Holdings.{held_at, standing-dropped, length-dropped, standing-without, length-without, held_removed, held_beside_cancelled, apart_removed, may_hit_removed}
+use Rattle.hub_desk.proofs.Holdings.{held_at, standing-dropped, length-dropped, standing-without, length-without, held_removed, held_beside_cancelled, apart_removed, go_on_removed}
 use Rattle.hub_desk.proofs.KeptFifodirs.{none_kept, some_kept, kept_set}
 use Rattle.hub_desk.proofs.Worlds.{found_changed}
 
@@ -63,7 +63,7 @@ cancel_done old new n h was holdings fifodirs given = by_carrying old new false 
           held = subst (AreHeld (without_held d.fifodirs h)) (sym less)
               (held_removed d.fifodirs (without_held d.fifodirs h) n h (held_beside_cancelled d.fifodirs h) (standing d) st.is_desk.apart st.is_desk.held e);
           apart = subst AreApart (sym less) (apart_removed (standing d) n st.is_desk.apart);
-          may_hit = subst AllMayHit (sym less) (may_hit_removed (standing d) n st.is_desk.may_hit);
+          go_on = subst AllGoOn (sym less) (go_on_removed (standing d) n st.is_desk.go_on);
         };
       };
     })
@@ -132,7 +132,7 @@ session_ended old new none given released d st =
       fifodirs = subst (λ (es : List (ℕ × Holding)). AreKept new.fifodirs (without_all d.fifodirs (values_of es))) st.holdings (released d.fifodirs st.fifodirs);
       holdings = none ∙ sym gone;
       given = given ∙ st.given ∙ sym (length-dropped d.handles);
-      is_desk = record { held = subst (AreHeld left) (sym gone) tt; apart = subst AreApart (sym gone) tt; may_hit = subst AllMayHit (sym gone) tt };
+      is_desk = record { held = subst (AreHeld left) (sym gone) tt; apart = subst AreApart (sym gone) tt; go_on = subst AllGoOn (sym gone) tt };
     }
 
 pub session_ends : (before old new : Local) → before ≡ old → new.holdings ≡ [] → new.given ≡ before.given

@@ -5,7 +5,7 @@ use Rattle.std.specs.Map.{lookup, remove_entry}
 use Rattle.std.specs.Str.{bytes_eq}
 use Rattle.std.proofs.lemmas.Slice.Eq.{bytes_eq-Decides}
 use Rattle.hub_record.specs.World.{World, Subscription, found, stopped, after_cancel, after_cancel_for}
-use Rattle.hub_desk.specs.Desks.{Fifodir, Handle, world_of, with_world, standing_from, dropped, without_from, subscription_of, AreHeld, IsApart, AreApart, MayHit, AllMayHit, end_in, without_held}
+use Rattle.hub_desk.specs.Desks.{Fifodir, Handle, world_of, with_world, standing_from, dropped, without_from, subscription_of, AreHeld, IsApart, AreApart, GoesOn, AllGoOn, end_in, without_held}
 use Rattle.hub_desk.specs.declared.local_desk.Holding.{Holding}
 use Rattle.hub_desk.proofs.KeptFifodirs.{world_of-push, world_of-with_world}
 use Rattle.hub_desk.proofs.Worlds.{found_below, found_changed_other}
@@ -131,13 +131,13 @@ held_removed fs new n g keep (x ∷ es) a k e =
 
 -- ---- each may hit
 
-pub may_hit_push : (es : List (ℕ × Holding)) (e : ℕ × Holding) → AllMayHit es → MayHit e.1.hearing → AllMayHit (es ++ e ∷ [])
-may_hit_push [] e k m = (m, tt)
-may_hit_push (x ∷ es) e k m = (k.0, may_hit_push es e k.1 m)
+pub go_on_push : (es : List (ℕ × Holding)) (e : ℕ × Holding) → AllGoOn es → GoesOn e.1.hearing → AllGoOn (es ++ e ∷ [])
+go_on_push [] e k m = (m, tt)
+go_on_push (x ∷ es) e k m = (k.0, go_on_push es e k.1 m)
 
-pub may_hit_removed : (es : List (ℕ × Holding)) (n : ℕ) → AllMayHit es → AllMayHit (remove_entry (nat_eq n) es)
-may_hit_removed [] n k = tt
-may_hit_removed (x ∷ es) n k = elim (cases_Bool (nat_eq n x.0)) [ inl t ↦ simp t (k.1) | inr t ↦ simp t (k.0, may_hit_removed es n k.1) ]
+pub go_on_removed : (es : List (ℕ × Holding)) (n : ℕ) → AllGoOn es → AllGoOn (remove_entry (nat_eq n) es)
+go_on_removed [] n k = tt
+go_on_removed (x ∷ es) n k = elim (cases_Bool (nat_eq n x.0)) [ inl t ↦ simp t (k.1) | inr t ↦ simp t (k.0, go_on_removed es n k.1) ]
 
 -- ---- with another world under a name
 

@@ -5,6 +5,9 @@ pub mod Worlds
 pub mod Holdings
 pub mod Asking
 pub mod AskingFifodirs
+pub mod Takings
+pub mod HearingLetters
+pub mod HearingFronts
 pub mod AskingHolds
 pub mod AskingSubscriptions
 mod ShortReplies

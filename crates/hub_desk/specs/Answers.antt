@@ -7,6 +7,7 @@ use Rattle.hub_letters.specs.Flags.{flags_of}
 use Rattle.hub_listen.specs.Hit.{IsPattern}
 use Rattle.hub_listen.specs.Listening.{unheard}
 use Rattle.hub_listen.specs.declared.listener.Mode.{Mode}
+use Rattle.hub_listen.specs.declared.listener.Mode.TheVariants.{Repeat}
 use Rattle.hub_record.specs.World.{World, empty_world, letters, after_subscribe, after_publish, take_reply, take_events, after_take, close_reply, after_close}
 use Rattle.hub_record.specs.declared.Kind.{Kind}
 use Rattle.hub_record.specs.declared.Kind.TheVariants.{Plain, Service}
@@ -146,7 +147,7 @@ subscribed d name hearing w (Ok given) = record {
 
 -- one that has heard nothing
 abbrev pub new_hearing : List ℕ → Mode → Hearing
-new_hearing pattern mode = record { listener = unheard pattern mode; held = None }
+new_hearing pattern mode = record { listener = unheard pattern Repeat; mode = mode; held = None }
 
 abbrev pub published : Desk → List ℕ → List ℕ → World → Result ℕ PubError → Answer
 published d name message w (Err error) = refused d (refusal_of_pub error)

@@ -3,7 +3,7 @@ use Rattle.std.specs.Prelude.{ℕ, ◌≡◌, ◌==◌, ◌+◌, Bool, true, fal
 use Rattle.std.specs.Option.{option_and_then}
 use Rattle.std.specs.Map.{lookup, values_of}
 use Rattle.std.specs.Str.{bytes_eq}
-use Rattle.hub_listen.specs.Listening.{is_spent}
+use Rattle.hub_listen.specs.declared.listener.Mode.TheVariants.{Repeat}
 use Rattle.hub_record.specs.World.{World, Subscription, found, after_cancel}
 use Rattle.hub_desk.specs.declared.local_desk.Holding.{Holding}
 use Rattle.hub_desk.specs.declared.local_desk.Hearing.{Hearing}
@@ -93,19 +93,19 @@ abbrev pub AreApart : List (ℕ × Holding) → Type 0
 AreApart [] = Unit {0}
 AreApart (e ∷ es) = IsApart e.1 es × AreApart es
 
--- a listener has its one hit still before it
-abbrev pub MayHit : Option Hearing → Type 0
-MayHit None = Unit {0}
-MayHit (Some hearing) = is_spent hearing.listener ≡ false
+-- after a hit a listener itself goes on: it is the desk that ends one whose mode is Once
+abbrev pub GoesOn : Option Hearing → Type 0
+GoesOn None = Unit {0}
+GoesOn (Some hearing) = hearing.listener.mode ≡ Repeat
 
-abbrev pub AllMayHit : List (ℕ × Holding) → Type 0
-AllMayHit [] = Unit {0}
-AllMayHit (e ∷ es) = MayHit e.1.hearing × AllMayHit es
+abbrev pub AllGoOn : List (ℕ × Holding) → Type 0
+AllGoOn [] = Unit {0}
+AllGoOn (e ∷ es) = GoesOn e.1.hearing × AllGoOn es
 
 pub record IsDesk (d : Desk) : Type 0 where
   pub held : AreHeld d.fifodirs (standing d)
   pub apart : AreApart (standing d)
-  pub may_hit : AllMayHit (standing d)
+  pub go_on : AllGoOn (standing d)
 
 -- ---- an answer
 

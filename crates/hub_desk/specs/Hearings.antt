@@ -1,19 +1,31 @@
 -- What a listener hears of the letters that it has still to hear.
-use Rattle.std.specs.Prelude.{ℕ, ◌≡◌, ◌⊎◌, ◌+◌, ◌<◌, ◌≤◌, true, false, List, [], ◌∷◌, length, take, slice_get, Option, Some, None, Ok}
+use Rattle.std.specs.Prelude.{ℕ, ◌≡◌, ◌⊎◌, ◌+◌, ◌<◌, ◌≤◌, true, false, List, [], ◌∷◌, length, take, slice_get, Option, Some, None, Result, Ok, Err}
 use Rattle.hub_listen.specs.Each.{fitting}
 use Rattle.hub_listen.specs.Hit.{IsHit, HasNoHit}
 use Rattle.hub_listen.specs.Listening.{Listening, Feeds, after_hit, after_quiet}
 use Rattle.hub_listen.specs.declared.feed.Feed.TheVariants as fed
 use Rattle.hub_record.specs.Kept.{Kept, StandsFor}
-use Rattle.hub_record.specs.World.{World}
-use Rattle.hub_desk.specs.Polls.{to_hear, taken_from}
+use Rattle.hub_record.specs.World.{World, letters, found, after_take}
+use Rattle.hub_desk.specs.Polls.{waiting_for, to_hear, taken_from}
 use Rattle.hub_desk.specs.declared.local_desk.Hearing.{Hearing}
 use Rattle.hub_desk.specs.declared.local_desk.listeners.Heard.{Heard}
 use Rattle.hub_desk.specs.declared.local_desk.listeners.Heard.TheVariants.{Hit, Nothing, End, Lacking}
 
+-- the letters behind the cursor
+abbrev pub behind : World → ℕ → List ℕ
+behind w id = letters (waiting_for w (found w id))
+
+-- the next of them was taken, or there is none
+abbrev pub TakesOne : World → ℕ → Result ℕ Heard → Kept → Type 0
+TakesOne w id (Ok x) kept = (rest : List ℕ) × (behind w id ≡ x ∷ rest) × StandsFor kept (after_take w id 1)
+TakesOne w id (Err Nothing) kept = (behind w id ≡ []) × (w.closed ≡ false) × StandsFor kept w
+TakesOne w id (Err End) kept = (behind w id ≡ []) × (w.closed ≡ true) × StandsFor kept w
+TakesOne w id (Err heard) kept = ⊥
+
 -- the hearing `new` has this listener and this letter held, and the record has given the first n of the letters
 pub record IsAt (g : Hearing) (w : World) (id : ℕ) (n : ℕ) (listener : Listening) (held : Option ℕ) (new : Hearing) (kept : Kept) : Type 0 where
   pub listener_is : new.listener ≡ listener
+  pub mode_is : new.mode ≡ g.mode
   pub held_is : new.held ≡ held
   pub stands : StandsFor kept (taken_from g w id n)
 

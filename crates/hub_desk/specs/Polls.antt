@@ -29,10 +29,10 @@ taken_from g w id n = after_take w id (n - length (option_to_list g.held))
 -- ---- what is heard
 
 abbrev pub heard_to_hit : Hearing → List ℕ → ℕ → Hearing
-heard_to_hit g letters k = record { listener = after_hit g.listener letters k; held = None }
+heard_to_hit g letters k = record g { listener = after_hit g.listener letters k; held = None }
 
 abbrev pub heard_quietly : Hearing → List ℕ → Hearing
-heard_quietly g letters = record { listener = after_quiet g.listener letters; held = None }
+heard_quietly g letters = record g { listener = after_quiet g.listener letters; held = None }
 
 -- with the handle's listener and its world as they are then
 abbrev pub heard_on : Desk → ℕ → Holding → Hearing → World → Desk
@@ -47,7 +47,7 @@ ended_by Repeat d number h = d
 abbrev pub heard : Desk → ℕ → Holding → Hearing → World → List ℕ → Option ℕ → Answer
 heard d number h g w letters (Some k) = record {
   reply = Hit (g.listener.gathered ++ take k letters);
-  desk = ended_by g.listener.mode (heard_on d number h (heard_to_hit g letters k) (taken_from g w h.id k)) number h;
+  desk = ended_by g.mode (heard_on d number h (heard_to_hit g letters k) (taken_from g w h.id k)) number h;
 }
 heard d number h g w letters None = record {
   reply = if nat_lt (length g.listener.gathered + length letters) 4096 && w.closed then End else Nothing;
@@ -63,7 +63,7 @@ polled d number h g w = heard d number h g w (to_hear g w h.id) (hit_length g.li
 pub record IsStopped (d : Desk) (number : ℕ) (h : Holding) (g : Hearing) (w : World) (n : ℕ) (new : Desk) : Type 0 where
   pub inside : n < fitting g.listener (to_hear g w h.id)
   pub none : HasNoHit g.listener.pattern g.listener.gathered (take n (to_hear g w h.id))
-  pub desk : new ≡ heard_on d number h (record { listener = after_quiet g.listener (take n (to_hear g w h.id)); held = slice_get (to_hear g w h.id) n }) (taken_from g w h.id (n + 1))
+  pub desk : new ≡ heard_on d number h (record g { listener = after_quiet g.listener (take n (to_hear g w h.id)); held = slice_get (to_hear g w h.id) n }) (taken_from g w h.id (n + 1))
 
 pub record WasStopped (d : Desk) (number : ℕ) (new : Desk) : Type 0 where
   pub holding : Holding

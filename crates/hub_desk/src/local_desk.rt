@@ -9,7 +9,7 @@ use crate::name::Name;
 use crate::reply::Reply;
 use crate::request::Request;
 use hub_letters::Letter;
-use hub_listen::Listener;
+use hub_listen::{Listener, Mode};
 use hub_record::{Kind, Limits, Record};
 use indexmap::IndexMap;
 use std::alloc::{AllocError, Global};
@@ -44,10 +44,13 @@ struct Holding {
     hearing: Option<Hearing>,
 }
 
-/// A listener, and the letter that was taken for it and is not yet heard, for want of memory.
+/// A listener, which goes on after a hit.
 #[derive(Drop)]
 struct Hearing {
     listener: Listener,
+    /// Whether its subscription ends with a hit.
+    mode: Mode,
+    /// The letter that was taken for it and is not yet heard, for want of memory.
     held: Option<Letter>,
 }
 

@@ -1,9 +1,9 @@
 //! What is asked of a listener: to begin one and to look for its next hit.
-ghost use Rattle.std.specs.Prelude.{◌≡◌, ◌≢◌, ◌≤◌, ◌<◌, Bool, length, false};
+ghost use Rattle.std.specs.Prelude.{◌≡◌, ◌≢◌, ◌≤◌, ◌<◌, Some, length, false};
 ghost use Rattle.hub_listen.specs.Listening.{is_spent};
 ghost use Rattle.hub_record.specs.Kept.{StandsFor};
-ghost use Rattle.hub_record.specs.World.{World};
-ghost use Rattle.hub_desk.specs.Hearings.{Hears, HearsOne};
+ghost use Rattle.hub_record.specs.World.{World, Subscription, found};
+ghost use Rattle.hub_desk.specs.Hearings.{Hears, HearsOne, TakesOne};
 ghost use Rattle.hub_desk.specs.Standing.{Asked, AskedWith, HasSubscription};
 ghost use Rattle.hub_desk.specs.Texts.{text_of};
 ghost use Rattle.hub_desk.specs.declared.request.Request.TheVariants.{Listen, Poll};
@@ -38,11 +38,12 @@ impl LocalDesk {
         if let Some(refusal) = self.refusal_to_hold(name) {
             return Reply::No(refusal);
         }
-        match Listener::new(self.alloc, pattern.items(), mode) {
+        match Listener::new(self.alloc, pattern.items(), Mode::Repeat) {
             Ok(listener) => self.hold(
                 name,
                 Some(Hearing {
                     listener,
+                    mode,
                     held: None,
                 }),
             ),
@@ -76,7 +77,7 @@ impl LocalDesk {
             Heard::Lacking => Reply::No(Refusal::Memory),
             Heard::Hit => {
                 letters.extend_from_slice(hearing.listener.hit()).unwrap();
-                if hearing.listener.is_spent() {
+                if hearing.mode == Mode::Once {
                     let _ = self.cancel(id);
                 }
                 Reply::Hit(Letters::of(letters))
@@ -88,9 +89,9 @@ impl LocalDesk {
 /// Hears what waits, letter by letter up to a hit, for as long as there is room.
 fn hear(hearing: &mut Hearing, kept: &mut Record, id: u64) -> Heard
     requires stands { HasSubscription kept.old id }
-    requires may_hit { is_spent hearing.old.listener ≡ false }
+    requires unspent { is_spent hearing.old.listener ≡ false }
     requires room { length hearing.old.listener.gathered < 4096 }
-    ensures { (w : World) → StandsFor kept.old w → Hears hearing.old w id result hearing.new kept.new }
+    ensures { (w : World) (s : Subscription) → StandsFor kept.old w → found w id ≡ Some s → Hears hearing.old w id result hearing.new kept.new }
 {
     for _ in hearing.listener.text().len()..ROOM {
         match hear_one(hearing, kept, id) {
@@ -104,25 +105,16 @@ fn hear(hearing: &mut Hearing, kept: &mut Record, id: u64) -> Heard
 /// Hears the letter that is held, or else the next one that waits. None where it brings no hit.
 fn hear_one(hearing: &mut Hearing, kept: &mut Record, id: u64) -> Option<Heard>
     requires stands { HasSubscription kept.old id }
-    requires may_hit { is_spent hearing.old.listener ≡ false }
+    requires unspent { is_spent hearing.old.listener ≡ false }
     requires room { length hearing.old.listener.gathered < 4096 }
-    ensures { (w : World) → StandsFor kept.old w → HearsOne hearing.old w id result hearing.new kept.new }
+    ensures { (w : World) (s : Subscription) → StandsFor kept.old w → found w id ≡ Some s → HearsOne hearing.old w id result hearing.new kept.new }
 {
     let letter = match hearing.held {
         Some(letter) => letter,
-        None => {
-            let least = Event {
-                who: 0,
-                letter: Letter::least(),
-            };
-            let mut room = [least];
-            match kept.take_into(id, &mut room) {
-                Ok(Taken::Got(_)) => room[0].letter,
-                Ok(Taken::Nothing) => return Some(Heard::Nothing),
-                Ok(Taken::End) => return Some(Heard::End),
-                Err(_) => unreachable!(),
-            }
-        }
+        None => match take_one(kept, id) {
+            Ok(letter) => letter,
+            Err(heard) => return Some(heard),
+        },
     };
     hearing.held = Some(letter);
     match hearing.listener.feed(&[letter]) {
@@ -136,5 +128,23 @@ fn hear_one(hearing: &mut Hearing, kept: &mut Record, id: u64) -> Option<Heard>
         }
         Err(FeedError::Memory) => Some(Heard::Lacking),
         Ok(Feed::Spent) | Err(FeedError::Overlong) => unreachable!(),
+    }
+}
+
+/// Takes the next event that waits, for its letter.
+fn take_one(kept: &mut Record, id: u64) -> Result<Letter, Heard>
+    requires { HasSubscription kept.old id }
+    ensures { (w : World) (s : Subscription) → StandsFor kept.old w → found w id ≡ Some s → TakesOne w id result kept.new }
+{
+    let least = Event {
+        who: 0,
+        letter: Letter::least(),
+    };
+    let mut room = [least];
+    match kept.take_into(id, &mut room) {
+        Ok(Taken::Got(_)) => Ok(room[0].letter),
+        Ok(Taken::Nothing) => Err(Heard::Nothing),
+        Ok(Taken::End) => Err(Heard::End),
+        Err(_) => unreachable!(),
     }
 }

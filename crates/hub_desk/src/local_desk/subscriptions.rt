@@ -4,7 +4,7 @@ ghost use Rattle.indexmap.specs.IndexMap.{values};
 ghost use Rattle.hub_record.specs.Kept.{StandsFor};
 ghost use Rattle.hub_record.specs.World.{World, letters, take_reply, take_events, after_take};
 ghost use Rattle.hub_desk.specs.Answers.{in_world, refusal_to_hold, subscribed, take_shown};
-ghost use Rattle.hub_desk.specs.Desks.{Desk, Fifodir, MayHit, without_held, without_all, world_of};
+ghost use Rattle.hub_desk.specs.Desks.{Desk, Fifodir, GoesOn, without_held, without_all, world_of};
 ghost use Rattle.hub_desk.specs.Ranges.{IsTake};
 ghost use Rattle.hub_desk.specs.Replies.{subscribe_reply};
 ghost use Rattle.hub_desk.specs.Standing.{AreKept, Answers, AskedWith, HasSubscription, Stands, Unchanged};
@@ -60,7 +60,7 @@ impl LocalDesk {
     /// Subscribes, and gives the subscription the next handle.
     pub(super) fn hold(&mut self, name: &Name, hearing: Option<Hearing>) -> Reply
         requires unrefused { (desk : Desk) → Stands self.old desk → refusal_to_hold desk name.now ≡ None }
-        requires may_hit { MayHit hearing }
+        requires goes_on { GoesOn hearing }
         ensures step { Answers self.old true (λ desk. refusal_to_hold desk name.now) (λ desk. in_world desk (λ w. subscribed desk name.now hearing w (subscribe_reply w)) (world_of desk.fifodirs name.now)) Unchanged result self.new }
         ensures short { length (text_of result) ≤ 4101 }
     {

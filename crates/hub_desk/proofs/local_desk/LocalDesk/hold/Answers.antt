@@ -24,7 +24,7 @@ returns-in-Ok-subscribe-clause-step c =
     let n = c.self.inside.given + 1 in
     answers_from c.self.view_is (hold_done _ c.args.name.now c.args.hearing (unrefused_at c.args.name.now c.self.view_is c.requires.unrefused)
     (record { fifodirs = _; holdings = c.self.inside.holdings.entries; given = c.self.inside.given }) _ c.in-Some.fifodir.now c.subscribe.new.self
-    (record { was = sym c.in-Some.ensures.value; fifodirs = (c.get_mut.follows.holds _).0; holdings = refl; given = refl }) c.requires.may_hit
+    (record { was = sym c.in-Some.ensures.value; fifodirs = (c.get_mut.follows.holds _).0; holdings = refl; given = refl }) c.requires.goes_on
     (c.in-Ok-subscribe.id, c.in-Ok-subscribe._mark) c.in-Ok-subscribe.ensures.reply c.in-Ok-subscribe.ensures.after refl
     ((rw c.unwrap.ensures at c.insert.ensures.entries)
     ∙ insert_entry-new nat_eq c.reserve.new.self n h (ap (lookup (nat_eq n)) c.reserve.ensures.entries ∙ fresh_number _ c.self.invariant.desk c.self.invariant.stands)
