@@ -56,7 +56,7 @@ still_lacking new d own unrefused stands = record { unrefused = unrefused; desk 
 
 -- ---- a desk that was answered stands for some desk
 
-is_memory : (refusal : Refusal) → (refusal ≡ no.Memory) ⊎ (refusal ≢ no.Memory)
+pub is_memory : (refusal : Refusal) → (refusal ≡ no.Memory) ⊎ (refusal ≢ no.Memory)
 is_memory no.Long = inr (λ e. cc)
 is_memory no.Text = inr (λ e. cc)
 is_memory no.Word = inr (λ e. cc)

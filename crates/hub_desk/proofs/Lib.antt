@@ -13,4 +13,7 @@ pub mod AskingSubscriptions
 mod ShortReplies
 pub mod OtherHoldings
 pub mod AskingPolls
+pub mod Posts
+pub mod AskingServices
+mod UsedIds
 pub mod Running

@@ -198,7 +198,7 @@ answer d read request = answer_by d (own_refusal d read request) (carried_out d 
 -- what may be left where want of memory was met: a desk that is unchanged, but for these two requests
 abbrev pub LeftBy : Request → Desk → Desk → Type 0
 LeftBy (Poll id) d new = LeftByPoll d id new
-LeftBy (Wait span want turns names) d new = LeftByWait d names new
+LeftBy (Wait span want turns names) d new = LeftByWait d want names new
 LeftBy request d new = new ≡ d
 
 -- ---- runs of requests, with a yes or no for each `Listen` among them: whether its pattern is read

@@ -8,3 +8,4 @@ pub mod Waits
 pub mod Answers
 pub mod Hearings
 pub mod Standing
+pub mod Opening

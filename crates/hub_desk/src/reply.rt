@@ -26,7 +26,7 @@ pub enum Reply {
     Never,
     /// Neither was known at the end of the wait.
     Late,
-    /// It was refused, and nothing has changed.
+    /// It was refused, and nothing has changed, but for what a `wait` or `poll` had done until then.
     No(Refusal),
 }
 

@@ -1,6 +1,7 @@
 //! Laws of a desk, each the contract of a function that does nothing.
 ghost use Rattle.hub_desk.specs.Replies.{PublishIsOf, SubscribeIsOf};
 ghost use Rattle.hub_desk.specs.Standing.{RunsAnswer};
+ghost use Rattle.hub_desk.specs.Waits.{WaitsUseIds};
 
 use crate::local_desk::LocalDesk;
 
@@ -14,5 +15,10 @@ impl LocalDesk {
     pub fn asks_the_record()
         ensures subscribe { SubscribeIsOf }
         ensures publish { PublishIsOf }
+    {}
+
+    /// Whatever a wait answers, it leaves each fifodir as it was, but for ids that are used.
+    pub fn waits_use_ids()
+        ensures { WaitsUseIds }
     {}
 }

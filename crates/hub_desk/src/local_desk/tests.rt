@@ -14,12 +14,12 @@ use std::process::Abort;
 use std::sync::Wait;
 use std::test::Fail;
 
-fn named(rt: &impl Abort, alloc: Global, text: &str) -> Result<Name, AllocError> {
+pub(super) fn named(rt: &impl Abort, alloc: Global, text: &str) -> Result<Name, AllocError> {
     let name = Name::of(alloc, text.as_bytes())?;
     Ok(name.expect(rt, "a name"))
 }
 
-fn dir(name: &Name, waiting: u64, total: u64) -> Result<Request, AllocError>
+pub(super) fn dir(name: &Name, waiting: u64, total: u64) -> Result<Request, AllocError>
     requires { AreLimits waiting total }
     ensures { IfOk result IsInRange }
 {
@@ -31,13 +31,13 @@ fn dir(name: &Name, waiting: u64, total: u64) -> Result<Request, AllocError>
     })
 }
 
-fn sub(name: &Name) -> Result<Request, AllocError>
+pub(super) fn sub(name: &Name) -> Result<Request, AllocError>
     ensures { IfOk result IsInRange }
 {
     Ok(Request::Sub { name: name.copy()? })
 }
 
-fn publish(rt: &impl Abort, name: &Name, alloc: Global, text: &str) -> Result<Request, AllocError>
+pub(super) fn publish(rt: &impl Abort, name: &Name, alloc: Global, text: &str) -> Result<Request, AllocError>
     ensures { IfOk result IsInRange }
 {
     let mut letters = Vec::new(alloc);
@@ -51,7 +51,7 @@ fn publish(rt: &impl Abort, name: &Name, alloc: Global, text: &str) -> Result<Re
     })
 }
 
-fn close(name: &Name) -> Result<Request, AllocError>
+pub(super) fn close(name: &Name) -> Result<Request, AllocError>
     ensures { IfOk result IsInRange }
 {
     Ok(Request::Close { name: name.copy()? })
@@ -81,14 +81,33 @@ fn shown(alloc: Global, reply: &Reply) -> Result<String, AllocError> {
             }
             Ok(text)
         }
+        Reply::Hit(letters) => {
+            let mut text = String::from_str(alloc, "hit ")?;
+            for letter in letters.items() {
+                text.push(char::from(letter.byte()))?;
+            }
+            Ok(text)
+        }
         Reply::Nothing => String::from_str(alloc, "none"),
         Reply::End => String::from_str(alloc, "end"),
+        Reply::Yes(numbers) => {
+            let mut text = String::from_str(alloc, "yes")?;
+            for number in numbers.items() {
+                match number {
+                    Some(number) => text.push_str(format!(in alloc; " {number}")?.as_str())?,
+                    None => text.push_str(" -")?,
+                }
+            }
+            Ok(text)
+        }
+        Reply::Never => String::from_str(alloc, "never"),
+        Reply::Late => String::from_str(alloc, "late"),
         Reply::No(refusal) => format!(in alloc; "no {refusal:?}"),
     }
 }
 
 /// Asks, and once more after want of memory, which has changed nothing.
-fn expect<H: Abort + Wait>(
+pub(super) fn expect<H: Abort + Wait>(
     rt: &H,
     desk: &mut LocalDesk,
     request: &Request,
