@@ -6,7 +6,7 @@ use Rattle.hub_record.specs.Kept.{Kept, StandsFor}
 use Rattle.hub_record.specs.World.{World, found}
 use Rattle.hub_desk.specs.Answers.{answer_by, refusal_by_name}
 use Rattle.hub_desk.specs.Desks.{Desk, Answer, refused, world_of, with_world}
-use Rattle.hub_desk.specs.Standing.{Local, AreKept, Stands, StandsForSome, IsLacking, Answers, Unchanged}
+use Rattle.hub_desk.specs.Standing.{Local, AreKept, Stands, StandsForSome, IsAnswer, IsLacking, Answers, Unchanged}
 use Rattle.hub_desk.specs.declared.local_desk.LocalFifodir.{LocalFifodir}
 use Rattle.hub_desk.specs.declared.reply.Reply.{Reply}
 use Rattle.hub_desk.specs.declared.reply.Reply.TheVariants.{Done, Number, State, Got, Hit, Nothing, End, Yes, Never, Late, No}
@@ -106,6 +106,16 @@ answers_from {before} {old} {new} {needs} {own} {done} {left} {reply} same a = s
 pub answers_here : {before old : Local} {needs : Bool} {own : Desk → Option Refusal} {done : Desk → Answer} {left : Desk → Desk → Type 0} {reply : Reply} → before ≡ old
     → Answers before needs own done left reply before → Answers old needs own done left reply old
 answers_here {before} {old} {needs} {own} {done} {left} {reply} same a = subst (λ (z : Local). Answers z needs own done left reply z) same a
+
+-- ---- spelled by another refusal and another deed
+
+pub answers_like : {old new : Local} {needs : Bool} {own own' : Desk → Option Refusal} {done done' : Desk → Answer} {left : Desk → Desk → Type 0} {reply : Reply}
+    → ((d : Desk) → Stands old d → own' d ≡ own d) → ((d : Desk) → done' d ≡ done d) → Answers old needs own done left reply new → Answers old needs own' done' left reply new
+answers_like {old} {new} {needs} {own} {own'} {done} {done'} {left} {reply} same like a = record {
+  answered = λ real d st. subst (λ (o : Option Refusal). IsAnswer new d o (done' d) reply) (sym (same d st)) (subst (λ (x : Answer). IsAnswer new d (own d) x reply) (sym (like d)) (a.answered real d st));
+  grew = a.grew;
+  lacking = λ is d st. subst (λ (o : Option Refusal). IsLacking new o (left d)) (sym (same d st)) (a.lacking is d st);
+}
 
 -- ---- the same fifodirs and handles
 

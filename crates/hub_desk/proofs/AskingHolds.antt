@@ -4,22 +4,26 @@ use Rattle.std.proofs.lemmas.Bool.{cases_Bool, le-leb, lt-leb, leb-false}
 use Rattle.std.proofs.lemmas.Slice.Eq.{bytes_eq-Decides}
 use Rattle.std.specs.Map.{lookup}
 use Rattle.std.specs.Str.{bytes_eq}
+use Rattle.hub_listen.specs.Listening.{Listening, unheard}
+use Rattle.hub_listen.specs.declared.listener.Mode.{Mode}
+use Rattle.hub_listen.specs.declared.listener.Mode.TheVariants.{Repeat}
 use Rattle.hub_record.specs.declared.SubError.{SubError}
 use Rattle.hub_record.specs.declared.SubError.TheVariants as sub
 use Rattle.hub_record.specs.Kept.{Kept, StandsFor}
 use Rattle.hub_record.specs.World.{World, new_subscription, SubscribeReply, after_subscribe}
-use Rattle.hub_desk.specs.Answers.{in_world, refusal_to_hold, subscribed}
+use Rattle.hub_desk.specs.Answers.{in_world, refusal_to_hold, refusal_to_listen, subscribed}
 use Rattle.hub_desk.specs.Desks.{Desk, Handle, standing, world_of, with_world, subscription_of, AreHeld, AreApart, GoesOn, AllGoOn, refused}
 use Rattle.hub_desk.specs.Replies.{subscribe_reply, refusal_of_sub}
-use Rattle.hub_desk.specs.Standing.{Local, AreKept, Stands, Answers, Unchanged}
+use Rattle.hub_desk.specs.Standing.{Local, AreKept, Stands, Answers, AskedWith, Unchanged}
 use Rattle.hub_desk.specs.declared.local_desk.Hearing.{Hearing}
 use Rattle.hub_desk.specs.declared.local_desk.Holding.{Holding}
 use Rattle.hub_desk.specs.declared.local_desk.LocalFifodir.{LocalFifodir}
+use Rattle.hub_desk.specs.declared.request.Request.TheVariants.{Listen}
 use Rattle.hub_desk.specs.declared.reply.Reply.{Reply}
 use Rattle.hub_desk.specs.declared.reply.Reply.TheVariants.{Number, No}
 use Rattle.hub_desk.specs.declared.reply.Refusal.{Refusal}
 use Rattle.hub_desk.specs.declared.reply.Refusal.TheVariants as no
-use Rattle.hub_desk.proofs.Asking.{by_carrying, by_lacking, still_lacking, stands_same, Replaces, world_there, stands_replaced, stands_still}
+use Rattle.hub_desk.proofs.Asking.{answers_like, by_carrying, by_lacking, still_lacking, stands_same, Replaces, world_there, stands_replaced, stands_still}
 use Rattle.hub_desk.proofs.Holdings.{none_above, standing-push, held_push, apart_push, go_on_push, unheld_id}
 use Rattle.hub_desk.proofs.KeptFifodirs.{is_some-world_of, none_kept, world_of-with_world}
 use Rattle.hub_desk.proofs.RecordReplies.{subscribe_reply_is}
@@ -151,3 +155,12 @@ module _ (old : Local) (name : List ℕ) (hearing : Option Hearing) where
       hold_refused sub.Spent reply replies still same is = refused_by_record sub.Spent reply replies still same is (λ e. cc) (λ e. cc)
       hold_refused sub.Memory reply replies still same is = lacked_by_record sub.Memory reply replies still same is refl
 
+
+-- ---- a listener that was read
+
+pub listen_held : (old new : Local) (name pattern : List ℕ) (mode : Mode) (l : Listening) (reply : Reply) → ((d : Desk) → Stands old d → None ≡ refusal_to_hold d name) → l ≡ unheard pattern Repeat
+    → Answers old true (λ d. refusal_to_hold d name) (λ d. in_world d (λ w. subscribed d name (Some (record { listener = l; mode = mode; held = None })) w (subscribe_reply w)) (world_of d.fifodirs name)) Unchanged reply new
+    → AskedWith true old (Listen name mode pattern) reply new
+listen_held old new name pattern mode l reply may is a = answers_like
+    (λ d st. ap (refusal_to_listen true) (sym (may d st)) ∙ may d st)
+    (λ d. ap (λ (z : Listening). in_world d (λ w. subscribed d name (Some (record { listener = z; mode = mode; held = None })) w (subscribe_reply w)) (world_of d.fifodirs name)) (sym is)) a

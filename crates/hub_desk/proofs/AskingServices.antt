@@ -173,7 +173,7 @@ module _ (old new : Local) (span : Span) (want : Want) (names : List (List ℕ))
               let b = beside_opened want (take count names) (drop count names) d.fifodirs now [] posts g s e in
               still_held now names posts g (subst (λ (ns : List (List ℕ)). AreBeside ns posts g) (take-append-drop count names) (subst (λ (ps : List Post). AreBeside (take count names ++ drop count names) ps g) (sym b.are) b.beside)) b.stands) _ st.is_desk.held;
           apart = st.is_desk.apart;
-          may_hit = st.is_desk.may_hit;
+          go_on = st.is_desk.go_on;
         };
       }
 

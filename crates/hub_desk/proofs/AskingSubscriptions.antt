@@ -22,7 +22,7 @@ use Rattle.hub_desk.proofs.KeptFifodirs.{none_kept, some_kept, kept_set}
 use Rattle.hub_desk.proofs.Worlds.{found_changed}
 
 -- a take leaves each subscription standing
-taken_still : (w : World) (id max other : ℕ) → is_some (found w other) ≡ true → is_some (found (after_take w id max) other) ≡ true
+pub taken_still : (w : World) (id max other : ℕ) → is_some (found w other) ≡ true → is_some (found (after_take w id max) other) ≡ true
 taken_still w id max other s = by (found w id)
   where
     by : (o : Option Subscription) → is_some (found (after_take_for w id max o) other) ≡ true

@@ -13,7 +13,7 @@ use Rattle.hub_desk.proofs.Worlds.{found_below, found_changed_other}
 -- ---- the numbers
 
 -- a number below the first is not among them
-none_below : (from : ℕ) (hs : List Handle) (n : ℕ) → n < from → lookup (nat_eq n) (standing_from from hs) ≡ None
+pub none_below : (from : ℕ) (hs : List Handle) (n : ℕ) → n < from → lookup (nat_eq n) (standing_from from hs) ≡ None
 none_below from [] n l = refl
 none_below from (h ∷ rest) n l =
     let no : nat_eq n from ≡ false = ne_eqb n from (λ (e : n ≡ from). omega arith) in

@@ -14,4 +14,6 @@ mod ShortReplies
 pub mod Posts
 pub mod AskingServices
 mod UsedIds
+pub mod OtherHoldings
+pub mod AskingPolls
 pub mod Running

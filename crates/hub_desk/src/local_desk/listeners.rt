@@ -77,8 +77,11 @@ impl LocalDesk {
             Heard::Lacking => Reply::No(Refusal::Memory),
             Heard::Hit => {
                 letters.extend_from_slice(hearing.listener.hit()).unwrap();
-                if hearing.mode == Mode::Once {
-                    let _ = self.cancel(id);
+                match hearing.mode {
+                    Mode::Once => {
+                        let _ = self.cancel(id);
+                    }
+                    Mode::Repeat => {}
                 }
                 Reply::Hit(Letters::of(letters))
             }
