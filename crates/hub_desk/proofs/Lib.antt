@@ -11,9 +11,9 @@ pub mod HearingFronts
 pub mod AskingHolds
 pub mod AskingSubscriptions
 mod ShortReplies
-pub mod OtherHoldings
-pub mod AskingPolls
 pub mod Posts
 pub mod AskingServices
 mod UsedIds
+pub mod OtherHoldings
+pub mod AskingPolls
 pub mod Running
