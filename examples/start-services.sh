@@ -9,6 +9,8 @@
 # turns the wait may take, each about a millisecond. FTRIGHUB is the program.
 set -u
 ftrighub=${FTRIGHUB:-$(dirname "$0")/../ftrighub}
+db=${DB:-sleep 0.2}
+web=${WEB:-sleep 0.4}
 patience=${PATIENCE:-5000}
 work=$(mktemp -d) || exit 1
 socket=${1:-$work/hub}
@@ -54,10 +56,8 @@ done
 refused=$(echo "$made" | grep '^no ' | grep -v -x 'no exists')
 [ -z "$refused" ] || fail "the hub refused to make the services: $refused"
 
-# shellcheck disable=SC2086 # a command and its arguments
-start db ${DB:-sleep 0.2}
-# shellcheck disable=SC2086
-start web ${WEB:-sleep 0.4}
+start db sh -c "$db"
+start web sh -c "$web"
 
 # One request subscribes to both services, then looks how they stand, then waits: no change falls between.
 verdict=$(echo "wait all ready $patience db web" | "$ftrighub" call "$socket")
