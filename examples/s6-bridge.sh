@@ -35,7 +35,7 @@ fail() {
 
 # ask LINE: sends a request, and leaves the reply in $reply.
 ask() {
-    { echo "$1" >&4; } 2>/dev/null && read -r reply <&5 || fail "the hub is gone"
+    if ! { echo "$1" >&4; } 2>/dev/null || ! read -r reply <&5; then fail "the hub is gone"; fi
 }
 
 # next: leaves the next letter of the pipe in $letter. The wait for it can be broken off by a signal.

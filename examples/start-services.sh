@@ -39,6 +39,8 @@ start() {
     } | "$ftrighub" call "$socket" | grep '^no ' >&2 &
 }
 
+"$ftrighub" --help >/dev/null || exit 1 # where the program isn't built yet, this builds it
+
 if [ $# -eq 0 ]; then
     # Four sessions: one makes the services, each of them publishes in one, and one waits.
     "$ftrighub" serve "$socket" --sessions 4 &
