@@ -1,0 +1,76 @@
+#!/bin/sh
+# Starts two services and goes on as soon as both are ready. Where one has failed for good, or both aren't ready in
+# time, it says so and ends with status 1.
+#
+#     examples/start-services.sh             starts a hub of its own, which ends with it
+#     examples/start-services.sh SOCKET      uses the hub that listens at SOCKET; it needs four of its sessions
+#
+# From the environment: DB and WEB are the commands that make the two services ready, or fail. PATIENCE is how many
+# turns the wait may take, each about a millisecond. FTRIGHUB is the program.
+set -u
+ftrighub=${FTRIGHUB:-$(dirname "$0")/../ftrighub}
+db=${DB:-sleep 0.2}
+web=${WEB:-sleep 0.4}
+patience=${PATIENCE:-5000}
+work=$(mktemp -d) || exit 1
+socket=${1:-$work/hub}
+hub=
+
+clean_up() {
+    [ -z "$hub" ] || kill "$hub" 2>/dev/null
+    rm -rf "$work" # the hub leaves its socket file
+}
+trap clean_up EXIT
+trap 'exit 1' HUP INT TERM
+
+fail() {
+    echo "start-services: $1" >&2
+    exit 1
+}
+
+# start NAME COMMAND..: runs what makes a service ready, and publishes how it goes, as a supervisor does. In one session:
+# the letters are lines of the same connection.
+start() {
+    name=$1
+    shift
+    {
+        echo "pub $name u"
+        if "$@" </dev/null >&2; then echo "pub $name U"; else echo "pub $name dOD"; fi
+    } | "$ftrighub" call "$socket" | grep '^no ' >&2 &
+}
+
+"$ftrighub" --help >/dev/null || exit 1 # where the program isn't built yet, this builds it
+
+if [ $# -eq 0 ]; then
+    # Four sessions: one makes the services, each of them publishes in one, and one waits.
+    "$ftrighub" serve "$socket" --sessions 4 &
+    hub=$!
+fi
+
+# Makes the services. The hub listens a moment after it was started, so this tries until it can connect. The letter `s`
+# is published before the wait begins: it ends whatever the services were before, where the hub is an old one.
+tries=0
+until made=$(printf 'svc db 64 1000 1\nsvc web 64 1000 1\npub db s\npub web s\n' | "$ftrighub" call "$socket" 2>/dev/null); do
+    tries=$((tries + 1))
+    [ "$tries" -lt 50 ] || fail "no hub answers at $socket"
+    sleep 0.1
+done
+refused=$(echo "$made" | grep '^no ' | grep -v -x 'no exists')
+[ -z "$refused" ] || fail "the hub refused to make the services: $refused"
+
+start db sh -c "$db"
+start web sh -c "$web"
+
+# One request subscribes to both services, then looks how they stand, then waits: no change falls between.
+verdict=$(echo "wait all ready $patience db web" | "$ftrighub" call "$socket")
+case $verdict in
+yes\ *) echo "start-services: db and web are ready" ;;
+never) fail "a service has failed and won't be restarted" ;;
+late) fail "db and web aren't both ready after $patience turns" ;;
+*) fail "the hub answered '$verdict'" ;;
+esac
+
+# Here goes what needs both services.
+
+wait # for the last replies, and for the hub, which ends with its fourth session
+hub=
