@@ -1,7 +1,9 @@
 //! Measures what the hub stands on, beside plain forms of the same work, so that the ratios hold on any machine:
-//! `record`, how many letters a second pass a record, and `fifodir`, looks and publishing among threads.
+//! `record`, how many letters a second pass a record, and `fifodir`, looks and publishing among threads. `echo` is no
+//! measure but a contender: a program of the same making as the hub that does nothing with a line but write it back.
 #![tactic(auto)]
 
+mod echo;
 mod shared;
 
 use anyhow::{Result, anyhow};
@@ -9,6 +11,7 @@ use hub_letters::Letter;
 use hub_record::{Event, Kind, Limits, Record};
 use std::alloc::{AllocGlobal, Global};
 use std::env;
+use std::io::{Read, Write};
 use std::process::ExitCode;
 use std::rt::{Clock, Runtime};
 use std::sync::Wait;
@@ -25,7 +28,7 @@ const MEASURES: [(usize, u32); 2] = [(1, 1_000_000), (256, 20_000)];
 const LISTENERS: [u64; 3] = [1, 4, 16];
 
 fn main(rt: HostRuntime) -> ExitCode {
-    match run(&rt, rt.alloc()) {
+    match run(&rt, rt.alloc(), rt.stdin(), &mut rt.stdout()) {
         Ok(()) => ExitCode::SUCCESS,
         Err(fault) => {
             let _ = eprintln!(rt; "hub_bench: {fault}");
@@ -34,16 +37,19 @@ fn main(rt: HostRuntime) -> ExitCode {
     }
 }
 
-fn run(
+fn run<R: Read + Drop, W: Write>(
     rt: &(impl Runtime + AllocGlobal + Wait + Threads + Sync + Send + 'static),
     alloc: Global,
+    input: R,
+    output: &mut W,
 ) -> Result<()> {
     let word = env::args(rt)?.nth(1);
     match word.as_ref().map(|word| word.as_str()) {
         Some("record") => measure_record(rt, alloc),
         Some("fifodir") => measure_fifodir(rt, alloc),
+        Some("echo") => echo::echo(alloc, input, output),
         _ => {
-            println!(rt; "usage: hub_bench record|fifodir")?;
+            println!(rt; "usage: hub_bench record|fifodir|echo")?;
             Ok(())
         }
     }

@@ -3,7 +3,7 @@ use Rattle.std.proofs.Common.{inl, inr, ◌≡◌, ℕ, ◌≤◌, Bool, true, f
 use Rattle.std.proofs.lemmas.Bool.{cases_eq}
 use Rattle.hub_desk.specs.declared.request.Request.{Request}
 use Rattle.hub_desk.specs.declared.request.Request.TheVariants as request
-use Rattle.hub_front.specs.Spelling.{Form, Dir, Svc, Sub, Pub, Take, Cancel, Close, Status, IsWithin, form_of, digit_of}
+use Rattle.hub_front.specs.Spelling.{Form, Dir, Svc, Sub, Pub, Take, Cancel, Close, Status, Listen, Poll, Wait, IsWithin, form_of, digit_of}
 
 flag_of : (reports : ℕ) → reports ≤ 1 → (notifies : Bool) × (digit_of notifies ≡ reports)
 flag_of reports few = elim (cases_eq reports 0) [
@@ -21,3 +21,6 @@ request_asked (Take id max) h = (request.Take id max, refl)
 request_asked (Cancel id) h = (request.Cancel id, refl)
 request_asked (Close name) h = (request.Close name, refl)
 request_asked (Status name) h = (request.Status name, refl)
+request_asked (Listen name mode pattern) h = (request.Listen name mode pattern, refl)
+request_asked (Poll id) h = (request.Poll id, refl)
+request_asked (Wait span want turns names) h = (request.Wait span want turns names, refl)

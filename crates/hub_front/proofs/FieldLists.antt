@@ -1,7 +1,7 @@
 -- A line of a form, as its list of fields.
 use Rattle.std.proofs.Common.{inl, inr, ◌≡◌, ℕ, ◌≤◌, List, [], ◌∷◌, length, false, refl, sym, ap, ◌∙◌, subst, codes, arith}
-use Rattle.std.specs.Prelude.{All, if◌then◌else◌}
-use Rattle.std.specs.Str.{bytes_eq}
+use Rattle.std.specs.Prelude.{All}
+use Rattle.std.specs.Fmt.{decimal}
 use Rattle.std.specs.List.{after_first, position_or_len, join_with_byte}
 use Rattle.std.proofs.lemmas.Bool.{cases_lt}
 use Rattle.std.proofs.lemmas.List.{take_all}
@@ -9,35 +9,12 @@ use Rattle.std.proofs.lemmas.List.Elements.{All-from_get_or, All-cons, All-appen
 use Rattle.std.proofs.lemmas.List.Sums.{fails_before_first}
 use Rattle.std.proofs.lemmas.List.Splits.{slice_split_first, join_with_byte-slice_split}
 use Rattle.hub_front.specs.declared.words.Word.{Word}
-use Rattle.hub_front.specs.declared.words.Word.TheVariants as word
-use Rattle.hub_front.specs.Spelling.{Form, Dir, Svc, Sub, Pub, Take, Cancel, Close, Status, IsForm, spelling, word_of, text_of_word}
+use Rattle.hub_front.specs.Spelling.{◌·◌, Form, Dir, Svc, Sub, Pub, Take, Cancel, Close, Status, Listen, Poll, Wait, IsForm, spelling, word_of, text_of_word, text_of_mode, text_of_span, text_of_want}
 use Rattle.hub_front.specs.Fields.{is_space, fields_of, fields_behind, IsNoForm, IsFormOf}
 use Rattle.hub_front.specs.Reading.{first_word, IsTextByte, IsText, HasForm}
-use Rattle.hub_front.proofs.Splits.{IsOneField, fields_of-one, fields_of-more}
-use Rattle.hub_front.proofs.Visible.{AreVisible, one_field, plain, visible_name, visible_numeral, visible_word}
-
--- ---- words
-
--- the word that is spelled so; Status also where none is
-abbrev pub word_at : List ℕ → Word
-word_at text =
-    if bytes_eq text (codes "dir") then word.Dir else if bytes_eq text (codes "svc") then word.Svc
-    else if bytes_eq text (codes "sub") then word.Sub else if bytes_eq text (codes "pub") then word.Pub
-    else if bytes_eq text (codes "take") then word.Take else if bytes_eq text (codes "cancel") then word.Cancel
-    else if bytes_eq text (codes "close") then word.Close else word.Status
-
-word_at-text_of_word : (word : Word) → word_at (text_of_word word) ≡ word
-word_at-text_of_word word.Dir = refl
-word_at-text_of_word word.Svc = refl
-word_at-text_of_word word.Sub = refl
-word_at-text_of_word word.Pub = refl
-word_at-text_of_word word.Take = refl
-word_at-text_of_word word.Cancel = refl
-word_at-text_of_word word.Close = refl
-word_at-text_of_word word.Status = refl
-
-pub same_word : (v w : Word) → text_of_word v ≡ text_of_word w → v ≡ w
-same_word v w e = sym (word_at-text_of_word v) ∙ ap word_at e ∙ word_at-text_of_word w
+use Rattle.hub_front.proofs.Splits.{IsOneField, fields_of-one, fields_of-more, some_fields, join_before}
+use Rattle.hub_front.proofs.Visible.{AreVisible, AllVisible, one_field, plain, visible_name, visible_names, visible_numeral, visible_fields, visible_word, visible_mode, visible_span, visible_want}
+use Rattle.hub_front.proofs.SameWords.{same_word}
 
 -- the first word of a line is its first field
 pub first_word-fields : (line field : List ℕ) (more : List (List ℕ)) → fields_of line ≡ field ∷ more → first_word line ≡ field
@@ -56,19 +33,22 @@ first_word-fields line field more e = elim (cases_lt (position_or_len is_space l
 abbrev pub fields_in : Form → List (List ℕ)
 fields_in form = text_of_word (word_of form) ∷ fields_behind form
 
-spelling-join : (form : Form) → spelling form ≡ join_with_byte 32 (fields_in form)
-spelling-join (Dir name waiting total) = refl
-spelling-join (Svc name waiting total reports) = refl
-spelling-join (Sub name) = refl
-spelling-join (Pub name letters) = refl
-spelling-join (Take id max) = refl
-spelling-join (Cancel id) = refl
-spelling-join (Close name) = refl
-spelling-join (Status name) = refl
-
-abbrev AllVisible : List (List ℕ) → Type 0
-AllVisible [] = Unit {0}
-AllVisible (field ∷ fields) = AreVisible field × AllVisible fields
+spelling-join : (form : Form) → IsForm form → spelling form ≡ join_with_byte 32 (fields_in form)
+spelling-join (Dir name waiting total) h = refl
+spelling-join (Svc name waiting total reports) h = refl
+spelling-join (Sub name) h = refl
+spelling-join (Pub name letters) h = refl
+spelling-join (Take id max) h = refl
+spelling-join (Cancel id) h = refl
+spelling-join (Close name) h = refl
+spelling-join (Status name) h = refl
+spelling-join (Listen name mode pattern) h =
+    let joined : text_of_mode mode · pattern ≡ join_with_byte 32 (text_of_mode mode ∷ fields_of pattern) =
+    sym (join_before (text_of_mode mode) (fields_of pattern) (some_fields pattern) ∙ ap (λ text. text_of_mode mode · text) (join_with_byte-slice_split 32 pattern)) in
+    ap (λ text. codes "listen" · name · text) joined
+spelling-join (Poll id) h = refl
+spelling-join (Wait span want turns names) h =
+    ap (λ text. codes "wait" · text_of_span span · text_of_want want · text) (sym (join_before (decimal turns) names h.1.some))
 
 visible_behind : (form : Form) → IsForm form → AllVisible (fields_behind form)
 visible_behind (Dir name waiting total) h = (visible_name name h.0, (visible_numeral waiting h.1, (visible_numeral total h.2, tt)))
@@ -79,6 +59,9 @@ visible_behind (Take id max) h = (visible_numeral id h.0, (visible_numeral max h
 visible_behind (Cancel id) h = (visible_numeral id h, tt)
 visible_behind (Close name) h = (visible_name name h, tt)
 visible_behind (Status name) h = (visible_name name h, tt)
+visible_behind (Listen name mode pattern) h = (visible_name name h.0, (visible_mode mode, visible_fields pattern h.1.plain))
+visible_behind (Poll id) h = (visible_numeral id h, tt)
+visible_behind (Wait span want turns names) h = (visible_span span, (visible_want want, (visible_numeral turns h.0, visible_names names h.1.each)))
 
 fields_of-join : (field : List ℕ) (fields : List (List ℕ)) → AreVisible field → AllVisible fields → fields_of (join_with_byte 32 (field ∷ fields)) ≡ field ∷ fields
 fields_of-join field [] first rest = fields_of-one field (one_field field first)
@@ -92,12 +75,12 @@ plain_join field (next ∷ fields) first rest =
     (All-cons IsTextByte 32 (join_with_byte 32 (next ∷ fields)) (omega arith, omega arith) (plain_join next fields rest.0 rest.1))
 
 pub fields_of-spelling : (form : Form) → IsForm form → fields_of (spelling form) ≡ fields_in form
-fields_of-spelling form h = ap fields_of (spelling-join form) ∙ fields_of-join (text_of_word (word_of form)) (fields_behind form) (visible_word (word_of form)) (visible_behind form h)
+fields_of-spelling form h = ap fields_of (spelling-join form h) ∙ fields_of-join (text_of_word (word_of form)) (fields_behind form) (visible_word (word_of form)) (visible_behind form h)
 
 pub text_of_form : (form : Form) → IsForm form → length (spelling form) ≤ 512 → IsText (spelling form)
 text_of_form form h short = record {
   short = short;
-  plain = subst (All IsTextByte) (sym (spelling-join form)) (plain_join (text_of_word (word_of form)) (fields_behind form) (visible_word (word_of form)) (visible_behind form h));
+  plain = subst (All IsTextByte) (sym (spelling-join form h)) (plain_join (text_of_word (word_of form)) (fields_behind form) (visible_word (word_of form)) (visible_behind form h));
 }
 
 -- a line has a form exactly where its fields are the form's
@@ -107,7 +90,7 @@ fields_of-has_form line form has = ap fields_of has.spelled ∙ fields_of-spelli
 pub has_form-fields_of : (line : List ℕ) (form : Form) → IsForm form → fields_of line ≡ fields_in form → HasForm line form
 has_form-fields_of line form h e = record {
   formed = h;
-  spelled = sym (join_with_byte-slice_split 32 line) ∙ ap (join_with_byte 32) e ∙ sym (spelling-join form);
+  spelled = sym (join_with_byte-slice_split 32 line) ∙ ap (join_with_byte 32) e ∙ sym (spelling-join form h);
 }
 
 -- ---- what the parts of a line say of it

@@ -2,17 +2,22 @@
 use Rattle.std.proofs.Common.{◌≡◌, ◌≢◌, ℕ, ◌<◌, ◌≤◌, List, length, Bool, true, false, Result, Ok, Err, refl, sym, ap, subst, arith}
 use Rattle.std.specs.Prelude.{Any}
 use Rattle.std.specs.Fmt.{decimal}
+use Rattle.hub_letters.specs.declared.want.Want.{Want}
+use Rattle.hub_listen.specs.declared.listener.Mode.{Mode}
+use Rattle.hub_wait.specs.declared.tally.Span.{Span}
 use Rattle.hub_desk.specs.declared.request.Request.{Request}
 use Rattle.hub_desk.specs.declared.request.Request.TheVariants as request
 use Rattle.hub_front.specs.declared.parsing.Bad.{Bad}
 use Rattle.hub_front.specs.declared.parsing.Bad.TheVariants.{Long, Text, Range, Memory}
 use Rattle.hub_front.specs.declared.words.Word.{Word}
 use Rattle.hub_front.specs.declared.parsing.Bad.TheVariants as bad
-use Rattle.hub_front.specs.Spelling.{Form, Dir, Svc, Sub, Pub, Take, Cancel, Close, Status, IsForm, IsWithin, form_of, digit_of, word_of, text_of_word}
+use Rattle.hub_front.specs.Spelling.{Form, Dir, Svc, Sub, Pub, Take, Cancel, Close, Status, Listen, Poll, Wait, IsForm, IsWithin, form_of, digit_of, word_of, text_of_word, text_of_mode, text_of_span, text_of_want}
 use Rattle.hub_front.specs.Fields.{fields_of, fields_behind}
 use Rattle.hub_front.specs.Reading.{first_word, IsTextByte, IsText, HasForm, Spells, IsReading}
 use Rattle.hub_front.proofs.Numerals.{same_number}
-use Rattle.hub_front.proofs.FieldLists.{same_word, first_word-fields, fields_in, fields_of-has_form}
+use Rattle.hub_front.proofs.Splits.{same_text}
+use Rattle.hub_front.proofs.SameWords.{same_word, same_mode, same_span, same_want}
+use Rattle.hub_front.proofs.FieldLists.{first_word-fields, fields_in, fields_of-has_form}
 
 -- ---- forms and requests
 
@@ -48,6 +53,29 @@ same_take i x j y h k e =
 same_cancel : (i j : ℕ) → IsForm (Cancel i) → IsForm (Cancel j) → fields_behind (Cancel i) ≡ fields_behind (Cancel j) → Cancel i ≡ Cancel j
 same_cancel i j h k e = let first : decimal i ≡ decimal j = cc in ap Cancel (same_number i j h k first)
 
+same_poll : (i j : ℕ) → IsForm (Poll i) → IsForm (Poll j) → fields_behind (Poll i) ≡ fields_behind (Poll j) → Poll i ≡ Poll j
+same_poll i j h k e = let first : decimal i ≡ decimal j = cc in ap Poll (same_number i j h k first)
+
+same_listen : (n m : List ℕ) (o r : Mode) (p q : List ℕ) → fields_behind (Listen n o p) ≡ fields_behind (Listen m r q) → Listen n o p ≡ Listen m r q
+same_listen n m o r p q e =
+    let names : n ≡ m = cc in
+    let words : text_of_mode o ≡ text_of_mode r = cc in
+    let fields : fields_of p ≡ fields_of q = cc in
+    let mode = same_mode o r words in
+    let pattern = same_text p q fields in
+    cc
+
+same_wait : (s t : Span) (w v : Want) (x y : ℕ) (n m : List (List ℕ)) → IsForm (Wait s w x n) → IsForm (Wait t v y m) → fields_behind (Wait s w x n) ≡ fields_behind (Wait t v y m) → Wait s w x n ≡ Wait t v y m
+same_wait s t w v x y n m h k e =
+    let first : text_of_span s ≡ text_of_span t = cc in
+    let second : text_of_want w ≡ text_of_want v = cc in
+    let third : decimal x ≡ decimal y = cc in
+    let names : n ≡ m = cc in
+    let span = same_span s t first in
+    let want = same_want w v second in
+    let turns = same_number x y h.0 k.0 third in
+    cc
+
 same_form : (a b : Form) → IsForm a → IsForm b → word_of a ≡ word_of b → fields_behind a ≡ fields_behind b → a ≡ b
 same_form (Dir n w t) (Dir m v s) h k words e = same_dir n m w t v s h k e
 same_form (Svc n w t r) (Svc m v s q) h k words e = same_svc n m w t r v s q h k e
@@ -57,6 +85,9 @@ same_form (Take i x) (Take j y) h k words e = same_take i x j y h k e
 same_form (Cancel i) (Cancel j) h k words e = same_cancel i j h k e
 same_form (Close n) (Close m) h k words e = cc
 same_form (Status n) (Status m) h k words e = cc
+same_form (Listen n o p) (Listen m r q) h k words e = same_listen n m o r p q e
+same_form (Poll i) (Poll j) h k words e = same_poll i j h k e
+same_form (Wait s w x n) (Wait t v y m) h k words e = same_wait s t w v x y n m h k e
 same_form a b h k words e = cc
 
 pub one_form : (line : List ℕ) (a b : Form) → HasForm line a → HasForm line b → a ≡ b
@@ -82,6 +113,9 @@ same_request (request.Take i x) (request.Take j y) e = cc
 same_request (request.Cancel i) (request.Cancel j) e = cc
 same_request (request.Close n) (request.Close m) e = cc
 same_request (request.Status n) (request.Status m) e = cc
+same_request (request.Listen n o p) (request.Listen m r q) e = cc
+same_request (request.Poll i) (request.Poll j) e = cc
+same_request (request.Wait s w x n) (request.Wait t v y m) e = cc
 same_request a b e = cc
 
 pub one_request : (line : List ℕ) (a b : Request) → Spells line a → Spells line b → a ≡ b

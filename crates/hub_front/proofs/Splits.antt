@@ -4,7 +4,8 @@ use Rattle.std.specs.Prelude.{All}
 use Rattle.std.specs.List.{join_with_byte}
 use Rattle.std.proofs.lemmas.Bool.{ne_eqb}
 use Rattle.std.proofs.lemmas.List.{drop_more, take-append-drop, get_or-take, get_or_default, take_rest, length-take}
-use Rattle.std.proofs.lemmas.List.Splits.{slice_split_none, slice_split_at, join_with_byte-slice_split}
+use Rattle.std.proofs.lemmas.List.Splits.{slice_split_none, slice_split_at, length-slice_split, join_with_byte-slice_split}
+use Rattle.hub_front.specs.Spelling.{◌·◌}
 use Rattle.hub_front.specs.Fields.{is_space, fields_of}
 
 -- no byte of the text is a space
@@ -42,3 +43,15 @@ fields_of-at text i below before space =
 
 pub text_of_one : (text field : List ℕ) → fields_of text ≡ field ∷ [] → text ≡ field
 text_of_one text field e = sym (join_with_byte-slice_split 32 text) ∙ ap (join_with_byte 32) e
+
+pub same_text : (a b : List ℕ) → fields_of a ≡ fields_of b → a ≡ b
+same_text a b e = sym (join_with_byte-slice_split 32 a) ∙ ap (join_with_byte 32) e ∙ join_with_byte-slice_split 32 b
+
+-- each text has a field
+pub some_fields : (text : List ℕ) → 0 < length (fields_of text)
+some_fields text = omega (arith, length-slice_split is_space text)
+
+-- a field joined to those behind it
+pub join_before : (field : List ℕ) (fields : List (List ℕ)) → 0 < length fields → join_with_byte 32 (field ∷ fields) ≡ field · join_with_byte 32 fields
+join_before field [] some = absurd (omega arith)
+join_before field (next ∷ fields) some = refl

@@ -1,15 +1,22 @@
--- Names, numerals, letters and words are of visible bytes: of bytes that may stand in a line, and are no space.
-use Rattle.std.proofs.Common.{◌≡◌, ◌≢◌, ℕ, ◌≤◌, List, [], ◌∷◌, Bool, true, false, not, nat_lt, Option, None, Some, refl, ap, ◌∙◌, codes, arith}
+-- Names, numerals, letters, words, and what stands between the spaces of a text, are of visible bytes: of bytes that may
+-- stand in a line, and are no space.
+use Rattle.std.proofs.Common.{◌≡◌, ◌≢◌, ℕ, ◌≤◌, List, [], ◌∷◌, Bool, true, false, cond, not, nat_lt, Option, None, Some, refl, ap, ◌∙◌, codes, arith}
 use Rattle.std.specs.Prelude.{All, MatchOption}
 use Rattle.std.specs.Fmt.{decimal}
-use Rattle.std.specs.List.{list_all}
+use Rattle.std.specs.List.{list_all, onto_first}
 use Rattle.std.specs.Char.{is_ascii_digit}
-use Rattle.std.proofs.lemmas.Bool.{and_parts, or_cases, eqb-true, ne_eqb, not-true, ltb-false}
-use Rattle.std.proofs.lemmas.List.Elements.{All-nil, All-cons, All-weaker}
+use Rattle.std.proofs.lemmas.Bool.{and_parts, or_cases, eqb-true, eqb-false, ne_eqb, not-true, ltb-false}
+use Rattle.std.proofs.lemmas.List.Elements.{All-nil, All-cons, All-head, All-tail, All-weaker}
+use Rattle.hub_letters.specs.declared.want.Want.{Want}
+use Rattle.hub_letters.specs.declared.want.Want.TheVariants.{Up, Ready, Down, Finished}
+use Rattle.hub_listen.specs.declared.listener.Mode.{Mode}
+use Rattle.hub_listen.specs.declared.listener.Mode.TheVariants.{Once, Repeat}
+use Rattle.hub_wait.specs.declared.tally.Span.{Span}
+use Rattle.hub_wait.specs.declared.tally.Span.TheVariants as span
 use Rattle.hub_desk.specs.Names.{within, is_name_byte}
 use Rattle.hub_front.specs.declared.words.Word.{Word}
 use Rattle.hub_front.specs.declared.words.Word.TheVariants as word
-use Rattle.hub_front.specs.Spelling.{IsName, IsNumeral, text_of_word}
+use Rattle.hub_front.specs.Spelling.{IsName, IsNumeral, text_of_word, text_of_mode, text_of_span, text_of_want}
 use Rattle.hub_front.specs.Fields.{is_space, fields_of, IsNumeralOf}
 use Rattle.hub_front.specs.Reading.{IsTextByte}
 use Rattle.hub_front.proofs.Numerals.{digits_of_numeral}
@@ -59,6 +66,47 @@ visible_word word.Take = visible_name (codes "take") refl
 visible_word word.Cancel = visible_name (codes "cancel") refl
 visible_word word.Close = visible_name (codes "close") refl
 visible_word word.Status = visible_name (codes "status") refl
+visible_word word.Listen = visible_name (codes "listen") refl
+visible_word word.Poll = visible_name (codes "poll") refl
+visible_word word.Wait = visible_name (codes "wait") refl
+
+pub visible_mode : (mode : Mode) → AreVisible (text_of_mode mode)
+visible_mode Once = visible_name (codes "once") refl
+visible_mode Repeat = visible_name (codes "repeat") refl
+
+pub visible_span : (span : Span) → AreVisible (text_of_span span)
+visible_span span.All = visible_name (codes "all") refl
+visible_span span.Any = visible_name (codes "any") refl
+
+pub visible_want : (want : Want) → AreVisible (text_of_want want)
+visible_want Up = visible_name (codes "up") refl
+visible_want Ready = visible_name (codes "ready") refl
+visible_want Down = visible_name (codes "down") refl
+visible_want Finished = visible_name (codes "finished") refl
+
+-- ---- lists of fields
+
+abbrev pub AllVisible : List (List ℕ) → Type 0
+AllVisible [] = Unit {0}
+AllVisible (field ∷ fields) = AreVisible field × AllVisible fields
+
+pub visible_names : (names : List (List ℕ)) → All IsName names → AllVisible names
+visible_names [] named = tt
+visible_names (name ∷ names) named = (visible_name name (All-head IsName name names named), visible_names names (All-tail IsName name names named))
+
+visible_onto : (b : ℕ) (fields : List (List ℕ)) → IsVisible b → AllVisible fields → AllVisible (onto_first b fields)
+visible_onto b [] h rest = (All-cons IsVisible b [] h (All-nil IsVisible), tt)
+visible_onto b (field ∷ fields) h rest = (All-cons IsVisible b field h rest.0, rest.1)
+
+visible_by_test : (t : Bool) (b : ℕ) (fields : List (List ℕ)) → is_space b ≡ t → IsTextByte b → AllVisible fields → AllVisible (cond t ([] ∷ fields) (onto_first b fields))
+visible_by_test true b fields e range rest = (All-nil IsVisible, rest)
+visible_by_test false b fields e range rest = let other : b ≢ 32 = eqb-false b 32 e in visible_onto b fields (omega (arith, range.0), range.1) rest
+
+-- what stands between the spaces of a text is visible
+pub visible_fields : (text : List ℕ) → All IsTextByte text → AllVisible (fields_of text)
+visible_fields [] plain = (All-nil IsVisible, tt)
+visible_fields (b ∷ bs) plain =
+    visible_by_test (is_space b) b (fields_of bs) refl (All-head IsTextByte b bs plain) (visible_fields bs (All-tail IsTextByte b bs plain))
 
 -- a text is a numeral where its one field is
 pub fields_of_numeral : (text : List ℕ) (number : Option ℕ) → IsNumeralOf text number

@@ -4,7 +4,7 @@ use Rattle.std.specs.List.{slice_split}
 use Rattle.std.specs.Fmt.{decimal}
 use Rattle.std.specs.Char.{is_ascii_digit}
 use Rattle.hub_front.specs.declared.words.Word.{Word}
-use Rattle.hub_front.specs.Spelling.{Form, Dir, Svc, Sub, Pub, Take, Cancel, Close, Status, IsNumeral, IsForm, word_of}
+use Rattle.hub_front.specs.Spelling.{Form, Dir, Svc, Sub, Pub, Take, Cancel, Close, Status, Listen, Poll, Wait, IsNumeral, IsForm, word_of, text_of_mode, text_of_span, text_of_want}
 
 abbrev pub is_space : ℕ → Bool
 is_space b = b == 32
@@ -32,6 +32,9 @@ fields_behind (Take id max) = decimal id ∷ decimal max ∷ []
 fields_behind (Cancel id) = decimal id ∷ []
 fields_behind (Close name) = name ∷ []
 fields_behind (Status name) = name ∷ []
+fields_behind (Listen name mode pattern) = name ∷ text_of_mode mode ∷ fields_of pattern
+fields_behind (Poll id) = decimal id ∷ []
+fields_behind (Wait span want turns names) = text_of_span span ∷ text_of_want want ∷ decimal turns ∷ names
 
 -- no form of the word has these fields
 abbrev pub IsNoForm : Word → List (List ℕ) → Type 0

@@ -7,7 +7,7 @@ use Rattle.hub_front.specs.Fields.{fields_of, IsNoForm, IsFormOf}
 use Rattle.hub_front.specs.declared.parsing.Bad.{Bad}
 use Rattle.hub_front.specs.declared.words.Word.{Word}
 use Rattle.hub_front.specs.declared.forms.Form as borrowed
-use Rattle.hub_front.specs.declared.forms.Form.TheVariants.{Dir, Svc, Sub, Pub, Take, Cancel, Close, Status}
+use Rattle.hub_front.specs.declared.forms.Form.TheVariants.{Dir, Svc, Sub, Pub, Take, Cancel, Close, Status, Listen, Poll, Wait}
 
 abbrev pub form_shown : borrowed.Form → Form
 form_shown (Dir name waiting total) = spelled.Dir name.now waiting total
@@ -18,6 +18,9 @@ form_shown (Take id max) = spelled.Take id max
 form_shown (Cancel id) = spelled.Cancel id
 form_shown (Close name) = spelled.Close name.now
 form_shown (Status name) = spelled.Status name.now
+form_shown (Listen name mode pattern) = spelled.Listen name.now mode pattern.now
+form_shown (Poll id) = spelled.Poll id
+form_shown (Wait span want turns names) = spelled.Wait span want turns (fields_of names.now)
 
 -- the form of the word whose fields stand in the rest of a line, if there is one
 abbrev pub Finds : Word → List ℕ → Option borrowed.Form → Type 0

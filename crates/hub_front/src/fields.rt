@@ -1,11 +1,17 @@
 //! The fields of a line.
-ghost use Rattle.std.specs.Prelude.{◌≡◌, ◌<◌, ◌≤◌, ◌↔◌, IsTrue, slice_index, ◌∷◌, [], length, All, Any, MatchBool, MatchOption};
-ghost use Rattle.hub_front.specs.Spelling.{AreLetters};
+ghost use Rattle.std.specs.Prelude.{◌≡◌, ◌<◌, ◌≤◌, ◌↔◌, IsTrue, slice_index, ◌∷◌, [], length, count_by, All, Any, MatchBool, MatchOption};
+ghost use Rattle.hub_front.specs.Spelling.{AreLetters, AreNames, IsName, IsPattern};
 ghost use Rattle.hub_front.specs.Reading.{IsTextByte};
-ghost use Rattle.hub_front.specs.Fields.{fields_of, digits_from, IsNumeralOf};
+ghost use Rattle.hub_front.specs.Fields.{is_space, fields_of, digits_from, IsNumeralOf};
+
+use hub_desk::Name;
 
 /// A numeral has at most so many digits.
 const MOST_DIGITS: usize = 13;
+/// A pattern has at most so many bytes.
+const LONGEST_PATTERN: usize = 200;
+/// One may wait for at most so many services.
+const MOST_NAMES: usize = 32;
 
 /// Whether each byte may stand in a line.
 pub fn is_text(line: &[u8]) -> bool
@@ -71,4 +77,30 @@ pub fn are_letters(text: &[u8]) -> bool
         return false;
     }
     text.iter().all(|b| *b >= b'!' && *b <= b'~')
+}
+
+/// Whether a pattern may be spelled so: whether it is one is for its reader to say.
+pub fn is_pattern(text: &[u8]) -> bool
+    ensures { MatchBool result (IsPattern text.now) (IsPattern text.now → ⊥) }
+{
+    !text.is_empty() && text.len() <= LONGEST_PATTERN && is_text(text)
+}
+
+/// Whether the fields of the text are names, and not too many.
+pub fn are_names(text: &[u8]) -> bool
+    ensures { MatchBool result (AreNames (fields_of text.now)) (AreNames (fields_of text.now) → ⊥) }
+{
+    spaces(text) < MOST_NAMES && fields_are_names(text)
+}
+
+fn spaces(text: &[u8]) -> usize
+    ensures { result ≡ count_by is_space text.now }
+{
+    text.iter().filter(|b| **b == b' ').count()
+}
+
+fn fields_are_names(text: &[u8]) -> bool
+    ensures { MatchBool result (All IsName (fields_of text.now)) (All IsName (fields_of text.now) → ⊥) }
+{
+    text.split(|b| *b == b' ').all(Name::is_name)
 }

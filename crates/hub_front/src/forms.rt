@@ -1,13 +1,15 @@
 //! The forms of lines: for each word, what stands behind it.
-ghost use Rattle.std.specs.Prelude.{◌≡◌, ◌≢◌, ◌∷◌, [], ℕ, List, MatchOption};
-ghost use Rattle.std.specs.Fmt.{decimal};
-ghost use Rattle.hub_front.specs.Spelling.{IsName, IsNumeral, AreLetters};
-ghost use Rattle.hub_front.specs.Fields.{fields_of};
+ghost use Rattle.std.specs.Prelude.{◌≡◌};
 ghost use Rattle.hub_front.specs.Forms.{Finds};
 
-use crate::fields::{are_letters, numeral, split_at_space};
+use crate::parts::{
+    last_letters, last_name, last_names, last_numeral, last_pattern, mode_first, name_first,
+    numeral_first, span_first, want_first,
+};
 use crate::words::Word;
-use hub_desk::Name;
+use hub_letters::Want;
+use hub_listen::Mode;
+use hub_wait::Span;
 
 /// What a line of a form says, its numbers not yet held to their ranges.
 #[derive(Clone, Copy)]
@@ -43,55 +45,21 @@ pub enum Form<'a> {
     Status {
         name: &'a [u8],
     },
-}
-
-fn name_first(rest: &[u8]) -> Option<(&[u8], &[u8])>
-    ensures { MatchOption result
-        ((name field : List ℕ) (more : List (List ℕ)) → IsName name → fields_of rest.now ≢ name ∷ field ∷ more)
-        (λ p. IsName p.0.now × (fields_of rest.now ≡ p.0.now ∷ fields_of p.1.now)) }
-{
-    let (name, rest) = split_at_space(rest)?;
-    if !Name::is_name(name) {
-        return None;
-    }
-    Some((name, rest))
-}
-
-fn numeral_first(rest: &[u8]) -> Option<(u64, &[u8])>
-    ensures { MatchOption result
-        ((n : ℕ) (field : List ℕ) (more : List (List ℕ)) → IsNumeral n → fields_of rest.now ≢ decimal n ∷ field ∷ more)
-        (λ p. IsNumeral p.0 × (fields_of rest.now ≡ decimal p.0 ∷ fields_of p.1.now)) }
-{
-    let (number, rest) = split_at_space(rest)?;
-    Some((numeral(number)?, rest))
-}
-
-fn last_name(rest: &[u8]) -> Option<&[u8]>
-    ensures { MatchOption result
-        ((name : List ℕ) → IsName name → fields_of rest.now ≢ name ∷ [])
-        (λ name. IsName name.now × (fields_of rest.now ≡ name.now ∷ [])) }
-{
-    if Name::is_name(rest) {
-        Some(rest)
-    } else {
-        None
-    }
-}
-
-fn last_numeral(rest: &[u8]) -> Option<u64>
-    ensures { MatchOption result
-        ((n : ℕ) → IsNumeral n → fields_of rest.now ≢ decimal n ∷ [])
-        (λ n. IsNumeral n × (fields_of rest.now ≡ decimal n ∷ [])) }
-{
-    numeral(rest)
-}
-
-fn last_letters(rest: &[u8]) -> Option<&[u8]>
-    ensures { MatchOption result
-        ((letters : List ℕ) → AreLetters letters → fields_of rest.now ≢ letters ∷ [])
-        (λ letters. AreLetters letters.now × (fields_of rest.now ≡ letters.now ∷ [])) }
-{
-    if are_letters(rest) { Some(rest) } else { None }
+    Listen {
+        name: &'a [u8],
+        mode: Mode,
+        pattern: &'a [u8],
+    },
+    Poll {
+        id: u64,
+    },
+    /// The names as they stand in the line, with one space between two.
+    Wait {
+        span: Span,
+        want: Want,
+        turns: u64,
+        names: &'a [u8],
+    },
 }
 
 fn dir(rest: &[u8]) -> Option<Form<'_>>
@@ -166,6 +134,41 @@ fn status(rest: &[u8]) -> Option<Form<'_>>
     Some(Form::Status { name })
 }
 
+fn listen(rest: &[u8]) -> Option<Form<'_>>
+    ensures { Finds Word.Listen rest.now result }
+{
+    let (name, rest) = name_first(rest)?;
+    let (mode, rest) = mode_first(rest)?;
+    let pattern = last_pattern(rest)?;
+    Some(Form::Listen {
+        name,
+        mode,
+        pattern,
+    })
+}
+
+fn poll(rest: &[u8]) -> Option<Form<'_>>
+    ensures { Finds Word.Poll rest.now result }
+{
+    let id = last_numeral(rest)?;
+    Some(Form::Poll { id })
+}
+
+fn wait(rest: &[u8]) -> Option<Form<'_>>
+    ensures { Finds Word.Wait rest.now result }
+{
+    let (span, rest) = span_first(rest)?;
+    let (want, rest) = want_first(rest)?;
+    let (turns, rest) = numeral_first(rest)?;
+    let names = last_names(rest)?;
+    Some(Form::Wait {
+        span,
+        want,
+        turns,
+        names,
+    })
+}
+
 /// The form of the word whose fields are behind it.
 pub fn form_of_word(word: Word, rest: &[u8]) -> Option<Form<'_>>
     ensures { Finds word rest.now result }
@@ -179,5 +182,8 @@ pub fn form_of_word(word: Word, rest: &[u8]) -> Option<Form<'_>>
         Word::Cancel => cancel(rest),
         Word::Close => close(rest),
         Word::Status => status(rest),
+        Word::Listen => listen(rest),
+        Word::Poll => poll(rest),
+        Word::Wait => wait(rest),
     }
 }

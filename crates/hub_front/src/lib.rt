@@ -9,6 +9,7 @@ mod fault;
 mod fields;
 mod forms;
 mod parsing;
+mod parts;
 mod places;
 mod requests;
 mod serving;

@@ -83,3 +83,5 @@ fn refusal_of_word(line: &[u8]) -> Bad
 
 #[cfg(test)]
 mod tests;
+#[cfg(test)]
+mod told;

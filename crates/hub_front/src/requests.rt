@@ -1,11 +1,12 @@
 //! The request that a form asks for.
 ghost use Rattle.std.specs.Prelude.{◌≡◌, MatchBool, IfOk};
 ghost use Rattle.hub_desk.specs.Ranges.{AreLimits};
-ghost use Rattle.hub_front.specs.Spelling.{IsName, AreLetters, IsForm, IsWithin, form_of};
+ghost use Rattle.hub_front.specs.Spelling.{IsName, IsPattern, AreLetters, AreNames, IsForm, IsWithin, form_of};
+ghost use Rattle.hub_front.specs.Fields.{fields_of};
 ghost use Rattle.hub_front.specs.Forms.{form_shown};
 
 use crate::forms::Form;
-use hub_desk::{Name, Request};
+use hub_desk::{Name, Names, PatternText, Request};
 use hub_letters::Letter;
 use hub_record::Letters;
 use std::alloc::{AllocError, Global};
@@ -29,6 +30,7 @@ pub fn is_within(form: &Form<'_>) -> bool
             ..
         } => are_limits(*waiting, *total) && *reports <= 1,
         Form::Take { max, .. } => *max >= 1 && *max <= 256,
+        Form::Wait { turns, .. } => *turns <= 1_000_000,
         _ => true,
     }
 }
@@ -50,6 +52,25 @@ fn letters_of(alloc: Global, text: &[u8]) -> Result<Letters, AllocError>
         letters.push(Letter::of(*b).unwrap())?;
     }
     Ok(Letters::of(letters))
+}
+
+fn pattern_of(alloc: Global, text: &[u8]) -> Result<PatternText, AllocError>
+    requires { IsPattern text.now }
+    ensures { IfOk result (λ pattern. pattern ≡ text.now) }
+{
+    let text = str::from_utf8(text).unwrap();
+    Ok(PatternText::of(String::from_str(alloc, text)?))
+}
+
+fn names_of(alloc: Global, text: &[u8]) -> Result<Names, AllocError>
+    requires { AreNames (fields_of text.now) }
+    ensures { IfOk result (λ names. names ≡ fields_of text.now) }
+{
+    let mut names = Vec::new(alloc);
+    for name in text.split(|b| *b == b' ') {
+        names.push(name_of(alloc, name)?)?;
+    }
+    Ok(Names::of(names))
 }
 
 /// The request that the form asks for.
@@ -93,6 +114,27 @@ pub fn request_of(alloc: Global, form: Form<'_>) -> Result<Request, AllocError>
         },
         Form::Status { name } => Request::Status {
             name: name_of(alloc, name)?,
+        },
+        Form::Listen {
+            name,
+            mode,
+            pattern,
+        } => Request::Listen {
+            name: name_of(alloc, name)?,
+            mode,
+            pattern: pattern_of(alloc, pattern)?,
+        },
+        Form::Poll { id } => Request::Poll { id },
+        Form::Wait {
+            span,
+            want,
+            turns,
+            names,
+        } => Request::Wait {
+            span,
+            want,
+            turns,
+            names: names_of(alloc, names)?,
         },
     };
     Ok(request)

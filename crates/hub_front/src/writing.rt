@@ -3,7 +3,7 @@ ghost use Rattle.std.specs.Prelude.{◌≡◌, ◌++◌, ◌+◌, ◌∷◌, [],
 ghost use Rattle.std.specs.Fmt.{decimal};
 ghost use Rattle.hub_desk.specs.declared.reply.Reply.{Reply};
 ghost use Rattle.hub_front.specs.Writing.{Appends};
-ghost use Rattle.hub_desk.specs.Texts.{line_of, text_of};
+ghost use Rattle.hub_desk.specs.Texts.{line_of, number_or_dash, numbers_text, text_of};
 
 use hub_desk::{Refusal, Reply};
 use hub_letters::Letter;
@@ -41,9 +41,13 @@ fn append_line(reply: &Reply, out: &mut Vec<u8>) -> Result<(), AllocError>
         Reply::Done => out.extend_from_slice(b"ok"),
         Reply::Number(number) => append_number(b"ok ", *number, out),
         Reply::State(status) => append_status(status, out),
-        Reply::Got(letters) => append_got(letters.items(), out),
+        Reply::Got(letters) => append_letters(b"got ", letters.items(), out),
+        Reply::Hit(letters) => append_letters(b"hit ", letters.items(), out),
         Reply::Nothing => out.extend_from_slice(b"none"),
         Reply::End => out.extend_from_slice(b"end"),
+        Reply::Yes(numbers) => append_yes(numbers.items(), out),
+        Reply::Never => out.extend_from_slice(b"never"),
+        Reply::Late => out.extend_from_slice(b"late"),
         Reply::No(refusal) => append_refusal(*refusal, out),
     }
 }
@@ -64,20 +68,39 @@ fn append_status(status: &Status, out: &mut Vec<u8>) -> Result<(), AllocError>
     out.extend_from_slice(if status.closed { b" closed" } else { b" open" })
 }
 
-fn append_got(letters: &[Letter], out: &mut Vec<u8>) -> Result<(), AllocError>
-    ensures { Appends out.old out.new result (codes "got " ++ letters.now) }
+fn append_letters(before: &[u8], letters: &[Letter], out: &mut Vec<u8>) -> Result<(), AllocError>
+    ensures { Appends out.old out.new result (before.now ++ letters.now) }
 {
-    out.extend_from_slice(b"got ")?;
-    append_letters(letters, out)
-}
-
-fn append_letters(letters: &[Letter], out: &mut Vec<u8>) -> Result<(), AllocError>
-    ensures { Appends out.old out.new result letters.now }
-{
+    out.extend_from_slice(before)?;
     for letter in letters {
         out.push(letter.byte())?;
     }
     Ok(())
+}
+
+fn append_yes(numbers: &[Option<u64>], out: &mut Vec<u8>) -> Result<(), AllocError>
+    ensures { Appends out.old out.new result (codes "yes" ++ numbers_text numbers.now) }
+{
+    out.extend_from_slice(b"yes")?;
+    append_numbers(numbers, out)
+}
+
+fn append_numbers(numbers: &[Option<u64>], out: &mut Vec<u8>) -> Result<(), AllocError>
+    ensures { Appends out.old out.new result (numbers_text numbers.now) }
+{
+    for number in numbers {
+        append_number_or_dash(*number, out)?;
+    }
+    Ok(())
+}
+
+fn append_number_or_dash(number: Option<u64>, out: &mut Vec<u8>) -> Result<(), AllocError>
+    ensures { Appends out.old out.new result (32 ∷ number_or_dash number) }
+{
+    match number {
+        Some(number) => append_number(b" ", number, out),
+        None => out.extend_from_slice(b" -"),
+    }
 }
 
 fn append_refusal(refusal: Refusal, out: &mut Vec<u8>) -> Result<(), AllocError>
@@ -91,12 +114,15 @@ fn append_refusal(refusal: Refusal, out: &mut Vec<u8>) -> Result<(), AllocError>
         Refusal::Range => out.extend_from_slice(b"no range"),
         Refusal::Name => out.extend_from_slice(b"no name"),
         Refusal::Exists => out.extend_from_slice(b"no exists"),
+        Refusal::Kind => out.extend_from_slice(b"no kind"),
         Refusal::Id => out.extend_from_slice(b"no id"),
         Refusal::Many => out.extend_from_slice(b"no many"),
         Refusal::Spent => out.extend_from_slice(b"no spent"),
         Refusal::Closed => out.extend_from_slice(b"no closed"),
         Refusal::Unlawful(place) => append_number(b"no unlawful ", place, out),
         Refusal::Full => out.extend_from_slice(b"no full"),
+        Refusal::Pattern => out.extend_from_slice(b"no pattern"),
+        Refusal::Overlong => out.extend_from_slice(b"no overlong"),
         Refusal::Memory => out.extend_from_slice(b"no memory"),
     }
 }

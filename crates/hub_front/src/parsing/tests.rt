@@ -1,63 +1,9 @@
 //! Lines and what they are read as.
 
+use super::told::told;
 use super::{Bad, parse};
-use hub_desk::{Name, Request};
-use std::alloc::{AllocError, Global};
-
-// A request in words, so that a table can give it.
-fn told(alloc: Global, request: &Request) -> Result<String, AllocError> {
-    match request {
-        Request::Dir {
-            name,
-            waiting,
-            total,
-        } => {
-            let name = text(alloc, name)?;
-            format!(in alloc; "make {name}: {waiting} may wait, {total} in all")
-        }
-        Request::Svc {
-            name,
-            waiting,
-            total,
-            notifies,
-        } => {
-            let name = text(alloc, name)?;
-            format!(in alloc;
-                "make service {name}: {waiting} may wait, {total} in all, reports {notifies}"
-            )
-        }
-        Request::Sub { name } => {
-            let name = text(alloc, name)?;
-            format!(in alloc; "subscribe to {name}")
-        }
-        Request::Pub { name, letters } => {
-            let name = text(alloc, name)?;
-            let mut message = String::new(alloc);
-            for letter in letters.items() {
-                message.push(char::from(letter.byte()))?;
-            }
-            format!(in alloc; "publish {message} to {name}")
-        }
-        Request::Take { id, max } => format!(in alloc; "take {max} of {id}"),
-        Request::Cancel { id } => format!(in alloc; "cancel {id}"),
-        Request::Close { name } => {
-            let name = text(alloc, name)?;
-            format!(in alloc; "close {name}")
-        }
-        Request::Status { name } => {
-            let name = text(alloc, name)?;
-            format!(in alloc; "show {name}")
-        }
-    }
-}
-
-fn text(alloc: Global, name: &Name) -> Result<String, AllocError> {
-    let mut text = String::new(alloc);
-    for b in name.bytes() {
-        text.push(char::from(*b))?;
-    }
-    Ok(text)
-}
+use hub_desk::Request;
+use std::alloc::Global;
 
 // One growth may be refused in a test, so want of memory isn't met twice.
 fn read(alloc: Global, line: &[u8]) -> Result<Request, Bad> {
@@ -95,6 +41,38 @@ fn good_lines_spell_requests(rt: HostRuntime) {
         ("cancel 9999999999999", "cancel 9999999999999"),
         ("close dir", "close dir"),
         ("status -", "show -"),
+        (
+            "listen web repeat u.*U",
+            "listen to web again and again, for [u.*U]",
+        ),
+        ("listen web once (", "listen to web once, for [(]"),
+        ("listen w once  ", "listen to w once, for [ ]"),
+        (
+            "listen w repeat  a  b ",
+            "listen to w again and again, for [ a  b ]",
+        ),
+        ("poll 1", "look after 1"),
+        ("poll 9999999999999", "look after 9999999999999"),
+        (
+            "wait all up 0 web web",
+            "for 0 turns, until up is each of web web",
+        ),
+        (
+            "wait any ready 2 b a",
+            "for 2 turns, until ready is one of b a",
+        ),
+        (
+            "wait any down 1000000 v",
+            "for 1000000 turns, until down is one of v",
+        ),
+        (
+            "wait all finished 3 web",
+            "for 3 turns, until finished is each of web",
+        ),
+        (
+            "wait any up 1 a b c d e f g h i j k l m n o p q r s t u v w x y z 1 2 3 4 5 6",
+            "for 1 turns, until up is one of a b c d e f g h i j k l m n o p q r s t u v w x y z 1 2 3 4 5 6",
+        ),
     ] {
         let request = read(rt.alloc(), line.as_bytes());
         assert!(rt; request.is_ok(), "{line}");
@@ -150,6 +128,38 @@ fn other_lines_are_refused_by_the_first_rule_they_break(rt: HostRuntime) {
         ("svc v 0 10 1", Bad::Range),
         // A name has at most 32 bytes.
         ("sub abcdefghijklmnopqrstuvwxyz0123456", Bad::Form),
+        // Listeners.
+        ("listen", Bad::Form),
+        ("listen w", Bad::Form),
+        ("listen w once", Bad::Form),
+        ("listen w once ", Bad::Form),
+        ("listen w  once u", Bad::Form),
+        ("listen w twice u", Bad::Form),
+        ("listen w+ once u", Bad::Form),
+        ("listen w once u\t", Bad::Text),
+        ("listens w once u", Bad::Word),
+        ("poll", Bad::Form),
+        ("poll 1 1", Bad::Form),
+        ("poll 10000000000000", Bad::Form),
+        // Waits.
+        ("wait all up 0", Bad::Form),
+        ("wait all up 0 ", Bad::Form),
+        ("wait all up 0 web ", Bad::Form),
+        ("wait all up 0  web", Bad::Form),
+        ("wait all up 0 a  b", Bad::Form),
+        ("wait both up 0 web", Bad::Form),
+        ("wait all gone 0 web", Bad::Form),
+        ("wait up all 0 web", Bad::Form),
+        ("wait all up 01 web", Bad::Form),
+        (
+            "wait any up 1 a b c d e f g h i j k l m n o p q r s t u v w x y z 1 2 3 4 5 6 7",
+            Bad::Form,
+        ),
+        ("wait all up 1000001 web", Bad::Range),
+        ("wait all up 9999999999999 web", Bad::Range),
+        ("wait all up 10000000000000 web", Bad::Form),
+        ("wait all up 1000001 we+b", Bad::Form),
+        ("wait all up 1000001", Bad::Form),
     ] {
         assert_eq!(rt;
             parse(rt.alloc(), line.as_bytes()).err(),
@@ -179,5 +189,17 @@ fn a_line_has_at_most_512_bytes(rt: HostRuntime) {
         parse(rt.alloc(), &line).err(),
         Some(Bad::Long),
         "513 bytes"
+    );
+}
+
+#[test]
+fn a_pattern_has_at_most_200_bytes(rt: HostRuntime) {
+    let mut line = [b' '; 215];
+    line[..14].copy_from_slice(b"listen w once ");
+    assert!(rt; read(rt.alloc(), &line[..214]).is_ok(), "200 bytes");
+    assert_eq!(rt;
+        parse(rt.alloc(), &line).err(),
+        Some(Bad::Form),
+        "201 bytes"
     );
 }

@@ -1,7 +1,7 @@
 //! The text of each reply.
 
 use super::write_reply;
-use hub_desk::{Refusal, Reply};
+use hub_desk::{Numbers, Refusal, Reply};
 use hub_letters::{Flags, Letter};
 use hub_record::{Letters, Status};
 use std::alloc::{AllocError, Global};
@@ -16,9 +16,26 @@ fn letters_of(alloc: Global, text: &[u8]) -> Result<Letters, AllocError> {
     Ok(Letters::of(letters))
 }
 
+fn numbers_of(alloc: Global, list: &[Option<u64>]) -> Result<Numbers, AllocError> {
+    let mut numbers = Vec::new(alloc);
+    for number in list {
+        numbers.push(*number)?;
+    }
+    Ok(Numbers::of(numbers))
+}
+
 #[test]
 fn each_reply_has_its_text(rt: HostRuntime) {
     let Ok(letters) = letters_of(rt.alloc(), b"sU") else {
+        return;
+    };
+    let Ok(hit) = letters_of(rt.alloc(), b"suU") else {
+        return;
+    };
+    let Ok(one) = numbers_of(rt.alloc(), &[Some(2)]) else {
+        return;
+    };
+    let Ok(two) = numbers_of(rt.alloc(), &[None, Some(2)]) else {
         return;
     };
     let up = Flags {
@@ -49,6 +66,11 @@ fn each_reply_has_its_text(rt: HostRuntime) {
         (Reply::Got(letters), "got sU\n"),
         (Reply::Nothing, "none\n"),
         (Reply::End, "end\n"),
+        (Reply::Hit(hit), "hit suU\n"),
+        (Reply::Yes(one), "yes 2\n"),
+        (Reply::Yes(two), "yes - 2\n"),
+        (Reply::Never, "never\n"),
+        (Reply::Late, "late\n"),
         (Reply::No(Refusal::Long), "no long\n"),
         (Reply::No(Refusal::Text), "no text\n"),
         (Reply::No(Refusal::Word), "no word\n"),
@@ -56,12 +78,15 @@ fn each_reply_has_its_text(rt: HostRuntime) {
         (Reply::No(Refusal::Range), "no range\n"),
         (Reply::No(Refusal::Name), "no name\n"),
         (Reply::No(Refusal::Exists), "no exists\n"),
+        (Reply::No(Refusal::Kind), "no kind\n"),
         (Reply::No(Refusal::Id), "no id\n"),
         (Reply::No(Refusal::Many), "no many\n"),
         (Reply::No(Refusal::Spent), "no spent\n"),
         (Reply::No(Refusal::Closed), "no closed\n"),
         (Reply::No(Refusal::Unlawful(10)), "no unlawful 10\n"),
         (Reply::No(Refusal::Full), "no full\n"),
+        (Reply::No(Refusal::Pattern), "no pattern\n"),
+        (Reply::No(Refusal::Overlong), "no overlong\n"),
         (Reply::No(Refusal::Memory), "no memory\n"),
     ] {
         let mut out = Vec::new(rt.alloc());

@@ -1,0 +1,62 @@
+/* What the load generators share: request lines, requests, and the program that is measured. */
+#ifndef COMMON_H
+#define COMMON_H
+
+#include <stddef.h>
+#include <sys/types.h>
+
+/* No reply of a hub, an echo or Redis is longer. */
+enum { LONGEST_REPLY = 8192 };
+
+struct line {
+    char *text;
+    size_t length;
+};
+
+/* Lines that are sent once, and then lines that are sent in a circle. */
+struct load {
+    struct line *setup;
+    size_t setup_count;
+    struct line *circle;
+    size_t circle_count;
+    size_t place;
+};
+
+/* The load of one kind (pub, take, status, mixed, shared, redis) over a fifodir with this name. */
+struct load load_of(const char *kind, const char *fifodir);
+
+/* Writes a message to standard error, kills what was started, and ends with status 1. */
+void die(const char *message) __attribute__((noreturn));
+
+/* The number that a word of the command line is; dies where it is none above 0. */
+long number_of(const char *word);
+
+/* Seconds of the monotonic clock. */
+double now(void);
+
+/* Writes all of the bytes. */
+void write_all(int to, const char *bytes, size_t length);
+
+/* Sends one line, waits for the line that answers it, and leaves that in reply, ended by a zero byte. */
+void request(int from, int to, struct line line, char reply[LONGEST_REPLY]);
+
+/* Sends the lines of the setup, each answered before the next. */
+void send_setup(int from, int to, const struct load *load);
+
+/* Sends the next lines of the circle, so many, each answered before the next; dies where one is refused. */
+void send_circle(int from, int to, struct load *load, long count);
+
+/* Keeps this process, and what it starts, on the processor that it runs on. Who asks and who answers take turns, so one
+ * is enough; on two, most of the time of a request is that of waking the other, which is the machine's. */
+void stay_on_one_processor(void);
+
+/* Starts a program on these descriptors. It is killed when its starter ends. */
+pid_t start(char **program, int input, int output);
+
+/* Waits until the program has ended; dies where it failed. */
+void wait_for(pid_t program);
+
+/* Connects to the Unix socket of a program that was just started. */
+int connect_to(const char *path, pid_t program);
+
+#endif

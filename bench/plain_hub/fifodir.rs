@@ -1,0 +1,171 @@
+//! One fifodir: its events that wait, where each subscription stands, and what the letters say of a service.
+
+use crate::reply::Refusal;
+use crate::request::{Service, Want};
+use std::collections::{HashMap, VecDeque};
+
+#[derive(Clone, Copy, Default)]
+pub struct Flags {
+    up: bool,
+    settled: bool,
+    supervised: bool,
+    failed: bool,
+}
+
+#[derive(Clone, Copy, Default)]
+enum Stage {
+    #[default]
+    Off,
+    Idle,
+    Starting,
+    Ready,
+    Ending,
+}
+
+pub struct Fifodir {
+    pub service: Option<Service>,
+    pub closed: bool,
+    pub flags: Flags,
+    stage: Stage,
+    waiting: u64,
+    total: u64,
+    /// The events from number `first` on.
+    events: VecDeque<u8>,
+    first: u64,
+    /// The number of the next event of each subscription.
+    cursors: HashMap<u64, u64>,
+    given: u64,
+}
+
+impl Fifodir {
+    pub fn new(service: Option<Service>, waiting: u64, total: u64) -> Fifodir {
+        Fifodir {
+            service,
+            closed: false,
+            flags: Flags::default(),
+            stage: Stage::default(),
+            waiting,
+            total,
+            events: VecDeque::new(),
+            first: 0,
+            cursors: HashMap::new(),
+            given: 0,
+        }
+    }
+
+    /// How many events there were.
+    pub fn number(&self) -> u64 {
+        self.first + self.events.len() as u64
+    }
+
+    pub fn subscribe(&mut self) -> Result<u64, Refusal> {
+        if self.closed {
+            return Err(Refusal::Closed);
+        }
+        if self.cursors.len() >= 1024 {
+            return Err(Refusal::Many);
+        }
+        self.given += 1;
+        self.cursors.insert(self.given, self.number());
+        Ok(self.given)
+    }
+
+    pub fn publish(&mut self, letters: &str) -> Result<u64, Refusal> {
+        if self.closed {
+            return Err(Refusal::Closed);
+        }
+        let mut stage = self.stage;
+        if self.service.is_some() {
+            for (place, letter) in letters.bytes().enumerate() {
+                stage = stage.next(letter).ok_or(Refusal::Unlawful(place))?;
+            }
+        }
+        let number = self.number();
+        let count = letters.len() as u64;
+        if count > self.total - number {
+            return Err(Refusal::Spent);
+        }
+        if !self.cursors.is_empty() && self.events.len() as u64 + count > self.waiting {
+            return Err(Refusal::Full);
+        }
+        self.events.extend(letters.bytes());
+        self.stage = stage;
+        self.flags = letters.bytes().fold(self.flags, Flags::after);
+        self.drop_taken();
+        Ok(number)
+    }
+
+    /// Takes at most so many events behind a cursor.
+    pub fn take(&mut self, id: u64, max: usize) -> String {
+        let Some(next) = self.cursors.get_mut(&id) else {
+            return String::new();
+        };
+        let from = (*next - self.first) as usize;
+        let letters: String =
+            self.events.iter().skip(from).take(max).map(|letter| *letter as char).collect();
+        *next += letters.len() as u64;
+        self.drop_taken();
+        letters
+    }
+
+    pub fn cancel(&mut self, id: u64) {
+        self.cursors.remove(&id);
+        self.drop_taken();
+    }
+
+    /// Lets go of the events that every subscription has taken.
+    fn drop_taken(&mut self) {
+        let base = self.cursors.values().min().copied().unwrap_or(self.number());
+        self.events.drain(..(base - self.first) as usize);
+        self.first = base;
+    }
+
+    pub fn meets(&self, want: Want) -> bool {
+        let notifies = self.service.is_some_and(|service| service.notifies);
+        match want {
+            Want::Up => self.flags.up,
+            Want::Ready => self.flags.up && (!notifies || self.flags.settled),
+            Want::Down => !self.flags.up,
+            Want::Finished => !self.flags.up && self.flags.settled,
+        }
+    }
+
+    pub fn is_hopeless(&self, want: Want) -> bool {
+        matches!(want, Want::Up | Want::Ready) && self.flags.failed
+    }
+}
+
+impl Flags {
+    pub fn code(self) -> u8 {
+        self.up as u8 + 2 * self.settled as u8 + 4 * self.supervised as u8 + 8 * self.failed as u8
+    }
+
+    fn after(self, letter: u8) -> Flags {
+        match letter {
+            b's' => Flags { up: false, settled: true, supervised: true, failed: false },
+            b'u' => Flags { up: true, settled: false, failed: false, ..self },
+            b'U' => Flags { up: true, settled: true, ..self },
+            b'd' => Flags { up: false, settled: false, ..self },
+            b'D' => Flags { up: false, settled: true, ..self },
+            b'x' => Flags { supervised: false, ..self },
+            b'O' => Flags { failed: true, ..self },
+            _ => self,
+        }
+    }
+}
+
+impl Stage {
+    fn next(self, letter: u8) -> Option<Stage> {
+        match (self, letter) {
+            (_, b's') => Some(Stage::Idle),
+            (Stage::Off, _) => None,
+            (_, b'x') => Some(Stage::Off),
+            (_, b'O') => Some(self),
+            (Stage::Idle, b'u') => Some(Stage::Starting),
+            (Stage::Starting, b'U') => Some(Stage::Ready),
+            (Stage::Starting | Stage::Ready, b'd') => Some(Stage::Ending),
+            (Stage::Ending, b'D') => Some(Stage::Idle),
+            _ => None,
+        }
+    }
+}

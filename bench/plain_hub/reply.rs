@@ -1,0 +1,88 @@
+//! What a request is answered, and how that is written.
+
+use std::fmt;
+
+pub enum Reply {
+    Done,
+    Number(u64),
+    State { number: u64, code: u8, closed: bool },
+    Got(String),
+    Hit(String),
+    Nothing,
+    End,
+    Yes(Vec<Option<u64>>),
+    Never,
+    Late,
+    No(Refusal),
+}
+
+#[derive(Clone, Copy)]
+pub enum Refusal {
+    Long,
+    Text,
+    Word,
+    Form,
+    Range,
+    Name,
+    Exists,
+    Kind,
+    Id,
+    Many,
+    Spent,
+    Closed,
+    Unlawful(usize),
+    Full,
+    Pattern,
+    Overlong,
+}
+
+impl fmt::Display for Reply {
+    fn fmt(&self, f: &mut fmt::Formatter<'_>) -> fmt::Result {
+        match self {
+            Reply::Done => write!(f, "ok"),
+            Reply::Number(number) => write!(f, "ok {number}"),
+            Reply::State { number, code, closed } => {
+                let state = if *closed { "closed" } else { "open" };
+                write!(f, "ok {number} {code} {state}")
+            }
+            Reply::Got(letters) => write!(f, "got {letters}"),
+            Reply::Hit(letters) => write!(f, "hit {letters}"),
+            Reply::Nothing => write!(f, "none"),
+            Reply::End => write!(f, "end"),
+            Reply::Yes(numbers) => {
+                write!(f, "yes")?;
+                numbers.iter().try_for_each(|number| match number {
+                    Some(number) => write!(f, " {number}"),
+                    None => write!(f, " -"),
+                })
+            }
+            Reply::Never => write!(f, "never"),
+            Reply::Late => write!(f, "late"),
+            Reply::No(refusal) => write!(f, "no {refusal}"),
+        }
+    }
+}
+
+impl fmt::Display for Refusal {
+    fn fmt(&self, f: &mut fmt::Formatter<'_>) -> fmt::Result {
+        let word = match self {
+            Refusal::Long => "long",
+            Refusal::Text => "text",
+            Refusal::Word => "word",
+            Refusal::Form => "form",
+            Refusal::Range => "range",
+            Refusal::Name => "name",
+            Refusal::Exists => "exists",
+            Refusal::Kind => "kind",
+            Refusal::Id => "id",
+            Refusal::Many => "many",
+            Refusal::Spent => "spent",
+            Refusal::Closed => "closed",
+            Refusal::Unlawful(place) => return write!(f, "unlawful {place}"),
+            Refusal::Full => "full",
+            Refusal::Pattern => "pattern",
+            Refusal::Overlong => "overlong",
+        };
+        f.write_str(word)
+    }
+}

@@ -1,0 +1,146 @@
+//! Lines to requests.
+
+use crate::reply::Refusal;
+use std::ops::RangeInclusive;
+
+pub enum Request<'a> {
+    Make { name: &'a str, waiting: u64, total: u64, service: Option<Service> },
+    Sub { name: &'a str },
+    Pub { name: &'a str, letters: &'a str },
+    Take { id: u64, max: usize },
+    Cancel { id: u64 },
+    Close { name: &'a str },
+    Status { name: &'a str },
+    Listen { name: &'a str, once: bool, pattern: &'a str },
+    Poll { id: u64 },
+    Wait { all: bool, want: Want, names: Vec<&'a str> },
+}
+
+/// What is known of a service: whether it reports readiness.
+#[derive(Clone, Copy)]
+pub struct Service {
+    pub notifies: bool,
+}
+
+#[derive(Clone, Copy)]
+pub enum Want {
+    Up,
+    Ready,
+    Down,
+    Finished,
+}
+
+const MOST_EVENTS: u64 = 1_000_000_000_000;
+const WORDS: [&str; 11] =
+    ["dir", "svc", "sub", "pub", "take", "cancel", "close", "status", "listen", "poll", "wait"];
+
+/// The request that a line spells.
+pub fn parse(line: &[u8]) -> Result<Request<'_>, Refusal> {
+    if line.len() > 512 {
+        return Err(Refusal::Long);
+    }
+    if !line.iter().all(|byte| (0x20..=0x7e).contains(byte)) {
+        return Err(Refusal::Text);
+    }
+    let line = std::str::from_utf8(line).map_err(|_| Refusal::Text)?;
+    let (word, rest) = line.split_once(' ').unwrap_or((line, ""));
+    if word == "listen" {
+        return listen(rest);
+    }
+    if !WORDS.contains(&word) {
+        return Err(Refusal::Word);
+    }
+    let fields: Vec<&str> = rest.split(' ').collect();
+    match (word, fields.as_slice()) {
+        ("dir", [n, w, t]) => make(n, w, t, None),
+        ("svc", [n, w, t, r]) => make(n, w, t, Some(r)),
+        ("sub", [n]) => Ok(Request::Sub { name: name(n)? }),
+        ("pub", [n, letters]) if !letters.is_empty() => Ok(Request::Pub { name: name(n)?, letters }),
+        ("take", [id, max]) => {
+            let (id, max) = (numeral(id)?, numeral(max)?);
+            Ok(Request::Take { id, max: within(max, 1..=256)? as usize })
+        }
+        ("cancel", [id]) => Ok(Request::Cancel { id: numeral(id)? }),
+        ("close", [n]) => Ok(Request::Close { name: name(n)? }),
+        ("status", [n]) => Ok(Request::Status { name: name(n)? }),
+        ("poll", [id]) => Ok(Request::Poll { id: numeral(id)? }),
+        ("wait", [span, want, turns, names @ ..]) => wait(span, want, turns, names),
+        _ => Err(Refusal::Form),
+    }
+}
+
+fn make<'a>(n: &'a str, w: &str, t: &str, r: Option<&&str>) -> Result<Request<'a>, Refusal> {
+    let (name, waiting, total) = (name(n)?, numeral(w)?, numeral(t)?);
+    let reports = r.map(|r| numeral(r)).transpose()?;
+    within(waiting, 1..=4096)?;
+    within(total, 1..=MOST_EVENTS)?;
+    let service = match reports {
+        Some(reports) => Some(Service { notifies: within(reports, 0..=1)? == 1 }),
+        None => None,
+    };
+    Ok(Request::Make { name, waiting, total, service })
+}
+
+fn listen(rest: &str) -> Result<Request<'_>, Refusal> {
+    let mut fields = rest.splitn(3, ' ');
+    let (Some(n), Some(mode), Some(pattern)) = (fields.next(), fields.next(), fields.next()) else {
+        return Err(Refusal::Form);
+    };
+    let once = match mode {
+        "once" => true,
+        "repeat" => false,
+        _ => return Err(Refusal::Form),
+    };
+    if pattern.is_empty() || pattern.len() > 200 {
+        return Err(Refusal::Form);
+    }
+    Ok(Request::Listen { name: name(n)?, once, pattern })
+}
+
+fn wait<'a>(
+    span: &str,
+    want: &str,
+    turns: &str,
+    names: &[&'a str],
+) -> Result<Request<'a>, Refusal> {
+    let all = match span {
+        "all" => true,
+        "any" => false,
+        _ => return Err(Refusal::Form),
+    };
+    let want = match want {
+        "up" => Want::Up,
+        "ready" => Want::Ready,
+        "down" => Want::Down,
+        "finished" => Want::Finished,
+        _ => return Err(Refusal::Form),
+    };
+    let turns = numeral(turns)?;
+    if names.is_empty() || names.len() > 32 {
+        return Err(Refusal::Form);
+    }
+    let names = names.iter().map(|n| name(n)).collect::<Result<_, _>>()?;
+    within(turns, 0..=1_000_000)?;
+    Ok(Request::Wait { all, want, names })
+}
+
+fn name(field: &str) -> Result<&str, Refusal> {
+    let stands = |byte: u8| byte.is_ascii_alphanumeric() || matches!(byte, b'_' | b'.' | b'-');
+    if (1..=32).contains(&field.len()) && field.bytes().all(stands) {
+        Ok(field)
+    } else {
+        Err(Refusal::Form)
+    }
+}
+
+fn numeral(field: &str) -> Result<u64, Refusal> {
+    let leading_zero = field.len() > 1 && field.starts_with('0');
+    if field.len() > 13 || leading_zero || !field.bytes().all(|byte| byte.is_ascii_digit()) {
+        return Err(Refusal::Form);
+    }
+    field.parse().map_err(|_| Refusal::Form)
+}
+
+fn within(number: u64, range: RangeInclusive<u64>) -> Result<u64, Refusal> {
+    if range.contains(&number) { Ok(number) } else { Err(Refusal::Range) }
+}

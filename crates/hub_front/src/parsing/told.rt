@@ -1,0 +1,108 @@
+//! Requests in words, so that a table can give them.
+
+use hub_desk::{Name, Names, Request};
+use hub_letters::Want;
+use hub_listen::Mode;
+use hub_wait::Span;
+use std::alloc::{AllocError, Global};
+
+/// The request in words.
+pub fn told(alloc: Global, request: &Request) -> Result<String, AllocError> {
+    match request {
+        Request::Dir {
+            name,
+            waiting,
+            total,
+        } => {
+            let name = text(alloc, name)?;
+            format!(in alloc; "make {name}: {waiting} may wait, {total} in all")
+        }
+        Request::Svc {
+            name,
+            waiting,
+            total,
+            notifies,
+        } => {
+            let name = text(alloc, name)?;
+            format!(in alloc;
+                "make service {name}: {waiting} may wait, {total} in all, reports {notifies}"
+            )
+        }
+        Request::Sub { name } => {
+            let name = text(alloc, name)?;
+            format!(in alloc; "subscribe to {name}")
+        }
+        Request::Pub { name, letters } => {
+            let name = text(alloc, name)?;
+            let mut message = String::new(alloc);
+            for letter in letters.items() {
+                message.push(char::from(letter.byte()))?;
+            }
+            format!(in alloc; "publish {message} to {name}")
+        }
+        Request::Take { id, max } => format!(in alloc; "take {max} of {id}"),
+        Request::Cancel { id } => format!(in alloc; "cancel {id}"),
+        Request::Close { name } => {
+            let name = text(alloc, name)?;
+            format!(in alloc; "close {name}")
+        }
+        Request::Status { name } => {
+            let name = text(alloc, name)?;
+            format!(in alloc; "show {name}")
+        }
+        Request::Listen {
+            name,
+            mode,
+            pattern,
+        } => {
+            let name = text(alloc, name)?;
+            let again = match mode {
+                Mode::Once => "once",
+                Mode::Repeat => "again and again",
+            };
+            let pattern = pattern.items();
+            format!(in alloc; "listen to {name} {again}, for [{pattern}]")
+        }
+        Request::Poll { id } => format!(in alloc; "look after {id}"),
+        Request::Wait {
+            span,
+            want,
+            turns,
+            names,
+        } => told_wait(alloc, *span, *want, *turns, names),
+    }
+}
+
+fn told_wait(
+    alloc: Global,
+    span: Span,
+    want: Want,
+    turns: u64,
+    names: &Names,
+) -> Result<String, AllocError> {
+    let span = match span {
+        Span::All => "each of",
+        Span::Any => "one of",
+    };
+    let want = match want {
+        Want::Up => "up",
+        Want::Ready => "ready",
+        Want::Down => "down",
+        Want::Finished => "finished",
+    };
+    let mut told = format!(in alloc; "for {turns} turns, until {want} is {span}")?;
+    for name in names.items() {
+        told.push(' ')?;
+        let name = text(alloc, name)?;
+        told.push_str(name.as_str())?;
+    }
+    Ok(told)
+}
+
+fn text(alloc: Global, name: &Name) -> Result<String, AllocError> {
+    let mut text = String::new(alloc);
+    for b in name.bytes() {
+        text.push(char::from(*b))?;
+    }
+    Ok(text)
+}
