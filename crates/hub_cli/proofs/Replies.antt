@@ -1,10 +1,11 @@
 -- The replies of a run over a local desk are the model's answers, with the refusals in their lines' places.
-use Rattle.std.proofs.Common.{◌≡◌, ◌≢◌, ℕ, suc, List, [], ◌∷◌, length, Option, Result, Ok, Err, refl, sym, ap, subst, ◌∙◌}
+use Rattle.std.proofs.Common.{◌≡◌, ◌≢◌, ℕ, suc, Bool, List, [], ◌∷◌, length, Option, Result, Ok, Err, refl, sym, ap, subst, ◌∙◌}
 use Rattle.std.specs.Prelude.{All, IfOk, flat_map}
 use Rattle.std.proofs.lemmas.List.Elements.{All-head, All-tail}
 use Rattle.std.specs.List.{AllZip}
-use Rattle.hub_desk.specs.Desks.{new_desk, answers}
-use Rattle.hub_desk.specs.Standing.{Local, Stands, Asked, Ended, Runs, over, asked}
+use Rattle.hub_desk.specs.Answers.{answers}
+use Rattle.hub_desk.specs.Desks.{new_desk}
+use Rattle.hub_desk.specs.Standing.{Local, Stands, Asked, Ended, Runs, over, asked, IsModels}
 use Rattle.hub_desk.specs.Texts.{text_of}
 use Rattle.hub_desk.specs.declared.reply.Reply.{Reply}
 use Rattle.hub_desk.specs.declared.request.Request.{Request}
@@ -40,13 +41,21 @@ runs_of (request ∷ requests) (reply ∷ given) old new asked_all =
 
 -- the replies of a run over a new desk, where none is for want of memory
 replies_placed : (lines : List (List ℕ)) (replies : List Reply) (old new : Local) → Stands old new_desk
-    → AreInPlace Asked old lines replies new → NoneIsMemory replies → AreReplies lines replies
-replies_placed lines replies old new stands p none = record {
-  reads = p.reads;
-  readings = p.readings;
-  enough = p.read_whole none;
-  placed = p.placed ∙ ap (in_place p.reads) (runs_answer old new (requests_of p.reads) p.given new_desk (runs_of (requests_of p.reads) p.given old new p.asked) (p.given_whole none) stands).0;
-}
+    → AreInPlace Asked old lines replies new → NoneIsMemory replies → (patterns : List Bool) × AreReplies patterns lines replies
+replies_placed lines replies old new stands p none =
+    let models = runs_answer old new (requests_of p.reads) p.given new_desk (runs_of (requests_of p.reads) p.given old new p.asked) (p.given_whole none) stands in
+    (models.reads, record {
+      reads = p.reads;
+      readings = p.readings;
+      enough = p.read_whole none;
+      are_patterns = models.are_reads;
+      placed = p.placed ∙ ap (in_place p.reads) models.said;
+    })
+
+-- the texts of these replies are an output
+output_of : (input : List ℕ) (replies : List Reply) → (patterns : List Bool) × AreReplies patterns (lines_of input) replies
+    → (patterns : List Bool) × IsOutput patterns input (flat_map text_of replies)
+output_of input replies (patterns, answered) = (patterns, record { replies = replies; answered = answered; texts = refl })
 
 -- a session over a new desk that ended with its input
 pub session_serves : (old new : Local) (held holds had has : Option (List ℕ)) (n : ℕ) → Stands old new_desk
@@ -59,12 +68,9 @@ session_serves old new held holds had has n stands f = record {
   replies = f.served.replies;
   each = run_length (lines_of f.input) f.served.replies old f.mid f.served.run ∙ sym f.counted;
   written = f.served.written;
-  output = λ none. record {
-    replies = f.served.replies;
-    answered = replies_placed (lines_of f.input) f.served.replies old f.mid stands
-        (run_in_place Asked old f.mid (lines_of f.input) f.served.replies f.served.run) none;
-    texts = refl;
-  };
+  output = λ none. output_of f.input f.served.replies
+      (replies_placed (lines_of f.input) f.served.replies old f.mid stands
+          (run_in_place Asked old f.mid (lines_of f.input) f.served.replies f.served.run) none);
 }
 
 -- lines are read in one way
@@ -80,10 +86,10 @@ same_reads (line ∷ lines) (x ∷ a) (y ∷ b) ra rb ea eb =
     let rest = same_reads lines a b ra.1 rb.1 (All-tail IsEnough x a ea) (All-tail IsEnough y b eb) in
     ap (λ r. r ∷ a) first ∙ ap (λ rs. y ∷ rs) rest
 
-pub one_output : (input a b : List ℕ) → IsOutput input a → IsOutput input b → a ≡ b
-one_output input a b oa ob =
+pub one_output : (patterns : List Bool) (input a b : List ℕ) → IsOutput patterns input a → IsOutput patterns input b → a ≡ b
+one_output patterns input a b oa ob =
     let reads = same_reads (lines_of input) oa.answered.reads ob.answered.reads oa.answered.readings ob.answered.readings oa.answered.enough ob.answered.enough in
-    oa.texts ∙ ap (flat_map text_of) (oa.answered.placed ∙ ap (λ rs. in_place rs (answers new_desk (requests_of rs))) reads ∙ sym ob.answered.placed) ∙ sym ob.texts
+    oa.texts ∙ ap (flat_map text_of) (oa.answered.placed ∙ ap (λ rs. in_place rs (answers new_desk patterns (requests_of rs))) reads ∙ sym ob.answered.placed) ∙ sym ob.texts
 
 -- what follows from each value follows where there is one
 pub if_ok_then : {A X : Type 0} (r : Result A X) (P Q : A → Type 0) → ((a : A) → P a → Q a) → IfOk r P → IfOk r Q

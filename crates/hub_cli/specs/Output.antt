@@ -1,8 +1,10 @@
 -- What the program writes: the texts of a new desk's answers to the requests, with the refusals in their lines' places.
-use Rattle.std.specs.Prelude.{◌≡◌, ◌≢◌, ℕ, List, All, length, flat_map, Option, Result, Err}
+-- Whether each pattern of the requests is read stands beside the input.
+use Rattle.std.specs.Prelude.{◌≡◌, ◌≢◌, ℕ, Bool, List, All, length, flat_map, Option, Result, Err}
 use Rattle.std.specs.List.{AllZip}
 use Rattle.std.specs.Io.KnownBytes.{Appends, Consumes, IsAtEnd}
-use Rattle.hub_desk.specs.Desks.{new_desk, answers}
+use Rattle.hub_desk.specs.Answers.{answers, patterns_in, AreReads}
+use Rattle.hub_desk.specs.Desks.{new_desk}
 use Rattle.hub_desk.specs.Texts.{text_of}
 use Rattle.hub_desk.specs.declared.reply.Reply.{Reply}
 use Rattle.hub_desk.specs.declared.request.Request.{Request}
@@ -12,17 +14,18 @@ use Rattle.hub_front.specs.Reading.{IsReading}
 use Rattle.hub_front.specs.declared.parsing.Bad.{Bad}
 use Rattle.hub_front.specs.declared.parsing.Bad.TheVariants.{Memory}
 
--- the replies to these lines, with memory enough
-pub record AreReplies (lines : List (List ℕ)) (replies : List Reply) : Type 0 where
+-- the replies to these lines, with memory enough, where `patterns` says of each pattern in them whether it is read
+pub record AreReplies (patterns : List Bool) (lines : List (List ℕ)) (replies : List Reply) : Type 0 where
   pub reads : List (Result Request Bad)
   pub readings : AllZip IsReading lines reads
   pub enough : All (λ read. read ≢ Err Memory) reads
-  pub placed : replies ≡ in_place reads (answers new_desk (requests_of reads))
+  pub are_patterns : AreReads patterns (patterns_in (requests_of reads))
+  pub placed : replies ≡ in_place reads (answers new_desk patterns (requests_of reads))
 
 -- the output of an input
-pub record IsOutput (input output : List ℕ) : Type 0 where
+pub record IsOutput (patterns : List Bool) (input output : List ℕ) : Type 0 where
   pub replies : List Reply
-  pub answered : AreReplies (lines_of input) replies
+  pub answered : AreReplies patterns (lines_of input) replies
   pub texts : output ≡ flat_map text_of replies
 
 -- What a session over a new desk did that ended with its input: n lines were read, and the texts of as many replies
@@ -36,4 +39,4 @@ pub record Serves (held holds had has : Option (List ℕ)) (n : ℕ) : Type 0 wh
   pub replies : List Reply
   pub each : length replies ≡ n
   pub written : Appends held holds (flat_map text_of replies)
-  pub output : NoneIsMemory replies → IsOutput input (flat_map text_of replies)
+  pub output : NoneIsMemory replies → (patterns : List Bool) × IsOutput patterns input (flat_map text_of replies)

@@ -1,5 +1,5 @@
 //! The subcommand `script`: one session, over a desk of its own.
-ghost use Rattle.std.specs.Prelude.{◌≡◌, ℕ, List, Err, IfOk};
+ghost use Rattle.std.specs.Prelude.{◌≡◌, ℕ, Bool, List, Err, IfOk};
 ghost use Rattle.hub_front.specs.Serving.{ReadsWithin, read_faults, write_faults};
 ghost use Rattle.hub_front.specs.Telling.{Grows};
 ghost use Rattle.hub_cli.specs.Output.{IsOutput, Serves};
@@ -16,7 +16,8 @@ pub fn script<H: Wait, R: Source, W: Sink>(
     reader: &mut R,
     writer: &mut W,
 ) -> Result<u64, FrontError>
-    // Where no reply is `no memory`, what is written is the output of the input: a function of its bytes alone.
+    // Where no reply is `no memory`, what is written is the output of the input: a function of its bytes, and of whether
+    // each pattern in them is read, alone.
     ensures output { IfOk result (λ n. Serves
         (W.contents writer.old) (W.contents writer.new) (R.remaining reader.old) (R.remaining reader.new) n) }
 
@@ -34,9 +35,9 @@ pub fn script<H: Wait, R: Source, W: Sink>(
     serve(rt, alloc, &mut desk, reader, writer)
 }
 
-/// A law: an input has one output.
+/// A law: an input has one output, where it is known of each of its patterns whether it is read.
 pub fn input_has_one_output()
-    ensures { (input a b : List ℕ) → IsOutput input a → IsOutput input b → a ≡ b }
+    ensures { (patterns : List Bool) (input a b : List ℕ) → IsOutput patterns input a → IsOutput patterns input b → a ≡ b }
 {}
 
 #[cfg(test)]

@@ -24,6 +24,7 @@ pub use fault::FrontError;
 pub use parsing::{Bad, parse};
 pub use places::{refusals_stand_in_place, same_input_same_output, same_lines_same_replies};
 pub use serving::serve;
+pub use session::write_whole;
 pub use sink::Sink;
 pub use source::Source;
 pub use spelling::{each_form_has_a_line, each_line_is_read_in_one_way, no_line_is_spelled_twice};

@@ -176,8 +176,8 @@ fn reply_to<H: Wait, D: Desk>(rt: &H, alloc: Global, desk: &mut D, line: &[u8]) 
     }
 }
 
-// Writes all of the bytes, and stops where the writer fails or takes none.
-fn write_whole<W: Sink>(writer: &mut W, bytes: &[u8]) -> Result<(), FrontError>
+/// Writes all of the bytes, and stops where the writer fails or takes none.
+pub fn write_whole<W: Sink>(writer: &mut W, bytes: &[u8]) -> Result<(), FrontError>
     ensures ok { OnOk result (Appends (W.contents writer.old) (W.contents writer.new) bytes.now) }
     ensures err { OnErr result (AppendsPart (W.contents writer.old) (W.contents writer.new) bytes.now) }
     ensures fault { IfErr result (λ e. e ≡ FrontError.Write) }

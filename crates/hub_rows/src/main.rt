@@ -1,0 +1,71 @@
+//! Runs the rows of examples, which lie in `data/`, through the desks: each input whole and one byte a read. It is given
+//! the rows' names, and says of each how often its output came, byte for byte.
+#![tactic(auto)]
+
+mod dripping;
+
+use anyhow::{Result, anyhow};
+use dripping::Dripping;
+use hub_desk::{Desk, LocalDesk};
+use hub_front::{Source, serve};
+use std::alloc::{AllocGlobal, Global};
+use std::process::ExitCode;
+use std::rt::Runtime;
+use std::sync::Wait;
+use std::{env, fs};
+
+fn main(rt: HostRuntime) -> ExitCode {
+    match run(&rt, rt.alloc()) {
+        Ok(()) => ExitCode::SUCCESS,
+        Err(fault) => {
+            let _ = println!(rt; "{fault}");
+            ExitCode::FAILURE
+        }
+    }
+}
+
+fn run(rt: &(impl Runtime + AllocGlobal + Wait), alloc: Global) -> Result<()> {
+    for name in env::args(rt)?.skip(1) {
+        let row = Row::read(rt, name.as_str())?;
+        row.holds(rt, alloc)?;
+        println!(rt; "{name}")?;
+    }
+    Ok(())
+}
+
+/// An input, and the output that is wanted of it.
+#[derive(Drop)]
+struct Row {
+    input: Vec<u8>,
+    output: Vec<u8>,
+}
+
+impl Row {
+    fn read(rt: &(impl Runtime + AllocGlobal), name: &str) -> Result<Row> {
+        let input = fs::read(rt, format!(in rt.alloc(); "{name}.in")?)?;
+        let output = fs::read(rt, format!(in rt.alloc(); "{name}.out")?)?;
+        Ok(Row { input, output })
+    }
+
+    /// Whether each desk gives the output, however the input comes.
+    fn holds(&self, rt: &(impl Runtime + AllocGlobal + Wait), alloc: Global) -> Result<()> {
+        let input = self.input.as_slice();
+        self.holds_at(rt, alloc, &mut LocalDesk::new(alloc)?, &mut &*input)?;
+        self.holds_at(rt, alloc, &mut LocalDesk::new(alloc)?, &mut Dripping::of(input))
+    }
+
+    fn holds_at<H: Wait, D: Desk, R: Source>(
+        &self,
+        rt: &H,
+        alloc: Global,
+        desk: &mut D,
+        reader: &mut R,
+    ) -> Result<()> {
+        let mut written: Vec<u8> = Vec::new(alloc);
+        serve(rt, alloc, desk, reader, &mut written)?;
+        if written != self.output {
+            return Err(anyhow!("another output"));
+        }
+        Ok(())
+    }
+}
