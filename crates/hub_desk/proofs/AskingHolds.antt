@@ -155,7 +155,6 @@ module _ (old : Local) (name : List ℕ) (hearing : Option Hearing) where
       hold_refused sub.Spent reply replies still same is = refused_by_record sub.Spent reply replies still same is (λ e. cc) (λ e. cc)
       hold_refused sub.Memory reply replies still same is = lacked_by_record sub.Memory reply replies still same is refl
 
-
 -- ---- a listener that was read
 
 pub listen_held : (old new : Local) (name pattern : List ℕ) (mode : Mode) (l : Listening) (reply : Reply) → ((d : Desk) → Stands old d → None ≡ refusal_to_hold d name) → l ≡ unheard pattern Repeat

@@ -72,19 +72,22 @@ module _ (want : Want) (name : List ℕ) (es : List (List ℕ × LocalFifodir)) 
         let shows : status_of w ≡ status = (λ i. record { number = ends i; flags = flies i; closed = closes i }) in
         let reports = some_reports es fs name r h was in
         let same : watch_over want (reports_of fs name) w ≡ watch = (λ i. started want (unwrap_or (reports i) false) (shows i)) ∙ sym watches in
-        let now = with_world fs name (after_subscribe w (Ok given)) in
-        (now, kept_set name es fs r (record { kept = kept; reports = r.reports }) (after_subscribe w (Ok given)) h was refl s,
-        λ posts. ap (opened_in want (so_far fs posts) name) t.1 ∙ ap (opened_by want (so_far fs posts) name w) said
-        ∙ ap (λ (z : Watching). so_far now (posts ++ record { id = given.0; watch = z } ∷ [])) same)
+        let now = with_world fs name (after_subscribe w (Ok given)) in (
+          now,
+          kept_set name es fs r (record { kept = kept; reports = r.reports }) (after_subscribe w (Ok given)) h was refl s,
+          λ posts. ap (opened_in want (so_far fs posts) name) t.1 ∙ ap (opened_by want (so_far fs posts) name w) said
+              ∙ ap (λ (z : Watching). so_far now (posts ++ record { id = given.0; watch = z } ∷ [])) same,
+        )
 
     pub opens_refused : (error : SubError) (refusal : Refusal) → ((w : World) → StandsFor r.kept w → SubscribeReply w (Err error)) → kept ≡ r.kept → refusal ≡ refusal_of_sub error
         → OpensPost want name fs (Err refusal) (set_value (bytes_eq name) es (record { kept = kept; reports = r.reports }))
     opens_refused error refusal replies still is =
-        let t = some_kept name es fs r h was in
-        (kept_still name es fs r (record { kept = kept; reports = r.reports }) t.0 h was t.1 refl (subst (λ (k : Kept). StandsFor k t.0) (sym still) t.2),
-        λ real posts. ap (opened_in want (so_far fs posts) name) t.1
-        ∙ ap (opened_by want (so_far fs posts) name t.0) (sym (subscribe_reply_is t.0 (Err error) (replies t.0 t.2) (λ e. real (let k : error ≡ sub.Memory = cc in is ∙ ap refusal_of_sub k))))
-        ∙ ap (stopped fs posts) (sym is))
+        let t = some_kept name es fs r h was in (
+          kept_still name es fs r (record { kept = kept; reports = r.reports }) t.0 h was t.1 refl (subst (λ (k : Kept). StandsFor k t.0) (sym still) t.2),
+          λ real posts. ap (opened_in want (so_far fs posts) name) t.1
+              ∙ ap (opened_by want (so_far fs posts) name t.0) (sym (subscribe_reply_is t.0 (Err error) (replies t.0 t.2) (λ e. real (let k : error ≡ sub.Memory = cc in is ∙ ap refusal_of_sub k))))
+              ∙ ap (stopped fs posts) (sym is),
+        )
 
 -- ---- one after another
 

@@ -127,7 +127,7 @@ module _ (w : World) (id : ℕ) (s : Subscription) (is : found w id ≡ Some s) 
       let both : min (m + 1) (length w.events - x.next) ≡ m + 1 = omega arith in
       let next : x.next + min m (length w.events - x.next) + min 1 (length w.events - (x.next + min m (length w.events - x.next))) ≡ x.next + min (m + 1) (length w.events - x.next) = omega arith in
       let gathered : (x.gathered ++ take (min m (length w.events - x.next)) (drop x.next w.events)) ++ take (min 1 (length w.events - (x.next + min m (length w.events - x.next)))) (drop (x.next + min m (length w.events - x.next)) w.events)
-          ≡ x.gathered ++ take (min (m + 1) (length w.events - x.next)) (drop x.next w.events) =
+      ≡ x.gathered ++ take (min (m + 1) (length w.events - x.next)) (drop x.next w.events) =
       (λ i. (x.gathered ++ take (one i) (drop x.next w.events)) ++ take (two i) (drop (x.next + one i) w.events))
       ∙ append_assoc x.gathered _ _
       ∙ ap (λ (t : List Event). x.gathered ++ (take m (drop x.next w.events) ++ take 1 t)) (sym (drop-drop m x.next w.events))
@@ -143,7 +143,7 @@ take_more_then w id s is m below =
     let later : found v id ≡ Some (moved_on w m s) = sym (ap (λ (u : World). found u id) first) ∙ found_then w id s is m in
     ap (λ (u : World). after_take u id 1) first ∙ after_take_is v id (moved_on w m s) later 1
     ∙ ap (λ (subs : List Subscription). record w { subscriptions = subs })
-        (changed_twice (moved_on w m) (moved_on w 1) (moved_on w (m + 1)) 1 w.subscriptions id (λ x e. moved_on_more w id s is m x (only w id s is x e) below) (there w id s is))
+    (changed_twice (moved_on w m) (moved_on w 1) (moved_on w (m + 1)) 1 w.subscriptions id (λ x e. moved_on_more w id s is m x (only w id s is x e) below) (there w id s is))
     ∙ sym (after_take_is w id s is (m + 1))
 
 -- ---- the letters behind the cursor

@@ -90,9 +90,11 @@ stopped_above w v more id same above = by (found v id)
   where
     by : (o : Option Subscription) → (left : List Subscription) × (after_cancel_for v id o ≡ record w { subscriptions = w.subscriptions ++ left })
     by None = (more, same)
-    by (Some s) = (changed_from stopped_one (1 + length w.subscriptions) more id,
-        ap (λ (z : World). record z { subscriptions = changed_from stopped_one 1 z.subscriptions id }) same
-        ∙ ap (λ (subs : List Subscription). record w { subscriptions = subs }) (changed_from-append stopped_one 1 w.subscriptions more id (omega arith)))
+    by (Some s) = (
+      changed_from stopped_one (1 + length w.subscriptions) more id,
+      ap (λ (z : World). record z { subscriptions = changed_from stopped_one 1 z.subscriptions id }) same
+          ∙ ap (λ (subs : List Subscription). record w { subscriptions = subs }) (changed_from-append stopped_one 1 w.subscriptions more id (omega arith)),
+    )
 
 -- ---- the posts of one fifodir
 

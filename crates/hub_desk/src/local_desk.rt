@@ -20,9 +20,9 @@ mod fifodirs;
 mod laws;
 mod listeners;
 mod subscriptions;
-mod waits;
 #[cfg(test)]
 mod tests;
+mod waits;
 
 /// How many ids each fifodir has.
 const IDS: u64 = 1_000_000_000_000;

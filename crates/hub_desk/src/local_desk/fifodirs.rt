@@ -16,7 +16,13 @@ const NAMES: usize = 256;
 const PUBLISHER: u64 = 1;
 
 impl LocalDesk {
-    pub(super) fn make(&mut self, name: &Name, kind: Kind, reports: Option<bool>, limits: Limits) -> Reply
+    pub(super) fn make(
+        &mut self,
+        name: &Name,
+        kind: Kind,
+        reports: Option<bool>,
+        limits: Limits,
+    ) -> Reply
         ensures step { Answers self.old true (λ desk. refusal_to_make desk name.now) (λ desk. made desk name.now kind reports (Some limits)) Unchanged result self.new }
         ensures short { length (text_of result) ≤ 4101 }
     {

@@ -37,7 +37,12 @@ pub(super) fn sub(name: &Name) -> Result<Request, AllocError>
     Ok(Request::Sub { name: name.copy()? })
 }
 
-pub(super) fn publish(rt: &impl Abort, name: &Name, alloc: Global, text: &str) -> Result<Request, AllocError>
+pub(super) fn publish(
+    rt: &impl Abort,
+    name: &Name,
+    alloc: Global,
+    text: &str,
+) -> Result<Request, AllocError>
     ensures { IfOk result IsInRange }
 {
     let mut letters = Vec::new(alloc);

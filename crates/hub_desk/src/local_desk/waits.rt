@@ -52,10 +52,7 @@ impl LocalDesk {
 }
 
 /// The first refusal that stands before those of the posts: a name that isn't there, or else a plain fifodir.
-fn refusal_by_names(
-    fifodirs: &IndexMap<Name, LocalFifodir>,
-    names: &[Name],
-) -> Option<Refusal>
+fn refusal_by_names(fifodirs: &IndexMap<Name, LocalFifodir>, names: &[Name]) -> Option<Refusal>
     ensures { result ≡ refusal_among fifodirs.now.entries names.now }
 {
     if !are_there(fifodirs, names) {
