@@ -111,7 +111,17 @@ fn shown(alloc: Global, reply: &Reply) -> Result<String, AllocError> {
     }
 }
 
-/// Asks, and once more after want of memory, which has changed nothing.
+/// Asks, and once more after want of memory, which has lost nothing.
+pub(super) fn answered<H: Wait>(rt: &H, desk: &mut LocalDesk, request: &Request) -> Reply
+    requires { IsInRange request.now }
+{
+    let reply = desk.ask(rt, request);
+    match reply {
+        Reply::No(Refusal::Memory) => desk.ask(rt, request),
+        other => other,
+    }
+}
+
 pub(super) fn expect<H: Abort + Wait>(
     rt: &H,
     desk: &mut LocalDesk,
@@ -120,10 +130,7 @@ pub(super) fn expect<H: Abort + Wait>(
 ) -> Result<(), AllocError>
     requires { IsInRange request.now }
 {
-    let mut reply = desk.ask(rt, request);
-    if matches!(reply, Reply::No(Refusal::Memory)) {
-        reply = desk.ask(rt, request);
-    }
+    let reply = answered(rt, desk, request);
     let text = shown(desk.alloc, &reply)?;
     assert_eq!(rt; text.as_str(), want);
     Ok(())
@@ -228,7 +235,7 @@ fn standing_handles_are_limited(rt: HostRuntime) -> Result<(), Fail> {
     expect(&rt, &mut desk, &dir(&web, 1, 1)?, "ok")?;
     let sub = Request::Sub { name: web };
     for _ in 0..256u64 {
-        let _ = desk.ask(&rt, &sub);
+        let _ = answered(&rt, &mut desk, &sub);
     }
     expect(&rt, &mut desk, &sub, "no Many")?;
     expect(&rt, &mut desk, &Request::Cancel { id: 5 }, "ok")?;
@@ -243,7 +250,7 @@ fn handles_are_spent(rt: HostRuntime) -> Result<(), Fail> {
     expect(&rt, &mut desk, &dir(&web, 1, 1)?, "ok")?;
     let sub = Request::Sub { name: web };
     for number in 1..=1_000_000u64 {
-        let _ = desk.ask(&rt, &sub);
+        let _ = answered(&rt, &mut desk, &sub);
         let _ = desk.ask(&rt, &Request::Cancel { id: number });
     }
     expect(&rt, &mut desk, &sub, "no Spent")?;
