@@ -1,8 +1,8 @@
 //! Requests to replies.
 //!
 //! A [`Request`] is what a client asks for and a [`Reply`] what it is answered. Whatever answers requests is a
-//! [`Desk`], one for each session. It keeps what the session holds: its subscriptions, each under a handle, a number
-//! that is given once and never again. Ending a desk gives back all that it holds; the fifodirs stay.
+//! [`Desk`], one for each session. It keeps what the session holds: its subscriptions and listeners, each under a
+//! handle, a number that is given once and never again. Ending a desk gives back all that it holds; the fifodirs stay.
 //!
 //! A [`LocalDesk`] serves one thread, over records of its own, so that its replies are a function of the requests.
 #![tactic(auto)]

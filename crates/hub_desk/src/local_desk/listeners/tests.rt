@@ -2,6 +2,7 @@
 ghost use Rattle.std.specs.Prelude.{IfOk};
 ghost use Rattle.hub_desk.specs.Ranges.{IsInRange};
 
+use crate::desk::Desk;
 use crate::local_desk::LocalDesk;
 use crate::local_desk::tests::{answered, close, dir, expect, named, publish, sub};
 use crate::name::Name;
