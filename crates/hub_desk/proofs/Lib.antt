@@ -17,3 +17,4 @@ mod UsedIds
 pub mod OtherHoldings
 pub mod AskingPolls
 pub mod Running
+pub mod TakingWhatWaits

@@ -26,9 +26,6 @@ const HANDLES: usize = 256;
 /// How many handles may be given.
 const NUMBERS: u64 = 1_000_000;
 
-/// How many events one request may take.
-const EVENTS: usize = 256;
-
 impl LocalDesk {
     pub(super) fn subscribe(&mut self, name: &Name) -> Reply
         ensures step { AskedWith false self.old (Sub name.now) result self.new }
@@ -102,17 +99,7 @@ impl LocalDesk {
         let Some(fifodir) = self.fifodirs.get_mut(&holding.name) else {
             unreachable!()
         };
-        let least = Event {
-            who: 0,
-            letter: Letter::least(),
-        };
-        let mut room = [least; EVENTS];
-        match take_letters(
-            self.alloc,
-            &mut fifodir.kept,
-            holding.id,
-            &mut room[..max as usize],
-        ) {
+        match take_waiting(self.alloc, &mut fifodir.kept, holding.id, max as usize) {
             Ok(reply) => reply,
             Err(_) => Reply::No(Refusal::Memory),
         }
@@ -151,6 +138,27 @@ pub(super) fn release_all(
     }
 }
 
+/// Takes what waits for a subscription, at most so much, through room for just that. Want of memory is met before
+/// anything is taken.
+fn take_waiting(alloc: Global, kept: &mut Record, id: u64, most: usize) -> Result<Reply, AllocError>
+    requires stands { HasSubscription kept.old id }
+    requires few { most ≤ 256 }
+    ensures reply { (w : World) → StandsFor kept.old w → IfOk result (λ reply. reply ≡ take_shown (letters (take_events w id most)) (take_reply w id most)) }
+    ensures after { (w : World) → StandsFor kept.old w → OnOk result (StandsFor kept.new (after_take w id most)) }
+    ensures short { IfOk result (λ reply. length (text_of reply) ≤ 4101) }
+    ensures err { OnErr result (kept.new ≡ kept.old) }
+{
+    let Some(waiting) = kept.waiting(id) else {
+        unreachable!()
+    };
+    let least = Event {
+        who: 0,
+        letter: Letter::least(),
+    };
+    let mut room = vec![in alloc; least; most.min(waiting as usize)]?;
+    take_letters(alloc, kept, id, &mut room)
+}
+
 /// Takes what waits for a subscription, as far as the room goes. Want of memory is met before anything is taken.
 fn take_letters(
     alloc: Global,
@@ -165,10 +173,7 @@ fn take_letters(
     ensures short { IfOk result (λ reply. length (text_of reply) ≤ 4101) }
     ensures err { OnErr result (kept.new ≡ kept.old) }
 {
-    let Some(waiting) = kept.waiting(id) else {
-        unreachable!()
-    };
-    let letters = Vec::with_capacity(alloc, room.len().min(waiting as usize))?;
+    let letters = Vec::with_capacity(alloc, room.len())?;
     match kept.take_into(id, room) {
         Ok(Taken::Got(count)) => Ok(Reply::Got(letters_of(&room[..count], letters))),
         Ok(Taken::Nothing) => Ok(Reply::Nothing),
