@@ -1,0 +1,5 @@
+pub mod ShortTexts
+pub mod Speakers
+pub mod KeptFifodirs
+pub mod Numbering
+pub mod Handling

@@ -1,0 +1,10 @@
+use Rattle.std.proofs.Common.{◌≡◌, ◌≤◌, length, vec_len, vec_capacity}
+use Rattle.hub_shared.specs.Fifodirs.{KeepsAll}
+use Rattle.hub_shared.proofs.shared_desk.fifodirs.Fifodirs.open_each.Given as goal
+
+abbrev pub invariant-loop-name : goal.invariant-loop-name
+invariant-loop-name g l = record {
+  kept : KeepsAll l.initial.self l.self;
+  count : vec_len l.posts ≡ l.name-index;
+  room : length l.names ≤ vec_capacity l.posts;
+}

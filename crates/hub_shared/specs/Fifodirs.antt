@@ -1,0 +1,71 @@
+-- The fifodirs that a session keeps, by name.
+use Rattle.std.specs.Prelude.{◌≡◌, List, ℕ, Option, None, Some, false, ◌⊎◌}
+use Rattle.std.specs.Arc.{arc_value}
+use Rattle.std.specs.Map.{lookup}
+use Rattle.std.specs.Str.{bytes_eq}
+use Rattle.hub_desk.specs.declared.reply.Refusal.{Refusal}
+use Rattle.hub_desk.specs.declared.reply.Refusal.TheVariants as no
+use Rattle.hub_desk.specs.declared.reply.Reply.{Reply}
+use Rattle.hub_desk.specs.declared.reply.Reply.TheVariants.{No}
+use Rattle.hub_fifodir.specs.declared.publisher.Publisher.{Publisher}
+use Rattle.hub_shared.specs.declared.hub.Found.{Found}
+use Rattle.hub_shared.specs.declared.shared_desk.fifodirs.Fifodirs.{Fifodirs}
+use Rattle.hub_shared.specs.declared.shared_desk.joined.Joined.{Joined}
+use Rattle.hub_shared.specs.Speaking.{Asked}
+
+-- what is kept under the name
+abbrev pub kept : Fifodirs → List ℕ → Option Joined
+kept fs name = lookup (bytes_eq name) fs.by_name.entries
+
+-- this is kept under the name, and nothing else has changed
+pub record Keeps (old : Fifodirs) (name : List ℕ) (j : Joined) (new : Fifodirs) : Type 0 where
+  pub here : kept new name ≡ Some j
+  pub others : (other : List ℕ) → bytes_eq name other ≡ false → kept new other ≡ kept old other
+
+-- what is kept under the name, or what was found by it just now, which has no publisher yet
+abbrev pub IsFound : Fifodirs → List ℕ → Joined → Type 0
+IsFound fs name j = (kept fs name ≡ Some j) ⊎ ((kept fs name ≡ None) × (j.publisher ≡ None))
+
+-- the name has a fifodir now
+pub record Joins (old : Fifodirs) (name : List ℕ) (new : Fifodirs) : Type 0 where
+  pub joined : Joined
+  pub found : IsFound old name joined
+  pub keeps : Keeps old name joined new
+
+abbrev pub IsAsBefore : Fifodirs → Fifodirs → Type 0
+IsAsBefore old new = new.by_name.entries ≡ old.by_name.entries
+
+-- a copy of what is kept under the name
+pub record IsKeptAs (fs : Fifodirs) (name : List ℕ) (found : Found) : Type 0 where
+  pub joined : Joined
+  pub kept_is : kept fs name ≡ Some joined
+  pub dir : arc_value found.dir ≡ arc_value joined.found.dir
+  pub notifies : found.notifies ≡ joined.found.notifies
+
+-- the name wasn't known before, and isn't now
+pub record IsFinding (old : Fifodirs) (name : List ℕ) (new : Fifodirs) (refusal : Refusal) : Type 0 where
+  pub unknown : kept old name ≡ None
+  pub before : IsAsBefore old new
+  pub refused : (refusal ≡ no.Name) ⊎ (refusal ≡ no.Memory)
+
+-- asked of the publisher under the name
+pub record AsksKept (says : Publisher → Reply → Publisher → Type 0) (old : Fifodirs) (name : List ℕ) (reply : Reply) (new : Fifodirs) : Type 0 where
+  pub before : Joined
+  pub after : Joined
+  pub found : IsFound old name before
+  pub asked : Asked says before reply after
+  pub keeps : Keeps old name after new
+
+pub record IsUnfound (old : Fifodirs) (name : List ℕ) (reply : Reply) (new : Fifodirs) : Type 0 where
+  pub refusal : Refusal
+  pub said : reply ≡ No refusal
+  pub finding : IsFinding old name new refusal
+
+abbrev pub AsksByName : (Publisher → Reply → Publisher → Type 0) → Fifodirs → List ℕ → Reply → Fifodirs → Type 0
+AsksByName says old name reply new = AsksKept says old name reply new ⊎ IsUnfound old name reply new
+
+-- whatever was kept is kept still
+pub record KeepsAll (old new : Fifodirs) : Type 0 where
+  pub each : (name : List ℕ) (j : Joined) → kept old name ≡ Some j → kept new name ≡ Some j
+  -- and what is new has no publisher
+  pub silent : (name : List ℕ) (j : Joined) → kept new name ≡ Some j → kept old name ≡ None → j.publisher ≡ None

@@ -1,0 +1,7 @@
+pub mod Refusals
+pub mod Speaking
+pub mod Fifodirs
+pub mod Taking
+pub mod Handles
+pub mod Waits
+pub mod Desks

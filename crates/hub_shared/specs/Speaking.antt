@@ -1,0 +1,76 @@
+-- What a session's publisher says, and how it is kept.
+use Rattle.std.specs.Prelude.{◌≡◌, ◌≢◌, ℕ, List, [], Option, None, Some, ◌⊎◌}
+use Rattle.std.specs.Arc.{arc_value}
+use Rattle.hub_desk.specs.Replies.{refusal_of_pub}
+use Rattle.hub_desk.specs.declared.reply.Refusal.TheVariants as no
+use Rattle.hub_desk.specs.declared.reply.Reply.{Reply}
+use Rattle.hub_desk.specs.declared.reply.Reply.TheVariants.{Done, Number, State, No}
+use Rattle.hub_fifodir.specs.declared.PassError.{PassError}
+use Rattle.hub_fifodir.specs.declared.fifodir.Fifodir.{Fifodir}
+use Rattle.hub_fifodir.specs.declared.publisher.Publisher.{Publisher}
+use Rattle.hub_fifodir.specs.Passes.{IsPublisherOf, IsStatusOf, IsRefusedAt, HasPublished, KnewOwnClose, closed_mark, mine, publisher_sight}
+use Rattle.hub_fifodir.specs.Steps.{Grows}
+use Rattle.hub_record.specs.declared.PubError.{PubError}
+use Rattle.hub_shared.specs.declared.shared_desk.joined.Joined.{Joined}
+use Rattle.hub_shared.specs.Refusals.{refusal_of_pass}
+
+abbrev pub fifodir_of : Joined → Fifodir
+fifodir_of j = arc_value j.found.dir
+
+-- a publisher that the fifodir has just given
+pub record IsNew (dir : Fifodir) (p : Publisher) : Type 0 where
+  pub of : IsPublisherOf dir p
+  pub silent : mine p ≡ []
+  pub unclosed : closed_mark p ≢ p.number
+
+-- the publisher that is kept speaks, and where none is kept a new one
+abbrev pub IsSpeaker : Fifodir → Option Publisher → Publisher → Type 0
+IsSpeaker dir (Some kept) p = p ≡ kept
+IsSpeaker dir None p = IsNew dir p
+
+-- ---- what a publisher says that was `p` and is now `q`
+
+-- a message is accepted whole, or refused by what the publisher has then seen
+abbrev pub says_published : List ℕ → Publisher → Reply → Publisher → Type 0
+says_published letters p (Number n) q = HasPublished p letters n q
+says_published letters p (No refusal) q =
+    (error : PubError) × (refusal ≡ refusal_of_pub error) × IsRefusedAt q letters error × (mine q ≡ mine p) × KnewOwnClose p q
+says_published letters p _ q = ⊥
+
+-- it closes what it hadn't seen closed, or sees who did
+abbrev pub says_closed : Publisher → Reply → Publisher → Type 0
+says_closed p Done q = (closed_mark p ≡ 0) × (closed_mark q ≡ p.number) × (mine q ≡ mine p)
+says_closed p (No refusal) q = (refusal ≡ no.Closed) × (closed_mark q ≢ 0) × KnewOwnClose p q × (mine q ≡ mine p)
+says_closed p _ q = ⊥
+
+-- the status of what it has then seen
+abbrev pub says_status : Publisher → Reply → Publisher → Type 0
+says_status p (State status) q = IsStatusOf status (publisher_sight q) × KnewOwnClose p q × (mine q ≡ mine p)
+says_status p _ q = ⊥
+
+-- ---- what is asked of it
+
+-- the publisher spoke: it is the same, of the same fifodir, and has seen no less
+pub record HasSpoken (old : Joined) (p q : Publisher) (new : Joined) : Type 0 where
+  pub found : new.found ≡ old.found
+  pub speaker : IsSpeaker (fifodir_of old) old.publisher p
+  pub kept : new.publisher ≡ Some q
+  pub same : q.number ≡ p.number
+  pub seen : Grows (publisher_sight p) (publisher_sight q)
+
+pub record Spoke (says : Publisher → Reply → Publisher → Type 0) (old : Joined) (reply : Reply) (new : Joined) : Type 0 where
+  pub before : Publisher
+  pub after : Publisher
+  pub spoken : HasSpoken old before after new
+  pub said : says before reply after
+
+-- none was kept, and none was given
+pub record IsUnmade (old : Joined) (reply : Reply) (new : Joined) : Type 0 where
+  pub unmade : old.publisher ≡ None
+  pub found : new.found ≡ old.found
+  pub still : new.publisher ≡ None
+  pub error : PassError
+  pub refused : reply ≡ No (refusal_of_pass error)
+
+abbrev pub Asked : (Publisher → Reply → Publisher → Type 0) → Joined → Reply → Joined → Type 0
+Asked says old reply new = Spoke says old reply new ⊎ IsUnmade old reply new

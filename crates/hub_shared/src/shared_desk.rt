@@ -1,0 +1,146 @@
+//! The desk of one session among several.
+ghost use Rattle.std.specs.Prelude.{◌≡◌, ◌≤◌, length, IfOk};
+ghost use Rattle.hub_desk.specs.Ranges.{AreLimits};
+ghost use Rattle.hub_desk.specs.Texts.{text_of};
+ghost use Rattle.hub_shared.specs.Desks.{Answers, Ends, IsNewDesk};
+
+use crate::hub::{Hub, HubError};
+use hub_desk::{Desk, Name, PatternText, Refusal, Reply, Request};
+use hub_listen::Mode;
+use hub_record::{Kind, Limits};
+use hub_wait::Pause;
+use std::alloc::{AllocError, Global};
+use std::sync::{Arc, Wait};
+
+mod fifodirs;
+mod handles;
+mod hearing;
+mod joined;
+mod subscription;
+#[cfg(test)]
+mod tests;
+mod waits;
+
+use fifodirs::Fifodirs;
+use handles::Handles;
+
+/// How many ids each fifodir has.
+const IDS: u64 = 1_000_000_000_000;
+
+/// One session over a hub. It keeps the fifodir that it first found under a name, and makes its publisher there at its
+/// first `pub`, `close` or `status` of that name; `status` is one load through that publisher and waits for nobody.
+/// Each wait begins with a copy of the pause.
+///
+/// A desk that is let go without `end` leaves its subscriptions standing, and what waits behind them fills the
+/// fifodirs.
+#[derive(Drop)]
+pub struct SharedDesk<P: Pause + Copy> {
+    hub: Arc<Hub, Global>,
+    pause: P,
+    fifodirs: Fifodirs,
+    handles: Handles,
+}
+
+impl<P: Pause + Copy> SharedDesk<P> {
+    /// A session that has found no fifodir and has no handle.
+    pub fn new(alloc: Global, hub: Arc<Hub, Global>, pause: P) -> Result<SharedDesk<P>, AllocError>
+        ensures { IfOk result (λ desk. IsNewDesk desk.fifodirs desk.handles) }
+    {
+        Ok(SharedDesk {
+            hub,
+            pause,
+            fifodirs: Fifodirs::new(alloc),
+            handles: Handles::new(alloc),
+        })
+    }
+
+    fn make<H: Wait>(
+        &self,
+        rt: &H,
+        name: &Name,
+        kind: Kind,
+        notifies: bool,
+        limits: Limits,
+    ) -> Reply
+        ensures { length (text_of result) ≤ 4101 }
+    {
+        match self.hub.make_named(rt, name, kind, limits, notifies) {
+            Ok(()) => Reply::Done,
+            Err(HubError::Exists) => Reply::No(Refusal::Exists),
+            Err(HubError::Many) => Reply::No(Refusal::Many),
+            Err(HubError::Memory) => Reply::No(Refusal::Memory),
+        }
+    }
+}
+
+fn limits(waiting: u64, total: u64) -> Limits
+    requires { AreLimits waiting total }
+    ensures waiting { result.waiting ≡ waiting }
+    ensures total { result.total ≡ total }
+    ensures ids { result.ids ≡ 1000000000000 }
+{
+    Limits {
+        waiting,
+        total,
+        ids: IDS,
+    }
+}
+
+impl<P: Pause + Copy> Desk for SharedDesk<P> {
+    ghost asks = { λ old request reply new. (new.hub ≡ old.hub) × (new.pause ≡ old.pause)
+        × Answers old.fifodirs old.handles request reply new.fifodirs new.handles };
+
+    ghost ends = { λ old new. (new.hub ≡ old.hub) × (new.pause ≡ old.pause)
+        × Ends old.handles new.fifodirs new.handles };
+
+    fn ask<H: Wait>(&mut self, rt: &H, request: &Request) -> Reply {
+        match request {
+            Request::Dir {
+                name,
+                waiting,
+                total,
+            } => self.make(rt, name, Kind::Plain, false, limits(*waiting, *total)),
+            Request::Svc {
+                name,
+                waiting,
+                total,
+                notifies,
+            } => self.make(rt, name, Kind::Service, *notifies, limits(*waiting, *total)),
+            Request::Sub { name } => match self.fifodirs.find(rt, &self.hub, name) {
+                Ok(found) => self.handles.subscribe(rt, found),
+                Err(refusal) => Reply::No(refusal),
+            },
+            Request::Pub { name, letters } => self.fifodirs.publish(rt, &self.hub, name, letters),
+            Request::Take { id, max } => self.handles.take(rt, *id, *max),
+            Request::Cancel { id } => self.handles.cancel(rt, *id),
+            Request::Close { name } => self.fifodirs.close(rt, &self.hub, name),
+            Request::Status { name } => self.fifodirs.status(rt, &self.hub, name),
+            Request::Listen {
+                name,
+                mode,
+                pattern,
+            } => match self.fifodirs.find(rt, &self.hub, name) {
+                Ok(found) => self.handles.listen(rt, found, *mode, pattern),
+                Err(refusal) => Reply::No(refusal),
+            },
+            Request::Poll { id } => self.handles.poll(rt, *id),
+            Request::Wait {
+                span,
+                want,
+                turns,
+                names,
+            } => match self
+                .fifodirs
+                .open_posts(rt, &self.hub, *want, names.items())
+            {
+                Ok(posts) => posts.settle(rt, *span, *turns, self.pause),
+                Err(refusal) => Reply::No(refusal),
+            },
+        }
+    }
+
+    fn end<H: Wait>(&mut self, rt: &H) {
+        self.handles.end(rt);
+        self.fifodirs.leave(rt);
+    }
+}

@@ -1,0 +1,145 @@
+//! A session's waits: the posts of one, and what it is answered.
+ghost use Rattle.std.specs.Prelude.{◌≡◌, ◌≤◌, ◌+◌, length, map, vec_len, vec_capacity, IfErr};
+ghost use Rattle.hub_desk.specs.Texts.{number_or_dash, text_of};
+ghost use Rattle.hub_desk.specs.declared.reply.Reply.TheVariants.{Yes};
+ghost use Rattle.hub_shared.specs.Refusals.{IsBrief};
+ghost use Rattle.hub_shared.specs.Waits.{number_met};
+
+use crate::Hub;
+use crate::shared_desk::fifodirs::Fifodirs;
+use hub_desk::{Name, Numbers, Refusal, Reply};
+use hub_letters::Want;
+use hub_record::Kind;
+use hub_wait::{Pause, Post, Span, Verdict, svwait};
+use std::sync::Wait;
+
+/// The posts of one wait, with room for the numbers that it may be answered. They are given back by `settle`.
+#[derive(Drop)]
+pub struct Posts {
+    posts: Vec<Post>,
+    numbers: Vec<Option<u64>>,
+    ghost empty: { vec_len numbers ≡ 0 },
+    ghost fits: { vec_len posts ≤ vec_capacity numbers },
+    ghost few: { vec_len posts ≤ 32 },
+}
+
+impl Fifodirs {
+    ghost use Rattle.hub_shared.specs.Fifodirs.{KeepsAll};
+
+    /// Opens a post for each name, in their order, or none.
+    pub fn open_posts<H: Wait>(
+        &mut self,
+        rt: &H,
+        hub: &Hub,
+        want: Want,
+        names: &[Name],
+    ) -> Result<Posts, Refusal>
+        requires { length names.now ≤ 32 }
+        ensures kept { KeepsAll self.old self.new }
+        ensures brief { IfErr result IsBrief }
+    {
+        if self.has_plain(rt, hub, names)? {
+            return Err(Refusal::Kind);
+        }
+        let Ok(mut posts) = Vec::with_capacity(self.alloc, names.len()) else {
+            return Err(Refusal::Memory);
+        };
+        let Ok(numbers) = Vec::with_capacity(self.alloc, names.len()) else {
+            return Err(Refusal::Memory);
+        };
+        match self.open_each(rt, hub, want, names, &mut posts) {
+            Ok(()) => Ok(Posts { posts, numbers }),
+            Err(refusal) => {
+                end_each(rt, posts);
+                Err(refusal)
+            }
+        }
+    }
+
+    /// Finds the fifodir of each name, and tells whether one of them is plain.
+    fn has_plain<H: Wait>(&mut self, rt: &H, hub: &Hub, names: &[Name]) -> Result<bool, Refusal>
+        ensures kept { KeepsAll self.old self.new }
+        ensures brief { IfErr result IsBrief }
+    {
+        let mut plain = false;
+        for name in names {
+            let found = self.find(rt, hub, name)?;
+            plain |= found.dir.kind() == Kind::Plain;
+        }
+        Ok(plain)
+    }
+
+    /// Opens a post for each name until one is refused.
+    fn open_each<H: Wait>(
+        &mut self,
+        rt: &H,
+        hub: &Hub,
+        want: Want,
+        names: &[Name],
+        posts: &mut Vec<Post>,
+    ) -> Result<(), Refusal>
+        requires empty { vec_len posts.old ≡ 0 }
+        requires fits { length names.now ≤ vec_capacity posts.old }
+        ensures kept { KeepsAll self.old self.new }
+        ensures brief { IfErr result IsBrief }
+        ensures few { vec_len posts.new ≤ length names.now }
+    {
+        for name in names {
+            let found = self.find(rt, hub, name)?;
+            posts.push_reserved(Post::open(rt, found.dir, want, found.notifies)?);
+        }
+        Ok(())
+    }
+}
+
+impl Posts {
+    /// Waits, and gives the posts back.
+    pub fn settle<H: Wait, P: Pause + Copy>(
+        self,
+        rt: &H,
+        span: Span,
+        turns: u64,
+        mut pause: P,
+    ) -> Reply
+        ensures { length (text_of result) ≤ 4101 }
+    {
+        let Posts { mut posts, numbers } = self;
+        let reply = match svwait(rt, &mut posts, span, turns, &mut pause) {
+            Verdict::Yes => Reply::Yes(numbers_met(&posts, numbers)),
+            Verdict::Never => Reply::Never,
+            Verdict::Late => Reply::Late,
+        };
+        end_each(rt, posts);
+        reply
+    }
+}
+
+/// The number of each post that is met.
+fn numbers_met(posts: &[Post], mut room: Vec<Option<u64>>) -> Numbers
+    requires empty { vec_len room ≡ 0 }
+    requires fits { length posts.now ≤ vec_capacity room }
+    requires few { length posts.now ≤ 32 }
+    ensures met { result ≡ map number_met posts.now }
+    ensures short { length (text_of (Yes result)) ≤ 4101 }
+{
+    for post in posts {
+        room.push_reserved(number_met(post));
+    }
+    Numbers::of(room)
+}
+
+/// The number of events at which its service is as wanted.
+fn number_met(post: &Post) -> Option<u64>
+    ensures met { result ≡ number_met post.now }
+    ensures short { length (number_or_dash result) ≤ 20 }
+{
+    let watch = post.watch();
+    if watch.met() { Some(watch.at()) } else { None }
+}
+
+/// Gives the posts back.
+fn end_each<H: Wait>(rt: &H, posts: Vec<Post>) {
+    for post in posts {
+        post.end(rt);
+    }
+}
