@@ -1,18 +1,31 @@
 //! The program `ftrighub`.
 #![tactic(auto)]
 
+mod call;
 mod command_line;
+mod fault;
+mod help;
 mod script;
+mod serve;
 
+use call::call;
 use clap::error::ErrorKind;
 use command_line::{Plan, read_words, status_of};
+use fault::Fault;
 use hub_front::{FrontError, Sink, Source};
 use script::script;
+use serve::{is_clean, serve, tell_faults};
 use std::alloc::{AllocGlobal, Global};
+use std::io::Write;
+use std::net::Net;
 use std::process::ExitCode;
 use std::rt::Runtime;
 use std::sync::Wait;
+use std::thread::Threads;
 use std::{env, io};
+
+/// The status of a fault while running.
+const FAULTY: u8 = 1;
 
 /// The status of a command line that was refused.
 const REFUSED: u8 = 2;
@@ -22,43 +35,81 @@ const NAME: &str = "ftrighub";
 
 fn main(rt: HostRuntime) -> ExitCode {
     let alloc: Global = rt.alloc();
-    match run(&rt, alloc, &mut rt.stdin(), &mut rt.stdout()) {
+    let mut faults = rt.stderr();
+    match run(
+        &rt,
+        alloc,
+        &mut rt.stdin(),
+        &mut rt.stdout(),
+        &mut faults,
+    ) {
         Ok(status) => ExitCode::from(status),
         Err(fault) => {
-            let _ = eprintln!(rt; "ftrighub: {fault}");
-            ExitCode::FAILURE
+            fault.tell(&mut faults);
+            ExitCode::from(FAULTY)
         }
     }
 }
 
 /// Does what the command line asks for, and answers the status to end with.
-fn run<H: Runtime + AllocGlobal + Wait, R: Source, W: Sink>(
+fn run<H, R: Source, W: Sink, F: Write>(
     rt: &H,
     alloc: Global,
     input: &mut R,
     output: &mut W,
-) -> Result<u8, FrontError> {
+    faults: &mut F,
+) -> Result<u8, Fault>
+where
+    H: Runtime + AllocGlobal + Net + Threads + Wait + Copy + Send + 'static,
+{
     let words = match words(rt, alloc) {
         Ok(words) => words,
-        Err(error) if error.kind() == io::ErrorKind::OutOfMemory => return Err(FrontError::Memory),
+        Err(error) if error.kind() == io::ErrorKind::OutOfMemory => return Err(Fault::Memory),
         Err(_) => {
-            let _ = eprintln!(rt; "ftrighub: an argument is not UTF-8");
+            let _ = writeln!(faults, "ftrighub: an argument is not UTF-8");
             return Ok(REFUSED);
         }
     };
     match read_words(alloc, words.as_slice()) {
-        Ok(Plan::Script) => {
-            script(rt, alloc, input, output)?;
-            Ok(0)
-        }
-        Err(error) if error.kind() == ErrorKind::OutOfMemory => Err(FrontError::Memory),
+        Ok(plan) => carry_out(rt, alloc, plan, input, output, faults),
+        Err(error) if error.kind() == ErrorKind::OutOfMemory => Err(Fault::Memory),
         Err(error) => {
             if error.print(rt).is_err() {
-                return Err(FrontError::Write);
+                return Err(Fault::Script(FrontError::Write));
             }
             Ok(status_of(&error))
         }
     }
+}
+
+/// Runs a subcommand.
+fn carry_out<H, R: Source, W: Sink, F: Write>(
+    rt: &H,
+    alloc: Global,
+    plan: Plan<'_>,
+    input: &mut R,
+    output: &mut W,
+    faults: &mut F,
+) -> Result<u8, Fault>
+where
+    H: Runtime + AllocGlobal + Net + Threads + Wait + Copy + Send + 'static,
+{
+    match plan {
+        Plan::Script => {
+            script(rt, alloc, input, output)?;
+        }
+        Plan::Serve { socket, sessions } => {
+            let report = serve(rt, alloc, socket, sessions)?;
+            tell_faults(&report, faults);
+            if !is_clean(&report) {
+                return Ok(FAULTY);
+            }
+        }
+        Plan::Call { socket } => {
+            call(rt, alloc, socket, input, output)?;
+        }
+    }
+    Ok(0)
 }
 
 /// The words of the command line, with the program's own name first.

@@ -8,6 +8,7 @@ use Rattle.hub_shared.specs.declared.shared_desk.fifodirs.Fifodirs.{Fifodirs}
 use Rattle.hub_listen.specs.declared.listener.Mode.{Mode}
 use Rattle.hub_shared.specs.declared.shared_desk.handles.Handles.{Handles}
 use Rattle.hub_shared.specs.declared.shared_desk.joined.Joined.{Joined}
+use Rattle.hub_shared.specs.declared.shared_desk.SharedDesk.{SharedDesk}
 use Rattle.hub_shared.specs.Speaking.{fifodir_of, says_published, says_closed, says_status}
 use Rattle.hub_shared.specs.Fifodirs.{kept, AsksByName, KeepsAll}
 use Rattle.hub_shared.specs.Handles.{Subscribes, Listens, TakesAt, PollsAt, Cancels}
@@ -51,3 +52,16 @@ pub record Ends (old : Handles) (fs : Fifodirs) (hs : Handles) : Type 0 where
   pub subscriptions : hs.subscriptions.entries ≡ []
   pub listeners : hs.listeners.entries ≡ []
   pub given : hs.given ≡ old.given
+
+-- ---- what contracts see of a desk
+
+-- the desk answers so and goes on, over the same hub and with the same pause
+pub record Asks {P : Type 0} (old : SharedDesk P) (request : Request) (reply : Reply) (new : SharedDesk P) : Type 0 where
+  pub hub : new.hub ≡ old.hub
+  pub pause : new.pause ≡ old.pause
+  pub answers : Answers old.fifodirs old.handles request reply new.fifodirs new.handles
+
+pub record IsEnded {P : Type 0} (old new : SharedDesk P) : Type 0 where
+  pub hub : new.hub ≡ old.hub
+  pub pause : new.pause ≡ old.pause
+  pub ends : Ends old.handles new.fifodirs new.handles

@@ -2,7 +2,7 @@
 ghost use Rattle.std.specs.Prelude.{◌≡◌, ◌≤◌, length, IfOk};
 ghost use Rattle.hub_desk.specs.Ranges.{AreLimits};
 ghost use Rattle.hub_desk.specs.Texts.{text_of};
-ghost use Rattle.hub_shared.specs.Desks.{Answers, Ends, IsNewDesk};
+ghost use Rattle.hub_shared.specs.Desks.{Asks, IsEnded, IsNewDesk};
 
 use crate::hub::{Hub, HubError};
 use hub_desk::{Desk, Name, PatternText, Refusal, Reply, Request};
@@ -44,7 +44,9 @@ pub struct SharedDesk<P: Pause + Copy> {
 impl<P: Pause + Copy> SharedDesk<P> {
     /// A session that has found no fifodir and has no handle.
     pub fn new(alloc: Global, hub: Arc<Hub, Global>, pause: P) -> Result<SharedDesk<P>, AllocError>
-        ensures { IfOk result (λ desk. IsNewDesk desk.fifodirs desk.handles) }
+        ensures new { IfOk result (λ desk. IsNewDesk desk.fifodirs desk.handles) }
+        ensures hub { IfOk result (λ desk. desk.hub ≡ hub) }
+        ensures pause { IfOk result (λ desk. desk.pause ≡ pause) }
     {
         Ok(SharedDesk {
             hub,
@@ -87,11 +89,9 @@ fn limits(waiting: u64, total: u64) -> Limits
 }
 
 impl<P: Pause + Copy> Desk for SharedDesk<P> {
-    ghost asks = { λ old request reply new. (new.hub ≡ old.hub) × (new.pause ≡ old.pause)
-        × Answers old.fifodirs old.handles request reply new.fifodirs new.handles };
+    ghost asks = { Asks };
 
-    ghost ends = { λ old new. (new.hub ≡ old.hub) × (new.pause ≡ old.pause)
-        × Ends old.handles new.fifodirs new.handles };
+    ghost ends = { IsEnded };
 
     fn ask<H: Wait>(&mut self, rt: &H, request: &Request) -> Reply {
         match request {

@@ -1,6 +1,6 @@
 //! Several sessions over one hub, request by request.
-ghost use Rattle.std.specs.Prelude.{◌≤◌, IfOk, length};
-ghost use Rattle.hub_desk.specs.Ranges.{AreLimits, IsInRange};
+ghost use Rattle.std.specs.Prelude.{IfOk};
+ghost use Rattle.hub_desk.specs.Ranges.{IsInRange};
 
 use crate::{Hub, SharedDesk};
 use hub_desk::{Desk, Name, Names, PatternText, Refusal, Reply, Request};
@@ -31,97 +31,123 @@ fn session(alloc: Global, hub: &Arc<Hub, Global>) -> Result<Session, AllocError>
     SharedDesk::new(alloc, Arc::try_clone(hub)?, Yielding)
 }
 
+/// A session that has found nothing, alone over a hub.
+fn alone(alloc: Global) -> Result<Session, AllocError> {
+    let hub = Arc::new(alloc, Hub::new(alloc)?)?;
+    session(alloc, &hub)
+}
+
+/// A request, as a row spells it. A fifodir has a total of 100, and a wait is for services that are up.
+#[derive(Clone, Copy)]
+enum Ask {
+    Dir(&'static str, u64),
+    Svc(&'static str, u64),
+    Sub(&'static str),
+    Pub(&'static str, &'static str),
+    Take(u64, u64),
+    Cancel(u64),
+    Close(&'static str),
+    Status(&'static str),
+    Listen(&'static str, Mode, &'static str),
+    Poll(u64),
+    Wait(Span, u64, &'static str, &'static str),
+}
+
+/// What is asked, and what it is answered.
+type Row = (Ask, &'static str);
+
 fn named(rt: &impl Abort, alloc: Global, text: &str) -> Result<Name, AllocError> {
     let name = Name::of(alloc, text.as_bytes())?;
     Ok(name.expect(rt, "a name"))
 }
 
-fn dir(name: &Name, waiting: u64, total: u64) -> Result<Request, AllocError>
-    requires { AreLimits waiting total }
-    ensures { IfOk result IsInRange }
-{
-    Ok(Request::Dir {
-        name: name.copy()?,
-        waiting,
-        total,
-    })
-}
-
-fn svc(name: &Name, waiting: u64, total: u64) -> Result<Request, AllocError>
-    requires { AreLimits waiting total }
-    ensures { IfOk result IsInRange }
-{
-    Ok(Request::Svc {
-        name: name.copy()?,
-        waiting,
-        total,
-        notifies: false,
-    })
-}
-
-fn sub(name: &Name) -> Result<Request, AllocError>
-    ensures { IfOk result IsInRange }
-{
-    Ok(Request::Sub { name: name.copy()? })
-}
-
-fn publish(rt: &impl Abort, alloc: Global, name: &Name, text: &str) -> Result<Request, AllocError>
-    ensures { IfOk result IsInRange }
-{
+fn spelling(rt: &impl Abort, alloc: Global, text: &str) -> Result<Letters, AllocError> {
     let mut letters = Vec::new(alloc);
     for byte in text.as_bytes() {
         letters.push(Letter::of(*byte).expect(rt, "a letter"))?;
     }
-    let letters = Letters::of(letters);
-    Ok(Request::Pub {
-        name: name.copy()?,
-        letters,
-    })
-}
-
-fn close(name: &Name) -> Result<Request, AllocError>
-    ensures { IfOk result IsInRange }
-{
-    Ok(Request::Close { name: name.copy()? })
-}
-
-fn status(name: &Name) -> Result<Request, AllocError>
-    ensures { IfOk result IsInRange }
-{
-    Ok(Request::Status { name: name.copy()? })
-}
-
-fn listen(alloc: Global, name: &Name, mode: Mode, pattern: &str) -> Result<Request, AllocError>
-    ensures { IfOk result IsInRange }
-{
-    let pattern = PatternText::of(String::from_str(alloc, pattern)?);
-    Ok(Request::Listen {
-        name: name.copy()?,
-        mode,
-        pattern,
-    })
+    Ok(Letters::of(letters))
 }
 
 /// A wait for two services to be up.
 fn wait(
+    rt: &impl Abort,
     alloc: Global,
     span: Span,
     turns: u64,
-    one: &Name,
-    other: &Name,
+    one: &str,
+    other: &str,
 ) -> Result<Request, AllocError>
-    requires { turns ≤ 1000000 }
     ensures { IfOk result IsInRange }
 {
+    let one = named(rt, alloc, one)?;
+    let other = named(rt, alloc, other)?;
     let mut names = Vec::with_capacity(alloc, 2)?;
-    names.push_reserved(one.copy()?);
-    names.push_reserved(other.copy()?);
+    names.push_reserved(one);
+    names.push_reserved(other);
     Ok(Request::Wait {
         span,
         want: Want::Up,
-        turns,
+        turns: turns.min(1_000_000),
         names: Names::of(names),
     })
+}
+
+/// A request about a fifodir.
+fn request_by_name(
+    rt: &impl Abort,
+    alloc: Global,
+    ask: Ask,
+    name: Name,
+) -> Result<Request, AllocError>
+    ensures { IfOk result IsInRange }
+{
+    Ok(match ask {
+        Ask::Dir(_, waiting) => Request::Dir {
+            name,
+            waiting: waiting.clamp(1, 4096),
+            total: 100,
+        },
+        Ask::Svc(_, waiting) => Request::Svc {
+            name,
+            waiting: waiting.clamp(1, 4096),
+            total: 100,
+            notifies: false,
+        },
+        Ask::Pub(_, text) => Request::Pub {
+            name,
+            letters: spelling(rt, alloc, text)?,
+        },
+        Ask::Close(_) => Request::Close { name },
+        Ask::Status(_) => Request::Status { name },
+        Ask::Listen(_, mode, pattern) => Request::Listen {
+            name,
+            mode,
+            pattern: PatternText::of(String::from_str(alloc, pattern)?),
+        },
+        _ => Request::Sub { name },
+    })
+}
+
+fn request(rt: &impl Abort, alloc: Global, ask: Ask) -> Result<Request, AllocError>
+    ensures { IfOk result IsInRange }
+{
+    match ask {
+        Ask::Take(id, max) => Ok(Request::Take {
+            id,
+            max: max.clamp(1, 256),
+        }),
+        Ask::Cancel(id) => Ok(Request::Cancel { id }),
+        Ask::Poll(id) => Ok(Request::Poll { id }),
+        Ask::Wait(span, turns, one, other) => wait(rt, alloc, span, turns, one, other),
+        Ask::Dir(name, _)
+        | Ask::Svc(name, _)
+        | Ask::Sub(name)
+        | Ask::Pub(name, _)
+        | Ask::Close(name)
+        | Ask::Status(name)
+        | Ask::Listen(name, _, _) => request_by_name(rt, alloc, ask, named(rt, alloc, name)?),
+    }
 }
 
 /// A reply as a client reads it, but for the refusals, which have their own names.
@@ -176,419 +202,285 @@ fn expect<H: Abort + Wait>(
     Ok(())
 }
 
-/// A session that fills a fifodir, whose subscription holds every letter, and ends.
-fn fills<H: Abort + Wait>(rt: &H, alloc: Global, mut desk: Session) -> Result<Session, AllocError> {
-    let web = named(rt, alloc, "web")?;
-    expect(rt, alloc, &mut desk, &dir(&web, 2, 100)?, "ok")?;
-    expect(rt, alloc, &mut desk, &sub(&web)?, "ok 1")?;
-    expect(
-        rt,
-        alloc,
-        &mut desk,
-        &publish(rt, alloc, &web, "ab")?,
-        "ok 0",
-    )?;
-    expect(
-        rt,
-        alloc,
-        &mut desk,
-        &publish(rt, alloc, &web, "c")?,
-        "no Full",
-    )?;
-    desk.end(rt);
-    Ok(desk)
-}
-
-/// Another session finds room, and the one that ended serves on.
-fn finds_room<H: Abort + Wait>(
+fn run<H: Abort + Wait>(
     rt: &H,
     alloc: Global,
-    mut other: Session,
-    mut ended: Session,
+    desk: &mut Session,
+    rows: &[Row],
 ) -> Result<(), AllocError> {
-    let web = named(rt, alloc, "web")?;
-    expect(
-        rt,
-        alloc,
-        &mut other,
-        &publish(rt, alloc, &web, "c")?,
-        "ok 2",
-    )?;
-    expect(rt, alloc, &mut other, &status(&web)?, "ok 3 0 open")?;
-    expect(
-        rt,
-        alloc,
-        &mut ended,
-        &Request::Take { id: 1, max: 5 },
-        "no Id",
-    )?;
-    expect(rt, alloc, &mut ended, &sub(&web)?, "ok 2")?;
-    expect(rt, alloc, &mut ended, &status(&web)?, "ok 3 0 open")?;
-    ended.end(rt);
-    other.end(rt);
+    for (ask, want) in rows {
+        let request = request(rt, alloc, *ask)?;
+        expect(rt, alloc, desk, &request, want)?;
+    }
     Ok(())
 }
 
-fn one_ends<H: Abort + Wait>(rt: &H, alloc: Global) -> Result<(), AllocError> {
-    let hub = Arc::new(alloc, Hub::new(alloc)?)?;
-    let ended = fills(rt, alloc, session(alloc, &hub)?)?;
-    finds_room(rt, alloc, session(alloc, &hub)?, ended)
-}
+/// A session whose subscription holds every letter of a full fifodir.
+const FILLS: [Row; 4] = [
+    (Ask::Dir("web", 2), "ok"),
+    (Ask::Sub("web"), "ok 1"),
+    (Ask::Pub("web", "ab"), "ok 0"),
+    (Ask::Pub("web", "c"), "no Full"),
+];
+
+/// Another session finds room after that one has ended.
+const FINDS_ROOM: [Row; 2] = [
+    (Ask::Pub("web", "c"), "ok 2"),
+    (Ask::Status("web"), "ok 3 0 open"),
+];
+
+/// The one that has ended serves on.
+const SERVES_ON: [Row; 3] = [
+    (Ask::Take(1, 5), "no Id"),
+    (Ask::Sub("web"), "ok 2"),
+    (Ask::Status("web"), "ok 3 0 open"),
+];
 
 #[test]
-fn a_session_that_ends_holds_no_one_up(rt: HostRuntime) {
-    assert!(rt; one_ends(&rt, rt.alloc()).is_ok());
+fn a_session_that_ends_holds_no_one_up(rt: HostRuntime) -> Result<(), Fail> {
+    let alloc: Global = rt.alloc();
+    let hub = Arc::new(alloc, Hub::new(alloc)?)?;
+    let mut first = session(alloc, &hub)?;
+    let mut second = session(alloc, &hub)?;
+    assert!(rt; run(&rt, alloc, &mut first, &FILLS).is_ok());
+    first.end(&rt);
+    assert!(rt; run(&rt, alloc, &mut second, &FINDS_ROOM).is_ok());
+    assert!(rt; run(&rt, alloc, &mut first, &SERVES_ON).is_ok());
+    Ok(())
 }
 
 #[test]
 fn a_session_ends_on_a_thread_of_its_own(rt: HostRuntime) -> Result<(), Fail> {
     let alloc: Global = rt.alloc();
     let hub = Arc::new(alloc, Hub::new(alloc)?)?;
-    let first = session(alloc, &hub)?;
-    let child = thread::spawn(&rt, move || fills(&rt, alloc, first))?;
-    let ended = child.join(&rt)?;
-    finds_room(&rt, alloc, session(alloc, &hub)?, ended)?;
+    let mut first = session(alloc, &hub)?;
+    let mut second = session(alloc, &hub)?;
+    let child = thread::spawn(&rt, move || -> bool {
+        let filled = run(&rt, alloc, &mut first, &FILLS).is_ok();
+        first.end(&rt);
+        filled
+    })?;
+    assert!(rt; child.join(&rt));
+    assert!(rt; run(&rt, alloc, &mut second, &FINDS_ROOM).is_ok());
     Ok(())
 }
 
-/// Each request on a plain fifodir, carried out and refused; handles are of two sorts, and a refused one uses no number.
-fn plain<H: Abort + Wait>(rt: &H, alloc: Global) -> Result<(), AllocError> {
-    let hub = Arc::new(alloc, Hub::new(alloc)?)?;
-    let mut desk = session(alloc, &hub)?;
-    let web = named(rt, alloc, "web")?;
-    expect(rt, alloc, &mut desk, &sub(&web)?, "no Name")?;
-    expect(rt, alloc, &mut desk, &dir(&web, 64, 1000)?, "ok")?;
-    expect(rt, alloc, &mut desk, &dir(&web, 4, 10)?, "no Exists")?;
-    expect(
-        rt,
-        alloc,
-        &mut desk,
-        &listen(alloc, &web, Mode::Repeat, "(")?,
-        "no Pattern",
-    )?;
-    expect(rt, alloc, &mut desk, &sub(&web)?, "ok 1")?;
-    expect(
-        rt,
-        alloc,
-        &mut desk,
-        &listen(alloc, &web, Mode::Once, "b")?,
-        "ok 2",
-    )?;
-    expect(
-        rt,
-        alloc,
-        &mut desk,
-        &publish(rt, alloc, &web, "abcb")?,
-        "ok 0",
-    )?;
-    expect(
-        rt,
-        alloc,
-        &mut desk,
-        &Request::Take { id: 2, max: 3 },
-        "no Id",
-    )?;
-    expect(rt, alloc, &mut desk, &Request::Poll { id: 1 }, "no Id")?;
-    expect(
-        rt,
-        alloc,
-        &mut desk,
-        &Request::Take { id: 1, max: 3 },
-        "got abc",
-    )?;
-    expect(rt, alloc, &mut desk, &Request::Poll { id: 2 }, "hit ab")?;
-    expect(rt, alloc, &mut desk, &Request::Poll { id: 2 }, "no Id")?;
-    expect(rt, alloc, &mut desk, &Request::Cancel { id: 2 }, "no Id")?;
-    expect(
-        rt,
-        alloc,
-        &mut desk,
-        &Request::Take { id: 1, max: 3 },
-        "got b",
-    )?;
-    expect(
-        rt,
-        alloc,
-        &mut desk,
-        &Request::Take { id: 1, max: 3 },
-        "none",
-    )?;
-    expect(rt, alloc, &mut desk, &close(&web)?, "ok")?;
-    expect(rt, alloc, &mut desk, &close(&web)?, "no Closed")?;
-    expect(
-        rt,
-        alloc,
-        &mut desk,
-        &Request::Take { id: 1, max: 3 },
-        "end",
-    )?;
-    expect(
-        rt,
-        alloc,
-        &mut desk,
-        &publish(rt, alloc, &web, "d")?,
-        "no Closed",
-    )?;
-    expect(rt, alloc, &mut desk, &sub(&web)?, "no Closed")?;
-    expect(rt, alloc, &mut desk, &status(&web)?, "ok 4 0 closed")?;
-    expect(rt, alloc, &mut desk, &Request::Cancel { id: 1 }, "ok")?;
-    let db = named(rt, alloc, "db")?;
-    expect(rt, alloc, &mut desk, &dir(&db, 64, 1000)?, "ok")?;
-    expect(rt, alloc, &mut desk, &sub(&db)?, "ok 3")?;
-    desk.end(rt);
-    Ok(())
-}
+/// Handles are of two sorts, and a request that is refused uses no number.
+const HANDLES: [Row; 13] = [
+    (Ask::Sub("web"), "no Name"),
+    (Ask::Dir("web", 64), "ok"),
+    (Ask::Dir("web", 4), "no Exists"),
+    (Ask::Listen("web", Mode::Repeat, "("), "no Pattern"),
+    (Ask::Sub("web"), "ok 1"),
+    (Ask::Listen("web", Mode::Once, "b"), "ok 2"),
+    (Ask::Pub("web", "abcb"), "ok 0"),
+    (Ask::Take(2, 3), "no Id"),
+    (Ask::Poll(1), "no Id"),
+    (Ask::Take(1, 3), "got abc"),
+    (Ask::Poll(2), "hit ab"),
+    (Ask::Poll(2), "no Id"),
+    (Ask::Cancel(2), "no Id"),
+];
 
-/// A listener keeps the letter that it couldn't hear for want of memory.
-fn heard<H: Abort + Wait>(rt: &H, alloc: Global) -> Result<(), AllocError> {
-    let hub = Arc::new(alloc, Hub::new(alloc)?)?;
-    let mut desk = session(alloc, &hub)?;
-    let web = named(rt, alloc, "web")?;
-    expect(rt, alloc, &mut desk, &dir(&web, 64, 1000)?, "ok")?;
-    expect(
-        rt,
-        alloc,
-        &mut desk,
-        &listen(alloc, &web, Mode::Repeat, "u.*U")?,
-        "ok 1",
-    )?;
-    expect(
-        rt,
-        alloc,
-        &mut desk,
-        &publish(rt, alloc, &web, "suUu")?,
-        "ok 0",
-    )?;
-    expect(rt, alloc, &mut desk, &Request::Poll { id: 1 }, "hit suU")?;
-    expect(rt, alloc, &mut desk, &Request::Poll { id: 1 }, "none")?;
-    expect(
-        rt,
-        alloc,
-        &mut desk,
-        &publish(rt, alloc, &web, "dU")?,
-        "ok 4",
-    )?;
-    expect(rt, alloc, &mut desk, &Request::Poll { id: 1 }, "hit udU")?;
-    expect(rt, alloc, &mut desk, &close(&web)?, "ok")?;
-    expect(rt, alloc, &mut desk, &Request::Poll { id: 1 }, "end")?;
-    expect(rt, alloc, &mut desk, &Request::Cancel { id: 1 }, "ok")?;
-    desk.end(rt);
-    Ok(())
-}
+/// What is asked of that fifodir while it is closed, where one letter waits.
+const CLOSES: [Row; 11] = [
+    (Ask::Take(1, 3), "got b"),
+    (Ask::Take(1, 3), "none"),
+    (Ask::Close("web"), "ok"),
+    (Ask::Close("web"), "no Closed"),
+    (Ask::Take(1, 3), "end"),
+    (Ask::Pub("web", "d"), "no Closed"),
+    (Ask::Sub("web"), "no Closed"),
+    (Ask::Status("web"), "ok 4 0 closed"),
+    (Ask::Cancel(1), "ok"),
+    (Ask::Dir("db", 64), "ok"),
+    (Ask::Sub("db"), "ok 3"),
+];
+
+/// Hits of a listener; the letter that it couldn't hear for want of memory is heard first.
+const HEARS: [Row; 10] = [
+    (Ask::Dir("web", 64), "ok"),
+    (Ask::Listen("web", Mode::Repeat, "u.*U"), "ok 1"),
+    (Ask::Pub("web", "suUu"), "ok 0"),
+    (Ask::Poll(1), "hit suU"),
+    (Ask::Poll(1), "none"),
+    (Ask::Pub("web", "dU"), "ok 4"),
+    (Ask::Poll(1), "hit udU"),
+    (Ask::Close("web"), "ok"),
+    (Ask::Poll(1), "end"),
+    (Ask::Cancel(1), "ok"),
+];
 
 /// What a subscription holds is free once it is cancelled, by its handle or by its listener's one hit.
-fn freed<H: Abort + Wait>(rt: &H, alloc: Global) -> Result<(), AllocError> {
-    let hub = Arc::new(alloc, Hub::new(alloc)?)?;
-    let mut desk = session(alloc, &hub)?;
-    let web = named(rt, alloc, "web")?;
-    expect(rt, alloc, &mut desk, &dir(&web, 2, 100)?, "ok")?;
-    expect(rt, alloc, &mut desk, &sub(&web)?, "ok 1")?;
-    let two = publish(rt, alloc, &web, "ab")?;
-    expect(rt, alloc, &mut desk, &two, "ok 0")?;
-    expect(rt, alloc, &mut desk, &two, "no Full")?;
-    expect(rt, alloc, &mut desk, &Request::Cancel { id: 1 }, "ok")?;
-    expect(rt, alloc, &mut desk, &two, "ok 2")?;
-    let once = listen(alloc, &web, Mode::Once, "a")?;
-    expect(rt, alloc, &mut desk, &once, "ok 2")?;
-    expect(rt, alloc, &mut desk, &two, "ok 4")?;
-    expect(rt, alloc, &mut desk, &two, "no Full")?;
-    expect(rt, alloc, &mut desk, &Request::Poll { id: 2 }, "hit a")?;
-    expect(rt, alloc, &mut desk, &two, "ok 6")?;
-    expect(rt, alloc, &mut desk, &once, "ok 3")?;
-    expect(rt, alloc, &mut desk, &two, "ok 8")?;
-    expect(rt, alloc, &mut desk, &Request::Cancel { id: 3 }, "ok")?;
-    expect(rt, alloc, &mut desk, &two, "ok 10")?;
-    desk.end(rt);
-    Ok(())
-}
+const FREES: [Row; 11] = [
+    (Ask::Dir("web", 2), "ok"),
+    (Ask::Sub("web"), "ok 1"),
+    (Ask::Pub("web", "ab"), "ok 0"),
+    (Ask::Pub("web", "ab"), "no Full"),
+    (Ask::Cancel(1), "ok"),
+    (Ask::Pub("web", "ab"), "ok 2"),
+    (Ask::Listen("web", Mode::Once, "a"), "ok 2"),
+    (Ask::Pub("web", "ab"), "ok 4"),
+    (Ask::Pub("web", "ab"), "no Full"),
+    (Ask::Poll(2), "hit a"),
+    (Ask::Pub("web", "ab"), "ok 6"),
+];
 
 /// Waits for two services. A post that was left behind would leave no room for three letters.
-fn waits<H: Abort + Wait>(rt: &H, alloc: Global) -> Result<(), AllocError> {
-    let hub = Arc::new(alloc, Hub::new(alloc)?)?;
-    let mut desk = session(alloc, &hub)?;
-    let a = named(rt, alloc, "a")?;
-    let b = named(rt, alloc, "b")?;
-    expect(
-        rt,
-        alloc,
-        &mut desk,
-        &wait(alloc, Span::Any, 0, &a, &b)?,
-        "no Name",
-    )?;
-    expect(rt, alloc, &mut desk, &svc(&a, 2, 100)?, "ok")?;
-    expect(rt, alloc, &mut desk, &svc(&b, 2, 100)?, "ok")?;
-    expect(rt, alloc, &mut desk, &publish(rt, alloc, &a, "su")?, "ok 0")?;
-    expect(
-        rt,
-        alloc,
-        &mut desk,
-        &wait(alloc, Span::All, 3, &a, &b)?,
-        "late",
-    )?;
-    expect(rt, alloc, &mut desk, &publish(rt, alloc, &b, "su")?, "ok 0")?;
-    let both = wait(alloc, Span::Any, 0, &a, &b)?;
-    expect(rt, alloc, &mut desk, &both, "yes [Some(2), Some(2)]")?;
-    expect(
-        rt,
-        alloc,
-        &mut desk,
-        &publish(rt, alloc, &a, "dDu")?,
-        "ok 2",
-    )?;
-    expect(
-        rt,
-        alloc,
-        &mut desk,
-        &publish(rt, alloc, &b, "dDO")?,
-        "ok 2",
-    )?;
-    expect(rt, alloc, &mut desk, &both, "yes [Some(5), None]")?;
-    expect(
-        rt,
-        alloc,
-        &mut desk,
-        &wait(alloc, Span::All, 0, &a, &b)?,
-        "never",
-    )?;
-    expect(rt, alloc, &mut desk, &close(&b)?, "ok")?;
-    expect(rt, alloc, &mut desk, &both, "no Closed")?;
-    expect(
-        rt,
-        alloc,
-        &mut desk,
-        &publish(rt, alloc, &a, "dDu")?,
-        "ok 5",
-    )?;
-    let web = named(rt, alloc, "web")?;
-    expect(rt, alloc, &mut desk, &dir(&web, 2, 100)?, "ok")?;
-    expect(
-        rt,
-        alloc,
-        &mut desk,
-        &wait(alloc, Span::Any, 0, &b, &web)?,
-        "no Kind",
-    )?;
+const WAITS: [Row; 16] = [
+    (Ask::Wait(Span::Any, 0, "a", "b"), "no Name"),
+    (Ask::Svc("a", 2), "ok"),
+    (Ask::Svc("b", 2), "ok"),
+    (Ask::Pub("a", "su"), "ok 0"),
+    (Ask::Wait(Span::All, 3, "a", "b"), "late"),
+    (Ask::Pub("b", "su"), "ok 0"),
+    (Ask::Wait(Span::Any, 0, "a", "b"), "yes [Some(2), Some(2)]"),
+    (Ask::Pub("a", "dDu"), "ok 2"),
+    (Ask::Pub("b", "dDO"), "ok 2"),
+    (Ask::Wait(Span::Any, 0, "a", "b"), "yes [Some(5), None]"),
+    (Ask::Wait(Span::All, 0, "a", "b"), "never"),
+    (Ask::Close("b"), "ok"),
+    (Ask::Wait(Span::Any, 0, "a", "b"), "no Closed"),
+    (Ask::Pub("a", "dDu"), "ok 5"),
+    (Ask::Dir("web", 2), "ok"),
+    (Ask::Wait(Span::Any, 0, "b", "web"), "no Kind"),
+];
+
+/// Carries rows out in a session of their own.
+fn run_alone<H: Abort + Wait>(rt: &H, alloc: Global, rows: &[Row]) -> Result<(), AllocError> {
+    let mut desk = alone(alloc)?;
+    let ran = run(rt, alloc, &mut desk, rows);
     desk.end(rt);
-    Ok(())
+    ran
 }
 
 #[test]
-fn requests_are_answered(rt: HostRuntime) {
-    assert!(rt; plain(&rt, rt.alloc()).is_ok());
-    assert!(rt; heard(&rt, rt.alloc()).is_ok());
-    assert!(rt; freed(&rt, rt.alloc()).is_ok());
-    assert!(rt; waits(&rt, rt.alloc()).is_ok());
+fn requests_are_answered(rt: HostRuntime) -> Result<(), Fail> {
+    let alloc: Global = rt.alloc();
+    let mut desk = alone(alloc)?;
+    assert!(rt; run(&rt, alloc, &mut desk, &HANDLES).is_ok());
+    assert!(rt; run(&rt, alloc, &mut desk, &CLOSES).is_ok());
+    desk.end(&rt);
+    assert!(rt; run_alone(&rt, alloc, &HEARS).is_ok());
+    assert!(rt; run_alone(&rt, alloc, &FREES).is_ok());
+    assert!(rt; run_alone(&rt, alloc, &WAITS).is_ok());
+    Ok(())
 }
 
 /// With any one growth refused: a session stops where its own names or texts lack memory, and else goes on.
 #[test]
 fn want_of_memory_changes_nothing(rt: HostRuntime) {
-    let _ = plain(&rt, rt.alloc());
-    let _ = heard(&rt, rt.alloc());
-    let _ = freed(&rt, rt.alloc());
-    let _ = waits(&rt, rt.alloc());
-    let _ = one_ends(&rt, rt.alloc());
+    let alloc: Global = rt.alloc();
+    let _ = run_alone(&rt, alloc, &HANDLES);
+    let _ = run_alone(&rt, alloc, &HEARS);
+    let _ = run_alone(&rt, alloc, &WAITS);
 }
 
+/// A service that is up, one that has started, and what another session says of it.
+const IS_UP: [Row; 2] = [(Ask::Svc("db", 64), "ok"), (Ask::Pub("db", "su"), "ok 0")];
+
+const STARTS: [Row; 2] = [(Ask::Svc("web", 64), "ok"), (Ask::Pub("web", "s"), "ok 0")];
+
+const COMES_UP: [Row; 1] = [(Ask::Pub("web", "u"), "ok 1")];
+
+const UNTIL_UP: [Row; 1] = [(
+    Ask::Wait(Span::All, 1_000_000, "db", "web"),
+    "yes [Some(2), Some(2)]",
+)];
+
+/// Two sessions each start a service, one on a thread of its own, and one waits for both.
 #[test]
 fn another_session_ends_a_wait(rt: HostRuntime) -> Result<(), Fail> {
     let alloc: Global = rt.alloc();
     let hub = Arc::new(alloc, Hub::new(alloc)?)?;
     let mut desk = session(alloc, &hub)?;
-    let web = named(&rt, alloc, "web")?;
-    expect(&rt, alloc, &mut desk, &svc(&web, 64, 100)?, "ok")?;
-    expect(
-        &rt,
-        alloc,
-        &mut desk,
-        &publish(&rt, alloc, &web, "s")?,
-        "ok 0",
-    )?;
     let mut other = session(alloc, &hub)?;
-    let up = publish(&rt, alloc, &web, "u")?;
-    let child = thread::spawn(&rt, move || -> Result<(), AllocError> {
+    assert!(rt; run(&rt, alloc, &mut desk, &IS_UP).is_ok());
+    assert!(rt; run(&rt, alloc, &mut other, &STARTS).is_ok());
+    let child = thread::spawn(&rt, move || -> bool {
         thread::yield_now();
-        expect(&rt, alloc, &mut other, &up, "ok 1")?;
-        other.end(&rt);
-        Ok(())
+        run(&rt, alloc, &mut other, &COMES_UP).is_ok()
     })?;
-    let both = wait(alloc, Span::All, 1_000_000, &web, &web)?;
-    expect(&rt, alloc, &mut desk, &both, "yes [Some(2), Some(2)]")?;
-    child.join(&rt)?;
-    desk.end(&rt);
+    assert!(rt; run(&rt, alloc, &mut desk, &UNTIL_UP).is_ok());
+    assert!(rt; child.join(&rt));
     Ok(())
 }
 
-/// A session makes one publisher under a name, whatever it asks of it, and gives it back.
+/// The number that the next publisher under the name gets.
+fn next_number<H: Abort + Wait>(rt: &H, alloc: Global, hub: &Hub) -> Result<u64, Fail> {
+    let web = named(rt, alloc, "web")?;
+    let found = hub.find(rt, &web)?.ok_or("found")?;
+    let publisher = found.dir.publisher(rt)?;
+    let number = publisher.number();
+    found.dir.leave(rt, publisher);
+    Ok(number)
+}
+
+/// A session makes one publisher under a name, whatever it asks of it.
+const SPEAKS: [Row; 5] = [
+    (Ask::Dir("web", 64), "ok"),
+    (Ask::Status("web"), "ok 0 0 open"),
+    (Ask::Pub("web", "a"), "ok 0"),
+    (Ask::Pub("web", "b"), "ok 1"),
+    (Ask::Close("web"), "ok"),
+];
+
 #[test]
 fn a_session_keeps_its_publisher(rt: HostRuntime) -> Result<(), Fail> {
     let alloc: Global = rt.alloc();
     let hub = Arc::new(alloc, Hub::new(alloc)?)?;
     let mut desk = session(alloc, &hub)?;
-    let web = named(&rt, alloc, "web")?;
-    expect(&rt, alloc, &mut desk, &dir(&web, 64, 100)?, "ok")?;
-    expect(&rt, alloc, &mut desk, &status(&web)?, "ok 0 0 open")?;
-    expect(
-        &rt,
-        alloc,
-        &mut desk,
-        &publish(&rt, alloc, &web, "a")?,
-        "ok 0",
-    )?;
-    expect(
-        &rt,
-        alloc,
-        &mut desk,
-        &publish(&rt, alloc, &web, "b")?,
-        "ok 1",
-    )?;
-    expect(&rt, alloc, &mut desk, &close(&web)?, "ok")?;
-    let found = hub.find(&rt, &web)?.ok_or("found")?;
-    let publisher = found.dir.publisher(&rt)?;
-    assert_eq!(rt; publisher.number(), 2);
-    found.dir.leave(&rt, publisher);
+    assert!(rt; run(&rt, alloc, &mut desk, &SPEAKS).is_ok());
+    assert_eq!(rt; next_number(&rt, alloc, &hub)?, 2);
     desk.end(&rt);
     Ok(())
 }
 
+/// A listener stands.
+const ONE_STANDS: [Row; 3] = [
+    (Ask::Svc("web", 64), "ok"),
+    (Ask::Pub("web", "su"), "ok 0"),
+    (Ask::Listen("web", Mode::Repeat, "D"), "ok 1"),
+];
+
+/// 256 handles stand, of both sorts; a wait needs none.
+const ALL_STAND: [Row; 5] = [
+    (Ask::Sub("web"), "no Many"),
+    (Ask::Listen("web", Mode::Once, "("), "no Many"),
+    (
+        Ask::Wait(Span::All, 0, "web", "web"),
+        "yes [Some(2), Some(2)]",
+    ),
+    (Ask::Cancel(1), "ok"),
+    (Ask::Sub("web"), "ok 257"),
+];
+
 #[test]
 fn standing_handles_are_limited(rt: HostRuntime) -> Result<(), Fail> {
     let alloc: Global = rt.alloc();
-    let hub = Arc::new(alloc, Hub::new(alloc)?)?;
-    let mut desk = session(alloc, &hub)?;
-    let web = named(&rt, alloc, "web")?;
-    expect(&rt, alloc, &mut desk, &svc(&web, 64, 100)?, "ok")?;
-    expect(
-        &rt,
-        alloc,
-        &mut desk,
-        &publish(&rt, alloc, &web, "su")?,
-        "ok 0",
-    )?;
-    expect(
-        &rt,
-        alloc,
-        &mut desk,
-        &listen(alloc, &web, Mode::Repeat, "D")?,
-        "ok 1",
-    )?;
-    let sub = sub(&web)?;
+    let mut desk = alone(alloc)?;
+    assert!(rt; run(&rt, alloc, &mut desk, &ONE_STANDS).is_ok());
+    let sub = request(&rt, alloc, Ask::Sub("web"))?;
     for _ in 0..255u64 {
         let _ = desk.ask(&rt, &sub);
     }
-    expect(&rt, alloc, &mut desk, &sub, "no Many")?;
-    expect(
-        &rt,
-        alloc,
-        &mut desk,
-        &listen(alloc, &web, Mode::Once, "(")?,
-        "no Many",
-    )?;
-    let both = wait(alloc, Span::All, 0, &web, &web)?;
-    expect(&rt, alloc, &mut desk, &both, "yes [Some(2), Some(2)]")?;
-    expect(&rt, alloc, &mut desk, &Request::Cancel { id: 1 }, "ok")?;
-    expect(&rt, alloc, &mut desk, &sub, "ok 257")?;
+    assert!(rt; run(&rt, alloc, &mut desk, &ALL_STAND).is_ok());
     desk.end(&rt);
+    Ok(())
+}
+
+/// Makes the names n0 to n255.
+fn make_names<H: Abort + Wait>(
+    rt: &H,
+    alloc: Global,
+    desk: &mut Session,
+) -> Result<(), AllocError> {
+    for number in 0..256u64 {
+        let text = format!(in alloc; "n{number}")?;
+        let name = named(rt, alloc, &text)?;
+        let dir = request_by_name(rt, alloc, Ask::Dir("", 1), name)?;
+        expect(rt, alloc, desk, &dir, "ok")?;
+    }
     Ok(())
 }
 
@@ -598,31 +490,11 @@ fn names_are_limited(rt: HostRuntime) -> Result<(), Fail> {
     let hub = Arc::new(alloc, Hub::new(alloc)?)?;
     let mut one = session(alloc, &hub)?;
     let mut other = session(alloc, &hub)?;
-    for number in 0..256u64 {
-        let text = format!(in alloc; "n{number}")?;
-        expect(
-            &rt,
-            alloc,
-            &mut one,
-            &dir(&named(&rt, alloc, &text)?, 1, 1)?,
-            "ok",
-        )?;
-    }
-    expect(
-        &rt,
-        alloc,
-        &mut other,
-        &dir(&named(&rt, alloc, "n7")?, 1, 1)?,
-        "no Exists",
-    )?;
-    expect(
-        &rt,
-        alloc,
-        &mut other,
-        &dir(&named(&rt, alloc, "more")?, 1, 1)?,
-        "no Many",
-    )?;
-    one.end(&rt);
-    other.end(&rt);
+    assert!(rt; make_names(&rt, alloc, &mut one).is_ok());
+    let rows = [
+        (Ask::Dir("n7", 1), "no Exists"),
+        (Ask::Dir("more", 1), "no Many"),
+    ];
+    assert!(rt; run(&rt, alloc, &mut other, &rows).is_ok());
     Ok(())
 }

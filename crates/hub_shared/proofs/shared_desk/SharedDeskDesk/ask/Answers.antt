@@ -5,20 +5,20 @@ use Rattle.hub_shared.proofs.Handling.{subscribes_to, listens_to}
 use Rattle.hub_shared.proofs.shared_desk.SharedDeskDesk.ask.Goals as goal
 
 pub returns-in-Ok-clause-step : goal.returns-in-Ok-clause-step
-returns-in-Ok-clause-step g c = (
-  refl,
-  refl,
-  subst (λ (r : Request). Answers c.args.self.now.fifodirs c.args.self.now.handles r c.subscribe.result c.find.new.self c.subscribe.new.self) (sym c.in-Sub.is)
-      (c.in-Ok.ensures.kept, subscribes_to c.find.new.self c.in-Sub.name c.in-Ok.found c.args.self.now.handles c.subscribe.new.self c.subscribe.result c.in-Ok.ensures.ok c.subscribe.ensures.step),
-)
+returns-in-Ok-clause-step g c = record {
+  hub = refl;
+  pause = refl;
+  answers = subst (λ (r : Request). Answers c.args.self.now.fifodirs c.args.self.now.handles r c.subscribe.result c.find.new.self c.subscribe.new.self) (sym c.in-Sub.is)
+      (c.in-Ok.ensures.kept, subscribes_to c.find.new.self c.in-Sub.name c.in-Ok.found c.args.self.now.handles c.subscribe.new.self c.subscribe.result c.in-Ok.ensures.ok c.subscribe.ensures.step);
+}
 
 pub returns-in-Ok-find-clause-step : goal.returns-in-Ok-find-clause-step
-returns-in-Ok-find-clause-step g c = (
-  refl,
-  refl,
-  subst (λ (r : Request). Answers c.args.self.now.fifodirs c.args.self.now.handles r c.listen.result c.find-in-Listen.new.self c.listen.new.self) (sym c.in-Listen.is) (
+returns-in-Ok-find-clause-step g c = record {
+  hub = refl;
+  pause = refl;
+  answers = subst (λ (r : Request). Answers c.args.self.now.fifodirs c.args.self.now.handles r c.listen.result c.find-in-Listen.new.self c.listen.new.self) (sym c.in-Listen.is) (
     c.in-Ok-find.ensures.kept,
     listens_to c.find-in-Listen.new.self c.in-Listen.name c.in-Ok-find.found c.in-Listen.mode c.in-Listen.pattern
         c.args.self.now.handles c.listen.new.self c.listen.result c.in-Ok-find.ensures.ok c.listen.ensures.step,
-  ),
-)
+  );
+}

@@ -1,0 +1,5 @@
+pub mod Desks
+pub mod Sessions
+pub mod Gates
+pub mod Promised
+pub mod Reports

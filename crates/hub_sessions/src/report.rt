@@ -1,0 +1,23 @@
+//! What serving came to.
+use hub_front::FrontError;
+use thiserror::Error;
+
+/// What the sessions came to.
+#[derive(Debug, Drop)]
+pub struct Report {
+    /// What each session ended with, in the gate's order.
+    pub results: Vec<Result<u64, FrontError>>,
+    /// Whether the gate failed, after the last of them.
+    pub gate_failed: bool,
+}
+
+/// Why sessions can't be served. Those that run have ended by then.
+#[derive(Clone, Copy, Debug, PartialEq, Eq, Error)]
+pub enum ServeError {
+    /// A thread couldn't be started.
+    #[error("cannot start a session")]
+    Spawn,
+    /// There was no memory to keep one session more, or to keep what they ended with.
+    #[error("out of memory")]
+    Memory,
+}
