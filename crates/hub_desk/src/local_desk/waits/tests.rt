@@ -70,12 +70,39 @@ fn wait_for_two(
     })
 }
 
+/// Makes a service and publishes its first letters.
+fn begin<H: Abort + Wait>(
+    rt: &H,
+    desk: &mut LocalDesk,
+    text: &str,
+    waiting: u64,
+    notifies: bool,
+    letters: &str,
+) -> Result<Name, AllocError>
+    requires { AreLimits waiting 1000 }
+{
+    let name = named(rt, desk.alloc, text)?;
+    expect(rt, desk, &svc(&name, waiting, 1000, notifies)?, "ok")?;
+    told(rt, desk, &name, letters, "ok 0")?;
+    Ok(name)
+}
+
+/// Publishes letters.
+fn told<H: Abort + Wait>(
+    rt: &H,
+    desk: &mut LocalDesk,
+    name: &Name,
+    letters: &str,
+    want: &str,
+) -> Result<(), AllocError> {
+    let message = publish(rt, name, desk.alloc, letters)?;
+    expect(rt, desk, &message, want)
+}
+
 /// Without a turn, and for a name that stands twice.
 fn zero_turns<H: Abort + Wait>(rt: &H, alloc: Global) -> Result<(), AllocError> {
     let mut desk = LocalDesk::new(alloc)?;
-    let web = named(rt, alloc, "web")?;
-    expect(rt, &mut desk, &svc(&web, 64, 1000, true)?, "ok")?;
-    expect(rt, &mut desk, &publish(rt, &web, alloc, "su")?, "ok 0")?;
+    let web = begin(rt, &mut desk, "web", 64, true, "su")?;
     let once = wait_for_one(alloc, Span::All, Want::Up, 0, &web)?;
     expect(rt, &mut desk, &once, "yes 2")?;
     let twice = wait_for_two(alloc, Span::All, Want::Up, 0, &web, &web)?;
@@ -85,9 +112,7 @@ fn zero_turns<H: Abort + Wait>(rt: &H, alloc: Global) -> Result<(), AllocError> 
 /// A service that failed for good.
 fn failed_service<H: Abort + Wait>(rt: &H, alloc: Global) -> Result<(), AllocError> {
     let mut desk = LocalDesk::new(alloc)?;
-    let web = named(rt, alloc, "web")?;
-    expect(rt, &mut desk, &svc(&web, 64, 1000, true)?, "ok")?;
-    expect(rt, &mut desk, &publish(rt, &web, alloc, "suOdD")?, "ok 0")?;
+    let web = begin(rt, &mut desk, "web", 64, true, "suOdD")?;
     let up = wait_for_one(alloc, Span::Any, Want::Up, 3, &web)?;
     expect(rt, &mut desk, &up, "never")?;
     let finished = wait_for_one(alloc, Span::All, Want::Finished, 3, &web)?;
@@ -97,12 +122,8 @@ fn failed_service<H: Abort + Wait>(rt: &H, alloc: Global) -> Result<(), AllocErr
 /// Ready is up for a service that doesn't report its readiness, and for one that does it is what was reported.
 fn readiness<H: Abort + Wait>(rt: &H, alloc: Global) -> Result<(), AllocError> {
     let mut desk = LocalDesk::new(alloc)?;
-    let a = named(rt, alloc, "a")?;
-    let b = named(rt, alloc, "b")?;
-    expect(rt, &mut desk, &svc(&a, 64, 1000, false)?, "ok")?;
-    expect(rt, &mut desk, &svc(&b, 64, 1000, true)?, "ok")?;
-    expect(rt, &mut desk, &publish(rt, &a, alloc, "su")?, "ok 0")?;
-    expect(rt, &mut desk, &publish(rt, &b, alloc, "su")?, "ok 0")?;
+    let a = begin(rt, &mut desk, "a", 64, false, "su")?;
+    let b = begin(rt, &mut desk, "b", 64, true, "su")?;
     let first = wait_for_one(alloc, Span::All, Want::Ready, 2, &a)?;
     expect(rt, &mut desk, &first, "yes 2")?;
     let second = wait_for_one(alloc, Span::All, Want::Ready, 2, &b)?;
@@ -125,23 +146,19 @@ fn refusals<H: Abort + Wait>(rt: &H, alloc: Global) -> Result<(), AllocError> {
     expect(rt, &mut desk, &plain, "no Kind")
 }
 
-/// A refused post gives back those before it: what is published then waits for none.
-fn refused_post<H: Abort + Wait>(rt: &H, alloc: Global) -> Result<(), AllocError> {
+/// A wait gives its posts back: what is published then waits for none. So does one that is refused at a later post.
+fn posts_given_back<H: Abort + Wait>(rt: &H, alloc: Global) -> Result<(), AllocError> {
     let mut desk = LocalDesk::new(alloc)?;
-    let a = named(rt, alloc, "a")?;
-    let b = named(rt, alloc, "b")?;
-    expect(rt, &mut desk, &svc(&a, 2, 100, true)?, "ok")?;
-    expect(rt, &mut desk, &svc(&b, 2, 100, true)?, "ok")?;
-    expect(rt, &mut desk, &publish(rt, &a, alloc, "su")?, "ok 0")?;
-    expect(rt, &mut desk, &publish(rt, &b, alloc, "su")?, "ok 0")?;
+    let a = begin(rt, &mut desk, "a", 2, true, "su")?;
+    let b = begin(rt, &mut desk, "b", 2, true, "su")?;
     let any = wait_for_two(alloc, Span::Any, Want::Up, 0, &a, &b)?;
     expect(rt, &mut desk, &any, "yes 2 2")?;
-    expect(rt, &mut desk, &publish(rt, &a, alloc, "dDu")?, "ok 2")?;
-    expect(rt, &mut desk, &publish(rt, &b, alloc, "dDu")?, "ok 2")?;
+    told(rt, &mut desk, &a, "dDu", "ok 2")?;
+    told(rt, &mut desk, &b, "dDu", "ok 2")?;
     expect(rt, &mut desk, &any, "yes 5 5")?;
     expect(rt, &mut desk, &close(&b)?, "ok")?;
     expect(rt, &mut desk, &any, "no Closed")?;
-    expect(rt, &mut desk, &publish(rt, &a, alloc, "dDu")?, "ok 5")?;
+    told(rt, &mut desk, &a, "dDu", "ok 5")?;
     expect(rt, &mut desk, &sub(&a)?, "ok 1")
 }
 
@@ -151,7 +168,7 @@ fn waits_are_answered(rt: HostRuntime) {
     assert!(rt; failed_service(&rt, rt.alloc()).is_ok());
     assert!(rt; readiness(&rt, rt.alloc()).is_ok());
     assert!(rt; refusals(&rt, rt.alloc()).is_ok());
-    assert!(rt; refused_post(&rt, rt.alloc()).is_ok());
+    assert!(rt; posts_given_back(&rt, rt.alloc()).is_ok());
 }
 
 /// With any one growth refused: a session stops where its own names or texts lack memory, and else goes on.
@@ -159,7 +176,7 @@ fn waits_are_answered(rt: HostRuntime) {
 fn want_of_memory_gives_the_posts_back(rt: HostRuntime) {
     let _ = zero_turns(&rt, rt.alloc());
     let _ = readiness(&rt, rt.alloc());
-    let _ = refused_post(&rt, rt.alloc());
+    let _ = posts_given_back(&rt, rt.alloc());
 }
 
 /// Posts are no handles.
