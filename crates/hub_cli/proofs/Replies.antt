@@ -43,14 +43,16 @@ runs_of (request ∷ requests) (reply ∷ given) old new asked_all =
 replies_placed : (lines : List (List ℕ)) (replies : List Reply) (old new : Local) → Stands old new_desk
     → AreInPlace Asked old lines replies new → NoneIsMemory replies → (patterns : List Bool) × AreReplies patterns lines replies
 replies_placed lines replies old new stands p none =
-    let models = runs_answer old new (requests_of p.reads) p.given new_desk (runs_of (requests_of p.reads) p.given old new p.asked) (p.given_whole none) stands in
-    (models.reads, record {
-      reads = p.reads;
-      readings = p.readings;
-      enough = p.read_whole none;
-      are_patterns = models.are_reads;
-      placed = p.placed ∙ ap (in_place p.reads) models.said;
-    })
+    let models = runs_answer old new (requests_of p.reads) p.given new_desk (runs_of (requests_of p.reads) p.given old new p.asked) (p.given_whole none) stands in (
+      models.reads,
+      record {
+        reads = p.reads;
+        readings = p.readings;
+        enough = p.read_whole none;
+        are_patterns = models.are_reads;
+        placed = p.placed ∙ ap (in_place p.reads) models.said;
+      },
+    )
 
 -- the texts of these replies are an output
 output_of : (input : List ℕ) (replies : List Reply) → (patterns : List Bool) × AreReplies patterns (lines_of input) replies
@@ -70,7 +72,7 @@ session_serves old new held holds had has n stands f = record {
   written = f.served.written;
   output = λ none. output_of f.input f.served.replies
       (replies_placed (lines_of f.input) f.served.replies old f.mid stands
-          (run_in_place Asked old f.mid (lines_of f.input) f.served.replies f.served.run) none);
+      (run_in_place Asked old f.mid (lines_of f.input) f.served.replies f.served.run) none);
 }
 
 -- lines are read in one way

@@ -19,14 +19,9 @@ pub enum Plan<'a> {
     /// Serve standard input to standard output.
     Script,
     /// Accept so many connections at the socket, and serve them.
-    Serve {
-        socket: &'a str,
-        sessions: u64,
-    },
+    Serve { socket: &'a str, sessions: u64 },
     /// Send standard input to the server at the socket, and write its replies to standard output.
-    Call {
-        socket: &'a str,
-    },
+    Call { socket: &'a str },
 }
 
 fn socket<'a>(alloc: Global) -> Arg<'a> {

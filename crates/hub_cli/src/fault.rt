@@ -30,10 +30,7 @@ pub enum Fault {
     Serve(ServeError),
     /// A session of `serve` stopped. Sessions are numbered from 1, in the order in which they were accepted.
     #[error("session {number}: {fault}")]
-    Session {
-        number: u64,
-        fault: FrontError,
-    },
+    Session { number: u64, fault: FrontError },
     /// The relay of `call` stopped.
     #[error("{0}")]
     Relay(RelayError),

@@ -36,13 +36,7 @@ const NAME: &str = "ftrighub";
 fn main(rt: HostRuntime) -> ExitCode {
     let alloc: Global = rt.alloc();
     let mut faults = rt.stderr();
-    match run(
-        &rt,
-        alloc,
-        &mut rt.stdin(),
-        &mut rt.stdout(),
-        &mut faults,
-    ) {
+    match run(&rt, alloc, &mut rt.stdin(), &mut rt.stdout(), &mut faults) {
         Ok(status) => ExitCode::from(status),
         Err(fault) => {
             fault.tell(&mut faults);

@@ -51,7 +51,12 @@ impl Row {
     fn holds(&self, rt: &(impl Runtime + AllocGlobal + Wait), alloc: Global) -> Result<()> {
         let input = self.input.as_slice();
         self.holds_at(rt, alloc, &mut LocalDesk::new(alloc)?, &mut &*input)?;
-        self.holds_at(rt, alloc, &mut LocalDesk::new(alloc)?, &mut Dripping::of(input))
+        self.holds_at(
+            rt,
+            alloc,
+            &mut LocalDesk::new(alloc)?,
+            &mut Dripping::of(input),
+        )
     }
 
     fn holds_at<H: Wait, D: Desk, R: Source>(

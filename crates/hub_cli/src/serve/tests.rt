@@ -47,7 +47,10 @@ fn a_call_of_a_server(rt: HostRuntime) -> Result<(), Fail> {
     let second = call_when_it_listens(&rt, alloc, socket, b"sub web", &mut output);
     assert_eq!(rt; second, Ok(1));
     assert!(rt; serving.join(&rt));
-    assert_eq!(rt; call(&rt, alloc, socket, &mut &*b"".as_slice(), &mut output), Err(Fault::Connect));
+    assert_eq!(rt;
+        call(&rt, alloc, socket, &mut &*b"".as_slice(), &mut output),
+        Err(Fault::Connect)
+    );
     assert_eq!(rt; serve(&rt, alloc, socket, 1).err(), Some(Fault::Listen));
     fs::remove_file(&rt, socket)?;
     Ok(())
@@ -61,13 +64,22 @@ fn each_fault_has_its_line(rt: HostRuntime) -> Result<(), Fail> {
         (Fault::Connect, "ftrighub: cannot connect\n"),
         (Fault::Memory, "ftrighub: out of memory\n"),
         (Fault::from(FrontError::Turns), "ftrighub: too many reads\n"),
-        (Fault::from(ServeError::Spawn), "ftrighub: cannot start a session\n"),
+        (
+            Fault::from(ServeError::Spawn),
+            "ftrighub: cannot start a session\n",
+        ),
         (Fault::from(ServeError::Memory), "ftrighub: out of memory\n"),
         (Fault::from(RelayError::Input), "ftrighub: read failed\n"),
         (Fault::from(RelayError::Output), "ftrighub: write failed\n"),
         (Fault::from(RelayError::Send), "ftrighub: send failed\n"),
-        (Fault::from(RelayError::Receive), "ftrighub: receive failed\n"),
-        (Fault::from(RelayError::Ended), "ftrighub: connection ended\n"),
+        (
+            Fault::from(RelayError::Receive),
+            "ftrighub: receive failed\n",
+        ),
+        (
+            Fault::from(RelayError::Ended),
+            "ftrighub: connection ended\n",
+        ),
         (Fault::from(RelayError::Turns), "ftrighub: too many reads\n"),
         (Fault::from(RelayError::Memory), "ftrighub: out of memory\n"),
     ] {
