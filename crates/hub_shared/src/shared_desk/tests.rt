@@ -249,22 +249,6 @@ fn a_session_that_ends_holds_no_one_up(rt: HostRuntime) -> Result<(), Fail> {
     Ok(())
 }
 
-#[test]
-fn a_session_ends_on_a_thread_of_its_own(rt: HostRuntime) -> Result<(), Fail> {
-    let alloc: Global = rt.alloc();
-    let hub = Arc::new(alloc, Hub::new(alloc)?)?;
-    let mut first = session(alloc, &hub)?;
-    let mut second = session(alloc, &hub)?;
-    let child = thread::spawn(&rt, move || -> bool {
-        let filled = run(&rt, alloc, &mut first, &FILLS).is_ok();
-        first.end(&rt);
-        filled
-    })?;
-    assert!(rt; child.join(&rt));
-    assert!(rt; run(&rt, alloc, &mut second, &FINDS_ROOM).is_ok());
-    Ok(())
-}
-
 /// Handles are of two sorts, and a request that is refused uses no number.
 const HANDLES: [Row; 13] = [
     (Ask::Sub("web"), "no Name"),
@@ -374,36 +358,6 @@ fn want_of_memory_changes_nothing(rt: HostRuntime) {
     let _ = run_alone(&rt, alloc, &HANDLES);
     let _ = run_alone(&rt, alloc, &HEARS);
     let _ = run_alone(&rt, alloc, &WAITS);
-}
-
-/// A service that is up, one that has started, and what another session says of it.
-const IS_UP: [Row; 2] = [(Ask::Svc("db", 64), "ok"), (Ask::Pub("db", "su"), "ok 0")];
-
-const STARTS: [Row; 2] = [(Ask::Svc("web", 64), "ok"), (Ask::Pub("web", "s"), "ok 0")];
-
-const COMES_UP: [Row; 1] = [(Ask::Pub("web", "u"), "ok 1")];
-
-const UNTIL_UP: [Row; 1] = [(
-    Ask::Wait(Span::All, 1_000_000, "db", "web"),
-    "yes [Some(2), Some(2)]",
-)];
-
-/// Two sessions each start a service, one on a thread of its own, and one waits for both.
-#[test]
-fn another_session_ends_a_wait(rt: HostRuntime) -> Result<(), Fail> {
-    let alloc: Global = rt.alloc();
-    let hub = Arc::new(alloc, Hub::new(alloc)?)?;
-    let mut desk = session(alloc, &hub)?;
-    let mut other = session(alloc, &hub)?;
-    assert!(rt; run(&rt, alloc, &mut desk, &IS_UP).is_ok());
-    assert!(rt; run(&rt, alloc, &mut other, &STARTS).is_ok());
-    let child = thread::spawn(&rt, move || -> bool {
-        thread::yield_now();
-        run(&rt, alloc, &mut other, &COMES_UP).is_ok()
-    })?;
-    assert!(rt; run(&rt, alloc, &mut desk, &UNTIL_UP).is_ok());
-    assert!(rt; child.join(&rt));
-    Ok(())
 }
 
 /// The number that the next publisher under the name gets.
