@@ -12,12 +12,15 @@ use atomic_table::{Refused, Table};
 use hub_record::{Kind, Limits, Status};
 use std::alloc::{AllocError, Global};
 use std::sync::Wait;
+use std::sync::atomic::AtomicU64;
 
 /// A record that threads share.
 #[derive(Drop)]
 pub struct Fifodir {
     table: Table<Option<Locked>, View, Rules, OneHistory, Global>,
     rules: Rules,
+    /// How many threads may sleep until the lock is free.
+    sleepers: AtomicU64,
     ghost sized: { IsSized table.shared.table_id },
     ghost ruled: { table.shared.key ≡ rules },
 }
@@ -33,7 +36,11 @@ impl Fifodir {
         let mut slots = Vec::with_capacity(alloc, 1)?;
         slots.push_reserved(Some(Locked::new(alloc, kind, limits)?));
         match Table::new(alloc, &[0, 0], slots, &rules) {
-            Ok((table, _seat)) => Ok(Fifodir { table, rules }),
+            Ok((table, _seat)) => Ok(Fifodir {
+                table,
+                rules,
+                sleepers: AtomicU64::new(0),
+            }),
             Err(Refused { slots: _ }) => Err(AllocError),
         }
     }
@@ -49,6 +56,10 @@ impl Fifodir {
         ensures { (result.now.table_id ≡ table_of self.now) × IsSized result.now.table_id × (result.now.key ≡ self.now.rules) }
     {
         &self.table.shared
+    }
+
+    pub(crate) fn sleepers(&self) -> &AtomicU64 {
+        &self.sleepers
     }
 
     /// The number of events, the flags and whether it is closed, as they stand at one moment. It waits for nobody.

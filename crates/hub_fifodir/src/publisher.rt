@@ -37,7 +37,7 @@ impl Fifodir {
     {
         let board = self.board();
         let mut seat = steps::enter(board);
-        let mut held = steps::take_turn(rt, board, &mut seat);
+        let mut held = steps::take_turn(rt, board, self.sleepers(), &mut seat);
         match held.locked.publisher() {
             Ok(number) => {
                 steps::rest_as_publisher(board, &mut seat, held);
@@ -67,7 +67,7 @@ impl Fifodir {
         ensures refused { IfErr result (λ e. IsRefusedAt me.new letters.now e) }
     {
         let board = self.board();
-        let mut held = steps::take_turn(rt, board, &mut me.seat);
+        let mut held = steps::take_turn(rt, board, self.sleepers(), &mut me.seat);
         match held.locked.publish(me.number, letters) {
             Ok(first) => {
                 let word = word::pack(held.locked.status());
@@ -92,7 +92,7 @@ impl Fifodir {
         ensures err { OnErr result ((closed_mark me.new ≢ 0) × KnewOwnClose me.old me.new) }
     {
         let board = self.board();
-        let mut held = steps::take_turn(rt, board, &mut me.seat);
+        let mut held = steps::take_turn(rt, board, self.sleepers(), &mut me.seat);
         match held.locked.close() {
             Ok(()) => {
                 let word = word::pack(held.locked.status());
@@ -113,7 +113,7 @@ impl Fifodir {
     {
         let Publisher { number, mut seat } = me;
         let board = self.board();
-        let mut held = steps::take_turn(rt, board, &mut seat);
+        let mut held = steps::take_turn(rt, board, self.sleepers(), &mut seat);
         held.locked.leave(number);
         steps::rest_left(board, &mut seat, held);
     }

@@ -9,18 +9,27 @@ use crate::rule::{Board, Enter, Lock, Look, Next, Notes, Seat, Unlock, Write};
 use hub_letters::Letter;
 use std::marker::Brand;
 use std::sync::Wait;
+use std::sync::atomic::{AtomicU64, Ordering};
 
 // Has no `Drop`, so that what carries it has to be given back.
-struct Key;
-
-/// The value behind the lock, while a seat has it. It can't be let go: `rest` and its like take it back.
-pub(crate) struct Held {
-    pub(crate) locked: Locked,
-    key: Key,
+struct Key<'a> {
+    sleepers: &'a AtomicU64,
 }
 
-// Takes the lock, and the value behind it.
-pub(crate) fn take_turn<R: Wait>(rt: &R, board: &Board, seat: &mut Seat) -> Held
+/// The value behind the lock, while a seat has it. It can't be let go: `rest` and its like take it back.
+pub(crate) struct Held<'a> {
+    pub(crate) locked: Locked,
+    key: Key<'a>,
+}
+
+// Takes the lock, and the value behind it. Who has to wait for it is counted among the sleepers meanwhile, so that who
+// gives the lock back wakes one only where one may sleep.
+pub(crate) fn take_turn<'a, R: Wait>(
+    rt: &R,
+    board: &Board,
+    sleepers: &'a AtomicU64,
+    seat: &mut Seat,
+) -> Held<'a>
     requires table { (seat.old.table_id ≡ board.now.table_id) × IsSized board.now.table_id }
     requires idle { IsIdle seat.old.me }
     ensures table { (seat.new.table_id ≡ seat.old.table_id) × (seat.new.id ≡ seat.old.id) }
@@ -30,29 +39,39 @@ pub(crate) fn take_turn<R: Wait>(rt: &R, board: &Board, seat: &mut Seat) -> Held
         let found = board.swap::<Lock>(seat, 1, 1);
         if found == 0 {
             let locked = board.exchange(seat, 0, None).unwrap();
-            return Held { locked, key: Key };
+            return Held {
+                locked,
+                key: Key { sleepers },
+            };
         }
+        sleepers.fetch_add(1, Ordering::SeqCst);
         board.park(rt, 1, 1);
+        sleepers.fetch_sub(1, Ordering::SeqCst);
     }
     unreachable!()
 }
 
 // Puts the value back, and gives the lock back. The events are those that were taken, for the view that is picked.
-fn give_back<N: Next>(board: &Board, seat: &mut Seat, held: Held, _taken: u64)
+fn give_back<N: Next>(board: &Board, seat: &mut Seat, held: Held<'_>, _taken: u64)
     requires table { (seat.old.table_id ≡ board.now.table_id) × IsSized board.now.table_id }
     requires held { seat.old.me.1 ≡ (0, None) ∷ [] }
     requires gives { Gives seat.old.me held.locked N.view }
     ensures table { (seat.new.table_id ≡ seat.old.table_id) × (seat.new.id ≡ seat.old.id) }
     ensures view { seat.new.me ≡ (N.view, []) }
 {
-    let Held { locked, key: Key } = held;
+    let Held {
+        locked,
+        key: Key { sleepers },
+    } = held;
     drop(board.exchange(seat, 0, Some(locked)));
     board.store::<Unlock<N>>(seat, 1, 0);
-    board.wake_one(1);
+    if sleepers.load(Ordering::SeqCst) > 0 {
+        board.wake_one(1);
+    }
 }
 
 // Gives the lock back, as what the seat was.
-pub(crate) fn rest(board: &Board, seat: &mut Seat, held: Held)
+pub(crate) fn rest(board: &Board, seat: &mut Seat, held: Held<'_>)
     requires table { (seat.old.table_id ≡ board.now.table_id) × IsSized board.now.table_id }
     requires held { seat.old.me.1 ≡ (0, None) ∷ [] }
     requires gives { Gives seat.old.me held.locked (rested seat.old.me.0 seat.old.me.0.role) }
@@ -63,29 +82,29 @@ pub(crate) fn rest(board: &Board, seat: &mut Seat, held: Held)
 }
 
 // Gives the lock back, as the publisher with the last number given.
-pub(crate) fn rest_as_publisher(board: &Board, seat: &mut Seat, held: Held)
+pub(crate) fn rest_as_publisher(board: &Board, seat: &mut Seat, held: Held<'_>)
     requires table { (seat.old.table_id ≡ board.now.table_id) × IsSized board.now.table_id }
     requires held { seat.old.me.1 ≡ (0, None) ∷ [] }
     requires gives { Gives seat.old.me held.locked (rested seat.old.me.0 (writer held.locked.given [])) }
     ensures table { (seat.new.table_id ≡ seat.old.table_id) × (seat.new.id ≡ seat.old.id) }
-    ensures view { seat.new.me ≡ (rested seat.old.me.0 (writer held.locked.given []), []) }
+    ensures view { seat.new.me ≡ (rested seat.old.me.0 (writer held.entry.locked.given []), []) }
 {
     give_back::<Brand>(board, seat, held, 0);
 }
 
 // Gives the lock back, as the ticket with the last id given.
-pub(crate) fn rest_as_ticket(board: &Board, seat: &mut Seat, held: Held)
+pub(crate) fn rest_as_ticket(board: &Board, seat: &mut Seat, held: Held<'_>)
     requires table { (seat.old.table_id ≡ board.now.table_id) × IsSized board.now.table_id }
     requires held { seat.old.me.1 ≡ (0, None) ∷ [] }
     requires gives { Gives seat.old.me held.locked (rested seat.old.me.0 (new_taker held.locked seat.old.me.0.sight.seen)) }
     ensures table { (seat.new.table_id ≡ seat.old.table_id) × (seat.new.id ≡ seat.old.id) }
-    ensures view { seat.new.me ≡ (rested seat.old.me.0 (new_taker held.locked seat.old.me.0.sight.seen), []) }
+    ensures view { seat.new.me ≡ (rested seat.old.me.0 (new_taker held.entry.locked seat.old.me.0.sight.seen), []) }
 {
     give_back::<Brand>(board, seat, held, 0);
 }
 
 // Gives the lock back, as a ticket that took some events.
-pub(crate) fn rest_moved(board: &Board, seat: &mut Seat, held: Held, taken: u64)
+pub(crate) fn rest_moved(board: &Board, seat: &mut Seat, held: Held<'_>, taken: u64)
     requires table { (seat.old.table_id ≡ board.now.table_id) × IsSized board.now.table_id }
     requires held { seat.old.me.1 ≡ (0, None) ∷ [] }
     requires gives { Gives seat.old.me held.locked (rested seat.old.me.0 (moved seat.old.me.0.sight.seen (taking_of seat.old.me.0.role) taken)) }
@@ -96,7 +115,7 @@ pub(crate) fn rest_moved(board: &Board, seat: &mut Seat, held: Held, taken: u64)
 }
 
 // Gives the lock back, as a ticket that was cancelled.
-pub(crate) fn rest_cancelled(board: &Board, seat: &mut Seat, held: Held)
+pub(crate) fn rest_cancelled(board: &Board, seat: &mut Seat, held: Held<'_>)
     requires table { (seat.old.table_id ≡ board.now.table_id) × IsSized board.now.table_id }
     requires held { seat.old.me.1 ≡ (0, None) ∷ [] }
     requires gives { Gives seat.old.me held.locked (rested seat.old.me.0 (gone_taker seat.old.me.0.role)) }
@@ -107,7 +126,7 @@ pub(crate) fn rest_cancelled(board: &Board, seat: &mut Seat, held: Held)
 }
 
 // Gives the lock back, as a publisher that left.
-pub(crate) fn rest_left(board: &Board, seat: &mut Seat, held: Held)
+pub(crate) fn rest_left(board: &Board, seat: &mut Seat, held: Held<'_>)
     requires table { (seat.old.table_id ≡ board.now.table_id) × IsSized board.now.table_id }
     requires held { seat.old.me.1 ≡ (0, None) ∷ [] }
     requires gives { Gives seat.old.me held.locked (rested seat.old.me.0 (gone_writer seat.old.me.0.role)) }

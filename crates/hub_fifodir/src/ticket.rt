@@ -54,7 +54,7 @@ impl Fifodir {
     {
         let board = self.board();
         let mut seat = steps::enter(board);
-        let mut held = steps::take_turn(rt, board, &mut seat);
+        let mut held = steps::take_turn(rt, board, self.sleepers(), &mut seat);
         match held.locked.subscribe() {
             Ok((id, mark)) => {
                 steps::rest_as_ticket(board, &mut seat, held);
@@ -82,7 +82,7 @@ impl Fifodir {
         ensures filled { out.new ≡ filled me.old result me.new out.old }
     {
         let board = self.board();
-        let mut held = steps::take_turn(rt, board, &mut me.seat);
+        let mut held = steps::take_turn(rt, board, self.sleepers(), &mut me.seat);
         let taken = held.locked.take_into(me.id, out).unwrap();
         match taken {
             Taken::Got(count) => {
@@ -112,7 +112,7 @@ impl Fifodir {
             mut seat,
         } = me;
         let board = self.board();
-        let mut held = steps::take_turn(rt, board, &mut seat);
+        let mut held = steps::take_turn(rt, board, self.sleepers(), &mut seat);
         held.locked.cancel(id).unwrap();
         steps::rest_cancelled(board, &mut seat, held);
     }
