@@ -16,6 +16,7 @@ mod fifodirs;
 mod handles;
 mod hearing;
 mod joined;
+mod room;
 mod subscription;
 #[cfg(test)]
 mod tests;
@@ -48,11 +49,12 @@ impl<P: Pause + Copy> SharedDesk<P> {
         ensures hub { IfOk result (λ desk. desk.hub ≡ hub) }
         ensures pause { IfOk result (λ desk. desk.pause ≡ pause) }
     {
+        let handles = Handles::new(alloc)?;
         Ok(SharedDesk {
             hub,
             pause,
             fifodirs: Fifodirs::new(alloc),
-            handles: Handles::new(alloc),
+            handles,
         })
     }
 

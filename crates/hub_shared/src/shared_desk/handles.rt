@@ -8,11 +8,12 @@ ghost use Rattle.hub_shared.specs.Refusals.{IsBrief};
 
 use crate::Found;
 use crate::shared_desk::hearing::Hearing;
+use crate::shared_desk::room::Room;
 use crate::shared_desk::subscription::Subscription;
 use hub_desk::{PatternText, Refusal, Reply};
 use hub_listen::{ListenError, Listener, Mode};
 use indexmap::IndexMap;
-use std::alloc::Global;
+use std::alloc::{AllocError, Global};
 use std::mem;
 use std::sync::Wait;
 
@@ -30,6 +31,8 @@ pub struct Handles {
     given: u64,
     subscriptions: IndexMap<u64, Subscription>,
     listeners: IndexMap<u64, Hearing>,
+    /// Shared by all takes.
+    room: Room,
     ghost subscribed: { (id : ℕ) → given < id → lookup (nat_eq id) subscriptions.entries ≡ None },
     ghost listening: { (id : ℕ) → given < id → lookup (nat_eq id) listeners.entries ≡ None },
 }
@@ -37,17 +40,19 @@ pub struct Handles {
 impl Handles {
     ghost use Rattle.hub_shared.specs.Handles.{Subscribes, Listens, TakesAt, PollsAt, Cancels, IsStill, AddsSubscription, AddsListener};
 
-    pub fn new(alloc: Global) -> Handles
-        ensures given { result.given ≡ 0 }
-        ensures subscriptions { result.subscriptions.entries ≡ [] }
-        ensures listeners { result.listeners.entries ≡ [] }
+    pub fn new(alloc: Global) -> Result<Handles, AllocError>
+        ensures given { IfOk result (λ handles. handles.given ≡ 0) }
+        ensures subscriptions { IfOk result (λ handles. handles.subscriptions.entries ≡ []) }
+        ensures listeners { IfOk result (λ handles. handles.listeners.entries ≡ []) }
     {
-        Handles {
+        let room = Room::new(alloc)?;
+        Ok(Handles {
             alloc,
             given: 0,
             subscriptions: IndexMap::new(alloc),
             listeners: IndexMap::new(alloc),
-        }
+            room,
+        })
     }
 
     /// Whether one more handle may be given.
@@ -146,7 +151,7 @@ impl Handles {
             return Reply::No(Refusal::Id);
         };
         match Vec::with_capacity(self.alloc, max as usize) {
-            Ok(room) => subscription.take(rt, max as usize, room),
+            Ok(letters) => subscription.take(rt, max as usize, &mut self.room, letters),
             Err(_) => Reply::No(Refusal::Memory),
         }
     }

@@ -5,15 +5,13 @@ ghost use Rattle.hub_desk.specs.Texts.{text_of};
 ghost use Rattle.hub_fifodir.specs.Passes.{IsTicketOf};
 ghost use Rattle.hub_record.specs.World.{letters};
 
+use crate::shared_desk::room::Room;
 use hub_desk::Reply;
 use hub_fifodir::{Fifodir, Ticket};
 use hub_letters::Letter;
 use hub_record::{Event, Letters, SubError, Taken};
 use std::alloc::Global;
 use std::sync::{Arc, Wait};
-
-/// How many events one request may take.
-const EVENTS: usize = 256;
 
 /// A ticket beside its fifodir. It is given back by `cancel`.
 #[derive(Drop)]
@@ -33,20 +31,39 @@ impl Subscription {
         Ok(Subscription { dir, ticket })
     }
 
-    /// Takes at most `max` events, whose letters go into the room.
-    pub fn take<H: Wait>(&mut self, rt: &H, max: usize, room: Vec<Letter>) -> Reply
+    /// Takes at most `max` events through the room, and answers their letters in a list that has room for them.
+    pub fn take<H: Wait>(
+        &mut self,
+        rt: &H,
+        max: usize,
+        room: &mut Room,
+        letters: Vec<Letter>,
+    ) -> Reply
         requires few { max ≤ 256 }
-        requires empty { vec_len room ≡ 0 }
-        requires fits { max ≤ vec_capacity room }
+        requires empty { vec_len letters ≡ 0 }
+        requires fits { max ≤ vec_capacity letters }
         ensures step { TakesFrom max self.old result self.new }
         ensures short { length (text_of result) ≤ 4101 }
     {
-        let mut events = [Event {
-            who: 0,
-            letter: Letter::least(),
-        }; EVENTS];
+        self.take_through(rt, max, &mut room.events, letters)
+    }
+
+    fn take_through<H: Wait>(
+        &mut self,
+        rt: &H,
+        max: usize,
+        events: &mut [Event],
+        letters: Vec<Letter>,
+    ) -> Reply
+        requires few { max ≤ 256 }
+        requires places { max ≤ length events.old }
+        requires empty { vec_len letters ≡ 0 }
+        requires fits { max ≤ vec_capacity letters }
+        ensures step { TakesFrom max self.old result self.new }
+        ensures short { length (text_of result) ≤ 4101 }
+    {
         match self.dir.take_into(rt, &mut self.ticket, &mut events[..max]) {
-            Taken::Got(count) => Reply::Got(letters_of(&events[..count], room)),
+            Taken::Got(count) => Reply::Got(letters_of(&events[..count], letters)),
             Taken::Nothing => Reply::Nothing,
             Taken::End => Reply::End,
         }

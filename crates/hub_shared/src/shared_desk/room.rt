@@ -1,0 +1,34 @@
+//! Room for the events of one take.
+ghost use Rattle.std.specs.Prelude.{◌≡◌, IfOk, vec_len};
+
+use hub_letters::Letter;
+use hub_record::Event;
+use std::alloc::{AllocError, Global};
+
+/// How many events one request may take.
+const EVENTS: usize = 256;
+
+/// Room for the events of one take. A session keeps one for all its takes; what the last take left there is overwritten.
+#[derive(Drop)]
+pub struct Room {
+    pub(super) events: Vec<Event>,
+    ghost full: { vec_len events ≡ 256 },
+}
+
+impl Room {
+    pub fn new(alloc: Global) -> Result<Room, AllocError> {
+        let events = fillers(alloc, EVENTS)?;
+        Ok(Room { events })
+    }
+}
+
+// (A size that is a parameter keeps the proof from writing the events out.)
+fn fillers(alloc: Global, size: usize) -> Result<Vec<Event>, AllocError>
+    ensures { IfOk result (λ events. vec_len events ≡ size) }
+{
+    let filler = Event {
+        who: 0,
+        letter: Letter::least(),
+    };
+    vec![in alloc; filler; size]
+}
