@@ -7,6 +7,9 @@ use std::net::Net;
 use std::os::unix::net::UnixStream;
 use std::sync::Wait;
 
+#[cfg(test)]
+mod tests;
+
 /// Sends the lines of the input to the server at the socket, and writes its replies. Answers how many lines there were.
 pub fn call<H: Net + Wait, R: Source, W: Sink>(
     rt: &H,
