@@ -1,8 +1,10 @@
-//! Runs the rows of examples, which lie in `data/`, through the desks: each input whole and one byte a read. It is given
-//! the rows' names, and says of each how often its output came, byte for byte.
+//! Runs the rows of examples, which lie in `data/`, through the desks: that of one thread, with the input whole and one
+//! byte a read, and that of a session alone over a hub. It is given the rows' names, and prints that of each whose output
+//! came byte for byte, each time; at the first that didn't it stops.
 #![tactic(auto)]
 
 mod dripping;
+mod sharing;
 
 use anyhow::{Result, anyhow};
 use dripping::Dripping;
@@ -47,7 +49,7 @@ impl Row {
         Ok(Row { input, output })
     }
 
-    /// Whether each desk gives the output, however the input comes.
+    /// Whether each desk gives the output, and the first of them however the input comes.
     fn holds(&self, rt: &(impl Runtime + AllocGlobal + Wait), alloc: Global) -> Result<()> {
         let input = self.input.as_slice();
         self.holds_at(rt, alloc, &mut LocalDesk::new(alloc)?, &mut &*input)?;
@@ -56,7 +58,8 @@ impl Row {
             alloc,
             &mut LocalDesk::new(alloc)?,
             &mut Dripping::of(input),
-        )
+        )?;
+        self.holds_at(rt, alloc, &mut sharing::alone(alloc)?, &mut &*input)
     }
 
     fn holds_at<H: Wait, D: Desk, R: Source>(

@@ -1,0 +1,23 @@
+//! A desk over a hub of its own.
+use hub_shared::{Hub, SharedDesk};
+use hub_wait::{Go, Pause};
+use std::alloc::{AllocError, Global};
+use std::sync::{Arc, Wait};
+use std::thread;
+
+/// Lets other threads run.
+#[derive(Clone, Copy)]
+pub struct Yielding;
+
+impl Pause for Yielding {
+    fn pause<R: Wait>(&mut self, _rt: &R) -> Go {
+        thread::yield_now();
+        Go::Again
+    }
+}
+
+/// A session alone over a new hub.
+pub fn alone(alloc: Global) -> Result<SharedDesk<Yielding>, AllocError> {
+    let hub = Arc::new(alloc, Hub::new(alloc)?)?;
+    SharedDesk::new(alloc, hub, Yielding)
+}
