@@ -9,6 +9,8 @@ ghost use Rattle.hub_front.specs.Pieces.{IsUnderWay};
 #[cfg(test)]
 mod fakes;
 #[cfg(test)]
+mod first_run;
+#[cfg(test)]
 mod tests;
 
 use crate::fault::FrontError;

@@ -93,7 +93,9 @@ impl Source for Dripping<'_> {
 
 /// Gives one `a` at each read, for ever.
 #[derive(Drop)]
-pub struct Endless;
+pub struct Endless {
+    pub reads: u64,
+}
 
 impl Read for Endless {
     fn read(&mut self, buf: &mut [u8]) -> io::Result<usize> {
@@ -107,6 +109,7 @@ impl Source for Endless {
     ghost faults = { λ _. Some 0 };
 
     fn pull(&mut self, buf: &mut [u8]) -> io::Result<usize> {
+        self.reads = self.reads.saturating_add(1);
         if buf.is_empty() {
             return Ok(0);
         }

@@ -130,8 +130,10 @@ fn each_reply_is_one_write(rt: HostRuntime) -> Result<(), Fail> {
 fn reads_without_end(rt: HostRuntime) -> Result<(), Fail> {
     let mut desk = PlainDesk::new();
     let mut writer = Narrow::new(64, 0);
-    let served = serve(&rt, rt.alloc(), &mut desk, &mut Endless, &mut writer);
+    let mut reader = Endless { reads: 0 };
+    let served = serve(&rt, rt.alloc(), &mut desk, &mut reader, &mut writer);
     assert_eq!(rt; served, Err(FrontError::Turns));
+    assert_eq!(rt; reader.reads, 10_000_000);
     assert_eq!(rt; writer.writes, 0);
     assert_eq!(rt; desk.ended, true);
     Ok(())
