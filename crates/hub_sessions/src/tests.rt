@@ -2,6 +2,7 @@
 
 mod clients;
 mod crowd;
+mod ended;
 mod gates;
 mod memory;
 mod sockets;

@@ -48,8 +48,8 @@ fn the_gate_fails_is_over_or_is_asked_enough(rt: HostRuntime) -> Result<(), Fail
 
 /// Gives its bytes and then fails.
 #[derive(Drop)]
-struct Failing {
-    rest: &'static [u8],
+pub struct Failing {
+    pub rest: &'static [u8],
 }
 
 impl Read for Failing {
