@@ -1,75 +1,167 @@
-//! What requests are answered, line by line of a session, and the limits of one.
+//! What requests are answered, line by line of a session, and the limits of one. Where a growth is refused, what wanted
+//! it is tried again, so that each test passes also with any one growth refused.
 ghost use Rattle.std.specs.Prelude.{IfOk};
-ghost use Rattle.hub_desk.specs.Ranges.{AreLimits, IsInRange};
+ghost use Rattle.hub_desk.specs.Ranges.{IsInRange};
 
 use crate::desk::Desk;
 use crate::local_desk::LocalDesk;
 use crate::name::Name;
 use crate::reply::{Refusal, Reply};
 use crate::request::Request;
-use hub_letters::Letter;
+use crate::texts::{Names, PatternText};
+use hub_letters::{Letter, Want};
+use hub_listen::Mode;
 use hub_record::Letters;
+use hub_wait::Span;
 use std::alloc::{AllocError, Global};
 use std::process::Abort;
 use std::sync::Wait;
 use std::test::Fail;
 
-pub(super) fn named(rt: &impl Abort, alloc: Global, text: &str) -> Result<Name, AllocError> {
+/// A request, as a row spells it. A wait is for one service or for two.
+#[derive(Clone, Copy)]
+pub(super) enum Ask {
+    Dir(&'static str, u64, u64),
+    Svc(&'static str, u64, u64, bool),
+    Sub(&'static str),
+    Pub(&'static str, &'static str),
+    Take(u64, u64),
+    Cancel(u64),
+    Close(&'static str),
+    Status(&'static str),
+    Listen(&'static str, Mode, &'static str),
+    Poll(u64),
+    Wait(Span, Want, u64, &'static str, Option<&'static str>),
+}
+
+/// What is asked, and what it is answered.
+pub(super) type Row = (Ask, &'static str);
+
+fn named(rt: &impl Abort, alloc: Global, text: &str) -> Result<Name, AllocError> {
     let name = Name::of(alloc, text.as_bytes())?;
     Ok(name.expect(rt, "a name"))
 }
 
-pub(super) fn dir(name: &Name, waiting: u64, total: u64) -> Result<Request, AllocError>
-    requires { AreLimits waiting total }
-    ensures { IfOk result IsInRange }
-{
-    let name = name.copy()?;
-    Ok(Request::Dir {
-        name,
-        waiting,
-        total,
-    })
-}
-
-pub(super) fn sub(name: &Name) -> Result<Request, AllocError>
-    ensures { IfOk result IsInRange }
-{
-    Ok(Request::Sub { name: name.copy()? })
-}
-
-pub(super) fn publish(
-    rt: &impl Abort,
-    name: &Name,
-    alloc: Global,
-    text: &str,
-) -> Result<Request, AllocError>
-    ensures { IfOk result IsInRange }
-{
+fn spelling(rt: &impl Abort, alloc: Global, text: &str) -> Result<Letters, AllocError> {
     let mut letters = Vec::new(alloc);
     for byte in text.as_bytes() {
         letters.push(Letter::of(*byte).expect(rt, "a letter"))?;
     }
-    let letters = Letters::of(letters);
-    Ok(Request::Pub {
-        name: name.copy()?,
-        letters,
+    Ok(Letters::of(letters))
+}
+
+fn wait(
+    rt: &impl Abort,
+    alloc: Global,
+    span: Span,
+    want: Want,
+    turns: u64,
+    one: &str,
+    other: Option<&str>,
+) -> Result<Request, AllocError>
+    ensures { IfOk result IsInRange }
+{
+    let mut names = Vec::with_capacity(alloc, 2)?;
+    names.push_reserved(named(rt, alloc, one)?);
+    if let Some(other) = other {
+        names.push_reserved(named(rt, alloc, other)?);
+    }
+    Ok(Request::Wait {
+        span,
+        want,
+        turns: turns.min(1_000_000),
+        names: Names::of(names),
     })
 }
 
-pub(super) fn close(name: &Name) -> Result<Request, AllocError>
+/// A request about a fifodir.
+fn request_by_name(
+    rt: &impl Abort,
+    alloc: Global,
+    ask: Ask,
+    name: Name,
+) -> Result<Request, AllocError>
     ensures { IfOk result IsInRange }
 {
-    Ok(Request::Close { name: name.copy()? })
+    Ok(match ask {
+        Ask::Dir(_, waiting, total) => Request::Dir {
+            name,
+            waiting: waiting.clamp(1, 4096),
+            total: total.clamp(1, 1_000_000_000_000),
+        },
+        Ask::Svc(_, waiting, total, notifies) => Request::Svc {
+            name,
+            waiting: waiting.clamp(1, 4096),
+            total: total.clamp(1, 1_000_000_000_000),
+            notifies,
+        },
+        Ask::Pub(_, text) => Request::Pub {
+            name,
+            letters: spelling(rt, alloc, text)?,
+        },
+        Ask::Close(_) => Request::Close { name },
+        Ask::Status(_) => Request::Status { name },
+        Ask::Listen(_, mode, pattern) => Request::Listen {
+            name,
+            mode,
+            pattern: PatternText::of(String::from_str(alloc, pattern)?),
+        },
+        _ => Request::Sub { name },
+    })
 }
 
-fn status(name: &Name) -> Result<Request, AllocError>
+fn request_once(rt: &impl Abort, alloc: Global, ask: Ask) -> Result<Request, AllocError>
     ensures { IfOk result IsInRange }
 {
-    Ok(Request::Status { name: name.copy()? })
+    match ask {
+        Ask::Take(id, max) => Ok(Request::Take {
+            id,
+            max: max.clamp(1, 256),
+        }),
+        Ask::Cancel(id) => Ok(Request::Cancel { id }),
+        Ask::Poll(id) => Ok(Request::Poll { id }),
+        Ask::Wait(span, want, turns, one, other) => wait(rt, alloc, span, want, turns, one, other),
+        Ask::Dir(name, _, _)
+        | Ask::Svc(name, _, _, _)
+        | Ask::Sub(name)
+        | Ask::Pub(name, _)
+        | Ask::Close(name)
+        | Ask::Status(name)
+        | Ask::Listen(name, _, _) => request_by_name(rt, alloc, ask, named(rt, alloc, name)?),
+    }
+}
+
+pub(super) fn request(rt: &impl Abort, alloc: Global, ask: Ask) -> Result<Request, AllocError>
+    ensures { IfOk result IsInRange }
+{
+    match request_once(rt, alloc, ask) {
+        Err(_) => request_once(rt, alloc, ask),
+        made => made,
+    }
+}
+
+fn spelled(alloc: Global, word: &str, letters: &Letters) -> Result<String, AllocError> {
+    let mut text = String::from_str(alloc, word)?;
+    for letter in letters.items() {
+        text.push(char::from(letter.byte()))?;
+    }
+    Ok(text)
+}
+
+fn numbered(alloc: Global, numbers: &[Option<u64>]) -> Result<String, AllocError> {
+    let mut text = String::from_str(alloc, "yes")?;
+    for number in numbers {
+        let item = match number {
+            Some(number) => format!(in alloc; " {number}")?,
+            None => String::from_str(alloc, " -")?,
+        };
+        text.push_str(&item)?;
+    }
+    Ok(text)
 }
 
 /// A reply as a client reads it, but for the refusals, which have their own names.
-fn shown(alloc: Global, reply: &Reply) -> Result<String, AllocError> {
+fn shown_once(alloc: Global, reply: &Reply) -> Result<String, AllocError> {
     match reply {
         Reply::Done => String::from_str(alloc, "ok"),
         Reply::Number(number) => format!(in alloc; "ok {number}"),
@@ -79,35 +171,21 @@ fn shown(alloc: Global, reply: &Reply) -> Result<String, AllocError> {
             let openness = if status.closed { "closed" } else { "open" };
             format!(in alloc; "ok {number} {code} {openness}")
         }
-        Reply::Got(letters) => {
-            let mut text = String::from_str(alloc, "got ")?;
-            for letter in letters.items() {
-                text.push(char::from(letter.byte()))?;
-            }
-            Ok(text)
-        }
-        Reply::Hit(letters) => {
-            let mut text = String::from_str(alloc, "hit ")?;
-            for letter in letters.items() {
-                text.push(char::from(letter.byte()))?;
-            }
-            Ok(text)
-        }
+        Reply::Got(letters) => spelled(alloc, "got ", letters),
+        Reply::Hit(letters) => spelled(alloc, "hit ", letters),
         Reply::Nothing => String::from_str(alloc, "none"),
         Reply::End => String::from_str(alloc, "end"),
-        Reply::Yes(numbers) => {
-            let mut text = String::from_str(alloc, "yes")?;
-            for number in numbers.items() {
-                match number {
-                    Some(number) => text.push_str(format!(in alloc; " {number}")?.as_str())?,
-                    None => text.push_str(" -")?,
-                }
-            }
-            Ok(text)
-        }
+        Reply::Yes(numbers) => numbered(alloc, numbers.items()),
         Reply::Never => String::from_str(alloc, "never"),
         Reply::Late => String::from_str(alloc, "late"),
         Reply::No(refusal) => format!(in alloc; "no {refusal:?}"),
+    }
+}
+
+fn shown(alloc: Global, reply: &Reply) -> Result<String, AllocError> {
+    match shown_once(alloc, reply) {
+        Err(_) => shown_once(alloc, reply),
+        text => text,
     }
 }
 
@@ -136,123 +214,194 @@ pub(super) fn expect<H: Abort + Wait>(
     Ok(())
 }
 
-/// Each request carried out, and refused.
-fn plain<H: Abort + Wait>(rt: &H, alloc: Global) -> Result<(), AllocError> {
-    let mut desk = LocalDesk::new(alloc)?;
-    let web = named(rt, alloc, "web")?;
-    expect(rt, &mut desk, &sub(&web)?, "no Name")?;
-    expect(rt, &mut desk, &dir(&web, 64, 1000)?, "ok")?;
-    expect(rt, &mut desk, &dir(&web, 4, 10)?, "no Exists")?;
-    expect(rt, &mut desk, &sub(&web)?, "ok 1")?;
-    expect(rt, &mut desk, &publish(rt, &web, alloc, "ab")?, "ok 0")?;
-    expect(rt, &mut desk, &Request::Take { id: 1, max: 10 }, "got ab")?;
-    expect(rt, &mut desk, &Request::Take { id: 1, max: 10 }, "none")?;
-    expect(rt, &mut desk, &status(&web)?, "ok 2 0 open")?;
-    expect(rt, &mut desk, &close(&web)?, "ok")?;
-    expect(rt, &mut desk, &close(&web)?, "no Closed")?;
-    expect(rt, &mut desk, &Request::Take { id: 1, max: 10 }, "end")?;
-    expect(rt, &mut desk, &publish(rt, &web, alloc, "c")?, "no Closed")?;
-    expect(rt, &mut desk, &sub(&web)?, "no Closed")?;
-    expect(rt, &mut desk, &status(&web)?, "ok 2 0 closed")?;
-    expect(rt, &mut desk, &Request::Cancel { id: 1 }, "ok")?;
-    expect(rt, &mut desk, &Request::Cancel { id: 1 }, "no Id")?;
-    expect(rt, &mut desk, &Request::Take { id: 1, max: 5 }, "no Id")
+/// Asks each row in turn.
+pub(super) fn run<H: Abort + Wait>(
+    rt: &H,
+    desk: &mut LocalDesk,
+    rows: &[Row],
+) -> Result<(), AllocError> {
+    for (ask, want) in rows {
+        let request = request(rt, desk.alloc, *ask)?;
+        expect(rt, desk, &request, want)?;
+    }
+    Ok(())
 }
 
-/// Letters in their order, and the end of a session, after which the desk serves on.
-fn service<H: Abort + Wait>(rt: &H, alloc: Global) -> Result<(), AllocError> {
+/// The same, of a desk that was just made.
+pub(super) fn run_anew<H: Abort + Wait>(
+    rt: &H,
+    alloc: Global,
+    rows: &[Row],
+) -> Result<(), AllocError> {
     let mut desk = LocalDesk::new(alloc)?;
-    let web = named(rt, alloc, "web")?;
-    let svc = Request::Svc {
-        name: web.copy()?,
-        waiting: 4,
-        total: 10,
-        notifies: true,
-    };
-    expect(rt, &mut desk, &svc, "ok")?;
-    expect(rt, &mut desk, &sub(&web)?, "ok 1")?;
-    expect(
-        rt,
-        &mut desk,
-        &publish(rt, &web, alloc, "sU")?,
-        "no Unlawful(1)",
-    )?;
-    expect(rt, &mut desk, &publish(rt, &web, alloc, "suU")?, "ok 0")?;
-    expect(rt, &mut desk, &publish(rt, &web, alloc, "dD")?, "no Full")?;
-    expect(rt, &mut desk, &Request::Take { id: 1, max: 2 }, "got su")?;
-    desk.end(rt);
-    expect(rt, &mut desk, &Request::Take { id: 1, max: 2 }, "no Id")?;
-    expect(rt, &mut desk, &publish(rt, &web, alloc, "dDudD")?, "ok 3")?;
-    expect(rt, &mut desk, &publish(rt, &web, alloc, "uUd")?, "no Spent")?;
-    expect(rt, &mut desk, &sub(&web)?, "ok 2")?;
-    expect(rt, &mut desk, &status(&web)?, "ok 8 6 open")
+    run(rt, &mut desk, rows)
 }
+
+/// Each request about a plain fifodir carried out, and refused.
+const PLAIN: [Row; 17] = [
+    (Ask::Sub("web"), "no Name"),
+    (Ask::Dir("web", 64, 1000), "ok"),
+    (Ask::Dir("web", 4, 10), "no Exists"),
+    (Ask::Sub("web"), "ok 1"),
+    (Ask::Pub("web", "ab"), "ok 0"),
+    (Ask::Take(1, 10), "got ab"),
+    (Ask::Take(1, 10), "none"),
+    (Ask::Status("web"), "ok 2 0 open"),
+    (Ask::Close("web"), "ok"),
+    (Ask::Close("web"), "no Closed"),
+    (Ask::Take(1, 10), "end"),
+    (Ask::Pub("web", "c"), "no Closed"),
+    (Ask::Sub("web"), "no Closed"),
+    (Ask::Status("web"), "ok 2 0 closed"),
+    (Ask::Cancel(1), "ok"),
+    (Ask::Cancel(1), "no Id"),
+    (Ask::Take(1, 5), "no Id"),
+];
+
+/// Nothing is there, and a refused request uses no number.
+const NOTHING: [Row; 10] = [
+    (Ask::Pub("web", "a"), "no Name"),
+    (Ask::Close("web"), "no Name"),
+    (Ask::Status("web"), "no Name"),
+    (Ask::Take(1, 1), "no Id"),
+    (Ask::Cancel(1), "no Id"),
+    (Ask::Sub("web"), "no Name"),
+    (Ask::Dir("web", 64, 1000), "ok"),
+    (Ask::Svc("web", 64, 1000, true), "no Exists"),
+    (Ask::Sub("web"), "ok 1"),
+    (Ask::Sub("web"), "ok 2"),
+];
+
+/// What a subscription holds is free once it is cancelled.
+const FREES: [Row; 6] = [
+    (Ask::Dir("web", 2, 1000), "ok"),
+    (Ask::Sub("web"), "ok 1"),
+    (Ask::Pub("web", "ab"), "ok 0"),
+    (Ask::Pub("web", "c"), "no Full"),
+    (Ask::Cancel(1), "ok"),
+    (Ask::Pub("web", "cd"), "ok 2"),
+];
 
 #[test]
-fn requests_are_answered(rt: HostRuntime) {
-    assert!(rt; plain(&rt, rt.alloc()).is_ok());
-    assert!(rt; service(&rt, rt.alloc()).is_ok());
+fn plain_fifodirs_are_served(rt: HostRuntime) {
+    assert!(rt; run_anew(&rt, rt.alloc(), &PLAIN).is_ok());
+    assert!(rt; run_anew(&rt, rt.alloc(), &NOTHING).is_ok());
+    assert!(rt; run_anew(&rt, rt.alloc(), &FREES).is_ok());
 }
 
-/// With any one growth refused: a session stops where its own names or texts lack memory, and else goes on.
+/// Letters in their order.
+const SERVICE: [Row; 6] = [
+    (Ask::Svc("web", 4, 10, true), "ok"),
+    (Ask::Sub("web"), "ok 1"),
+    (Ask::Pub("web", "sU"), "no Unlawful(1)"),
+    (Ask::Pub("web", "suU"), "ok 0"),
+    (Ask::Pub("web", "dD"), "no Full"),
+    (Ask::Take(1, 2), "got su"),
+];
+
+/// The session has ended, and its desk serves on.
+const AFTER_THE_END: [Row; 5] = [
+    (Ask::Take(1, 2), "no Id"),
+    (Ask::Pub("web", "dDudD"), "ok 3"),
+    (Ask::Pub("web", "uUd"), "no Spent"),
+    (Ask::Sub("web"), "ok 2"),
+    (Ask::Status("web"), "ok 8 6 open"),
+];
+
 #[test]
-fn want_of_memory_changes_nothing(rt: HostRuntime) {
-    let _ = plain(&rt, rt.alloc());
-    let _ = service(&rt, rt.alloc());
+fn a_desk_serves_on_after_the_end(rt: HostRuntime) -> Result<(), Fail> {
+    let mut desk = LocalDesk::new(rt.alloc())?;
+    assert!(rt; run(&rt, &mut desk, &SERVICE).is_ok());
+    desk.end(&rt);
+    assert!(rt; run(&rt, &mut desk, &AFTER_THE_END).is_ok());
+    Ok(())
+}
+
+fn counted(alloc: Global, number: u64) -> Result<String, AllocError> {
+    match format!(in alloc; "n{number}") {
+        Err(_) => format!(in alloc; "n{number}"),
+        text => text,
+    }
+}
+
+fn renamed(rt: &impl Abort, alloc: Global, text: &str) -> Result<Name, AllocError> {
+    match named(rt, alloc, text) {
+        Err(_) => named(rt, alloc, text),
+        name => name,
+    }
+}
+
+/// Makes the names n0 to n255.
+fn make_names<H: Abort + Wait>(rt: &H, desk: &mut LocalDesk) -> Result<(), AllocError> {
+    for number in 0..256u64 {
+        let text = counted(desk.alloc, number)?;
+        let name = renamed(rt, desk.alloc, &text)?;
+        let dir = Request::Dir {
+            name,
+            waiting: 1,
+            total: 1,
+        };
+        expect(rt, desk, &dir, "ok")?;
+    }
+    Ok(())
 }
 
 #[test]
 fn names_are_limited(rt: HostRuntime) -> Result<(), Fail> {
     let mut desk = LocalDesk::new(rt.alloc())?;
-    for number in 0..256u64 {
-        let text = format!(in rt.alloc(); "n{number}")?;
-        expect(
-            &rt,
-            &mut desk,
-            &dir(&named(&rt, rt.alloc(), &text)?, 1, 1)?,
-            "ok",
-        )?;
-    }
-    expect(
-        &rt,
-        &mut desk,
-        &dir(&named(&rt, rt.alloc(), "more")?, 1, 1)?,
-        "no Many",
-    )?;
-    expect(
-        &rt,
-        &mut desk,
-        &dir(&named(&rt, rt.alloc(), "n7")?, 1, 1)?,
-        "no Exists",
-    )?;
+    assert!(rt; make_names(&rt, &mut desk).is_ok());
+    let rows = [
+        (Ask::Dir("more", 1, 1), "no Many"),
+        (Ask::Svc("more", 1, 1, true), "no Many"),
+        (Ask::Dir("n7", 1, 1), "no Exists"),
+    ];
+    assert!(rt; run(&rt, &mut desk, &rows).is_ok());
     Ok(())
 }
+
+/// Asks the same so many times.
+pub(super) fn repeat<H: Wait>(rt: &H, desk: &mut LocalDesk, request: &Request, times: u64)
+    requires { IsInRange request.now }
+{
+    for _ in 0..times {
+        let _ = answered(rt, desk, request);
+    }
+}
+
+/// 256 subscriptions stand.
+const ALL_STAND: [Row; 4] = [
+    (Ask::Sub("web"), "no Many"),
+    (Ask::Sub("db"), "no Name"),
+    (Ask::Cancel(5), "ok"),
+    (Ask::Sub("web"), "ok 257"),
+];
 
 #[test]
 fn standing_handles_are_limited(rt: HostRuntime) -> Result<(), Fail> {
     let mut desk = LocalDesk::new(rt.alloc())?;
-    let web = named(&rt, rt.alloc(), "web")?;
-    expect(&rt, &mut desk, &dir(&web, 1, 1)?, "ok")?;
-    let sub = Request::Sub { name: web };
-    for _ in 0..256u64 {
-        let _ = answered(&rt, &mut desk, &sub);
-    }
-    expect(&rt, &mut desk, &sub, "no Many")?;
-    expect(&rt, &mut desk, &Request::Cancel { id: 5 }, "ok")?;
-    expect(&rt, &mut desk, &sub, "ok 257")?;
+    assert!(rt; run(&rt, &mut desk, &[(Ask::Dir("web", 1, 1), "ok")]).is_ok());
+    let sub = request(&rt, rt.alloc(), Ask::Sub("web"))?;
+    repeat(&rt, &mut desk, &sub, 256);
+    assert!(rt; run(&rt, &mut desk, &ALL_STAND).is_ok());
     Ok(())
+}
+
+/// Subscribes and cancels until every number was given.
+fn spend_handles<H: Wait>(rt: &H, desk: &mut LocalDesk, sub: &Request)
+    requires { IsInRange sub.now }
+{
+    for id in 1..=1_000_000u64 {
+        let _ = answered(rt, desk, sub);
+        let _ = desk.ask(rt, &Request::Cancel { id });
+    }
 }
 
 #[test]
 fn handles_are_spent(rt: HostRuntime) -> Result<(), Fail> {
     let mut desk = LocalDesk::new(rt.alloc())?;
-    let web = named(&rt, rt.alloc(), "web")?;
-    expect(&rt, &mut desk, &dir(&web, 1, 1)?, "ok")?;
-    let sub = Request::Sub { name: web };
-    for number in 1..=1_000_000u64 {
-        let _ = answered(&rt, &mut desk, &sub);
-        let _ = desk.ask(&rt, &Request::Cancel { id: number });
-    }
-    expect(&rt, &mut desk, &sub, "no Spent")?;
+    assert!(rt; run(&rt, &mut desk, &[(Ask::Dir("web", 1, 1), "ok")]).is_ok());
+    let sub = request(&rt, rt.alloc(), Ask::Sub("web"))?;
+    spend_handles(&rt, &mut desk, &sub);
+    assert!(rt; run(&rt, &mut desk, &[(Ask::Sub("web"), "no Spent")]).is_ok());
     Ok(())
 }

@@ -181,3 +181,6 @@ fn verdict_shown(span: Span, posts: &[Post], mut numbers: Vec<Option<u64>>) -> R
         Some(Verdict::Late) | None => Reply::Late,
     }
 }
+
+#[cfg(test)]
+mod tests;

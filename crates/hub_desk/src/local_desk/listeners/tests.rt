@@ -1,0 +1,230 @@
+//! Listeners, line by line of a session.
+ghost use Rattle.std.specs.Prelude.{IfOk};
+ghost use Rattle.hub_desk.specs.Ranges.{IsInRange};
+
+use crate::desk::Desk;
+use crate::local_desk::LocalDesk;
+use crate::local_desk::tests::{Ask, Row, expect, repeat, request, run, run_anew};
+use crate::name::Name;
+use crate::request::Request;
+use hub_letters::Letter;
+use hub_listen::Mode;
+use hub_record::Letters;
+use std::alloc::{AllocError, Global};
+use std::process::Abort;
+use std::sync::Wait;
+use std::test::Fail;
+
+/// A hit over letters of several messages. What was heard before it is gone.
+const AGAIN: [Row; 8] = [
+    (Ask::Dir("web", 64, 1000), "ok"),
+    (Ask::Listen("web", Mode::Repeat, "u.*U"), "ok 1"),
+    (Ask::Pub("web", "su"), "ok 0"),
+    (Ask::Poll(1), "none"),
+    (Ask::Pub("web", "U"), "ok 2"),
+    (Ask::Poll(1), "hit suU"),
+    (Ask::Pub("web", "U"), "ok 3"),
+    (Ask::Poll(1), "none"),
+];
+
+/// One hit and many, what stands behind a hit, and the end.
+const ONCE_AND_AGAIN: [Row; 16] = [
+    (Ask::Dir("web", 64, 1000), "ok"),
+    (Ask::Listen("web", Mode::Once, "d"), "ok 1"),
+    (Ask::Listen("web", Mode::Repeat, "d"), "ok 2"),
+    (Ask::Pub("web", "udd"), "ok 0"),
+    (Ask::Poll(1), "hit ud"),
+    (Ask::Poll(1), "no Id"),
+    (Ask::Poll(2), "hit ud"),
+    (Ask::Poll(2), "hit d"),
+    (Ask::Poll(2), "none"),
+    (Ask::Take(2, 1), "no Id"),
+    (Ask::Close("web"), "ok"),
+    (Ask::Poll(2), "end"),
+    (Ask::Listen("web", Mode::Once, "("), "no Pattern"),
+    (Ask::Listen("web", Mode::Once, "d"), "no Closed"),
+    (Ask::Cancel(2), "ok"),
+    (Ask::Poll(2), "no Id"),
+];
+
+#[test]
+fn hits_are_found(rt: HostRuntime) {
+    assert!(rt; run_anew(&rt, rt.alloc(), &AGAIN).is_ok());
+    assert!(rt; run_anew(&rt, rt.alloc(), &ONCE_AND_AGAIN).is_ok());
+}
+
+/// A poll that lacks memory leaves each letter to the next one.
+const HELD: [Row; 5] = [
+    (Ask::Dir("web", 64, 1000), "ok"),
+    (Ask::Listen("web", Mode::Repeat, "u.*U"), "ok 1"),
+    (Ask::Pub("web", "suU"), "ok 0"),
+    (Ask::Poll(1), "hit suU"),
+    (Ask::Poll(1), "none"),
+];
+
+/// The letter that is held is heard before the end.
+const HELD_AT_THE_END: [Row; 8] = [
+    (Ask::Dir("web", 64, 1000), "ok"),
+    (Ask::Pub("web", "d"), "ok 0"),
+    (Ask::Listen("web", Mode::Repeat, "u"), "ok 1"),
+    (Ask::Pub("web", "du"), "ok 1"),
+    (Ask::Close("web"), "ok"),
+    (Ask::Poll(1), "hit du"),
+    (Ask::Poll(1), "end"),
+    (Ask::Poll(1), "end"),
+];
+
+#[test]
+fn no_letter_is_lost(rt: HostRuntime) {
+    assert!(rt; run_anew(&rt, rt.alloc(), &HELD).is_ok());
+    assert!(rt; run_anew(&rt, rt.alloc(), &HELD_AT_THE_END).is_ok());
+}
+
+/// Until its hit a listener in mode once holds what it hasn't heard, and then nothing; its handle is gone.
+const ONCE_FREES: [Row; 10] = [
+    (Ask::Dir("web", 2, 1000), "ok"),
+    (Ask::Listen("web", Mode::Once, "b"), "ok 1"),
+    (Ask::Pub("web", "ab"), "ok 0"),
+    (Ask::Pub("web", "c"), "no Full"),
+    (Ask::Poll(1), "hit ab"),
+    (Ask::Cancel(1), "no Id"),
+    (Ask::Pub("web", "cd"), "ok 2"),
+    (Ask::Pub("web", "ef"), "ok 4"),
+    (Ask::Sub("web"), "ok 2"),
+    (Ask::Take(2, 9), "none"),
+];
+
+/// What stands behind a hit goes on being held.
+const HIT_HOLDS: [Row; 9] = [
+    (Ask::Dir("web", 3, 1000), "ok"),
+    (Ask::Listen("web", Mode::Repeat, "b"), "ok 1"),
+    (Ask::Pub("web", "abc"), "ok 0"),
+    (Ask::Poll(1), "hit ab"),
+    (Ask::Pub("web", "cab"), "no Full"),
+    (Ask::Pub("web", "db"), "ok 3"),
+    (Ask::Poll(1), "hit cdb"),
+    (Ask::Cancel(1), "ok"),
+    (Ask::Poll(1), "no Id"),
+];
+
+#[test]
+fn a_hit_frees_what_was_heard(rt: HostRuntime) {
+    assert!(rt; run_anew(&rt, rt.alloc(), &ONCE_FREES).is_ok());
+    assert!(rt; run_anew(&rt, rt.alloc(), &HIT_HOLDS).is_ok());
+}
+
+/// A listener that is refused has no number.
+const REFUSED: [Row; 9] = [
+    (Ask::Listen("web", Mode::Once, "("), "no Name"),
+    (Ask::Dir("web", 2, 10), "ok"),
+    (Ask::Listen("web", Mode::Once, "("), "no Pattern"),
+    (Ask::Sub("web"), "ok 1"),
+    (Ask::Poll(1), "no Id"),
+    (Ask::Listen("web", Mode::Once, "b"), "ok 2"),
+    (Ask::Pub("web", "ab"), "ok 0"),
+    (Ask::Take(1, 2), "got ab"),
+    (Ask::Pub("web", "c"), "no Full"),
+];
+
+/// The end of a session gives a listener's room back.
+const AFTER_THE_END: [Row; 3] = [
+    (Ask::Poll(2), "no Id"),
+    (Ask::Pub("web", "c"), "ok 2"),
+    (Ask::Listen("web", Mode::Once, "b"), "ok 3"),
+];
+
+#[test]
+fn the_end_cancels_listeners(rt: HostRuntime) -> Result<(), Fail> {
+    let mut desk = LocalDesk::new(rt.alloc())?;
+    assert!(rt; run(&rt, &mut desk, &REFUSED).is_ok());
+    desk.end(&rt);
+    assert!(rt; run(&rt, &mut desk, &AFTER_THE_END).is_ok());
+    Ok(())
+}
+
+/// 128 listeners and 128 subscriptions stand.
+const ALL_STAND: [Row; 6] = [
+    (Ask::Sub("web"), "no Many"),
+    (Ask::Listen("web", Mode::Once, "("), "no Many"),
+    (Ask::Listen("db", Mode::Once, "("), "no Name"),
+    (Ask::Cancel(5), "ok"),
+    (Ask::Listen("web", Mode::Once, "("), "no Pattern"),
+    (Ask::Listen("web", Mode::Once, "a"), "ok 257"),
+];
+
+#[test]
+fn standing_handles_are_limited(rt: HostRuntime) -> Result<(), Fail> {
+    let mut desk = LocalDesk::new(rt.alloc())?;
+    assert!(rt; run(&rt, &mut desk, &[(Ask::Dir("web", 1, 1), "ok")]).is_ok());
+    let listen = request(&rt, rt.alloc(), Ask::Listen("web", Mode::Repeat, "a"))?;
+    let sub = request(&rt, rt.alloc(), Ask::Sub("web"))?;
+    repeat(&rt, &mut desk, &listen, 128);
+    repeat(&rt, &mut desk, &sub, 128);
+    assert!(rt; run(&rt, &mut desk, &ALL_STAND).is_ok());
+    Ok(())
+}
+
+fn many_letters(rt: &impl Abort, alloc: Global, count: usize) -> Result<Request, AllocError>
+    ensures { IfOk result IsInRange }
+{
+    let name = Name::of(alloc, "web".as_bytes())?.expect(rt, "a name");
+    let letter = Letter::of(b'a').expect(rt, "a letter");
+    Ok(Request::Pub {
+        name,
+        letters: Letters::of(vec![in alloc; letter; count]?),
+    })
+}
+
+/// Publishes so many `a` to a listener that never hits on them.
+fn publish_many<H: Abort + Wait>(
+    rt: &H,
+    desk: &mut LocalDesk,
+    count: usize,
+) -> Result<(), AllocError> {
+    let message = match many_letters(rt, desk.alloc, count) {
+        Err(_) => many_letters(rt, desk.alloc, count),
+        message => message,
+    };
+    expect(rt, desk, &message?, "ok 0")
+}
+
+const HEARS_B: [Row; 2] = [
+    (Ask::Dir("web", 4096, 1_000_000), "ok"),
+    (Ask::Listen("web", Mode::Repeat, "b"), "ok 1"),
+];
+
+/// 4,096 letters are gathered, and then nothing is taken, not even a letter that would be a hit: it holds its place.
+const OVERLONG: [Row; 7] = [
+    (Ask::Poll(1), "none"),
+    (Ask::Pub("web", "b"), "ok 4096"),
+    (Ask::Poll(1), "no Overlong"),
+    (Ask::Close("web"), "ok"),
+    (Ask::Poll(1), "no Overlong"),
+    (Ask::Cancel(1), "ok"),
+    (Ask::Poll(1), "no Id"),
+];
+
+#[test]
+fn a_listener_gathers_so_many_letters(rt: HostRuntime) -> Result<(), Fail> {
+    let mut desk = LocalDesk::new(rt.alloc())?;
+    assert!(rt; run(&rt, &mut desk, &HEARS_B).is_ok());
+    assert!(rt; publish_many(&rt, &mut desk, 4096).is_ok());
+    assert!(rt; run(&rt, &mut desk, &OVERLONG).is_ok());
+    Ok(())
+}
+
+/// 4,095 letters are gathered at the end.
+const LESS: [Row; 3] = [
+    (Ask::Close("web"), "ok"),
+    (Ask::Poll(1), "end"),
+    (Ask::Poll(1), "end"),
+];
+
+#[test]
+fn one_letter_less_is_not_overlong(rt: HostRuntime) -> Result<(), Fail> {
+    let mut desk = LocalDesk::new(rt.alloc())?;
+    assert!(rt; run(&rt, &mut desk, &HEARS_B).is_ok());
+    assert!(rt; publish_many(&rt, &mut desk, 4095).is_ok());
+    assert!(rt; run(&rt, &mut desk, &LESS).is_ok());
+    Ok(())
+}

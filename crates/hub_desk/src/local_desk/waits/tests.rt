@@ -1,0 +1,194 @@
+//! Waits, line by line of a session, with what other requests show of them afterwards.
+use crate::local_desk::LocalDesk;
+use crate::local_desk::tests::{Ask, Row, repeat, request, run, run_anew};
+use hub_letters::Want;
+use hub_wait::Span;
+use std::test::Fail;
+
+/// Without a turn, and for a name that stands twice.
+const ZERO_TURNS: [Row; 5] = [
+    (Ask::Svc("web", 64, 1000, true), "ok"),
+    (Ask::Wait(Span::All, Want::Up, 0, "web", None), "late"),
+    (Ask::Pub("web", "su"), "ok 0"),
+    (Ask::Wait(Span::All, Want::Up, 0, "web", None), "yes 2"),
+    (
+        Ask::Wait(Span::All, Want::Up, 0, "web", Some("web")),
+        "yes 2 2",
+    ),
+];
+
+/// A service that failed for good.
+const FAILED: [Row; 5] = [
+    (Ask::Svc("web", 64, 1000, true), "ok"),
+    (Ask::Pub("web", "suOdD"), "ok 0"),
+    (Ask::Wait(Span::Any, Want::Up, 3, "web", None), "never"),
+    (
+        Ask::Wait(Span::All, Want::Finished, 3, "web", None),
+        "yes 5",
+    ),
+    (Ask::Status("web"), "ok 5 14 open"),
+];
+
+/// Ready is up for a service that doesn't report its readiness, and for one that does it is what was reported.
+const READINESS: [Row; 9] = [
+    (Ask::Svc("a", 64, 1000, false), "ok"),
+    (Ask::Svc("b", 64, 1000, true), "ok"),
+    (Ask::Pub("a", "su"), "ok 0"),
+    (Ask::Pub("b", "su"), "ok 0"),
+    (Ask::Wait(Span::All, Want::Ready, 2, "a", None), "yes 2"),
+    (Ask::Wait(Span::All, Want::Ready, 2, "b", None), "late"),
+    (
+        Ask::Wait(Span::Any, Want::Ready, 2, "b", Some("a")),
+        "yes - 2",
+    ),
+    (Ask::Pub("b", "U"), "ok 2"),
+    (
+        Ask::Wait(Span::All, Want::Ready, 5000, "a", Some("b")),
+        "yes 2 3",
+    ),
+];
+
+#[test]
+fn waits_are_answered(rt: HostRuntime) {
+    assert!(rt; run_anew(&rt, rt.alloc(), &ZERO_TURNS).is_ok());
+    assert!(rt; run_anew(&rt, rt.alloc(), &FAILED).is_ok());
+    assert!(rt; run_anew(&rt, rt.alloc(), &READINESS).is_ok());
+}
+
+/// One failure is never for all, and for any only beside another failure. What is met goes before what is hopeless.
+const VERDICTS: [Row; 13] = [
+    (Ask::Svc("a", 64, 1000, true), "ok"),
+    (Ask::Svc("b", 64, 1000, true), "ok"),
+    (
+        Ask::Wait(Span::All, Want::Down, 0, "a", Some("b")),
+        "yes 0 0",
+    ),
+    (Ask::Wait(Span::All, Want::Finished, 0, "a", None), "late"),
+    (Ask::Pub("a", "suO"), "ok 0"),
+    (Ask::Wait(Span::All, Want::Up, 0, "a", None), "yes 3"),
+    (Ask::Pub("a", "dD"), "ok 3"),
+    (Ask::Wait(Span::Any, Want::Up, 0, "a", Some("b")), "late"),
+    (Ask::Wait(Span::Any, Want::Up, 0, "b", Some("a")), "late"),
+    (Ask::Wait(Span::All, Want::Up, 0, "b", Some("a")), "never"),
+    (Ask::Pub("b", "sO"), "ok 0"),
+    (Ask::Wait(Span::Any, Want::Up, 0, "a", Some("b")), "never"),
+    (
+        Ask::Wait(Span::Any, Want::Down, 0, "a", Some("b")),
+        "yes 5 2",
+    ),
+];
+
+/// One that is met makes the yes for any, though the others failed.
+const MET_BESIDE_FAILED: [Row; 6] = [
+    (Ask::Svc("a", 64, 1000, true), "ok"),
+    (Ask::Svc("b", 64, 1000, true), "ok"),
+    (Ask::Pub("a", "sO"), "ok 0"),
+    (Ask::Pub("b", "su"), "ok 0"),
+    (Ask::Wait(Span::Any, Want::Up, 0, "a", Some("b")), "yes - 2"),
+    (Ask::Wait(Span::All, Want::Up, 0, "a", Some("b")), "never"),
+];
+
+#[test]
+fn verdicts_are_given_in_time(rt: HostRuntime) {
+    assert!(rt; run_anew(&rt, rt.alloc(), &VERDICTS).is_ok());
+    assert!(rt; run_anew(&rt, rt.alloc(), &MET_BESIDE_FAILED).is_ok());
+}
+
+/// A name that isn't there before a plain fifodir, and that before a closed one, whichever is named first.
+const REFUSALS: [Row; 14] = [
+    (Ask::Svc("db", 64, 1000, true), "ok"),
+    (Ask::Dir("web", 4, 10), "ok"),
+    (Ask::Pub("db", "su"), "ok 0"),
+    (Ask::Wait(Span::All, Want::Up, 1, "web", None), "no Kind"),
+    (
+        Ask::Wait(Span::All, Want::Up, 1, "web", Some("gone")),
+        "no Name",
+    ),
+    (
+        Ask::Wait(Span::All, Want::Up, 1, "gone", Some("web")),
+        "no Name",
+    ),
+    (Ask::Close("db"), "ok"),
+    (
+        Ask::Wait(Span::All, Want::Up, 1, "db", Some("gone")),
+        "no Name",
+    ),
+    (
+        Ask::Wait(Span::All, Want::Up, 1, "db", Some("web")),
+        "no Kind",
+    ),
+    (
+        Ask::Wait(Span::All, Want::Up, 1, "web", Some("db")),
+        "no Kind",
+    ),
+    (Ask::Wait(Span::All, Want::Up, 1, "db", None), "no Closed"),
+    (
+        Ask::Wait(Span::Any, Want::Down, 1, "db", Some("db")),
+        "no Closed",
+    ),
+    (Ask::Close("web"), "ok"),
+    (Ask::Wait(Span::All, Want::Up, 1, "web", None), "no Kind"),
+];
+
+#[test]
+fn refusals_have_their_order(rt: HostRuntime) {
+    assert!(rt; run_anew(&rt, rt.alloc(), &REFUSALS).is_ok());
+}
+
+/// A wait gives its posts back: what is published then waits for none. So does one that is refused at a later post. No
+/// wait uses a handle's number.
+const GIVEN_BACK: [Row; 12] = [
+    (Ask::Svc("a", 2, 1000, true), "ok"),
+    (Ask::Svc("b", 2, 1000, true), "ok"),
+    (Ask::Pub("a", "su"), "ok 0"),
+    (Ask::Pub("b", "su"), "ok 0"),
+    (Ask::Wait(Span::Any, Want::Up, 0, "a", Some("b")), "yes 2 2"),
+    (Ask::Pub("a", "dDu"), "ok 2"),
+    (Ask::Pub("b", "dDu"), "ok 2"),
+    (Ask::Wait(Span::Any, Want::Up, 0, "a", Some("b")), "yes 5 5"),
+    (Ask::Close("b"), "ok"),
+    (
+        Ask::Wait(Span::Any, Want::Up, 0, "a", Some("b")),
+        "no Closed",
+    ),
+    (Ask::Pub("a", "dDu"), "ok 5"),
+    (Ask::Sub("a"), "ok 1"),
+];
+
+/// A wait leaves alone what stands.
+const OTHERS_STAND: [Row; 7] = [
+    (Ask::Svc("web", 2, 1000, true), "ok"),
+    (Ask::Sub("web"), "ok 1"),
+    (Ask::Pub("web", "su"), "ok 0"),
+    (Ask::Wait(Span::All, Want::Up, 0, "web", None), "yes 2"),
+    (Ask::Pub("web", "U"), "no Full"),
+    (Ask::Take(1, 9), "got su"),
+    (Ask::Pub("web", "U"), "ok 2"),
+];
+
+#[test]
+fn a_wait_leaves_nothing_behind(rt: HostRuntime) {
+    assert!(rt; run_anew(&rt, rt.alloc(), &GIVEN_BACK).is_ok());
+    assert!(rt; run_anew(&rt, rt.alloc(), &OTHERS_STAND).is_ok());
+}
+
+/// 256 handles stand; a wait needs none.
+const ALL_STAND: [Row; 4] = [
+    (Ask::Sub("web"), "no Many"),
+    (Ask::Pub("web", "su"), "ok 0"),
+    (
+        Ask::Wait(Span::All, Want::Up, 0, "web", Some("web")),
+        "yes 2 2",
+    ),
+    (Ask::Sub("web"), "no Many"),
+];
+
+#[test]
+fn a_wait_works_beside_all_handles(rt: HostRuntime) -> Result<(), Fail> {
+    let mut desk = LocalDesk::new(rt.alloc())?;
+    assert!(rt; run(&rt, &mut desk, &[(Ask::Svc("web", 64, 1000, true), "ok")]).is_ok());
+    let sub = request(&rt, rt.alloc(), Ask::Sub("web"))?;
+    repeat(&rt, &mut desk, &sub, 256);
+    assert!(rt; run(&rt, &mut desk, &ALL_STAND).is_ok());
+    Ok(())
+}
