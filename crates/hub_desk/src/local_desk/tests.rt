@@ -14,9 +14,9 @@ use hub_listen::Mode;
 use hub_record::Letters;
 use hub_wait::Span;
 use std::alloc::{AllocError, Global};
+use std::ops::Range;
 use std::process::Abort;
 use std::sync::Wait;
-use std::test::Fail;
 
 /// A request, as a row spells it. A wait is for one service or for two.
 #[derive(Clone, Copy)]
@@ -131,13 +131,14 @@ fn request_once(rt: &impl Abort, alloc: Global, ask: Ask) -> Result<Request, All
     }
 }
 
-pub(super) fn request(rt: &impl Abort, alloc: Global, ask: Ask) -> Result<Request, AllocError>
-    ensures { IfOk result IsInRange }
+fn request(rt: &impl Abort, alloc: Global, ask: Ask) -> Request
+    ensures { IsInRange result }
 {
-    match request_once(rt, alloc, ask) {
+    let made = match request_once(rt, alloc, ask) {
         Err(_) => request_once(rt, alloc, ask),
         made => made,
-    }
+    };
+    made.expect(rt, "a request")
 }
 
 fn spelled(alloc: Global, word: &str, letters: &Letters) -> Result<String, AllocError> {
@@ -182,15 +183,16 @@ fn shown_once(alloc: Global, reply: &Reply) -> Result<String, AllocError> {
     }
 }
 
-fn shown(alloc: Global, reply: &Reply) -> Result<String, AllocError> {
-    match shown_once(alloc, reply) {
+fn shown(rt: &impl Abort, alloc: Global, reply: &Reply) -> String {
+    let text = match shown_once(alloc, reply) {
         Err(_) => shown_once(alloc, reply),
         text => text,
-    }
+    };
+    text.expect(rt, "a text")
 }
 
 /// Asks, and once more after want of memory, which has lost nothing.
-pub(super) fn answered<H: Wait>(rt: &H, desk: &mut LocalDesk, request: &Request) -> Reply
+fn answered<H: Wait>(rt: &H, desk: &mut LocalDesk, request: &Request) -> Reply
     requires { IsInRange request.now }
 {
     let reply = desk.ask(rt, request);
@@ -200,41 +202,34 @@ pub(super) fn answered<H: Wait>(rt: &H, desk: &mut LocalDesk, request: &Request)
     }
 }
 
-pub(super) fn expect<H: Abort + Wait>(
-    rt: &H,
-    desk: &mut LocalDesk,
-    request: &Request,
-    want: &str,
-) -> Result<(), AllocError>
+pub(super) fn expect<H: Abort + Wait>(rt: &H, desk: &mut LocalDesk, request: &Request, want: &str)
     requires { IsInRange request.now }
 {
     let reply = answered(rt, desk, request);
-    let text = shown(desk.alloc, &reply)?;
+    let text = shown(rt, desk.alloc, &reply);
     assert_eq!(rt; text.as_str(), want);
-    Ok(())
+}
+
+fn expect_row<H: Abort + Wait>(rt: &H, desk: &mut LocalDesk, ask: Ask, want: &str) {
+    let request = request(rt, desk.alloc, ask);
+    expect(rt, desk, &request, want);
 }
 
 /// Asks each row in turn.
-pub(super) fn run<H: Abort + Wait>(
-    rt: &H,
-    desk: &mut LocalDesk,
-    rows: &[Row],
-) -> Result<(), AllocError> {
+pub(super) fn run<H: Abort + Wait>(rt: &H, desk: &mut LocalDesk, rows: &[Row]) {
     for (ask, want) in rows {
-        let request = request(rt, desk.alloc, *ask)?;
-        expect(rt, desk, &request, want)?;
+        expect_row(rt, desk, *ask, want);
     }
-    Ok(())
 }
 
-/// The same, of a desk that was just made.
-pub(super) fn run_anew<H: Abort + Wait>(
-    rt: &H,
-    alloc: Global,
-    rows: &[Row],
-) -> Result<(), AllocError> {
-    let mut desk = LocalDesk::new(alloc)?;
-    run(rt, &mut desk, rows)
+pub(super) fn new_desk(rt: &impl Abort, alloc: Global) -> LocalDesk {
+    LocalDesk::new(alloc).expect(rt, "a desk")
+}
+
+/// Asks each row in turn of a desk that was just made.
+pub(super) fn run_anew<H: Abort + Wait>(rt: &H, alloc: Global, rows: &[Row]) {
+    let mut desk = new_desk(rt, alloc);
+    run(rt, &mut desk, rows);
 }
 
 /// Each request about a plain fifodir carried out, and refused.
@@ -284,9 +279,9 @@ const FREES: [Row; 6] = [
 
 #[test]
 fn plain_fifodirs_are_served(rt: HostRuntime) {
-    assert!(rt; run_anew(&rt, rt.alloc(), &PLAIN).is_ok());
-    assert!(rt; run_anew(&rt, rt.alloc(), &NOTHING).is_ok());
-    assert!(rt; run_anew(&rt, rt.alloc(), &FREES).is_ok());
+    run_anew(&rt, rt.alloc(), &PLAIN);
+    run_anew(&rt, rt.alloc(), &NOTHING);
+    run_anew(&rt, rt.alloc(), &FREES);
 }
 
 /// Letters in their order.
@@ -309,64 +304,78 @@ const AFTER_THE_END: [Row; 5] = [
 ];
 
 #[test]
-fn a_desk_serves_on_after_the_end(rt: HostRuntime) -> Result<(), Fail> {
-    let mut desk = LocalDesk::new(rt.alloc())?;
-    assert!(rt; run(&rt, &mut desk, &SERVICE).is_ok());
+fn a_desk_serves_on_after_the_end(rt: HostRuntime) {
+    let mut desk = new_desk(&rt, rt.alloc());
+    run(&rt, &mut desk, &SERVICE);
     desk.end(&rt);
-    assert!(rt; run(&rt, &mut desk, &AFTER_THE_END).is_ok());
-    Ok(())
+    run(&rt, &mut desk, &AFTER_THE_END);
 }
 
-fn counted(alloc: Global, number: u64) -> Result<String, AllocError> {
-    match format!(in alloc; "n{number}") {
-        Err(_) => format!(in alloc; "n{number}"),
-        text => text,
-    }
+fn counted_once(rt: &impl Abort, alloc: Global, number: u64) -> Result<Name, AllocError> {
+    let text = format!(in alloc; "n{number}")?;
+    named(rt, alloc, &text)
 }
 
-fn renamed(rt: &impl Abort, alloc: Global, text: &str) -> Result<Name, AllocError> {
-    match named(rt, alloc, text) {
-        Err(_) => named(rt, alloc, text),
+fn counted(rt: &impl Abort, alloc: Global, number: u64) -> Name {
+    let name = match counted_once(rt, alloc, number) {
+        Err(_) => counted_once(rt, alloc, number),
         name => name,
-    }
+    };
+    name.expect(rt, "a name")
+}
+
+fn make_counted<H: Abort + Wait>(rt: &H, desk: &mut LocalDesk, number: u64) {
+    let dir = Request::Dir {
+        name: counted(rt, desk.alloc, number),
+        waiting: 1,
+        total: 1,
+    };
+    expect(rt, desk, &dir, "ok");
 }
 
 /// Makes the names n0 to n255.
-fn make_names<H: Abort + Wait>(rt: &H, desk: &mut LocalDesk) -> Result<(), AllocError> {
+fn make_names<H: Abort + Wait>(rt: &H, desk: &mut LocalDesk) {
     for number in 0..256u64 {
-        let text = counted(desk.alloc, number)?;
-        let name = renamed(rt, desk.alloc, &text)?;
-        let dir = Request::Dir {
-            name,
-            waiting: 1,
-            total: 1,
-        };
-        expect(rt, desk, &dir, "ok")?;
+        make_counted(rt, desk, number);
     }
-    Ok(())
 }
+
+/// 256 names are there.
+const ALL_THERE: [Row; 3] = [
+    (Ask::Dir("more", 1, 1), "no Many"),
+    (Ask::Svc("more", 1, 1, true), "no Many"),
+    (Ask::Dir("n7", 1, 1), "no Exists"),
+];
 
 #[test]
-fn names_are_limited(rt: HostRuntime) -> Result<(), Fail> {
-    let mut desk = LocalDesk::new(rt.alloc())?;
-    assert!(rt; make_names(&rt, &mut desk).is_ok());
-    let rows = [
-        (Ask::Dir("more", 1, 1), "no Many"),
-        (Ask::Svc("more", 1, 1, true), "no Many"),
-        (Ask::Dir("n7", 1, 1), "no Exists"),
-    ];
-    assert!(rt; run(&rt, &mut desk, &rows).is_ok());
-    Ok(())
+fn names_are_limited(rt: HostRuntime) {
+    let mut desk = new_desk(&rt, rt.alloc());
+    make_names(&rt, &mut desk);
+    run(&rt, &mut desk, &ALL_THERE);
 }
 
-/// Asks the same so many times.
-pub(super) fn repeat<H: Wait>(rt: &H, desk: &mut LocalDesk, request: &Request, times: u64)
+/// Asks for a handle, which has this number.
+fn expect_number<H: Abort + Wait>(rt: &H, desk: &mut LocalDesk, request: &Request, number: u64)
     requires { IsInRange request.now }
 {
-    for _ in 0..times {
-        let _ = answered(rt, desk, request);
+    let reply = answered(rt, desk, request);
+    assert!(rt; matches!(reply, Reply::Number(given) if given == number));
+}
+
+/// Asks for the handles of these numbers in turn.
+pub(super) fn expect_numbers<H: Abort + Wait>(
+    rt: &H,
+    desk: &mut LocalDesk,
+    ask: Ask,
+    numbers: Range<u64>,
+) {
+    let request = request(rt, desk.alloc, ask);
+    for number in numbers {
+        expect_number(rt, desk, &request, number);
     }
 }
+
+const WEB: [Row; 1] = [(Ask::Dir("web", 1, 1), "ok")];
 
 /// 256 subscriptions stand.
 const ALL_STAND: [Row; 4] = [
@@ -377,31 +386,37 @@ const ALL_STAND: [Row; 4] = [
 ];
 
 #[test]
-fn standing_handles_are_limited(rt: HostRuntime) -> Result<(), Fail> {
-    let mut desk = LocalDesk::new(rt.alloc())?;
-    assert!(rt; run(&rt, &mut desk, &[(Ask::Dir("web", 1, 1), "ok")]).is_ok());
-    let sub = request(&rt, rt.alloc(), Ask::Sub("web"))?;
-    repeat(&rt, &mut desk, &sub, 256);
-    assert!(rt; run(&rt, &mut desk, &ALL_STAND).is_ok());
-    Ok(())
+fn standing_handles_are_limited(rt: HostRuntime) {
+    let mut desk = new_desk(&rt, rt.alloc());
+    run(&rt, &mut desk, &WEB);
+    expect_numbers(&rt, &mut desk, Ask::Sub("web"), 1..257);
+    run(&rt, &mut desk, &ALL_STAND);
+}
+
+fn cancel<H: Wait>(rt: &H, desk: &mut LocalDesk, id: u64) {
+    let _ = answered(rt, desk, &Request::Cancel { id });
 }
 
 /// Subscribes and cancels until every number was given.
-fn spend_handles<H: Wait>(rt: &H, desk: &mut LocalDesk, sub: &Request)
-    requires { IsInRange sub.now }
-{
-    for id in 1..=1_000_000u64 {
-        let _ = answered(rt, desk, sub);
-        let _ = desk.ask(rt, &Request::Cancel { id });
+fn spend_handles<H: Abort + Wait>(rt: &H, desk: &mut LocalDesk) {
+    let sub = request(rt, desk.alloc, Ask::Sub("web"));
+    for id in 1..1_000_001 {
+        expect_number(rt, desk, &sub, id);
+        cancel(rt, desk, id);
     }
 }
 
+/// No number is left, and no handle stands.
+const ALL_SPENT: [Row; 3] = [
+    (Ask::Sub("web"), "no Spent"),
+    (Ask::Sub("db"), "no Name"),
+    (Ask::Cancel(1_000_000), "no Id"),
+];
+
 #[test]
-fn handles_are_spent(rt: HostRuntime) -> Result<(), Fail> {
-    let mut desk = LocalDesk::new(rt.alloc())?;
-    assert!(rt; run(&rt, &mut desk, &[(Ask::Dir("web", 1, 1), "ok")]).is_ok());
-    let sub = request(&rt, rt.alloc(), Ask::Sub("web"))?;
-    spend_handles(&rt, &mut desk, &sub);
-    assert!(rt; run(&rt, &mut desk, &[(Ask::Sub("web"), "no Spent")]).is_ok());
-    Ok(())
+fn handles_are_spent(rt: HostRuntime) {
+    let mut desk = new_desk(&rt, rt.alloc());
+    run(&rt, &mut desk, &WEB);
+    spend_handles(&rt, &mut desk);
+    run(&rt, &mut desk, &ALL_SPENT);
 }

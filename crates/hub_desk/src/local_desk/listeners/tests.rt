@@ -4,7 +4,7 @@ ghost use Rattle.hub_desk.specs.Ranges.{IsInRange};
 
 use crate::desk::Desk;
 use crate::local_desk::LocalDesk;
-use crate::local_desk::tests::{Ask, Row, expect, repeat, request, run, run_anew};
+use crate::local_desk::tests::{Ask, Row, expect, expect_numbers, new_desk, run, run_anew};
 use crate::name::Name;
 use crate::request::Request;
 use hub_letters::Letter;
@@ -13,7 +13,6 @@ use hub_record::Letters;
 use std::alloc::{AllocError, Global};
 use std::process::Abort;
 use std::sync::Wait;
-use std::test::Fail;
 
 /// A hit over letters of several messages. What was heard before it is gone.
 const AGAIN: [Row; 8] = [
@@ -49,8 +48,8 @@ const ONCE_AND_AGAIN: [Row; 16] = [
 
 #[test]
 fn hits_are_found(rt: HostRuntime) {
-    assert!(rt; run_anew(&rt, rt.alloc(), &AGAIN).is_ok());
-    assert!(rt; run_anew(&rt, rt.alloc(), &ONCE_AND_AGAIN).is_ok());
+    run_anew(&rt, rt.alloc(), &AGAIN);
+    run_anew(&rt, rt.alloc(), &ONCE_AND_AGAIN);
 }
 
 /// A poll that lacks memory leaves each letter to the next one.
@@ -76,8 +75,8 @@ const HELD_AT_THE_END: [Row; 8] = [
 
 #[test]
 fn no_letter_is_lost(rt: HostRuntime) {
-    assert!(rt; run_anew(&rt, rt.alloc(), &HELD).is_ok());
-    assert!(rt; run_anew(&rt, rt.alloc(), &HELD_AT_THE_END).is_ok());
+    run_anew(&rt, rt.alloc(), &HELD);
+    run_anew(&rt, rt.alloc(), &HELD_AT_THE_END);
 }
 
 /// Until its hit a listener in mode once holds what it hasn't heard, and then nothing; its handle is gone.
@@ -109,8 +108,8 @@ const HIT_HOLDS: [Row; 9] = [
 
 #[test]
 fn a_hit_frees_what_was_heard(rt: HostRuntime) {
-    assert!(rt; run_anew(&rt, rt.alloc(), &ONCE_FREES).is_ok());
-    assert!(rt; run_anew(&rt, rt.alloc(), &HIT_HOLDS).is_ok());
+    run_anew(&rt, rt.alloc(), &ONCE_FREES);
+    run_anew(&rt, rt.alloc(), &HIT_HOLDS);
 }
 
 /// A listener that is refused has no number.
@@ -134,13 +133,16 @@ const AFTER_THE_END: [Row; 3] = [
 ];
 
 #[test]
-fn the_end_cancels_listeners(rt: HostRuntime) -> Result<(), Fail> {
-    let mut desk = LocalDesk::new(rt.alloc())?;
-    assert!(rt; run(&rt, &mut desk, &REFUSED).is_ok());
+fn the_end_cancels_listeners(rt: HostRuntime) {
+    let mut desk = new_desk(&rt, rt.alloc());
+    run(&rt, &mut desk, &REFUSED);
     desk.end(&rt);
-    assert!(rt; run(&rt, &mut desk, &AFTER_THE_END).is_ok());
-    Ok(())
+    run(&rt, &mut desk, &AFTER_THE_END);
 }
+
+const WEB: [Row; 1] = [(Ask::Dir("web", 1, 1), "ok")];
+
+const HEARS_A: Ask = Ask::Listen("web", Mode::Repeat, "a");
 
 /// 128 listeners and 128 subscriptions stand.
 const ALL_STAND: [Row; 6] = [
@@ -153,15 +155,12 @@ const ALL_STAND: [Row; 6] = [
 ];
 
 #[test]
-fn standing_handles_are_limited(rt: HostRuntime) -> Result<(), Fail> {
-    let mut desk = LocalDesk::new(rt.alloc())?;
-    assert!(rt; run(&rt, &mut desk, &[(Ask::Dir("web", 1, 1), "ok")]).is_ok());
-    let listen = request(&rt, rt.alloc(), Ask::Listen("web", Mode::Repeat, "a"))?;
-    let sub = request(&rt, rt.alloc(), Ask::Sub("web"))?;
-    repeat(&rt, &mut desk, &listen, 128);
-    repeat(&rt, &mut desk, &sub, 128);
-    assert!(rt; run(&rt, &mut desk, &ALL_STAND).is_ok());
-    Ok(())
+fn standing_handles_are_limited(rt: HostRuntime) {
+    let mut desk = new_desk(&rt, rt.alloc());
+    run(&rt, &mut desk, &WEB);
+    expect_numbers(&rt, &mut desk, HEARS_A, 1..129);
+    expect_numbers(&rt, &mut desk, Ask::Sub("web"), 129..257);
+    run(&rt, &mut desk, &ALL_STAND);
 }
 
 fn many_letters(rt: &impl Abort, alloc: Global, count: usize) -> Result<Request, AllocError>
@@ -175,17 +174,13 @@ fn many_letters(rt: &impl Abort, alloc: Global, count: usize) -> Result<Request,
     })
 }
 
-/// Publishes so many `a` to a listener that never hits on them.
-fn publish_many<H: Abort + Wait>(
-    rt: &H,
-    desk: &mut LocalDesk,
-    count: usize,
-) -> Result<(), AllocError> {
+/// Publishes so many `a`.
+fn publish_many<H: Abort + Wait>(rt: &H, desk: &mut LocalDesk, count: usize) {
     let message = match many_letters(rt, desk.alloc, count) {
         Err(_) => many_letters(rt, desk.alloc, count),
         message => message,
     };
-    expect(rt, desk, &message?, "ok 0")
+    expect(rt, desk, &message.expect(rt, "a message"), "ok 0");
 }
 
 const HEARS_B: [Row; 2] = [
@@ -205,12 +200,11 @@ const OVERLONG: [Row; 7] = [
 ];
 
 #[test]
-fn a_listener_gathers_so_many_letters(rt: HostRuntime) -> Result<(), Fail> {
-    let mut desk = LocalDesk::new(rt.alloc())?;
-    assert!(rt; run(&rt, &mut desk, &HEARS_B).is_ok());
-    assert!(rt; publish_many(&rt, &mut desk, 4096).is_ok());
-    assert!(rt; run(&rt, &mut desk, &OVERLONG).is_ok());
-    Ok(())
+fn a_listener_gathers_so_many_letters(rt: HostRuntime) {
+    let mut desk = new_desk(&rt, rt.alloc());
+    run(&rt, &mut desk, &HEARS_B);
+    publish_many(&rt, &mut desk, 4096);
+    run(&rt, &mut desk, &OVERLONG);
 }
 
 /// 4,095 letters are gathered at the end.
@@ -221,10 +215,9 @@ const LESS: [Row; 3] = [
 ];
 
 #[test]
-fn one_letter_less_is_not_overlong(rt: HostRuntime) -> Result<(), Fail> {
-    let mut desk = LocalDesk::new(rt.alloc())?;
-    assert!(rt; run(&rt, &mut desk, &HEARS_B).is_ok());
-    assert!(rt; publish_many(&rt, &mut desk, 4095).is_ok());
-    assert!(rt; run(&rt, &mut desk, &LESS).is_ok());
-    Ok(())
+fn one_letter_less_is_not_overlong(rt: HostRuntime) {
+    let mut desk = new_desk(&rt, rt.alloc());
+    run(&rt, &mut desk, &HEARS_B);
+    publish_many(&rt, &mut desk, 4095);
+    run(&rt, &mut desk, &LESS);
 }

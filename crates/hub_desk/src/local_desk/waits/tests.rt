@@ -1,9 +1,7 @@
 //! Waits, line by line of a session, with what other requests show of them afterwards.
-use crate::local_desk::LocalDesk;
-use crate::local_desk::tests::{Ask, Row, repeat, request, run, run_anew};
+use crate::local_desk::tests::{Ask, Row, expect_numbers, new_desk, run, run_anew};
 use hub_letters::Want;
 use hub_wait::Span;
-use std::test::Fail;
 
 /// Without a turn, and for a name that stands twice.
 const ZERO_TURNS: [Row; 5] = [
@@ -50,9 +48,9 @@ const READINESS: [Row; 9] = [
 
 #[test]
 fn waits_are_answered(rt: HostRuntime) {
-    assert!(rt; run_anew(&rt, rt.alloc(), &ZERO_TURNS).is_ok());
-    assert!(rt; run_anew(&rt, rt.alloc(), &FAILED).is_ok());
-    assert!(rt; run_anew(&rt, rt.alloc(), &READINESS).is_ok());
+    run_anew(&rt, rt.alloc(), &ZERO_TURNS);
+    run_anew(&rt, rt.alloc(), &FAILED);
+    run_anew(&rt, rt.alloc(), &READINESS);
 }
 
 /// One failure is never for all, and for any only beside another failure. What is met goes before what is hopeless.
@@ -90,8 +88,8 @@ const MET_BESIDE_FAILED: [Row; 6] = [
 
 #[test]
 fn verdicts_are_given_in_time(rt: HostRuntime) {
-    assert!(rt; run_anew(&rt, rt.alloc(), &VERDICTS).is_ok());
-    assert!(rt; run_anew(&rt, rt.alloc(), &MET_BESIDE_FAILED).is_ok());
+    run_anew(&rt, rt.alloc(), &VERDICTS);
+    run_anew(&rt, rt.alloc(), &MET_BESIDE_FAILED);
 }
 
 /// A name that isn't there before a plain fifodir, and that before a closed one, whichever is named first.
@@ -132,7 +130,7 @@ const REFUSALS: [Row; 14] = [
 
 #[test]
 fn refusals_have_their_order(rt: HostRuntime) {
-    assert!(rt; run_anew(&rt, rt.alloc(), &REFUSALS).is_ok());
+    run_anew(&rt, rt.alloc(), &REFUSALS);
 }
 
 /// A wait gives its posts back: what is published then waits for none. So does one that is refused at a later post. No
@@ -168,9 +166,11 @@ const OTHERS_STAND: [Row; 7] = [
 
 #[test]
 fn a_wait_leaves_nothing_behind(rt: HostRuntime) {
-    assert!(rt; run_anew(&rt, rt.alloc(), &GIVEN_BACK).is_ok());
-    assert!(rt; run_anew(&rt, rt.alloc(), &OTHERS_STAND).is_ok());
+    run_anew(&rt, rt.alloc(), &GIVEN_BACK);
+    run_anew(&rt, rt.alloc(), &OTHERS_STAND);
 }
+
+const WEB: [Row; 1] = [(Ask::Svc("web", 64, 1000, true), "ok")];
 
 /// 256 handles stand; a wait needs none.
 const ALL_STAND: [Row; 4] = [
@@ -184,11 +184,9 @@ const ALL_STAND: [Row; 4] = [
 ];
 
 #[test]
-fn a_wait_works_beside_all_handles(rt: HostRuntime) -> Result<(), Fail> {
-    let mut desk = LocalDesk::new(rt.alloc())?;
-    assert!(rt; run(&rt, &mut desk, &[(Ask::Svc("web", 64, 1000, true), "ok")]).is_ok());
-    let sub = request(&rt, rt.alloc(), Ask::Sub("web"))?;
-    repeat(&rt, &mut desk, &sub, 256);
-    assert!(rt; run(&rt, &mut desk, &ALL_STAND).is_ok());
-    Ok(())
+fn a_wait_works_beside_all_handles(rt: HostRuntime) {
+    let mut desk = new_desk(&rt, rt.alloc());
+    run(&rt, &mut desk, &WEB);
+    expect_numbers(&rt, &mut desk, Ask::Sub("web"), 1..257);
+    run(&rt, &mut desk, &ALL_STAND);
 }
