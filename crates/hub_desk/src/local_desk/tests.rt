@@ -233,7 +233,7 @@ pub(super) fn run_anew<H: Abort + Wait>(rt: &H, alloc: Global, rows: &[Row]) {
 }
 
 /// Each request about a plain fifodir carried out, and refused.
-const PLAIN: [Row; 17] = [
+static PLAIN: [Row; 17] = [
     (Ask::Sub("web"), "no Name"),
     (Ask::Dir("web", 64, 1000), "ok"),
     (Ask::Dir("web", 4, 10), "no Exists"),
@@ -254,7 +254,7 @@ const PLAIN: [Row; 17] = [
 ];
 
 /// Nothing is there, and a refused request uses no number.
-const NOTHING: [Row; 10] = [
+static NOTHING: [Row; 10] = [
     (Ask::Pub("web", "a"), "no Name"),
     (Ask::Close("web"), "no Name"),
     (Ask::Status("web"), "no Name"),
@@ -268,7 +268,7 @@ const NOTHING: [Row; 10] = [
 ];
 
 /// What a subscription holds is free once it is cancelled.
-const FREES: [Row; 6] = [
+static FREES: [Row; 6] = [
     (Ask::Dir("web", 2, 1000), "ok"),
     (Ask::Sub("web"), "ok 1"),
     (Ask::Pub("web", "ab"), "ok 0"),
@@ -285,7 +285,7 @@ fn plain_fifodirs_are_served(rt: HostRuntime) {
 }
 
 /// Letters in their order.
-const SERVICE: [Row; 6] = [
+static SERVICE: [Row; 6] = [
     (Ask::Svc("web", 4, 10, true), "ok"),
     (Ask::Sub("web"), "ok 1"),
     (Ask::Pub("web", "sU"), "no Unlawful(1)"),
@@ -295,7 +295,7 @@ const SERVICE: [Row; 6] = [
 ];
 
 /// The session has ended, and its desk serves on.
-const AFTER_THE_END: [Row; 5] = [
+static AFTER_THE_END: [Row; 5] = [
     (Ask::Take(1, 2), "no Id"),
     (Ask::Pub("web", "dDudD"), "ok 3"),
     (Ask::Pub("web", "uUd"), "no Spent"),
@@ -341,7 +341,7 @@ fn make_names<H: Abort + Wait>(rt: &H, desk: &mut LocalDesk) {
 }
 
 /// 256 names are there.
-const ALL_THERE: [Row; 3] = [
+static ALL_THERE: [Row; 3] = [
     (Ask::Dir("more", 1, 1), "no Many"),
     (Ask::Svc("more", 1, 1, true), "no Many"),
     (Ask::Dir("n7", 1, 1), "no Exists"),
@@ -375,10 +375,10 @@ pub(super) fn expect_numbers<H: Abort + Wait>(
     }
 }
 
-const WEB: [Row; 1] = [(Ask::Dir("web", 1, 1), "ok")];
+static WEB: [Row; 1] = [(Ask::Dir("web", 1, 1), "ok")];
 
 /// 256 subscriptions stand.
-const ALL_STAND: [Row; 4] = [
+static ALL_STAND: [Row; 4] = [
     (Ask::Sub("web"), "no Many"),
     (Ask::Sub("db"), "no Name"),
     (Ask::Cancel(5), "ok"),
@@ -407,7 +407,7 @@ fn spend_handles<H: Abort + Wait>(rt: &H, desk: &mut LocalDesk) {
 }
 
 /// No number is left, and no handle stands.
-const ALL_SPENT: [Row; 3] = [
+static ALL_SPENT: [Row; 3] = [
     (Ask::Sub("web"), "no Spent"),
     (Ask::Sub("db"), "no Name"),
     (Ask::Cancel(1_000_000), "no Id"),

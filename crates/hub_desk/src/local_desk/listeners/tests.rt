@@ -15,7 +15,7 @@ use std::process::Abort;
 use std::sync::Wait;
 
 /// A hit over letters of several messages. What was heard before it is gone.
-const AGAIN: [Row; 8] = [
+static AGAIN: [Row; 8] = [
     (Ask::Dir("web", 64, 1000), "ok"),
     (Ask::Listen("web", Mode::Repeat, "u.*U"), "ok 1"),
     (Ask::Pub("web", "su"), "ok 0"),
@@ -27,7 +27,7 @@ const AGAIN: [Row; 8] = [
 ];
 
 /// One hit and many, what stands behind a hit, and the end.
-const ONCE_AND_AGAIN: [Row; 16] = [
+static ONCE_AND_AGAIN: [Row; 16] = [
     (Ask::Dir("web", 64, 1000), "ok"),
     (Ask::Listen("web", Mode::Once, "d"), "ok 1"),
     (Ask::Listen("web", Mode::Repeat, "d"), "ok 2"),
@@ -53,7 +53,7 @@ fn hits_are_found(rt: HostRuntime) {
 }
 
 /// A poll that lacks memory leaves each letter to the next one.
-const HELD: [Row; 5] = [
+static HELD: [Row; 5] = [
     (Ask::Dir("web", 64, 1000), "ok"),
     (Ask::Listen("web", Mode::Repeat, "u.*U"), "ok 1"),
     (Ask::Pub("web", "suU"), "ok 0"),
@@ -62,7 +62,7 @@ const HELD: [Row; 5] = [
 ];
 
 /// The letter that is held is heard before the end.
-const HELD_AT_THE_END: [Row; 8] = [
+static HELD_AT_THE_END: [Row; 8] = [
     (Ask::Dir("web", 64, 1000), "ok"),
     (Ask::Pub("web", "d"), "ok 0"),
     (Ask::Listen("web", Mode::Repeat, "u"), "ok 1"),
@@ -80,7 +80,7 @@ fn no_letter_is_lost(rt: HostRuntime) {
 }
 
 /// Until its hit a listener in mode once holds what it hasn't heard, and then nothing; its handle is gone.
-const ONCE_FREES: [Row; 10] = [
+static ONCE_FREES: [Row; 10] = [
     (Ask::Dir("web", 2, 1000), "ok"),
     (Ask::Listen("web", Mode::Once, "b"), "ok 1"),
     (Ask::Pub("web", "ab"), "ok 0"),
@@ -94,7 +94,7 @@ const ONCE_FREES: [Row; 10] = [
 ];
 
 /// What stands behind a hit goes on being held.
-const HIT_HOLDS: [Row; 9] = [
+static HIT_HOLDS: [Row; 9] = [
     (Ask::Dir("web", 3, 1000), "ok"),
     (Ask::Listen("web", Mode::Repeat, "b"), "ok 1"),
     (Ask::Pub("web", "abc"), "ok 0"),
@@ -113,7 +113,7 @@ fn a_hit_frees_what_was_heard(rt: HostRuntime) {
 }
 
 /// A listener that is refused has no number.
-const REFUSED: [Row; 9] = [
+static REFUSED: [Row; 9] = [
     (Ask::Listen("web", Mode::Once, "("), "no Name"),
     (Ask::Dir("web", 2, 10), "ok"),
     (Ask::Listen("web", Mode::Once, "("), "no Pattern"),
@@ -126,7 +126,7 @@ const REFUSED: [Row; 9] = [
 ];
 
 /// The end of a session gives a listener's room back.
-const AFTER_THE_END: [Row; 3] = [
+static AFTER_THE_END: [Row; 3] = [
     (Ask::Poll(2), "no Id"),
     (Ask::Pub("web", "c"), "ok 2"),
     (Ask::Listen("web", Mode::Once, "b"), "ok 3"),
@@ -140,12 +140,12 @@ fn the_end_cancels_listeners(rt: HostRuntime) {
     run(&rt, &mut desk, &AFTER_THE_END);
 }
 
-const WEB: [Row; 1] = [(Ask::Dir("web", 1, 1), "ok")];
+static WEB: [Row; 1] = [(Ask::Dir("web", 1, 1), "ok")];
 
 const HEARS_A: Ask = Ask::Listen("web", Mode::Repeat, "a");
 
 /// 128 listeners and 128 subscriptions stand.
-const ALL_STAND: [Row; 6] = [
+static ALL_STAND: [Row; 6] = [
     (Ask::Sub("web"), "no Many"),
     (Ask::Listen("web", Mode::Once, "("), "no Many"),
     (Ask::Listen("db", Mode::Once, "("), "no Name"),
@@ -183,13 +183,13 @@ fn publish_many<H: Abort + Wait>(rt: &H, desk: &mut LocalDesk, count: usize) {
     expect(rt, desk, &message.expect(rt, "a message"), "ok 0");
 }
 
-const HEARS_B: [Row; 2] = [
+static HEARS_B: [Row; 2] = [
     (Ask::Dir("web", 4096, 1_000_000), "ok"),
     (Ask::Listen("web", Mode::Repeat, "b"), "ok 1"),
 ];
 
 /// 4,096 letters are gathered, and then nothing is taken, not even a letter that would be a hit: it holds its place.
-const OVERLONG: [Row; 7] = [
+static OVERLONG: [Row; 7] = [
     (Ask::Poll(1), "none"),
     (Ask::Pub("web", "b"), "ok 4096"),
     (Ask::Poll(1), "no Overlong"),
@@ -208,7 +208,7 @@ fn a_listener_gathers_so_many_letters(rt: HostRuntime) {
 }
 
 /// 4,095 letters are gathered at the end.
-const LESS: [Row; 3] = [
+static LESS: [Row; 3] = [
     (Ask::Close("web"), "ok"),
     (Ask::Poll(1), "end"),
     (Ask::Poll(1), "end"),

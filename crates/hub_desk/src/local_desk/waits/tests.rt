@@ -4,7 +4,7 @@ use hub_letters::Want;
 use hub_wait::Span;
 
 /// Without a turn, and for a name that stands twice.
-const ZERO_TURNS: [Row; 5] = [
+static ZERO_TURNS: [Row; 5] = [
     (Ask::Svc("web", 64, 1000, true), "ok"),
     (Ask::Wait(Span::All, Want::Up, 0, "web", None), "late"),
     (Ask::Pub("web", "su"), "ok 0"),
@@ -16,7 +16,7 @@ const ZERO_TURNS: [Row; 5] = [
 ];
 
 /// A service that failed for good.
-const FAILED: [Row; 5] = [
+static FAILED: [Row; 5] = [
     (Ask::Svc("web", 64, 1000, true), "ok"),
     (Ask::Pub("web", "suOdD"), "ok 0"),
     (Ask::Wait(Span::Any, Want::Up, 3, "web", None), "never"),
@@ -28,7 +28,7 @@ const FAILED: [Row; 5] = [
 ];
 
 /// Ready is up for a service that doesn't report its readiness, and for one that does it is what was reported.
-const READINESS: [Row; 9] = [
+static READINESS: [Row; 9] = [
     (Ask::Svc("a", 64, 1000, false), "ok"),
     (Ask::Svc("b", 64, 1000, true), "ok"),
     (Ask::Pub("a", "su"), "ok 0"),
@@ -54,7 +54,7 @@ fn waits_are_answered(rt: HostRuntime) {
 }
 
 /// One failure is never for all, and for any only beside another failure. What is met goes before what is hopeless.
-const VERDICTS: [Row; 13] = [
+static VERDICTS: [Row; 13] = [
     (Ask::Svc("a", 64, 1000, true), "ok"),
     (Ask::Svc("b", 64, 1000, true), "ok"),
     (
@@ -77,7 +77,7 @@ const VERDICTS: [Row; 13] = [
 ];
 
 /// One that is met makes the yes for any, though the others failed.
-const MET_BESIDE_FAILED: [Row; 6] = [
+static MET_BESIDE_FAILED: [Row; 6] = [
     (Ask::Svc("a", 64, 1000, true), "ok"),
     (Ask::Svc("b", 64, 1000, true), "ok"),
     (Ask::Pub("a", "sO"), "ok 0"),
@@ -93,7 +93,7 @@ fn verdicts_are_given_in_time(rt: HostRuntime) {
 }
 
 /// A name that isn't there before a plain fifodir, and that before a closed one, whichever is named first.
-const REFUSALS: [Row; 14] = [
+static REFUSALS: [Row; 14] = [
     (Ask::Svc("db", 64, 1000, true), "ok"),
     (Ask::Dir("web", 4, 10), "ok"),
     (Ask::Pub("db", "su"), "ok 0"),
@@ -135,7 +135,7 @@ fn refusals_have_their_order(rt: HostRuntime) {
 
 /// A wait gives its posts back: what is published then waits for none. So does one that is refused at a later post. No
 /// wait uses a handle's number.
-const GIVEN_BACK: [Row; 12] = [
+static GIVEN_BACK: [Row; 12] = [
     (Ask::Svc("a", 2, 1000, true), "ok"),
     (Ask::Svc("b", 2, 1000, true), "ok"),
     (Ask::Pub("a", "su"), "ok 0"),
@@ -154,7 +154,7 @@ const GIVEN_BACK: [Row; 12] = [
 ];
 
 /// A wait leaves alone what stands.
-const OTHERS_STAND: [Row; 7] = [
+static OTHERS_STAND: [Row; 7] = [
     (Ask::Svc("web", 2, 1000, true), "ok"),
     (Ask::Sub("web"), "ok 1"),
     (Ask::Pub("web", "su"), "ok 0"),
@@ -170,10 +170,10 @@ fn a_wait_leaves_nothing_behind(rt: HostRuntime) {
     run_anew(&rt, rt.alloc(), &OTHERS_STAND);
 }
 
-const WEB: [Row; 1] = [(Ask::Svc("web", 64, 1000, true), "ok")];
+static WEB: [Row; 1] = [(Ask::Svc("web", 64, 1000, true), "ok")];
 
 /// 256 handles stand; a wait needs none.
-const ALL_STAND: [Row; 4] = [
+static ALL_STAND: [Row; 4] = [
     (Ask::Sub("web"), "no Many"),
     (Ask::Pub("web", "su"), "ok 0"),
     (
