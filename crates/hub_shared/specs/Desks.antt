@@ -1,7 +1,8 @@
 -- What a session is answered, and what it leaves.
-use Rattle.std.specs.Prelude.{◌≡◌, ℕ, List, [], Some, ◌⊎◌}
+use Rattle.std.specs.Prelude.{◌≡◌, ℕ, List, [], Some, length, ◌⊎◌}
+use Rattle.hub_desk.specs.declared.reply.Refusal.TheVariants as no
 use Rattle.hub_desk.specs.declared.reply.Reply.{Reply}
-use Rattle.hub_desk.specs.declared.reply.Reply.TheVariants.{No}
+use Rattle.hub_desk.specs.declared.reply.Reply.TheVariants.{Done, No}
 use Rattle.hub_desk.specs.declared.request.Request.{Request}
 use Rattle.hub_desk.specs.declared.request.Request.TheVariants.{Dir, Svc, Sub, Pub, Take, Cancel, Close, Status, Listen, Poll, Wait}
 use Rattle.hub_shared.specs.declared.shared_desk.fifodirs.Fifodirs.{Fifodirs}
@@ -10,8 +11,9 @@ use Rattle.hub_shared.specs.declared.shared_desk.handles.Handles.{Handles}
 use Rattle.hub_shared.specs.declared.shared_desk.joined.Joined.{Joined}
 use Rattle.hub_shared.specs.declared.shared_desk.SharedDesk.{SharedDesk}
 use Rattle.hub_shared.specs.Speaking.{fifodir_of, says_published, says_closed, says_status}
-use Rattle.hub_shared.specs.Fifodirs.{kept, AsksByName, KeepsAll}
+use Rattle.hub_shared.specs.Fifodirs.{kept, AsksByName, IsMissing, KeepsAll}
 use Rattle.hub_shared.specs.Handles.{Subscribes, Listens, TakesAt, PollsAt, Cancels}
+use Rattle.hub_shared.specs.Waits.{WaitsFor}
 
 -- no fifodir was found and no handle given
 pub record IsNewDesk (fs : Fifodirs) (hs : Handles) : Type 0 where
@@ -20,22 +22,33 @@ pub record IsNewDesk (fs : Fifodirs) (hs : Handles) : Type 0 where
   pub listeners : hs.listeners.entries ≡ []
   pub given : hs.given ≡ 0
 
+-- a fifodir was made, or why not
+abbrev pub IsMadeReply : Reply → Type 0
+IsMadeReply Done = Unit {0}
+IsMadeReply (No refusal) = (refusal ≡ no.Exists) ⊎ (refusal ≡ no.Many) ⊎ (refusal ≡ no.Memory)
+IsMadeReply _ = ⊥
+
+-- no fifodir was found by the name
+abbrev pub IsUnfoundReply : Fifodirs → List ℕ → Reply → Type 0
+IsUnfoundReply fs name (No refusal) = IsMissing fs name refusal
+IsUnfoundReply fs name _ = ⊥
+
 abbrev pub IsRefused : Reply → Type 0
 IsRefused (No refusal) = Unit {0}
 IsRefused _ = ⊥
 
 -- a handle on the fifodir that is kept under the name; where it isn't found, or refuses, no handle is given
 abbrev pub SubscribesTo : Fifodirs → List ℕ → Handles → Reply → Handles → Type 0
-SubscribesTo fs name old reply new = ((j : Joined) × (kept fs name ≡ Some j) × Subscribes (fifodir_of j) old reply new) ⊎ (IsRefused reply × (new ≡ old))
+SubscribesTo fs name old reply new = ((j : Joined) × (kept fs name ≡ Some j) × Subscribes (fifodir_of j) old reply new) ⊎ (IsUnfoundReply fs name reply × (new ≡ old))
 
 abbrev pub ListensTo : Fifodirs → List ℕ → Mode → List ℕ → Handles → Reply → Handles → Type 0
-ListensTo fs name mode pattern old reply new = ((j : Joined) × (kept fs name ≡ Some j) × Listens (fifodir_of j) mode pattern old reply new) ⊎ (IsRefused reply × (new ≡ old))
+ListensTo fs name mode pattern old reply new = ((j : Joined) × (kept fs name ≡ Some j) × Listens (fifodir_of j) mode pattern old reply new) ⊎ (IsUnfoundReply fs name reply × (new ≡ old))
 
 -- What a request leads to. Of what the hub has, which other sessions change, nothing can be said but by what the
 -- session's own passes see.
 abbrev pub Answers : Fifodirs → Handles → Request → Reply → Fifodirs → Handles → Type 0
-Answers fs hs (Dir name waiting total) reply gs ks = (gs ≡ fs) × (ks ≡ hs)
-Answers fs hs (Svc name waiting total notifies) reply gs ks = (gs ≡ fs) × (ks ≡ hs)
+Answers fs hs (Dir name waiting total) reply gs ks = IsMadeReply reply × (gs ≡ fs) × (ks ≡ hs)
+Answers fs hs (Svc name waiting total notifies) reply gs ks = IsMadeReply reply × (gs ≡ fs) × (ks ≡ hs)
 Answers fs hs (Sub name) reply gs ks = KeepsAll fs gs × SubscribesTo gs name hs reply ks
 Answers fs hs (Pub name letters) reply gs ks = AsksByName (says_published letters) fs name reply gs × (ks ≡ hs)
 Answers fs hs (Take id max) reply gs ks = (gs ≡ fs) × TakesAt hs id max reply ks
@@ -44,7 +57,7 @@ Answers fs hs (Close name) reply gs ks = AsksByName says_closed fs name reply gs
 Answers fs hs (Status name) reply gs ks = AsksByName says_status fs name reply gs × (ks ≡ hs)
 Answers fs hs (Listen name mode pattern) reply gs ks = KeepsAll fs gs × ListensTo gs name mode pattern hs reply ks
 Answers fs hs (Poll id) reply gs ks = (gs ≡ fs) × PollsAt hs id reply ks
-Answers fs hs (Wait span want turns names) reply gs ks = KeepsAll fs gs × (ks ≡ hs)
+Answers fs hs (Wait span want turns names) reply gs ks = (WaitsFor span (length names) reply ⊎ IsRefused reply) × KeepsAll fs gs × (ks ≡ hs)
 
 -- all is given back: no handle and no publisher is kept, and no number is given again
 pub record Ends (old : Handles) (fs : Fifodirs) (hs : Handles) : Type 0 where

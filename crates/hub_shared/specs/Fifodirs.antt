@@ -48,6 +48,10 @@ pub record IsFinding (old : Fifodirs) (name : List ℕ) (new : Fifodirs) (refusa
   pub before : IsAsBefore old new
   pub refused : (refusal ≡ no.Name) ⊎ (refusal ≡ no.Memory)
 
+-- the name has no fifodir, or there is no memory to find it
+abbrev pub IsMissing : Fifodirs → List ℕ → Refusal → Type 0
+IsMissing fs name refusal = ((refusal ≡ no.Name) × (kept fs name ≡ None)) ⊎ (refusal ≡ no.Memory)
+
 -- asked of the publisher under the name
 pub record AsksKept (says : Publisher → Reply → Publisher → Type 0) (old : Fifodirs) (name : List ℕ) (reply : Reply) (new : Fifodirs) : Type 0 where
   pub before : Joined

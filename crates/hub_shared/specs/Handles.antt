@@ -1,6 +1,8 @@
 -- What a session holds, by handle.
-use Rattle.std.specs.Prelude.{◌≡◌, ◌+◌, ◌≤◌, ℕ, Option, None, Some, true, false, nat_eq, is_some, ◌⊎◌, List}
+use Rattle.std.specs.Prelude.{◌≡◌, ◌+◌, ◌≤◌, ◌<◌, ℕ, Option, None, Some, true, false, nat_eq, is_some, ◌⊎◌, List}
 use Rattle.std.specs.Map.{lookup}
+use Rattle.indexmap.specs.IndexMap.{index_map_len}
+use Rattle.hub_desk.specs.declared.reply.Refusal.{Refusal}
 use Rattle.hub_desk.specs.declared.reply.Refusal.TheVariants as no
 use Rattle.hub_desk.specs.declared.reply.Reply.{Reply}
 use Rattle.hub_desk.specs.declared.reply.Reply.TheVariants.{Done, Number, No}
@@ -20,6 +22,24 @@ subscription_of hs id = lookup (nat_eq id) hs.subscriptions.entries
 abbrev pub listener_of : Handles → ℕ → Option Hearing
 listener_of hs id = lookup (nat_eq id) hs.listeners.entries
 
+-- how many handles stand
+abbrev pub standing : Handles → ℕ
+standing hs = index_map_len hs.subscriptions + index_map_len hs.listeners
+
+-- one more handle may be given
+pub record HasRoom (hs : Handles) : Type 0 where
+  pub few : standing hs < 256
+  pub within : hs.given < 1000000
+
+-- why no further handle may be given
+abbrev pub IsFullAs : Handles → Refusal → Type 0
+IsFullAs hs refusal = ((refusal ≡ no.Many) × (256 ≤ standing hs)) ⊎ ((refusal ≡ no.Spent) × (standing hs < 256) × (1000000 ≤ hs.given))
+
+-- these refusals come first
+pub record IsInPlace (hs : Handles) (refusal : Refusal) : Type 0 where
+  pub many : 256 ≤ standing hs → refusal ≡ no.Many
+  pub spent : standing hs < 256 → 1000000 ≤ hs.given → refusal ≡ no.Spent
+
 -- the same handles stand, and as many were given
 pub record IsStill (old new : Handles) : Type 0 where
   pub given : new.given ≡ old.given
@@ -28,6 +48,7 @@ pub record IsStill (old new : Handles) : Type 0 where
 
 -- the number is the next one, which was never given
 pub record IsNext (old : Handles) (number : ℕ) (new : Handles) : Type 0 where
+  pub few : standing old < 256
   pub next : number ≡ old.given + 1
   pub within : number ≤ 1000000
   pub given : new.given ≡ number
@@ -57,12 +78,12 @@ pub record AddsListener (old : Handles) (fifodir : Fifodir) (mode : Mode) (patte
 -- a handle under the next number, or none
 abbrev pub Subscribes : Fifodir → Handles → Reply → Handles → Type 0
 Subscribes fifodir old (Number n) new = AddsSubscription old fifodir n new
-Subscribes fifodir old (No refusal) new = IsStill old new
+Subscribes fifodir old (No refusal) new = IsStill old new × IsInPlace old refusal
 Subscribes fifodir old _ new = ⊥
 
 abbrev pub Listens : Fifodir → Mode → List ℕ → Handles → Reply → Handles → Type 0
 Listens fifodir mode pattern old (Number n) new = AddsListener old fifodir mode pattern n new
-Listens fifodir mode pattern old (No refusal) new = IsStill old new
+Listens fifodir mode pattern old (No refusal) new = IsStill old new × IsInPlace old refusal
 Listens fifodir mode pattern old _ new = ⊥
 
 -- ---- take

@@ -1,4 +1,5 @@
 pub mod Refusals
+pub mod Hubs
 pub mod Speaking
 pub mod Fifodirs
 pub mod Taking

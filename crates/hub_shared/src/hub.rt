@@ -1,8 +1,8 @@
 //! The fifodirs that sessions share, by name.
-ghost use Rattle.std.specs.Prelude.{◌≡◌, ◌≤◌, ℕ, List, true, false, is_some, IfOk, OnOk, OnErr, Err};
-ghost use Rattle.std.specs.Arc.{arc_value};
+ghost use Rattle.std.specs.Prelude.{◌≡◌, ◌≤◌, ℕ, List, true, false, is_some, option_map, IfOk, OnOk, OnErr, Err};
 ghost use Rattle.std.specs.Str.{bytes_eq};
 ghost use Rattle.indexmap.specs.IndexMap.{get, index_map_len};
+ghost use Rattle.hub_shared.specs.Hubs.{HasMade, shown};
 
 use hub_desk::Name;
 use hub_fifodir::Fifodir;
@@ -50,7 +50,7 @@ pub struct Found {
 impl Found {
     /// The same fifodir, to be kept once more.
     pub(crate) fn copy(&self) -> Result<Found, AllocError>
-        ensures { IfOk result (λ f. (arc_value f.dir ≡ arc_value self.now.dir) × (f.notifies ≡ self.now.notifies)) }
+        ensures { IfOk result (λ found. shown found ≡ shown self.now) }
     {
         let dir = Arc::try_clone(&self.dir)?;
         Ok(Found {
@@ -80,7 +80,7 @@ impl Named {
         ensures many { is_some (get bytes_eq self.old.fifodirs name.now) ≡ false → 256 ≤ index_map_len self.old.fifodirs → result ≡ Err HubError.Many }
         ensures exists_only { result ≡ Err HubError.Exists → is_some (get bytes_eq self.old.fifodirs name.now) ≡ true }
         ensures many_only { result ≡ Err HubError.Many → 256 ≤ index_map_len self.old.fifodirs }
-        ensures ok { OnOk result (is_some (get bytes_eq self.new.fifodirs name.now) ≡ true) }
+        ensures ok { OnOk result (HasMade kind limits notifies (get bytes_eq self.new.fifodirs name.now)) }
         ensures others { OnOk result ((other : List ℕ) → bytes_eq name.now other ≡ false → get bytes_eq self.new.fifodirs other ≡ get bytes_eq self.old.fifodirs other) }
         ensures err { OnErr result (self.new.fifodirs.entries ≡ self.old.fifodirs.entries) }
     {
@@ -102,7 +102,7 @@ impl Named {
     }
 
     fn find(&self, name: &Name) -> Result<Option<Found>, AllocError>
-        ensures { IfOk result (λ found. is_some found ≡ is_some (get bytes_eq self.now.fifodirs name.now)) }
+        ensures { IfOk result (λ found. option_map shown found ≡ option_map shown (get bytes_eq self.now.fifodirs name.now)) }
     {
         match self.fifodirs.get(name) {
             Some(found) => Ok(Some(found.copy()?)),

@@ -2,7 +2,7 @@
 ghost use Rattle.std.specs.Prelude.{◌≡◌, ◌≤◌, length, IfOk};
 ghost use Rattle.hub_desk.specs.Ranges.{AreLimits};
 ghost use Rattle.hub_desk.specs.Texts.{text_of};
-ghost use Rattle.hub_shared.specs.Desks.{Asks, IsEnded, IsNewDesk};
+ghost use Rattle.hub_shared.specs.Desks.{Asks, IsEnded, IsMadeReply, IsNewDesk};
 
 use crate::hub::{Hub, HubError};
 use hub_desk::{Desk, Name, PatternText, Refusal, Reply, Request};
@@ -66,7 +66,8 @@ impl<P: Pause + Copy> SharedDesk<P> {
         notifies: bool,
         limits: Limits,
     ) -> Reply
-        ensures { length (text_of result) ≤ 4101 }
+        ensures made { IsMadeReply result }
+        ensures short { length (text_of result) ≤ 4101 }
     {
         match self.hub.make_named(rt, name, kind, limits, notifies) {
             Ok(()) => Reply::Done,

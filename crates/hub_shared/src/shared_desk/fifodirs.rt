@@ -20,7 +20,7 @@ pub struct Fifodirs {
 }
 
 impl Fifodirs {
-    ghost use Rattle.hub_shared.specs.Fifodirs.{AsksByName, IsKeptAs, KeepsAll, Joins, IsAsBefore, IsFinding, kept};
+    ghost use Rattle.hub_shared.specs.Fifodirs.{AsksByName, IsKeptAs, KeepsAll, Joins, IsAsBefore, IsFinding, IsMissing, kept};
     ghost use Rattle.hub_shared.specs.Speaking.{says_published, says_closed, says_status};
 
     pub fn new(alloc: Global) -> Fifodirs
@@ -59,6 +59,7 @@ impl Fifodirs {
     pub fn find<H: Wait>(&mut self, rt: &H, hub: &Hub, name: &Name) -> Result<Found, Refusal>
         ensures ok { IfOk result (λ found. IsKeptAs self.new name.now found) }
         ensures kept { KeepsAll self.old self.new }
+        ensures missing { IfErr result (IsMissing self.new name.now) }
         ensures brief { IfErr result IsBrief }
     {
         self.join(rt, hub, name)?;

@@ -1,5 +1,5 @@
 //! What a session holds, by handle.
-ghost use Rattle.std.specs.Prelude.{◌≡◌, ◌≤◌, ◌<◌, ℕ, None, [], length, nat_eq, IfOk, IfErr, OnErr};
+ghost use Rattle.std.specs.Prelude.{◌≡◌, ◌≤◌, ◌<◌, ℕ, None, [], length, nat_eq, IfOk, IfErr, OnOk, OnErr};
 ghost use Rattle.std.specs.Arc.{arc_value};
 ghost use Rattle.std.specs.Map.{lookup};
 ghost use Rattle.hub_desk.specs.Ranges.{IsTake};
@@ -38,7 +38,7 @@ pub struct Handles {
 }
 
 impl Handles {
-    ghost use Rattle.hub_shared.specs.Handles.{Subscribes, Listens, TakesAt, PollsAt, Cancels, IsStill, AddsSubscription, AddsListener};
+    ghost use Rattle.hub_shared.specs.Handles.{Subscribes, Listens, TakesAt, PollsAt, Cancels, IsStill, HasRoom, IsFullAs, IsInPlace, AddsSubscription, AddsListener};
 
     pub fn new(alloc: Global) -> Result<Handles, AllocError>
         ensures given { IfOk result (λ handles. handles.given ≡ 0) }
@@ -57,7 +57,8 @@ impl Handles {
 
     /// Whether one more handle may be given.
     fn has_room(&self) -> Result<(), Refusal>
-        ensures ok { IfOk result (λ _. self.now.given < 1000000) }
+        ensures ok { OnOk result (HasRoom self.now) }
+        ensures err { IfErr result (IsFullAs self.now) }
         ensures brief { IfErr result IsBrief }
     {
         if self.subscriptions.len() + self.listeners.len() >= HANDLES {
@@ -83,6 +84,7 @@ impl Handles {
     fn add_subscription<H: Wait>(&mut self, rt: &H, found: Found) -> Result<u64, Refusal>
         ensures ok { IfOk result (λ number. AddsSubscription self.old (arc_value found.dir) number self.new) }
         ensures err { OnErr result (IsStill self.old self.new) }
+        ensures in_place { IfErr result (IsInPlace self.old) }
         ensures brief { IfErr result IsBrief }
     {
         self.has_room()?;
@@ -122,6 +124,7 @@ impl Handles {
     ) -> Result<u64, Refusal>
         ensures ok { IfOk result (λ number. AddsListener self.old (arc_value found.dir) mode pattern.now number self.new) }
         ensures err { OnErr result (IsStill self.old self.new) }
+        ensures in_place { IfErr result (IsInPlace self.old) }
         ensures brief { IfErr result IsBrief }
     {
         self.has_room()?;

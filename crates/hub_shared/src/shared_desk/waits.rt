@@ -1,9 +1,9 @@
 //! A session's waits: the posts of one, and what it is answered.
-ghost use Rattle.std.specs.Prelude.{◌≡◌, ◌≤◌, ◌+◌, length, map, vec_len, vec_capacity, IfErr};
+ghost use Rattle.std.specs.Prelude.{◌≡◌, ◌≤◌, ◌+◌, length, map, vec_len, vec_capacity, IfOk, IfErr, OnOk};
 ghost use Rattle.hub_desk.specs.Texts.{number_or_dash, text_of};
 ghost use Rattle.hub_desk.specs.declared.reply.Reply.TheVariants.{Yes};
 ghost use Rattle.hub_shared.specs.Refusals.{IsBrief};
-ghost use Rattle.hub_shared.specs.Waits.{number_met};
+ghost use Rattle.hub_shared.specs.Waits.{Settles, number_met};
 
 use crate::Hub;
 use crate::shared_desk::fifodirs::Fifodirs;
@@ -35,6 +35,7 @@ impl Fifodirs {
         names: &[Name],
     ) -> Result<Posts, Refusal>
         requires { length names.now ≤ 32 }
+        ensures opened { IfOk result (λ opened. vec_len opened.posts ≡ length names.now) }
         ensures kept { KeepsAll self.old self.new }
         ensures brief { IfErr result IsBrief }
     {
@@ -82,6 +83,7 @@ impl Fifodirs {
         requires fits { length names.now ≤ vec_capacity posts.old }
         ensures kept { KeepsAll self.old self.new }
         ensures brief { IfErr result IsBrief }
+        ensures opened { OnOk result (vec_len posts.new ≡ length names.now) }
         ensures few { vec_len posts.new ≤ length names.now }
     {
         for name in names {
@@ -101,7 +103,8 @@ impl Posts {
         turns: u64,
         mut pause: P,
     ) -> Reply
-        ensures { length (text_of result) ≤ 4101 }
+        ensures settled { Settles span self.posts.items result }
+        ensures short { length (text_of result) ≤ 4101 }
     {
         let Posts { mut posts, numbers } = self;
         let reply = match svwait(rt, &mut posts, span, turns, &mut pause) {
