@@ -3,3 +3,4 @@ pub mod Speakers
 pub mod KeptFifodirs
 pub mod Numbering
 pub mod Handling
+pub mod Hearings

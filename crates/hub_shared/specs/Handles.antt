@@ -1,5 +1,5 @@
 -- What a session holds, by handle.
-use Rattle.std.specs.Prelude.{◌≡◌, ◌+◌, ◌≤◌, ◌<◌, ℕ, Option, None, Some, true, false, nat_eq, is_some, ◌⊎◌, List}
+use Rattle.std.specs.Prelude.{◌≡◌, ◌+◌, ◌≤◌, ◌<◌, ℕ, Option, None, Some, true, false, nat_eq, is_some, if◌then◌else◌, ◌⊎◌, List}
 use Rattle.std.specs.Map.{lookup}
 use Rattle.indexmap.specs.IndexMap.{index_map_len}
 use Rattle.hub_desk.specs.declared.reply.Refusal.{Refusal}
@@ -14,6 +14,7 @@ use Rattle.hub_shared.specs.declared.shared_desk.handles.Handles.{Handles}
 use Rattle.hub_shared.specs.declared.shared_desk.hearing.Hearing.{Hearing}
 use Rattle.hub_shared.specs.declared.shared_desk.subscription.Subscription.{Subscription}
 use Rattle.hub_shared.specs.Taking.{Begins, TakesFrom}
+use Rattle.hub_shared.specs.Hearings.{Polls, ends_by}
 
 -- what stands under the number
 abbrev pub subscription_of : Handles → ℕ → Option Subscription
@@ -109,12 +110,25 @@ TakesAt old id max reply new = TakesHere old id max reply new ⊎ TakesNone old 
 
 -- ---- poll and cancel
 
--- only the listener under the number may have changed
-pub record PollsAt (old : Handles) (id : ℕ) (reply : Reply) (new : Handles) : Type 0 where
-  pub unknown : listener_of old id ≡ None → reply ≡ No no.Id
+-- the listener under the number is polled, and is gone where that was its one hit; nothing else has changed
+pub record PollsHere (old : Handles) (id : ℕ) (reply : Reply) (new : Handles) : Type 0 where
+  pub before : Hearing
+  pub after : Hearing
+  pub held : listener_of old id ≡ Some before
+  pub polls : Polls before reply after
+  pub kept : listener_of new id ≡ (if ends_by after.mode reply then None else Some after)
   pub others : (other : ℕ) → nat_eq id other ≡ false → listener_of new other ≡ listener_of old other
   pub subscriptions : new.subscriptions.entries ≡ old.subscriptions.entries
   pub given : new.given ≡ old.given
+
+-- no listener has the number
+pub record PollsNone (old : Handles) (id : ℕ) (reply : Reply) (new : Handles) : Type 0 where
+  pub still : IsStill old new
+  pub unknown : listener_of old id ≡ None
+  pub refused : reply ≡ No no.Id
+
+abbrev pub PollsAt : Handles → ℕ → Reply → Handles → Type 0
+PollsAt old id reply new = PollsHere old id reply new ⊎ PollsNone old id reply new
 
 pub record Cancels (old : Handles) (id : ℕ) (reply : Reply) (new : Handles) : Type 0 where
   pub unknown : subscription_of old id ≡ None → listener_of old id ≡ None → (reply ≡ No no.Id) × IsStill old new

@@ -3,6 +3,7 @@ pub mod Hubs
 pub mod Speaking
 pub mod Fifodirs
 pub mod Taking
+pub mod Hearings
 pub mod Handles
 pub mod Waits
 pub mod Desks

@@ -29,12 +29,11 @@ pub record TakesFrom (max : ℕ) (old : Subscription) (reply : Reply) (new : Sub
   pub shows : Shows max old.ticket reply new.ticket
 
 -- a letter, or the answer where there is none
-abbrev pub shown : Result ℕ Reply → Reply
-shown (Ok letter) = answer.Got (letter ∷ [])
-shown (Err reply) = reply
-
 abbrev pub TakesOne : Subscription → Result ℕ Reply → Subscription → Type 0
-TakesOne old result new = TakesFrom 1 old (shown result) new
+TakesOne old (Ok letter) new = TakesFrom 1 old (answer.Got (letter ∷ [])) new
+TakesOne old (Err answer.Nothing) new = TakesFrom 1 old answer.Nothing new
+TakesOne old (Err answer.End) new = TakesFrom 1 old answer.End new
+TakesOne old (Err _) new = ⊥
 
 -- a subscription that begins now, at the end of what its ticket has seen
 pub record Begins (fifodir : Fifodir) (s : Subscription) : Type 0 where

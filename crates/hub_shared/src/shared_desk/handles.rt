@@ -1,5 +1,5 @@
 //! What a session holds, by handle.
-ghost use Rattle.std.specs.Prelude.{◌≡◌, ◌≤◌, ◌<◌, ℕ, None, [], length, nat_eq, IfOk, IfErr, OnOk, OnErr};
+ghost use Rattle.std.specs.Prelude.{◌≡◌, ◌≤◌, ◌<◌, ℕ, None, false, [], length, nat_eq, IfOk, IfErr, OnOk, OnErr};
 ghost use Rattle.std.specs.Arc.{arc_value};
 ghost use Rattle.std.specs.Map.{lookup};
 ghost use Rattle.hub_desk.specs.Ranges.{IsTake};
@@ -38,7 +38,7 @@ pub struct Handles {
 }
 
 impl Handles {
-    ghost use Rattle.hub_shared.specs.Handles.{Subscribes, Listens, TakesAt, PollsAt, Cancels, IsStill, HasRoom, IsFullAs, IsInPlace, AddsSubscription, AddsListener};
+    ghost use Rattle.hub_shared.specs.Handles.{Subscribes, Listens, TakesAt, PollsAt, Cancels, IsStill, HasRoom, IsFullAs, IsInPlace, AddsSubscription, AddsListener, listener_of};
 
     pub fn new(alloc: Global) -> Result<Handles, AllocError>
         ensures given { IfOk result (λ handles. handles.given ≡ 0) }
@@ -168,12 +168,22 @@ impl Handles {
             return Reply::No(Refusal::Id);
         };
         let reply = hearing.poll(rt, self.alloc);
-        if hearing.ends_with(&reply)
-            && let Some(hearing) = self.listeners.swap_remove(&id)
-        {
-            hearing.cancel(rt);
+        if hearing.ends_with(&reply) {
+            self.end_listener(rt, id);
         }
         reply
+    }
+
+    /// Ends a listener that stands.
+    fn end_listener<H: Wait>(&mut self, rt: &H, id: u64)
+        ensures gone { listener_of self.new id ≡ None }
+        ensures others { (other : ℕ) → nat_eq id other ≡ false → listener_of self.new other ≡ listener_of self.old other }
+        ensures subscriptions { self.new.subscriptions.entries ≡ self.old.subscriptions.entries }
+        ensures given { self.new.given ≡ self.old.given }
+    {
+        if let Some(hearing) = self.listeners.swap_remove(&id) {
+            hearing.cancel(rt);
+        }
     }
 
     /// Ends a subscription or a listener.

@@ -360,6 +360,24 @@ fn want_of_memory_changes_nothing(rt: HostRuntime) {
     let _ = run_alone(&rt, alloc, &WAITS);
 }
 
+/// A wait whose post finds no memory ends those that it opened: one that was left would leave no room for three letters.
+const WAITS_AGAIN: [Row; 8] = [
+    (Ask::Svc("a", 2), "ok"),
+    (Ask::Svc("b", 2), "ok"),
+    (Ask::Pub("a", "su"), "ok 0"),
+    (Ask::Pub("b", "su"), "ok 0"),
+    (Ask::Wait(Span::Any, 0, "a", "b"), "yes [Some(2), Some(2)]"),
+    (Ask::Pub("a", "dDu"), "ok 2"),
+    (Ask::Pub("b", "dDu"), "ok 2"),
+    (Ask::Wait(Span::Any, 0, "a", "b"), "yes [Some(5), Some(5)]"),
+];
+
+#[test]
+fn a_wait_that_finds_no_memory_leaves_no_post(rt: HostRuntime) {
+    let alloc: Global = rt.alloc();
+    let _ = run_alone(&rt, alloc, &WAITS_AGAIN);
+}
+
 /// The number that the next publisher under the name gets.
 fn next_number<H: Abort + Wait>(rt: &H, alloc: Global, hub: &Hub) -> Result<u64, Fail> {
     let web = named(rt, alloc, "web")?;
