@@ -157,8 +157,8 @@ hit_polls a b c fed hit p q same =
 
 pub stop_polls : (a b c : Hearing) (reply : Reply) (fed : List ℕ) → Hears a fed (Ok Quiet) b → Hears b [] (Ok Quiet) c → Stops reply c
     → length a.listener.gathered < 4096 → Polls a reply c
-stop_polls a b c answer.Nothing fed p q stops few = (fed ++ [], hears_on a b c fed [] Quiet p q, inl stops)
-stop_polls a b c answer.End fed p q stops few = (fed ++ [], hears_on a b c fed [] Quiet p q, stops)
+stop_polls a b c answer.Nothing fed p q stops few = (few, (fed ++ [], hears_on a b c fed [] Quiet p q), inl stops)
+stop_polls a b c answer.End fed p q stops few = (few, (fed ++ [], hears_on a b c fed [] Quiet p q), stops)
 stop_polls a b c (answer.No refusal) fed p q stops few = inr (stops, few, (fed ++ [], hears_on a b c fed [] Quiet p q))
 stop_polls a b c answer.Done fed p q stops few = absurd stops
 stop_polls a b c (answer.Number n) fed p q stops few = absurd stops

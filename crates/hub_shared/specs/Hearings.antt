@@ -60,8 +60,8 @@ HearsOne old false new = (letter : ℕ) × Hears old (letter ∷ []) (Ok Quiet) 
 -- gathered as may be.
 abbrev pub Polls : Hearing → Reply → Hearing → Type 0
 Polls old (answer.Hit hit) new = (fed : List ℕ) × Hears old fed (Ok (Hit (length fed))) new × (hit ≡ new.listener.hit) × (new.held ≡ None)
-Polls old answer.Nothing new = (fed : List ℕ) × Hears old fed (Ok Quiet) new × (Stops answer.Nothing new ⊎ (4096 ≤ length new.listener.gathered))
-Polls old answer.End new = (fed : List ℕ) × Hears old fed (Ok Quiet) new × Stops answer.End new
+Polls old answer.Nothing new = (length old.listener.gathered < 4096) × ((fed : List ℕ) × Hears old fed (Ok Quiet) new) × (Stops answer.Nothing new ⊎ (4096 ≤ length new.listener.gathered))
+Polls old answer.End new = (length old.listener.gathered < 4096) × ((fed : List ℕ) × Hears old fed (Ok Quiet) new) × Stops answer.End new
 Polls old (answer.No refusal) new =
     ((refusal ≡ no.Overlong) × (4096 ≤ length old.listener.gathered) × (new ≡ old))
     ⊎ ((refusal ≡ no.Memory) × (length old.listener.gathered < 4096) × ((fed : List ℕ) × Hears old fed (Ok Quiet) new))
