@@ -1,5 +1,5 @@
 //! What requests are answered, line by line of a session, and the limits of one. Where a growth is refused, what wanted
-//! it is tried again, so that each test passes also with any one growth refused.
+//! it is tried again, so that each test passes also with any one growth refused, whichever of those that it makes.
 ghost use Rattle.std.specs.Prelude.{IfOk};
 ghost use Rattle.hub_desk.specs.Ranges.{IsInRange};
 
@@ -277,6 +277,7 @@ static FREES: [Row; 6] = [
     (Ask::Pub("web", "cd"), "ok 2"),
 ];
 
+/// Its growths are 120.
 #[test]
 fn plain_fifodirs_are_served(rt: HostRuntime) {
     run_anew(&rt, rt.alloc(), &PLAIN);
@@ -303,6 +304,7 @@ static AFTER_THE_END: [Row; 5] = [
     (Ask::Status("web"), "ok 8 6 open"),
 ];
 
+/// Its growths are 46.
 #[test]
 fn a_desk_serves_on_after_the_end(rt: HostRuntime) {
     let mut desk = new_desk(&rt, rt.alloc());
@@ -347,6 +349,7 @@ static ALL_THERE: [Row; 3] = [
     (Ask::Dir("n7", 1, 1), "no Exists"),
 ];
 
+/// Its growths are 1,311.
 #[test]
 fn names_are_limited(rt: HostRuntime) {
     let mut desk = new_desk(&rt, rt.alloc());
@@ -385,6 +388,7 @@ static ALL_STAND: [Row; 4] = [
     (Ask::Sub("web"), "ok 257"),
 ];
 
+/// Its growths are 321.
 #[test]
 fn standing_handles_are_limited(rt: HostRuntime) {
     let mut desk = new_desk(&rt, rt.alloc());
@@ -413,6 +417,7 @@ static ALL_SPENT: [Row; 3] = [
     (Ask::Cancel(1_000_000), "no Id"),
 ];
 
+/// Its growths are 1,000,019, of which the first 25 were refused in turn and then every 24,989th.
 #[test]
 fn handles_are_spent(rt: HostRuntime) {
     let mut desk = new_desk(&rt, rt.alloc());

@@ -46,6 +46,7 @@ static ONCE_AND_AGAIN: [Row; 16] = [
     (Ask::Poll(2), "no Id"),
 ];
 
+/// Its growths are 515.
 #[test]
 fn hits_are_found(rt: HostRuntime) {
     run_anew(&rt, rt.alloc(), &AGAIN);
@@ -73,6 +74,7 @@ static HELD_AT_THE_END: [Row; 8] = [
     (Ask::Poll(1), "end"),
 ];
 
+/// Its growths are 367.
 #[test]
 fn no_letter_is_lost(rt: HostRuntime) {
     run_anew(&rt, rt.alloc(), &HELD);
@@ -106,6 +108,7 @@ static HIT_HOLDS: [Row; 9] = [
     (Ask::Poll(1), "no Id"),
 ];
 
+/// Its growths are 220.
 #[test]
 fn a_hit_frees_what_was_heard(rt: HostRuntime) {
     run_anew(&rt, rt.alloc(), &ONCE_FREES);
@@ -132,6 +135,7 @@ static AFTER_THE_END: [Row; 3] = [
     (Ask::Listen("web", Mode::Once, "b"), "ok 3"),
 ];
 
+/// Its growths are 133.
 #[test]
 fn the_end_cancels_listeners(rt: HostRuntime) {
     let mut desk = new_desk(&rt, rt.alloc());
@@ -154,6 +158,7 @@ static ALL_STAND: [Row; 6] = [
     (Ask::Listen("web", Mode::Once, "a"), "ok 257"),
 ];
 
+/// Its growths are 5,496.
 #[test]
 fn standing_handles_are_limited(rt: HostRuntime) {
     let mut desk = new_desk(&rt, rt.alloc());
@@ -199,6 +204,7 @@ static OVERLONG: [Row; 7] = [
     (Ask::Poll(1), "no Id"),
 ];
 
+/// Its growths are 36,940, of which the first 300 were refused in turn and then every 37th.
 #[test]
 fn a_listener_gathers_so_many_letters(rt: HostRuntime) {
     let mut desk = new_desk(&rt, rt.alloc());
@@ -214,6 +220,7 @@ static LESS: [Row; 3] = [
     (Ask::Poll(1), "end"),
 ];
 
+/// Its growths are 36,924, of which the first 300 were refused in turn and then every 37th.
 #[test]
 fn one_letter_less_is_not_overlong(rt: HostRuntime) {
     let mut desk = new_desk(&rt, rt.alloc());

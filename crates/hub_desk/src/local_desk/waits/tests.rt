@@ -46,6 +46,7 @@ static READINESS: [Row; 9] = [
     ),
 ];
 
+/// Its growths are 125.
 #[test]
 fn waits_are_answered(rt: HostRuntime) {
     run_anew(&rt, rt.alloc(), &ZERO_TURNS);
@@ -86,6 +87,7 @@ static MET_BESIDE_FAILED: [Row; 6] = [
     (Ask::Wait(Span::All, Want::Up, 0, "a", Some("b")), "never"),
 ];
 
+/// Its growths are 124.
 #[test]
 fn verdicts_are_given_in_time(rt: HostRuntime) {
     run_anew(&rt, rt.alloc(), &VERDICTS);
@@ -128,6 +130,7 @@ static REFUSALS: [Row; 14] = [
     (Ask::Wait(Span::All, Want::Up, 1, "web", None), "no Kind"),
 ];
 
+/// Its growths are 58.
 #[test]
 fn refusals_have_their_order(rt: HostRuntime) {
     run_anew(&rt, rt.alloc(), &REFUSALS);
@@ -164,6 +167,7 @@ static OTHERS_STAND: [Row; 7] = [
     (Ask::Pub("web", "U"), "ok 2"),
 ];
 
+/// Its growths are 108.
 #[test]
 fn a_wait_leaves_nothing_behind(rt: HostRuntime) {
     run_anew(&rt, rt.alloc(), &GIVEN_BACK);
@@ -183,6 +187,7 @@ static ALL_STAND: [Row; 4] = [
     (Ask::Sub("web"), "no Many"),
 ];
 
+/// Its growths are 329.
 #[test]
 fn a_wait_works_beside_all_handles(rt: HostRuntime) {
     let mut desk = new_desk(&rt, rt.alloc());
