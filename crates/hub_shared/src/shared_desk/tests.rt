@@ -216,7 +216,7 @@ fn run<H: Abort + Wait>(
 }
 
 /// A session whose subscription holds every letter of a full fifodir.
-const FILLS: [Row; 4] = [
+static FILLS: [Row; 4] = [
     (Ask::Dir("web", 2), "ok"),
     (Ask::Sub("web"), "ok 1"),
     (Ask::Pub("web", "ab"), "ok 0"),
@@ -224,13 +224,13 @@ const FILLS: [Row; 4] = [
 ];
 
 /// Another session finds room after that one has ended.
-const FINDS_ROOM: [Row; 2] = [
+static FINDS_ROOM: [Row; 2] = [
     (Ask::Pub("web", "c"), "ok 2"),
     (Ask::Status("web"), "ok 3 0 open"),
 ];
 
 /// The one that has ended serves on.
-const SERVES_ON: [Row; 3] = [
+static SERVES_ON: [Row; 3] = [
     (Ask::Take(1, 5), "no Id"),
     (Ask::Sub("web"), "ok 2"),
     (Ask::Status("web"), "ok 3 0 open"),
@@ -250,7 +250,7 @@ fn a_session_that_ends_holds_no_one_up(rt: HostRuntime) -> Result<(), Fail> {
 }
 
 /// Handles are of two sorts, and a request that is refused uses no number.
-const HANDLES: [Row; 13] = [
+static HANDLES: [Row; 13] = [
     (Ask::Sub("web"), "no Name"),
     (Ask::Dir("web", 64), "ok"),
     (Ask::Dir("web", 4), "no Exists"),
@@ -267,7 +267,7 @@ const HANDLES: [Row; 13] = [
 ];
 
 /// What is asked of that fifodir while it is closed, where one letter waits.
-const CLOSES: [Row; 11] = [
+static CLOSES: [Row; 11] = [
     (Ask::Take(1, 3), "got b"),
     (Ask::Take(1, 3), "none"),
     (Ask::Close("web"), "ok"),
@@ -282,7 +282,7 @@ const CLOSES: [Row; 11] = [
 ];
 
 /// Hits of a listener; the letter that it couldn't hear for want of memory is heard first.
-const HEARS: [Row; 10] = [
+static HEARS: [Row; 10] = [
     (Ask::Dir("web", 64), "ok"),
     (Ask::Listen("web", Mode::Repeat, "u.*U"), "ok 1"),
     (Ask::Pub("web", "suUu"), "ok 0"),
@@ -296,7 +296,7 @@ const HEARS: [Row; 10] = [
 ];
 
 /// What a subscription holds is free once it is cancelled, by its handle or by its listener's one hit.
-const FREES: [Row; 11] = [
+static FREES: [Row; 11] = [
     (Ask::Dir("web", 2), "ok"),
     (Ask::Sub("web"), "ok 1"),
     (Ask::Pub("web", "ab"), "ok 0"),
@@ -311,7 +311,7 @@ const FREES: [Row; 11] = [
 ];
 
 /// Waits for two services. A post that was left behind would leave no room for three letters.
-const WAITS: [Row; 16] = [
+static WAITS: [Row; 16] = [
     (Ask::Wait(Span::Any, 0, "a", "b"), "no Name"),
     (Ask::Svc("a", 2), "ok"),
     (Ask::Svc("b", 2), "ok"),
@@ -361,7 +361,7 @@ fn want_of_memory_changes_nothing(rt: HostRuntime) {
 }
 
 /// A wait whose post finds no memory ends those that it opened: one that was left would leave no room for three letters.
-const WAITS_AGAIN: [Row; 8] = [
+static WAITS_AGAIN: [Row; 8] = [
     (Ask::Svc("a", 2), "ok"),
     (Ask::Svc("b", 2), "ok"),
     (Ask::Pub("a", "su"), "ok 0"),
@@ -389,7 +389,7 @@ fn next_number<H: Abort + Wait>(rt: &H, alloc: Global, hub: &Hub) -> Result<u64,
 }
 
 /// A session makes one publisher under a name, whatever it asks of it.
-const SPEAKS: [Row; 5] = [
+static SPEAKS: [Row; 5] = [
     (Ask::Dir("web", 64), "ok"),
     (Ask::Status("web"), "ok 0 0 open"),
     (Ask::Pub("web", "a"), "ok 0"),
@@ -409,14 +409,14 @@ fn a_session_keeps_its_publisher(rt: HostRuntime) -> Result<(), Fail> {
 }
 
 /// A listener stands.
-const ONE_STANDS: [Row; 3] = [
+static ONE_STANDS: [Row; 3] = [
     (Ask::Svc("web", 64), "ok"),
     (Ask::Pub("web", "su"), "ok 0"),
     (Ask::Listen("web", Mode::Repeat, "D"), "ok 1"),
 ];
 
 /// 256 handles stand, of both sorts; a wait needs none.
-const ALL_STAND: [Row; 5] = [
+static ALL_STAND: [Row; 5] = [
     (Ask::Sub("web"), "no Many"),
     (Ask::Listen("web", Mode::Once, "("), "no Many"),
     (
