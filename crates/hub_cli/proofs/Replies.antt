@@ -12,12 +12,12 @@ use Rattle.hub_desk.specs.declared.request.Request.{Request}
 use Rattle.hub_front.specs.Lines.{lines_of}
 use Rattle.hub_front.specs.Places.{AreInPlace, NoneIsMemory, in_place, requests_of}
 use Rattle.hub_front.specs.Places as places
-use Rattle.hub_front.specs.Reading.{IsReading}
+use Rattle.hub_lines.specs.Reading.{IsReading}
 use Rattle.hub_front.specs.Serving.{Finished, Run}
-use Rattle.hub_front.specs.declared.parsing.Bad.{Bad}
-use Rattle.hub_front.specs.declared.parsing.Bad.TheVariants.{Memory}
+use Rattle.hub_lines.specs.declared.parsing.Bad.{Bad}
+use Rattle.hub_lines.specs.declared.parsing.Bad.TheVariants.{Memory}
 use Rattle.hub_desk.proofs.Running.{runs_answer}
-use Rattle.hub_front.proofs.OneReading.{one_reading}
+use Rattle.hub_lines.proofs.OneReading.{one_reading}
 use Rattle.hub_front.proofs.Placed.{run_in_place}
 use Rattle.hub_cli.specs.Output.{AreReplies, IsOutput, Serves}
 

@@ -10,9 +10,9 @@ use Rattle.hub_desk.specs.declared.reply.Reply.{Reply}
 use Rattle.hub_desk.specs.declared.request.Request.{Request}
 use Rattle.hub_front.specs.Lines.{lines_of}
 use Rattle.hub_front.specs.Places.{NoneIsMemory, in_place, requests_of}
-use Rattle.hub_front.specs.Reading.{IsReading}
-use Rattle.hub_front.specs.declared.parsing.Bad.{Bad}
-use Rattle.hub_front.specs.declared.parsing.Bad.TheVariants.{Memory}
+use Rattle.hub_lines.specs.Reading.{IsReading}
+use Rattle.hub_lines.specs.declared.parsing.Bad.{Bad}
+use Rattle.hub_lines.specs.declared.parsing.Bad.TheVariants.{Memory}
 
 -- the replies to these lines, with memory enough, where `patterns` says of each pattern in them whether it is read
 pub record AreReplies (patterns : List Bool) (lines : List (List ℕ)) (replies : List Reply) : Type 0 where

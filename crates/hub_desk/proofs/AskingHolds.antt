@@ -21,7 +21,6 @@ use Rattle.hub_desk.specs.declared.local_desk.LocalFifodir.{LocalFifodir}
 use Rattle.hub_desk.specs.declared.request.Request.TheVariants.{Listen}
 use Rattle.hub_desk.specs.declared.reply.Reply.{Reply}
 use Rattle.hub_desk.specs.declared.reply.Reply.TheVariants.{Number, No}
-use Rattle.hub_desk.specs.declared.reply.Refusal.{Refusal}
 use Rattle.hub_desk.specs.declared.reply.Refusal.TheVariants as no
 use Rattle.hub_desk.proofs.Asking.{answers_like, by_carrying, by_lacking, still_lacking, stands_same, Replaces, world_there, stands_replaced, stands_still}
 use Rattle.hub_desk.proofs.Holdings.{none_above, standing-push, held_push, apart_push, go_on_push, unheld_id}

@@ -1,11 +1,10 @@
 -- What is asked of a listener that stands.
-use Rattle.std.proofs.Common.{◌≡◌, ◌≢◌, ◌⊎◌, ℕ, ◌+◌, ◌-◌, ◌<◌, ◌≤◌, Bool, true, false, ◌&&◌, if◌then◌else◌, List, [], ◌∷◌, ◌++◌, length, take, nat_eq, nat_lt, slice_get, Option, Some, None, is_some, option_to_list, refl, sym, ap, subst, ◌∙◌, inl, inr, true≢false, ⊎_elim, arith}
+use Rattle.std.proofs.Common.{◌≡◌, ◌⊎◌, ℕ, ◌+◌, ◌-◌, ◌<◌, ◌≤◌, Bool, true, false, ◌&&◌, if◌then◌else◌, List, ◌++◌, length, take, nat_eq, nat_lt, slice_get, Option, Some, None, option_to_list, refl, sym, ap, subst, ◌∙◌, inl, inr, true≢false}
 use Rattle.std.proofs.lemmas.Bool.{cases_Bool, le-leb, lt-leb, le-ltb, lt-ltb}
 use Rattle.std.proofs.lemmas.Map.Steps.{set_value_same}
 use Rattle.std.specs.Map.{lookup, set_value}
 use Rattle.std.specs.Str.{bytes_eq}
 use Rattle.hub_listen.specs.Each.{fitting}
-use Rattle.hub_listen.specs.Hit.{IsHit, HasNoHit, hit_length}
 use Rattle.hub_listen.specs.Listening.{Listening, is_spent, spent_by, after_hit, after_quiet}
 use Rattle.hub_listen.specs.declared.listener.Mode.{Mode}
 use Rattle.hub_listen.specs.declared.listener.Mode.TheVariants.{Once, Repeat}
@@ -13,9 +12,9 @@ use Rattle.hub_listen.proofs.Lengths.{length_is_hit, no_length_is_no_hit}
 use Rattle.hub_record.specs.Kept.{Kept, StandsFor}
 use Rattle.hub_record.specs.World.{World, Subscription, found, after_take}
 use Rattle.hub_desk.specs.Answers.{in_world, for_holding, for_hearing, refusal_to_poll, cancelled, carried_out, answer_by, refusal_to_cancel}
-use Rattle.hub_desk.specs.Desks.{Desk, Answer, standing, held, world_of, with_world, subscription_of, with_holding_from, without_handle, AreHeld, AreApart, GoesOn, AllGoOn}
+use Rattle.hub_desk.specs.Desks.{Desk, standing, held, world_of, with_world, without_handle, AreHeld, AreApart, GoesOn, AllGoOn}
 use Rattle.hub_desk.specs.Hearings.{IsAt, Hears}
-use Rattle.hub_desk.specs.Polls.{to_hear, taken_from, heard_to_hit, heard_quietly, heard_on, ended_by, heard, polled, LeftByPoll}
+use Rattle.hub_desk.specs.Polls.{to_hear, taken_from, heard_to_hit, heard_quietly, heard_on, ended_by, heard, polled}
 use Rattle.hub_desk.specs.Standing.{Local, Stands, StandsForSome, AskedWith}
 use Rattle.hub_desk.specs.declared.local_desk.Hearing.{Hearing}
 use Rattle.hub_desk.specs.declared.local_desk.Holding.{Holding}
@@ -25,7 +24,7 @@ use Rattle.hub_desk.specs.declared.request.Request.TheVariants.{Cancel, Poll}
 use Rattle.hub_desk.specs.declared.reply.Reply.{Reply}
 use Rattle.hub_desk.specs.declared.reply.Reply.TheVariants.{Hit, Nothing, End, No}
 use Rattle.hub_desk.specs.declared.reply.Refusal.TheVariants as no
-use Rattle.hub_desk.proofs.Asking.{IsCarried, by_carrying, by_refusing, by_lacking, stands_same, Replaces, stands_replaced, world_there}
+use Rattle.hub_desk.proofs.Asking.{by_carrying, by_refusing, by_lacking, stands_same, Replaces, stands_replaced, world_there}
 use Rattle.hub_desk.proofs.AskingSubscriptions.{taken_still}
 use Rattle.hub_desk.proofs.HearingFronts.{has_found}
 use Rattle.hub_desk.proofs.Holdings.{held_at}

@@ -1,21 +1,19 @@
 -- What is asked of several services at once.
-use Rattle.std.proofs.Common.{◌≡◌, ◌≢◌, ℕ, ◌+◌, ◌≤◌, Bool, true, false, List, [], ◌∷◌, ◌++◌, length, drop, map, take, Option, Some, None, is_some, Result, Ok, Err, refl, sym, ap, subst, ◌∙◌, inl, inr, true≢false, append_assoc, append-nil, arith}
+use Rattle.std.proofs.Common.{◌≡◌, ◌≢◌, ℕ, ◌+◌, ◌≤◌, Bool, true, List, [], ◌∷◌, ◌++◌, length, drop, map, take, Option, Some, None, is_some, Result, Ok, Err, refl, sym, ap, subst, ◌∙◌, inl, inr, append_assoc, append-nil, arith}
 use Rattle.std.proofs.lemmas.Bool.{cases_Bool}
 use Rattle.std.proofs.lemmas.List.{take_all, take-append-drop}
 use Rattle.std.specs.List.{list_all}
-use Rattle.std.specs.Map.{lookup}
-use Rattle.std.specs.Option.{option_and_then}
 use Rattle.std.specs.Prelude.{fold, ◌&&◌}
 use Rattle.std.specs.Str.{bytes_eq}
 use Rattle.hub_letters.specs.declared.want.Want.{Want}
 use Rattle.hub_record.specs.declared.SubError.{SubError}
-use Rattle.hub_record.specs.World.{World, found, SubscribeReply, new_subscription, after_subscribe}
+use Rattle.hub_record.specs.World.{World, SubscribeReply, new_subscription, after_subscribe}
 use Rattle.hub_wait.specs.declared.tally.Span.{Span}
 use Rattle.hub_wait.specs.declared.tally.Verdict.{Verdict}
 use Rattle.hub_wait.specs.declared.tally.Verdict.TheVariants as verdict
 use Rattle.hub_wait.specs.Verdicts.{verdict as verdict_of}
 use Rattle.hub_desk.specs.Answers.{refusal_to_wait}
-use Rattle.hub_desk.specs.Desks.{Desk, Answer, Fifodir, world_of, reports_of, with_world, subscription_of}
+use Rattle.hub_desk.specs.Desks.{Desk, Fifodir, world_of, reports_of, with_world, subscription_of}
 use Rattle.hub_desk.specs.Opening.{is_there, is_service, refusal_among, OpensAll}
 use Rattle.hub_desk.specs.Replies.{subscribe_reply}
 use Rattle.hub_desk.specs.Standing.{Local, AreKept, Stands, Answers}

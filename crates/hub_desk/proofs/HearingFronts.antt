@@ -1,10 +1,10 @@
 -- What a listener has heard after the first n letters, none with a hit.
-use Rattle.std.proofs.Common.{◌≡◌, ◌≢◌, ◌⊎◌, ℕ, zero, suc, ◌+◌, ◌-◌, ◌<◌, ◌≤◌, true, false, List, [], ◌∷◌, ◌++◌, length, take, drop, min, slice_get, slice_range, Option, Some, None, is_some, option_to_list, Result, Ok, Err, refl, sym, ap, subst, ◌∙◌, inl, inr, length-append, arith}
+use Rattle.std.proofs.Common.{◌≡◌, ℕ, zero, suc, ◌+◌, ◌-◌, ◌<◌, ◌≤◌, true, false, List, [], ◌∷◌, ◌++◌, length, take, drop, slice_get, slice_range, Option, Some, None, is_some, option_to_list, Ok, refl, sym, ap, subst, ◌∙◌, inl, inr, length-append, arith}
 use Rattle.std.proofs.lemmas.List.{length-drop, length-take-le, take-append-drop}
 use Rattle.std.proofs.Math.Seq.{take-length}
 use Rattle.hub_listen.specs.Each.{fitting}
-use Rattle.hub_listen.specs.Hit.{IsHit, HasNoHit}
-use Rattle.hub_listen.specs.Listening.{Listening, Feeds, is_spent, after_hit, after_quiet}
+use Rattle.hub_listen.specs.Hit.{HasNoHit}
+use Rattle.hub_listen.specs.Listening.{Listening, Feeds, is_spent, after_quiet}
 use Rattle.hub_listen.specs.declared.feed.Feed.TheVariants as fed
 use Rattle.hub_listen.proofs.Fronts.{HasNoHit-append}
 use Rattle.hub_listen.proofs.Singly.{nothing_is_quiet, one_more, one_more_hit}

@@ -1,5 +1,5 @@
 -- With another holding under a number, which is for the same subscription.
-use Rattle.std.proofs.Common.{◌≡◌, ℕ, ◌+◌, List, [], ◌∷◌, length, nat_eq, Option, Some, None, is_some, true, refl, sym, ap, subst, ◌∙◌, inl, inr, suc, arith}
+use Rattle.std.proofs.Common.{◌≡◌, ℕ, ◌+◌, List, [], ◌∷◌, length, nat_eq, Some, is_some, true, refl, sym, ap, subst, ◌∙◌, inl, inr, suc, arith}
 use Rattle.std.proofs.lemmas.Bool.{cases_Bool, eqb-true}
 use Rattle.std.specs.Map.{lookup, set_value}
 use Rattle.hub_desk.specs.Desks.{Fifodir, Handle, standing_from, with_holding_from, subscription_of, AreHeld, IsApart, AreApart, GoesOn, AllGoOn}

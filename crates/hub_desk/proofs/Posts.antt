@@ -1,5 +1,5 @@
 -- The posts of a wait.
-use Rattle.std.proofs.Common.{◌≡◌, ◌≢◌, ℕ, ◌+◌, ◌*◌, ◌^◌, ◌<◌, ◌≤◌, false, List, [], ◌∷◌, ◌++◌, length, drop, take, get_or, map, Option, Some, None, Ok, Err, refl, sym, ap, subst, ◌∙◌, inl, inr, length-append, arith}
+use Rattle.std.proofs.Common.{◌≡◌, ℕ, ◌+◌, ◌*◌, ◌^◌, ◌<◌, ◌≤◌, false, List, [], ◌∷◌, ◌++◌, length, drop, take, get_or, map, Option, Some, None, Ok, Err, refl, sym, ap, subst, ◌∙◌, inl, inr, length-append, arith}
 use Rattle.std.proofs.lemmas.Bool.{cases_Bool}
 use Rattle.std.proofs.lemmas.List.{drop_all, map-append, take_more}
 use Rattle.std.proofs.lemmas.List.Folds.{fold_stuck}
@@ -17,7 +17,7 @@ use Rattle.hub_record.specs.World.{World, SubscribeReply, after_subscribe}
 use Rattle.hub_wait.specs.declared.tally.Span.{Span}
 use Rattle.hub_wait.specs.Verdicts.{Tallied, tally_of}
 use Rattle.hub_wait.specs.Watching.{Watching, started}
-use Rattle.hub_desk.specs.Desks.{Fifodir, world_of, reports_of, with_world}
+use Rattle.hub_desk.specs.Desks.{Fifodir, reports_of, with_world}
 use Rattle.hub_desk.specs.Opening.{OpensPost, OpensAll}
 use Rattle.hub_desk.specs.Replies.{subscribe_reply, refusal_of_sub}
 use Rattle.hub_desk.specs.Standing.{AreKept}

@@ -2,7 +2,6 @@
 use Rattle.std.proofs.Common.{◌≡◌, ◌≢◌, ℕ, Bool, true, false, List, [], ◌∷◌, ◌++◌, Option, None, Some, option_to_list, refl, sym, ap, subst, ◌∙◌}
 use Rattle.std.proofs.lemmas.List.Elements.{All-head, All-tail}
 use Rattle.hub_desk.specs.Answers.{answer, answer_to, answers, desk_after, pattern_in, first_read, later_reads, AreReads}
-use Rattle.hub_desk.specs.Desks.{Answer}
 use Rattle.hub_desk.specs.Standing.{Stands, RunsAnswer, IsReadAs, over, asked}
 use Rattle.hub_desk.specs.declared.reply.Reply.{Reply}
 use Rattle.hub_desk.specs.declared.reply.Reply.TheVariants.{No}

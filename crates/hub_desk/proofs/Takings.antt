@@ -1,13 +1,11 @@
 -- Takes of the letters behind a cursor, one at a time.
-use Rattle.std.proofs.Common.{◌≡◌, ℕ, zero, suc, ◌+◌, ◌-◌, ◌<◌, ◌≤◌, Bool, true, false, if◌then◌else◌, List, [], ◌∷◌, ◌++◌, length, take, drop, get_or, min, nat_eq, nat_lt, Option, Some, None, is_some, option_map, Result, Ok, Err, refl, sym, ap, subst, ◌∙◌, inl, inr, true≢false, append_assoc, append-nil, length-append, ⊎_elim, arith}
-use Rattle.std.proofs.lemmas.Bool.{cases_Bool, cases_lt, eqb-true, ltb-true, ltb-false}
+use Rattle.std.proofs.Common.{◌≡◌, ℕ, zero, suc, ◌+◌, ◌-◌, ◌<◌, ◌≤◌, true, false, List, [], ◌∷◌, ◌++◌, length, take, drop, get_or, min, nat_eq, nat_lt, Option, Some, is_some, Ok, refl, sym, ap, subst, ◌∙◌, inl, inr, true≢false, append_assoc, append-nil, ⊎_elim, arith}
+use Rattle.std.proofs.lemmas.Bool.{cases_Bool, cases_lt, ltb-true, ltb-false}
 use Rattle.std.proofs.lemmas.List.{length-drop, length-map, drop-drop, drop-map}
 use Rattle.hub_record.specs.Kept.{Kept, StandsFor}
 use Rattle.hub_record.specs.World.{World, Subscription, letters, found, found_from, changed_from, with_changed, taken, moved, moved_on, reply_for, take_reply, take_events, moved_for, after_take, after_take_for}
 use Rattle.hub_record.specs.declared.Event.{Event}
-use Rattle.hub_record.specs.declared.Taken.{Taken}
 use Rattle.hub_record.specs.declared.Taken.TheVariants as taken
-use Rattle.hub_record.specs.declared.NoId.{NoId}
 use Rattle.hub_desk.specs.Polls.{waiting_for}
 use Rattle.hub_desk.specs.Hearings.{behind}
 

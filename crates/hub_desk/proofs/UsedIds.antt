@@ -1,5 +1,5 @@
 -- What a wait leaves: only ids are used.
-use Rattle.std.proofs.Common.{◌≡◌, ℕ, ◌+◌, ◌<◌, ◌≤◌, Bool, true, false, if◌then◌else◌, List, [], ◌∷◌, ◌++◌, length, nat_eq, Option, Some, None, is_some, Result, Ok, Err, refl, sym, ap, subst, ◌∙◌, ◌⊎◌, inl, inr, true≢false, append_assoc, append-nil, length-append, arith}
+use Rattle.std.proofs.Common.{◌≡◌, ℕ, ◌+◌, ◌<◌, ◌≤◌, true, false, if◌then◌else◌, List, [], ◌∷◌, ◌++◌, length, nat_eq, Option, Some, None, is_some, Result, Ok, Err, refl, sym, ap, subst, ◌∙◌, ◌⊎◌, inl, inr, true≢false, append_assoc, append-nil, length-append, arith}
 use Rattle.std.proofs.lemmas.Bool.{cases_Bool, eqb-true, eqb-false, ne_eqb, eq-eqb}
 use Rattle.std.proofs.lemmas.List.Folds.{fold_stays}
 use Rattle.std.proofs.lemmas.Slice.Eq.{bytes_eq-Decides}
@@ -11,7 +11,7 @@ use Rattle.hub_record.specs.declared.SubError.{SubError}
 use Rattle.hub_record.specs.World.{World, Subscription, found, found_from, changed_from, stopped as stopped_one, new_subscription, after_subscribe, after_cancel, after_cancel_for}
 use Rattle.hub_desk.specs.Desks.{Fifodir, world_of, reports_of, with_world, end_in}
 use Rattle.hub_desk.specs.Replies.{subscribe_reply, refusal_of_sub}
-use Rattle.hub_desk.specs.Waits.{Opening, watch_over, so_far, stopped, opened_by, opened_in, with_post, opened, without_subscription, without_posts, HasUsedIds, HasUsedIdsThere, WaitsUseIds}
+use Rattle.hub_desk.specs.Waits.{Opening, watch_over, so_far, stopped, opened_by, opened_in, with_post, opened, without_subscription, without_posts, HasUsedIdsThere, WaitsUseIds}
 use Rattle.hub_desk.specs.declared.local_desk.Holding.{Holding}
 use Rattle.hub_desk.specs.declared.local_desk.waits.Post.{Post}
 use Rattle.hub_desk.specs.declared.reply.Refusal.{Refusal}

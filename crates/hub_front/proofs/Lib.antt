@@ -1,11 +1,3 @@
-pub mod Numerals
-pub mod Splits
-pub mod Visible
-pub mod SameWords
-pub mod FieldLists
-pub mod Asked
-pub mod OneReading
-pub mod Numbers
 pub mod Outcomes
 pub mod Told
 pub mod Runs

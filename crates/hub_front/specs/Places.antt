@@ -5,10 +5,11 @@ use Rattle.hub_desk.specs.declared.request.Request.{Request}
 use Rattle.hub_desk.specs.declared.reply.Reply.{Reply}
 use Rattle.hub_desk.specs.declared.reply.Reply.TheVariants.{No}
 use Rattle.hub_desk.specs.declared.reply.Refusal.TheVariants.{Memory}
-use Rattle.hub_front.specs.declared.parsing.Bad.{Bad}
-use Rattle.hub_front.specs.declared.parsing.Bad.TheVariants as bad
-use Rattle.hub_front.specs.Reading.{IsReading}
-use Rattle.hub_front.specs.Serving.{Asking, refusal_of}
+use Rattle.hub_lines.specs.declared.parsing.Bad.{Bad}
+use Rattle.hub_lines.specs.declared.parsing.Bad.TheVariants as bad
+use Rattle.hub_lines.specs.Reading.{IsReading}
+use Rattle.hub_lines.specs.Refusing.{refusal_of}
+use Rattle.hub_front.specs.Serving.{Asking}
 
 -- the requests among what lines are read as, in order
 abbrev pub requests_of : List (Result Request Bad) → List Request

@@ -4,26 +4,15 @@ use Rattle.std.specs.Io.KnownBytes.{Appends, Consumes, IsAtEnd}
 use Rattle.hub_desk.specs.declared.request.Request.{Request}
 use Rattle.hub_desk.specs.declared.reply.Reply.{Reply}
 use Rattle.hub_desk.specs.declared.reply.Reply.TheVariants.{No}
-use Rattle.hub_desk.specs.declared.reply.Refusal.{Refusal}
-use Rattle.hub_desk.specs.declared.reply.Refusal.TheVariants as refusal
 use Rattle.hub_desk.specs.Texts.{text_of}
-use Rattle.hub_front.specs.declared.parsing.Bad.{Bad}
-use Rattle.hub_front.specs.declared.parsing.Bad.TheVariants.{Long, Text, Word, Form, Range, Memory}
+use Rattle.hub_lines.specs.declared.parsing.Bad.{Bad}
 use Rattle.hub_front.specs.declared.fault.FrontError.{FrontError}
 use Rattle.hub_front.specs.declared.fault.FrontError.TheVariants as fault
 use Rattle.hub_front.specs.declared.fault.FrontError.TheVariants.{Read, Write, Turns}
-use Rattle.hub_front.specs.Reading.{IsReading}
+use Rattle.hub_lines.specs.Reading.{IsReading}
+use Rattle.hub_lines.specs.Refusing.{refusal_of}
 use Rattle.hub_front.specs.Lines.{complete_of, lines_of}
 use Rattle.hub_front.specs.Telling.{Grows}
-
--- the refusal of the rule that a line breaks
-abbrev pub refusal_of : Bad → Refusal
-refusal_of Long = refusal.Long
-refusal_of Text = refusal.Text
-refusal_of Word = refusal.Word
-refusal_of Form = refusal.Form
-refusal_of Range = refusal.Range
-refusal_of Memory = refusal.Memory
 
 -- how a desk answers: the desk before, the request, the reply, the desk after
 abbrev pub Asking : Type 0 → Type 1

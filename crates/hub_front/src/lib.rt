@@ -1,4 +1,4 @@
-//! Lines to requests and replies to lines, and the engine of a session.
+//! The engine of a session: from the bytes of a client to the replies that it reads.
 //!
 //! The bytes of a client are cut at each LF. A line either spells one request, which the session's desk answers, or it
 //! is refused by the first rule that it breaks. Each reply is one line, written whole before the next line is looked
@@ -6,26 +6,15 @@
 #![tactic(auto)]
 
 mod fault;
-mod fields;
-mod forms;
-mod parsing;
-mod parts;
 mod places;
-mod requests;
 mod serving;
 mod session;
 mod sink;
 mod source;
-mod spelling;
-mod words;
-mod writing;
 
 pub use fault::FrontError;
-pub use parsing::{Bad, parse};
 pub use places::{refusals_stand_in_place, same_input_same_output, same_lines_same_replies};
 pub use serving::serve;
 pub use session::write_whole;
 pub use sink::Sink;
 pub use source::Source;
-pub use spelling::{each_form_has_a_line, each_line_is_read_in_one_way, no_line_is_spelled_twice};
-pub use writing::write_reply;

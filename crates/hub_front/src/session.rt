@@ -4,14 +4,13 @@ ghost use Rattle.std.specs.Io.KnownBytes.{Appends};
 ghost use Rattle.hub_desk.specs.Texts.{text_of};
 ghost use Rattle.hub_front.specs.Lines.{last_line};
 ghost use Rattle.hub_front.specs.Telling.{Grows};
-ghost use Rattle.hub_front.specs.Serving.{refusal_of, Answers, Served, AppendsPart, BreaksOff, write_faults};
+ghost use Rattle.hub_front.specs.Serving.{Answers, Served, AppendsPart, BreaksOff, write_faults};
 ghost use Rattle.hub_front.specs.Pieces.{done, left};
 
 use crate::fault::FrontError;
-use crate::parsing::{Bad, parse};
 use crate::sink::Sink;
-use crate::writing::write_reply;
 use hub_desk::{Desk, Refusal, Reply};
+use hub_lines::{parse, write_reply};
 use std::alloc::{AllocError, Global};
 use std::sync::Wait;
 
@@ -147,21 +146,6 @@ impl Session {
         self.line.clear();
         self.count += 1;
         Ok(())
-    }
-}
-
-impl From<Bad> for Refusal {
-    ghost from_gives = { λ bad refusal. refusal ≡ refusal_of bad };
-
-    fn from(bad: Bad) -> Refusal {
-        match bad {
-            Bad::Long => Refusal::Long,
-            Bad::Text => Refusal::Text,
-            Bad::Word => Refusal::Word,
-            Bad::Form => Refusal::Form,
-            Bad::Range => Refusal::Range,
-            Bad::Memory => Refusal::Memory,
-        }
     }
 }
 

@@ -1,5 +1,5 @@
 -- A piece cut in two, where the first part is quiet; and that there is one answer.
-use Rattle.std.proofs.Common.{◌≡◌, ◌≢◌, ℕ, suc, ◌+◌, ◌<◌, ◌≤◌, ◌-◌, true, false, List, [], ◌∷◌, ◌++◌, take, length, refl, sym, ap, subst, ◌∙◌, arith, append_assoc, length-append, ⊎_elim, Result, Ok, Err, true≢false}
+use Rattle.std.proofs.Common.{◌≡◌, ℕ, suc, ◌+◌, ◌<◌, ◌≤◌, ◌-◌, false, List, [], ◌∷◌, ◌++◌, take, length, refl, sym, ap, subst, ◌∙◌, arith, append_assoc, length-append, ⊎_elim, Result, Ok, Err, true≢false}
 use Rattle.std.proofs.lemmas.Bool.{cases_lt}
 use Rattle.hub_listen.specs.Hit.{finds, IsHit, HasNoHit}
 use Rattle.hub_listen.specs.Listening.{Listening, Feeds, after_hit, after_quiet}

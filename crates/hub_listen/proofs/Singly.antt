@@ -1,9 +1,9 @@
 -- Letters one at a time, and all of them at once.
-use Rattle.std.proofs.Common.{◌≡◌, ◌≢◌, ℕ, ◌+◌, ◌-◌, ◌<◌, ◌≤◌, true, false, List, [], ◌∷◌, ◌++◌, take, drop, length, length-append, slice_range, drop-cons, refl, sym, ap, subst, ◌∙◌, arith, ⊎_elim, Result, Ok, Err, true≢false}
+use Rattle.std.proofs.Common.{◌≡◌, ◌≢◌, ℕ, ◌+◌, ◌-◌, ◌<◌, ◌≤◌, false, List, [], ◌∷◌, ◌++◌, take, drop, length, length-append, slice_range, drop-cons, refl, sym, ap, subst, ◌∙◌, arith, ⊎_elim, Result, Ok, Err, true≢false}
 use Rattle.std.proofs.lemmas.List.{take_more, take-append-le, take-append-drop, length-take-le, append-nil}
-use Rattle.hub_listen.specs.Hit.{finds, IsHit, HasNoHit}
+use Rattle.hub_listen.specs.Hit.{IsHit}
 use Rattle.hub_listen.specs.Listening.{Listening, Feeds, after_hit, is_spent}
-use Rattle.hub_listen.specs.Pieces.{counted_from, left_by, FedSingly, SinglyIsAtOnce}
+use Rattle.hub_listen.specs.Pieces.{counted_from, left_by, SinglyIsAtOnce}
 use Rattle.hub_listen.specs.declared.feed.Feed.{Feed}
 use Rattle.hub_listen.specs.declared.feed.Feed.TheVariants.{Spent, Hit, Quiet}
 use Rattle.hub_listen.specs.declared.feed.FeedError.{FeedError}

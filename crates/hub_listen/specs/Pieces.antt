@@ -1,11 +1,11 @@
 -- How the answers to pieces of letters hang together.
-use Rattle.std.specs.Prelude.{◌≡◌, ◌≢◌, ◌⊎◌, ◌↔◌, ℕ, ◌+◌, ◌≤◌, false, List, [], ◌∷◌, ◌++◌, length, Option, Some, None, Result, Ok, Err}
+use Rattle.std.specs.Prelude.{◌≡◌, ◌≢◌, ◌⊎◌, ◌↔◌, ℕ, ◌+◌, ◌≤◌, false, List, [], ◌∷◌, ◌++◌, length, Some, None, Result, Ok, Err}
 use Rattle.hub_listen.specs.Hit.{IsHit, HasNoHit, hit_length}
 use Rattle.hub_listen.specs.Listening.{Listening, Feeds, is_spent}
 use Rattle.hub_listen.specs.declared.feed.Feed.{Feed}
 use Rattle.hub_listen.specs.declared.feed.Feed.TheVariants.{Spent, Hit, Quiet}
 use Rattle.hub_listen.specs.declared.feed.FeedError.{FeedError}
-use Rattle.hub_listen.specs.declared.feed.FeedError.TheVariants.{Overlong, Memory}
+use Rattle.hub_listen.specs.declared.feed.FeedError.TheVariants.{Memory}
 
 -- the answer, with a hit counted from so many letters earlier
 abbrev pub counted_from : ℕ → Result Feed FeedError → Result Feed FeedError

@@ -1,5 +1,5 @@
-use Rattle.std.proofs.Common.{◌<◌, length, arith, Ok, ◌≡◌}
-use Rattle.hub_listen.specs.declared.feed.Feed.TheVariants.{Hit, Quiet}
+use Rattle.std.proofs.Common.{◌<◌, length, arith, Ok}
+use Rattle.hub_listen.specs.declared.feed.Feed.TheVariants.{Quiet}
 use Rattle.hub_listen.proofs.Singly.{nothing_is_quiet, one_more, one_more_hit}
 use Rattle.hub_listen.proofs.each.feed_each.Goals as goal
 

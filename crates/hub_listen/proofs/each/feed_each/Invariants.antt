@@ -1,4 +1,4 @@
-use Rattle.std.proofs.Common.{◌≡◌, ℕ, take, Ok}
+use Rattle.std.proofs.Common.{take, Ok}
 use Rattle.hub_listen.specs.Listening.{Feeds}
 use Rattle.hub_listen.specs.declared.feed.Feed.TheVariants.{Quiet}
 use Rattle.hub_listen.proofs.each.feed_each.Given as goal

@@ -1,4 +1,4 @@
-use Rattle.std.proofs.Common.{◌≡◌, ℕ, ◌+◌, ◌≤◌, ◌-◌, ◌++◌, ◌∷◌, [], length, take, get_or, string_bytes, string_len, true, false, sym, ap, subst, ◌∙◌, arith, length-append, length-take}
+use Rattle.std.proofs.Common.{◌≡◌, ◌-◌, ◌++◌, take, string_bytes, string_len, sym, ap, subst, ◌∙◌, arith}
 use Rattle.std.specs.Str.{IsAscii}
 use Rattle.std.proofs.lemmas.Str.Ascii.{IsAscii-push}
 use Rattle.hub_listen.specs.Hit.{finds}

@@ -1,9 +1,7 @@
-use Rattle.std.proofs.Common.{◌≡◌, ◌++◌, ◌∷◌, [], ℕ, ◌+◌, List, None, refl, ap, sym, subst, ◌∙◌, arith, nat_eq}
+use Rattle.std.proofs.Common.{◌≡◌, ◌++◌, ◌∷◌, [], ℕ, ◌+◌, List, refl, ap, sym, ◌∙◌, arith, nat_eq}
 use Rattle.std.specs.Map.{lookup}
 use Rattle.indexmap.proofs.CallerLemmas.{insert_entry-new}
-use Rattle.hub_desk.specs.Answers.{refusal_to_hold}
-use Rattle.hub_desk.specs.Desks.{Desk}
-use Rattle.hub_desk.specs.Standing.{Local, Stands}
+use Rattle.hub_desk.specs.Standing.{Local}
 use Rattle.hub_desk.specs.declared.local_desk.Holding.{Holding}
 use Rattle.hub_desk.specs.declared.reply.Reply.TheVariants.{No}
 use Rattle.hub_desk.specs.declared.reply.Refusal.{Refusal}

@@ -1,4 +1,4 @@
-use Rattle.std.proofs.Common.{◌≡◌, ℕ, List, ◌++◌, length, refl, sym, ap, ◌∙◌, nat_eq, arith}
+use Rattle.std.proofs.Common.{◌≡◌, ℕ, List, ◌++◌, length, refl, sym, ap, ◌∙◌, arith}
 use Rattle.hub_desk.proofs.Asking.{answers_from, same_parts, stands_on}
 use Rattle.hub_desk.proofs.AskingPolls.{same_hearing, never_spent, poll_plain, poll_overlong, unspent, poll_lacks, poll_nothing, poll_end, poll_stops, hit_stands, poll_ended, poll_goes_on}
 use Rattle.hub_desk.proofs.AskingSubscriptions.{held_somewhere, has_subscription}

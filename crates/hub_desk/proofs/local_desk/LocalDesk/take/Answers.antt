@@ -1,6 +1,6 @@
 use Rattle.std.proofs.Common.{refl, sym, ◌∙◌}
 use Rattle.hub_desk.proofs.Asking.{answers_from, stands_on}
-use Rattle.hub_desk.proofs.AskingSubscriptions.{take_heard, take_done, take_lacks, held_somewhere, has_subscription}
+use Rattle.hub_desk.proofs.AskingSubscriptions.{take_done, take_lacks, held_somewhere, has_subscription}
 use Rattle.hub_desk.proofs.local_desk.LocalDesk.take.Goals as goal
 use Rattle.hub_desk.proofs.local_desk.LocalDesk.take.Goals.{in-Ok, in-Err}
 

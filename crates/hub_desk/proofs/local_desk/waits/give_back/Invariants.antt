@@ -1,4 +1,4 @@
-use Rattle.std.proofs.Common.{◌≡◌, ◌≤◌, List, drop}
+use Rattle.std.proofs.Common.{◌≡◌, List, drop}
 use Rattle.hub_desk.specs.Desks.{Fifodir}
 use Rattle.hub_desk.specs.Standing.{AreKept}
 use Rattle.hub_desk.specs.Waits.{without_posts}

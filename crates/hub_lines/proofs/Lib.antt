@@ -1,0 +1,8 @@
+pub mod Numerals
+pub mod Splits
+pub mod Visible
+pub mod SameWords
+pub mod FieldLists
+pub mod Asked
+pub mod OneReading
+pub mod Numbers
