@@ -1,5 +1,5 @@
 -- What a session is answered, and what it leaves.
-use Rattle.std.specs.Prelude.{◌≡◌, ℕ, List, [], Some, length, ◌⊎◌}
+use Rattle.std.specs.Prelude.{◌≡◌, ℕ, List, [], Some, ◌⊎◌}
 use Rattle.hub_desk.specs.declared.reply.Refusal.TheVariants as no
 use Rattle.hub_desk.specs.declared.reply.Reply.{Reply}
 use Rattle.hub_desk.specs.declared.reply.Reply.TheVariants.{Done, No}
@@ -13,7 +13,7 @@ use Rattle.hub_shared.specs.declared.shared_desk.SharedDesk.{SharedDesk}
 use Rattle.hub_shared.specs.Speaking.{fifodir_of, says_published, says_closed, says_status}
 use Rattle.hub_shared.specs.Fifodirs.{kept, AsksByName, IsMissing, KeepsAll}
 use Rattle.hub_shared.specs.Handles.{Subscribes, Listens, TakesAt, PollsAt, Cancels}
-use Rattle.hub_shared.specs.Waits.{WaitsFor}
+use Rattle.hub_shared.specs.Waits.{WaitsFor, IsWaitRefusal}
 
 -- no fifodir was found and no handle given
 pub record IsNewDesk (fs : Fifodirs) (hs : Handles) : Type 0 where
@@ -32,10 +32,6 @@ IsMadeReply _ = ⊥
 abbrev pub IsUnfoundReply : Fifodirs → List ℕ → Reply → Type 0
 IsUnfoundReply fs name (No refusal) = IsMissing fs name refusal
 IsUnfoundReply fs name _ = ⊥
-
-abbrev pub IsRefused : Reply → Type 0
-IsRefused (No refusal) = Unit {0}
-IsRefused _ = ⊥
 
 -- a handle on the fifodir that is kept under the name; where it isn't found, or refuses, no handle is given
 abbrev pub SubscribesTo : Fifodirs → List ℕ → Handles → Reply → Handles → Type 0
@@ -57,7 +53,7 @@ Answers fs hs (Close name) reply gs ks = AsksByName says_closed fs name reply gs
 Answers fs hs (Status name) reply gs ks = AsksByName says_status fs name reply gs × (ks ≡ hs)
 Answers fs hs (Listen name mode pattern) reply gs ks = KeepsAll fs gs × ListensTo gs name mode pattern hs reply ks
 Answers fs hs (Poll id) reply gs ks = (gs ≡ fs) × PollsAt hs id reply ks
-Answers fs hs (Wait span want turns names) reply gs ks = (WaitsFor span (length names) reply ⊎ IsRefused reply) × KeepsAll fs gs × (ks ≡ hs)
+Answers fs hs (Wait span want turns names) reply gs ks = KeepsAll fs gs × (WaitsFor gs span want names reply ⊎ IsWaitRefusal gs names reply) × (ks ≡ hs)
 
 -- all is given back: no handle and no publisher is kept, and no number is given again
 pub record Ends (old : Handles) (fs : Fifodirs) (hs : Handles) : Type 0 where

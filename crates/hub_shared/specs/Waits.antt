@@ -1,13 +1,63 @@
--- What a wait shows of its posts.
-use Rattle.std.specs.Prelude.{◌≡◌, ℕ, List, Option, None, Some, length, map, if◌then◌else◌}
+-- What a wait is refused by, and what it shows of its posts.
+use Rattle.std.specs.Prelude.{◌≡◌, ℕ, List, Option, None, Some, ◌⊎◌, Bool, true, false, All, Any, map, if◌then◌else◌}
+use Rattle.std.specs.List.{AllZip}
+use Rattle.hub_letters.specs.declared.want.Want.{Want}
+use Rattle.hub_record.specs.declared.Kind.{Kind}
+use Rattle.hub_record.specs.declared.Kind.TheVariants.{Plain, Service}
+use Rattle.hub_fifodir.specs.Passes.{kind_of}
+use Rattle.hub_desk.specs.declared.reply.Refusal.{Refusal}
+use Rattle.hub_desk.specs.declared.reply.Refusal.TheVariants as no
 use Rattle.hub_desk.specs.declared.reply.Reply.{Reply}
 use Rattle.hub_desk.specs.declared.reply.Reply.TheVariants as answer
 use Rattle.hub_wait.specs.declared.tally.Span.{Span}
 use Rattle.hub_wait.specs.declared.tally.Verdict.TheVariants as verdict
 use Rattle.hub_wait.specs.Waits.{AreKept, IsAnswer, watches_of}
 use Rattle.hub_wait.specs.declared.post.Post.{Post}
-use Rattle.hub_wait.specs.Posts.{watch_of}
+use Rattle.hub_wait.specs.Posts.{HasOpened, watch_of}
 use Rattle.hub_wait.specs.Watching.{is_met_at}
+use Rattle.hub_shared.specs.declared.shared_desk.fifodirs.Fifodirs.{Fifodirs}
+use Rattle.hub_shared.specs.declared.shared_desk.joined.Joined.{Joined}
+use Rattle.hub_shared.specs.Fifodirs.{kept}
+use Rattle.hub_shared.specs.Speaking.{fifodir_of}
+
+-- the name has a fifodir of this kind
+pub record IsOfKind (fs : Fifodirs) (kind : Kind) (name : List ℕ) : Type 0 where
+  pub joined : Joined
+  pub kept_is : kept fs name ≡ Some joined
+  pub of_kind : kind_of (fifodir_of joined) ≡ kind
+
+abbrev pub IsKnown : Fifodirs → List ℕ → Type 0
+IsKnown fs name = (joined : Joined) × (kept fs name ≡ Some joined)
+
+-- Each name has a fifodir. If `plain`, one of them is plain, and if not, each is a service's.
+abbrev pub AreSeen : Fifodirs → List (List ℕ) → (plain : Bool) → Type 0
+AreSeen fs names true = All (IsKnown fs) names × Any (IsOfKind fs Plain) names
+AreSeen fs names false = All (IsOfKind fs Service) names
+
+-- why the names weren't all seen
+abbrev pub IsUnseen : Fifodirs → List (List ℕ) → Refusal → Type 0
+IsUnseen fs names refusal = ((refusal ≡ no.Name) × Any (λ name. kept fs name ≡ None) names) ⊎ (refusal ≡ no.Memory)
+
+-- why a fifodir gives no post
+abbrev pub IsPostRefused : Refusal → Type 0
+IsPostRefused refusal = (refusal ≡ no.Closed) ⊎ (refusal ≡ no.Many) ⊎ (refusal ≡ no.Spent) ⊎ (refusal ≡ no.Memory)
+
+-- Why no wait was begun. First each name is looked for, then each must be a service's, and only then a post may be refused.
+abbrev pub IsWaitRefused : Fifodirs → List (List ℕ) → Refusal → Type 0
+IsWaitRefused fs names no.Name = Any (λ name. kept fs name ≡ None) names
+IsWaitRefused fs names no.Kind = AreSeen fs names true
+IsWaitRefused fs names no.Memory = Unit {0}
+IsWaitRefused fs names refusal = IsPostRefused refusal × AreSeen fs names false
+
+-- a post at the fifodir that is kept under the name
+pub record IsPostAt (fs : Fifodirs) (want : Want) (name : List ℕ) (post : Post) : Type 0 where
+  pub joined : Joined
+  pub kept_is : kept fs name ≡ Some joined
+  pub opened : HasOpened (fifodir_of joined) want joined.found.notifies post
+
+-- a post for each name, in their order
+abbrev pub ArePosts : Fifodirs → Want → List (List ℕ) → List Post → Type 0
+ArePosts fs want names posts = AllZip (IsPostAt fs want) names posts
 
 -- the number of events at which its service is as wanted
 abbrev pub number_met : Post → Option ℕ
@@ -26,6 +76,13 @@ pub record Settles (span : Span) (opened : List Post) (reply : Reply) : Type 0 w
   pub kept : AreKept opened posts
   pub shows : Shows span posts reply
 
--- so many posts were opened
-abbrev pub WaitsFor : Span → ℕ → Reply → Type 0
-WaitsFor span count reply = (opened : List Post) × (length opened ≡ count) × Settles span opened reply
+-- a wait for the services of these names
+pub record WaitsFor (fs : Fifodirs) (span : Span) (want : Want) (names : List (List ℕ)) (reply : Reply) : Type 0 where
+  pub services : AreSeen fs names false
+  pub opened : List Post
+  pub posts : ArePosts fs want names opened
+  pub settled : Settles span opened reply
+
+abbrev pub IsWaitRefusal : Fifodirs → List (List ℕ) → Reply → Type 0
+IsWaitRefusal fs names (answer.No refusal) = IsWaitRefused fs names refusal
+IsWaitRefusal fs names _ = ⊥

@@ -1,5 +1,5 @@
 //! A session's waits: the posts of one, and what it is answered.
-ghost use Rattle.std.specs.Prelude.{◌≡◌, ◌≤◌, ◌+◌, length, map, vec_len, vec_capacity, IfOk, IfErr, OnOk};
+ghost use Rattle.std.specs.Prelude.{◌≡◌, ◌≤◌, ◌+◌, length, map, vec_len, vec_capacity, IfOk, IfErr, OnOk, false};
 ghost use Rattle.hub_desk.specs.Texts.{number_or_dash, text_of};
 ghost use Rattle.hub_desk.specs.declared.reply.Reply.TheVariants.{Yes};
 ghost use Rattle.hub_shared.specs.Refusals.{IsBrief};
@@ -25,6 +25,7 @@ pub struct Posts {
 
 impl Fifodirs {
     ghost use Rattle.hub_shared.specs.Fifodirs.{KeepsAll};
+    ghost use Rattle.hub_shared.specs.Waits.{ArePosts, AreSeen, IsPostRefused, IsUnseen, IsWaitRefused};
 
     /// Opens a post for each name, in their order, or none.
     pub fn open_posts<H: Wait>(
@@ -35,7 +36,9 @@ impl Fifodirs {
         names: &[Name],
     ) -> Result<Posts, Refusal>
         requires { length names.now ≤ 32 }
-        ensures opened { IfOk result (λ opened. vec_len opened.posts ≡ length names.now) }
+        ensures services { OnOk result (AreSeen self.new names.now false) }
+        ensures opened { IfOk result (λ opened. ArePosts self.new want names.now opened.posts.items) }
+        ensures refused { IfErr result (IsWaitRefused self.new names.now) }
         ensures kept { KeepsAll self.old self.new }
         ensures brief { IfErr result IsBrief }
     {
@@ -59,13 +62,18 @@ impl Fifodirs {
 
     /// Finds the fifodir of each name, and tells whether one of them is plain.
     fn has_plain<H: Wait>(&mut self, rt: &H, hub: &Hub, names: &[Name]) -> Result<bool, Refusal>
+        ensures seen { IfOk result (AreSeen self.new names.now) }
+        ensures missing { IfErr result (IsUnseen self.new names.now) }
         ensures kept { KeepsAll self.old self.new }
         ensures brief { IfErr result IsBrief }
     {
         let mut plain = false;
         for name in names {
             let found = self.find(rt, hub, name)?;
-            plain |= found.dir.kind() == Kind::Plain;
+            match found.dir.kind() {
+                Kind::Plain => plain = true,
+                Kind::Service => (),
+            }
         }
         Ok(plain)
     }
@@ -81,14 +89,17 @@ impl Fifodirs {
     ) -> Result<(), Refusal>
         requires empty { vec_len posts.old ≡ 0 }
         requires fits { length names.now ≤ vec_capacity posts.old }
+        requires services { AreSeen self.old names.now false }
         ensures kept { KeepsAll self.old self.new }
+        ensures refused { IfErr result IsPostRefused }
         ensures brief { IfErr result IsBrief }
-        ensures opened { OnOk result (vec_len posts.new ≡ length names.now) }
+        ensures opened { OnOk result (ArePosts self.new want names.now posts.new.items) }
         ensures few { vec_len posts.new ≤ length names.now }
     {
         for name in names {
             let found = self.find(rt, hub, name)?;
-            posts.push_reserved(Post::open(rt, found.dir, want, found.notifies)?);
+            let post = Post::open(rt, found.dir, want, found.notifies)?;
+            posts.push_reserved(post);
         }
         Ok(())
     }

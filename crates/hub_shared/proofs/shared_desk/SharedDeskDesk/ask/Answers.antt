@@ -1,6 +1,7 @@
-use Rattle.std.proofs.Common.{refl, subst, sym}
+use Rattle.std.proofs.Common.{ℕ, List, inl, refl, subst, sym}
 use Rattle.hub_desk.specs.declared.request.Request.{Request}
 use Rattle.hub_shared.specs.Desks.{Answers}
+use Rattle.hub_shared.specs.Waits.{WaitsFor}
 use Rattle.hub_shared.proofs.Handling.{subscribes_to, listens_to}
 use Rattle.hub_shared.proofs.shared_desk.SharedDeskDesk.ask.Goals as goal
 
@@ -22,3 +23,23 @@ returns-in-Ok-find-clause-step g c = record {
         c.args.self.now.handles c.listen.new.self c.listen.result c.in-Ok-find.ensures.ok c.listen.ensures.step,
   );
 }
+
+pub returns-in-Ok-open_posts-clause-step : goal.returns-in-Ok-open_posts-clause-step
+returns-in-Ok-open_posts-clause-step g c =
+    let fifodirs = c.open_posts.new.self in
+    let opened = c.in-Ok-open_posts.ensures in
+    let waits : WaitsFor fifodirs c.in-Wait.span c.in-Wait.want c.items.result.now c.settle.result = record {
+      services = opened.services;
+      opened = c.in-Ok-open_posts.posts.posts.items;
+      posts = opened.opened;
+      settled = c.settle.ensures.settled;
+    } in
+    record {
+      hub = refl;
+      pause = refl;
+      answers = subst (λ (r : Request). Answers c.args.self.now.fifodirs c.args.self.now.handles r c.settle.result fifodirs c.args.self.now.handles) (sym c.in-Wait.is) (
+        opened.kept,
+        inl (subst (λ (names : List (List ℕ)). WaitsFor fifodirs c.in-Wait.span c.in-Wait.want names c.settle.result) c.items.ensures waits),
+        refl {a = c.args.self.now.handles},
+      );
+    }

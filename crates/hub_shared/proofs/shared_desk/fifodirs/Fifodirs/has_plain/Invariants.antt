@@ -1,5 +1,10 @@
+use Rattle.std.proofs.Common.{take}
 use Rattle.hub_shared.specs.Fifodirs.{KeepsAll}
+use Rattle.hub_shared.specs.Waits.{AreSeen}
 use Rattle.hub_shared.proofs.shared_desk.fifodirs.Fifodirs.has_plain.Given as goal
 
 abbrev pub invariant-loop-name : goal.invariant-loop-name
-invariant-loop-name g l = KeepsAll l.initial.self l.self
+invariant-loop-name g l = record {
+  kept : KeepsAll l.initial.self l.self;
+  seen : AreSeen l.self (take l.name-index l.names) l.plain;
+}

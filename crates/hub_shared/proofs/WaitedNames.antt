@@ -1,0 +1,99 @@
+-- The names of a wait as its session finds them, and the posts that it opens.
+use Rattle.std.proofs.Common.{◌≡◌, ℕ, List, [], ◌∷◌, ◌++◌, Bool, true, false, refl, sym, ap, ◌∙◌, subst, inl, inr, ⊎_elim, arith}
+use Rattle.std.proofs.lemmas.Grind.{common_steps}
+use Rattle.std.proofs.lemmas.List.Elements.{All-push, All-weaker}
+use Rattle.std.proofs.lemmas.List.Quantifiers.{Any-push}
+use Rattle.std.specs.Arc.{arc_value}
+use Rattle.std.specs.List.{Any, AllZip}
+use Rattle.hub_letters.specs.declared.want.Want.{Want}
+use Rattle.hub_record.specs.declared.Kind.{Kind}
+use Rattle.hub_record.specs.declared.Kind.TheVariants.{Plain, Service}
+use Rattle.hub_desk.specs.declared.reply.Refusal.{Refusal}
+use Rattle.hub_desk.specs.declared.reply.Refusal.TheVariants as no
+use Rattle.hub_fifodir.specs.declared.fifodir.Fifodir.{Fifodir}
+use Rattle.hub_fifodir.specs.Passes.{kind_of}
+use Rattle.hub_wait.specs.declared.post.Post.{Post}
+use Rattle.hub_wait.specs.Posts.{HasOpened}
+use Rattle.hub_shared.specs.declared.hub.Found.{Found}
+use Rattle.hub_shared.specs.declared.shared_desk.fifodirs.Fifodirs.{Fifodirs}
+use Rattle.hub_shared.specs.Fifodirs.{IsKeptAs, KeepsAll}
+use Rattle.hub_shared.specs.Waits.{IsKnown, IsOfKind, AreSeen, IsPostRefused, IsWaitRefused, IsPostAt, ArePosts}
+
+Any-weaker : {X : Type 0} (P Q : X → Type 0) → ((x : X) → P x → Q x) → (xs : List X) → Any P xs → Any Q xs
+Any-weaker P Q f xs (k, x, within, at, p) = (k, x, within, at, f x p)
+
+Any-then : {X : Type 0} (P : X → Type 0) (xs : List X) (y : X) → Any P xs → Any P (xs ++ y ∷ [])
+Any-then P xs y (k, x, within, at, p) = (k, x, grind (arith, common_steps), grind (arith, common_steps), p)
+
+known_still : (old new : Fifodirs) → KeepsAll old new → (name : List ℕ) → IsKnown old name → IsKnown new name
+known_still old new keeps name (j, at) = (j, keeps.each name j at)
+
+of_kind_still : (old new : Fifodirs) → KeepsAll old new → (kind : Kind) (name : List ℕ) → IsOfKind old kind name → IsOfKind new kind name
+of_kind_still old new keeps kind name f = record { joined = f.joined; kept_is = keeps.each name f.joined f.kept_is; of_kind = f.of_kind }
+
+known_of_kind : (fs : Fifodirs) (kind : Kind) (name : List ℕ) → IsOfKind fs kind name → IsKnown fs name
+known_of_kind fs kind name f = (f.joined, f.kept_is)
+
+-- what was seen of names holds still
+pub seen_still : (old new : Fifodirs) → KeepsAll old new → (names : List (List ℕ)) (plain : Bool) → AreSeen old names plain → AreSeen new names plain
+seen_still old new keeps names true (known, some) =
+    (All-weaker (IsKnown old) (IsKnown new) (known_still old new keeps) names known, Any-weaker (IsOfKind old Plain) (IsOfKind new Plain) (of_kind_still old new keeps Plain) names some)
+seen_still old new keeps names false each = All-weaker (IsOfKind old Service) (IsOfKind new Service) (of_kind_still old new keeps Service) names each
+
+-- what was found by a name just now
+pub of_kind_found : (fs : Fifodirs) (name : List ℕ) (found : Found) (dir : Fifodir) (kind : Kind) → IsKeptAs fs name found → dir ≡ arc_value found.dir → kind ≡ kind_of dir → IsOfKind fs kind name
+of_kind_found fs name found dir kind at is of = record { joined = at.joined; kept_is = at.kept_is; of_kind = sym (of ∙ ap kind_of (is ∙ at.dir)) }
+
+-- one name more, of a plain fifodir
+pub seen_plain : (fs : Fifodirs) (names : List (List ℕ)) (name : List ℕ) (plain : Bool) → AreSeen fs names plain → IsOfKind fs Plain name → AreSeen fs (names ++ name ∷ []) true
+seen_plain fs names name true (known, some) f =
+    (All-push (IsKnown fs) names name known (known_of_kind fs Plain name f), Any-push (IsOfKind fs Plain) names name f)
+seen_plain fs names name false each f =
+    let known = All-weaker (IsOfKind fs Service) (IsKnown fs) (known_of_kind fs Service) names each in
+    (All-push (IsKnown fs) names name known (known_of_kind fs Plain name f), Any-push (IsOfKind fs Plain) names name f)
+
+-- one name more, of a service
+pub seen_service : (fs : Fifodirs) (names : List (List ℕ)) (name : List ℕ) (plain : Bool) → AreSeen fs names plain → IsOfKind fs Service name → AreSeen fs (names ++ name ∷ []) plain
+seen_service fs names name true (known, some) f =
+    (All-push (IsKnown fs) names name known (known_of_kind fs Service name f), Any-then (IsOfKind fs Plain) names name some)
+seen_service fs names name false each f = All-push (IsOfKind fs Service) names name each f
+
+-- where each is a service's, only a post may still be refused
+pub refused_by_post : (fs : Fifodirs) (names : List (List ℕ)) (refusal : Refusal) → AreSeen fs names false → IsPostRefused refusal → IsWaitRefused fs names refusal
+refused_by_post fs names refusal seen refused =
+    ⊎_elim (λ (e : refusal ≡ no.Closed). subst (IsWaitRefused fs names) (sym e) (inl refl, seen))
+    (⊎_elim (λ (e : refusal ≡ no.Many). subst (IsWaitRefused fs names) (sym e) (inr (inl refl), seen))
+    (⊎_elim (λ (e : refusal ≡ no.Spent). subst (IsWaitRefused fs names) (sym e) (inr (inr (inl refl)), seen))
+    (λ (e : refusal ≡ no.Memory). subst (IsWaitRefused fs names) (sym e) tt)))
+    refused
+
+-- ---- posts
+
+AllZip-push : {X Y : Type 0} (R : X → Y → Type 0) (xs : List X) (ys : List Y) (x : X) (y : Y) → AllZip R xs ys → R x y → AllZip R (xs ++ x ∷ []) (ys ++ y ∷ [])
+AllZip-push R [] [] x y each r = (r, tt)
+AllZip-push R [] (b ∷ ys) x y each r = absurd each
+AllZip-push R (a ∷ xs) [] x y each r = absurd each
+AllZip-push R (a ∷ xs) (b ∷ ys) x y each r = (each.0, AllZip-push R xs ys x y each.1 r)
+
+AllZip-weaker : {X Y : Type 0} (R S : X → Y → Type 0) → ((x : X) (y : Y) → R x y → S x y) → (xs : List X) (ys : List Y) → AllZip R xs ys → AllZip S xs ys
+AllZip-weaker R S f [] [] each = tt
+AllZip-weaker R S f [] (y ∷ ys) each = absurd each
+AllZip-weaker R S f (x ∷ xs) [] each = absurd each
+AllZip-weaker R S f (x ∷ xs) (y ∷ ys) each = (f x y each.0, AllZip-weaker R S f xs ys each.1)
+
+post_still : (old new : Fifodirs) → KeepsAll old new → (want : Want) (name : List ℕ) (post : Post) → IsPostAt old want name post → IsPostAt new want name post
+post_still old new keeps want name post p = record { joined = p.joined; kept_is = keeps.each name p.joined p.kept_is; opened = p.opened }
+
+-- a post at what was found by a name just now
+pub post_found : (fs : Fifodirs) (want : Want) (name : List ℕ) (found : Found) (post : Post) → IsKeptAs fs name found → HasOpened (arc_value found.dir) want found.notifies post → IsPostAt fs want name post
+post_found fs want name found post at opened = record {
+  joined = at.joined;
+  kept_is = at.kept_is;
+  opened = subst (λ (b : Bool). HasOpened (arc_value at.joined.found.dir) want b post) at.notifies (subst (λ (dir : Fifodir). HasOpened dir want found.notifies post) at.dir opened);
+}
+
+-- one post more
+pub posts_more : (old new : Fifodirs) (want : Want) (names : List (List ℕ)) (posts : List Post) (name : List ℕ) (post : Post)
+    → KeepsAll old new → ArePosts old want names posts → IsPostAt new want name post → ArePosts new want (names ++ name ∷ []) (posts ++ post ∷ [])
+posts_more old new want names posts name post keeps each p =
+    AllZip-push (IsPostAt new want) names posts name post (AllZip-weaker (IsPostAt old want) (IsPostAt new want) (post_still old new keeps want) names posts each) p
