@@ -2,18 +2,15 @@
 #![tactic(auto)]
 
 mod call;
-mod command_line;
 mod fault;
-mod help;
-mod script;
 mod serve;
 
 use call::call;
 use clap::error::ErrorKind;
-use command_line::{Plan, read_words, status_of};
 use fault::Fault;
+use hub_arguments::{Plan, read_words, status_of};
 use hub_front::{FrontError, Sink, Source};
-use script::script;
+use hub_script::script;
 use serve::{is_clean, serve, tell_faults};
 use std::alloc::{AllocGlobal, Global};
 use std::io::Write;

@@ -8,10 +8,10 @@ use Rattle.hub_desk.specs.Answers.{answer_by, refusal_by_name}
 use Rattle.hub_desk.specs.Desks.{Desk, Answer, refused, world_of, with_world}
 use Rattle.hub_desk.specs.Standing.{Local, AreKept, Stands, StandsForSome, IsAnswer, IsLacking, Answers, Unchanged}
 use Rattle.hub_desk.specs.declared.local_desk.LocalFifodir.{LocalFifodir}
-use Rattle.hub_desk.specs.declared.reply.Reply.{Reply}
-use Rattle.hub_desk.specs.declared.reply.Reply.TheVariants.{Done, Number, State, Got, Hit, Nothing, End, Yes, Never, Late, No}
-use Rattle.hub_desk.specs.declared.reply.Refusal.{Refusal}
-use Rattle.hub_desk.specs.declared.reply.Refusal.TheVariants as no
+use Rattle.hub_requests.specs.declared.reply.Reply.{Reply}
+use Rattle.hub_requests.specs.declared.reply.Reply.TheVariants.{Done, Number, State, Got, Hit, Nothing, End, Yes, Never, Late, No}
+use Rattle.hub_requests.specs.declared.reply.Refusal.{Refusal}
+use Rattle.hub_requests.specs.declared.reply.Refusal.TheVariants as no
 use Rattle.hub_desk.proofs.KeptFifodirs.{some_kept, none_kept, kept_set, kept_still}
 use Rattle.hub_desk.proofs.Holdings.{held_in_changed, held_still}
 

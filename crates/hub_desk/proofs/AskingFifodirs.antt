@@ -12,13 +12,14 @@ use Rattle.hub_record.specs.declared.limits.Limits.{Limits}
 use Rattle.hub_record.specs.World.{World, empty_world, PublishReply, after_publish, close_reply, after_close}
 use Rattle.hub_desk.specs.Answers.{answered_with, in_world, made, published, closed, shown, refusal_to_make}
 use Rattle.hub_desk.specs.Desks.{Desk, Fifodir, refused, world_of}
-use Rattle.hub_desk.specs.Replies.{publish_reply, refusal_of_pub}
+use Rattle.hub_desk.specs.Replies.{publish_reply}
+use Rattle.hub_requests.specs.Refusals.{refusal_of_pub}
 use Rattle.hub_desk.specs.Standing.{Local, AreKept, Stands, Answers, AskedWith, Unchanged}
 use Rattle.hub_desk.specs.declared.local_desk.LocalFifodir.{LocalFifodir}
-use Rattle.hub_desk.specs.declared.request.Request.TheVariants.{Pub, Close, Status as Show}
-use Rattle.hub_desk.specs.declared.reply.Reply.{Reply}
-use Rattle.hub_desk.specs.declared.reply.Reply.TheVariants.{Done, Number, State, No}
-use Rattle.hub_desk.specs.declared.reply.Refusal.TheVariants as no
+use Rattle.hub_requests.specs.declared.request.Request.TheVariants.{Pub, Close, Status as Show}
+use Rattle.hub_requests.specs.declared.reply.Reply.{Reply}
+use Rattle.hub_requests.specs.declared.reply.Reply.TheVariants.{Done, Number, State, No}
+use Rattle.hub_requests.specs.declared.reply.Refusal.TheVariants as no
 use Rattle.std.proofs.lemmas.Bool.{le-leb, lt-leb}
 use Rattle.hub_desk.proofs.Holdings.{held_still, held_with_more}
 use Rattle.hub_desk.proofs.Asking.{by_carrying, by_refusing, by_lacking, still_lacking, stands_same, Replaces, world_there, stands_replaced, stands_still, named}

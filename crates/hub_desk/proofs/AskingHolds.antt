@@ -5,23 +5,24 @@ use Rattle.std.proofs.lemmas.Slice.Eq.{bytes_eq-Decides}
 use Rattle.std.specs.Map.{lookup}
 use Rattle.std.specs.Str.{bytes_eq}
 use Rattle.hub_listen.specs.Listening.{Listening, unheard}
-use Rattle.hub_listen.specs.declared.listener.Mode.{Mode}
-use Rattle.hub_listen.specs.declared.listener.Mode.TheVariants.{Repeat}
+use Rattle.hub_letters.specs.declared.mode.Mode.{Mode}
+use Rattle.hub_letters.specs.declared.mode.Mode.TheVariants.{Repeat}
 use Rattle.hub_record.specs.declared.SubError.{SubError}
 use Rattle.hub_record.specs.declared.SubError.TheVariants as sub
 use Rattle.hub_record.specs.Kept.{Kept, StandsFor}
 use Rattle.hub_record.specs.World.{World, new_subscription, SubscribeReply, after_subscribe}
 use Rattle.hub_desk.specs.Answers.{in_world, refusal_to_hold, refusal_to_listen, subscribed}
 use Rattle.hub_desk.specs.Desks.{Desk, Handle, standing, world_of, with_world, subscription_of, AreHeld, AreApart, GoesOn, AllGoOn, refused}
-use Rattle.hub_desk.specs.Replies.{subscribe_reply, refusal_of_sub}
+use Rattle.hub_desk.specs.Replies.{subscribe_reply}
+use Rattle.hub_requests.specs.Refusals.{refusal_of_sub}
 use Rattle.hub_desk.specs.Standing.{Local, AreKept, Stands, Answers, AskedWith, Unchanged}
 use Rattle.hub_desk.specs.declared.local_desk.Hearing.{Hearing}
 use Rattle.hub_desk.specs.declared.local_desk.Holding.{Holding}
 use Rattle.hub_desk.specs.declared.local_desk.LocalFifodir.{LocalFifodir}
-use Rattle.hub_desk.specs.declared.request.Request.TheVariants.{Listen}
-use Rattle.hub_desk.specs.declared.reply.Reply.{Reply}
-use Rattle.hub_desk.specs.declared.reply.Reply.TheVariants.{Number, No}
-use Rattle.hub_desk.specs.declared.reply.Refusal.TheVariants as no
+use Rattle.hub_requests.specs.declared.request.Request.TheVariants.{Listen}
+use Rattle.hub_requests.specs.declared.reply.Reply.{Reply}
+use Rattle.hub_requests.specs.declared.reply.Reply.TheVariants.{Number, No}
+use Rattle.hub_requests.specs.declared.reply.Refusal.TheVariants as no
 use Rattle.hub_desk.proofs.Asking.{answers_like, by_carrying, by_lacking, still_lacking, stands_same, Replaces, world_there, stands_replaced, stands_still}
 use Rattle.hub_desk.proofs.Holdings.{none_above, standing-push, held_push, apart_push, go_on_push, unheld_id}
 use Rattle.hub_desk.proofs.KeptFifodirs.{is_some-world_of, none_kept, world_of-with_world}

@@ -6,8 +6,8 @@ use Rattle.std.specs.Map.{lookup, set_value}
 use Rattle.std.specs.Str.{bytes_eq}
 use Rattle.hub_listen.specs.Each.{fitting}
 use Rattle.hub_listen.specs.Listening.{Listening, is_spent, spent_by, after_hit, after_quiet}
-use Rattle.hub_listen.specs.declared.listener.Mode.{Mode}
-use Rattle.hub_listen.specs.declared.listener.Mode.TheVariants.{Once, Repeat}
+use Rattle.hub_letters.specs.declared.mode.Mode.{Mode}
+use Rattle.hub_letters.specs.declared.mode.Mode.TheVariants.{Once, Repeat}
 use Rattle.hub_listen.proofs.Lengths.{length_is_hit, no_length_is_no_hit}
 use Rattle.hub_record.specs.Kept.{Kept, StandsFor}
 use Rattle.hub_record.specs.World.{World, Subscription, found, after_take}
@@ -20,10 +20,10 @@ use Rattle.hub_desk.specs.declared.local_desk.Hearing.{Hearing}
 use Rattle.hub_desk.specs.declared.local_desk.Holding.{Holding}
 use Rattle.hub_desk.specs.declared.local_desk.LocalFifodir.{LocalFifodir}
 use Rattle.hub_desk.specs.declared.local_desk.listeners.Heard.TheVariants as heard
-use Rattle.hub_desk.specs.declared.request.Request.TheVariants.{Cancel, Poll}
-use Rattle.hub_desk.specs.declared.reply.Reply.{Reply}
-use Rattle.hub_desk.specs.declared.reply.Reply.TheVariants.{Hit, Nothing, End, No}
-use Rattle.hub_desk.specs.declared.reply.Refusal.TheVariants as no
+use Rattle.hub_requests.specs.declared.request.Request.TheVariants.{Cancel, Poll}
+use Rattle.hub_requests.specs.declared.reply.Reply.{Reply}
+use Rattle.hub_requests.specs.declared.reply.Reply.TheVariants.{Hit, Nothing, End, No}
+use Rattle.hub_requests.specs.declared.reply.Refusal.TheVariants as no
 use Rattle.hub_desk.proofs.Asking.{by_carrying, by_refusing, by_lacking, stands_same, Replaces, stands_replaced, world_there}
 use Rattle.hub_desk.proofs.AskingSubscriptions.{taken_still}
 use Rattle.hub_desk.proofs.HearingFronts.{has_found}

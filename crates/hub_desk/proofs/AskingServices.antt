@@ -8,7 +8,7 @@ use Rattle.std.specs.Str.{bytes_eq}
 use Rattle.hub_letters.specs.declared.want.Want.{Want}
 use Rattle.hub_record.specs.declared.SubError.{SubError}
 use Rattle.hub_record.specs.World.{World, SubscribeReply, new_subscription, after_subscribe}
-use Rattle.hub_wait.specs.declared.tally.Span.{Span}
+use Rattle.hub_letters.specs.declared.span.Span.{Span}
 use Rattle.hub_wait.specs.declared.tally.Verdict.{Verdict}
 use Rattle.hub_wait.specs.declared.tally.Verdict.TheVariants as verdict
 use Rattle.hub_wait.specs.Verdicts.{verdict as verdict_of}
@@ -21,10 +21,10 @@ use Rattle.hub_desk.specs.Waits.{Opening, watch_over, so_far, stopped, opened_by
 use Rattle.hub_desk.specs.declared.local_desk.Holding.{Holding}
 use Rattle.hub_desk.specs.declared.local_desk.LocalFifodir.{LocalFifodir}
 use Rattle.hub_desk.specs.declared.local_desk.waits.Post.{Post}
-use Rattle.hub_desk.specs.declared.reply.Reply.{Reply}
-use Rattle.hub_desk.specs.declared.reply.Reply.TheVariants.{No}
-use Rattle.hub_desk.specs.declared.reply.Refusal.{Refusal}
-use Rattle.hub_desk.specs.declared.reply.Refusal.TheVariants as no
+use Rattle.hub_requests.specs.declared.reply.Reply.{Reply}
+use Rattle.hub_requests.specs.declared.reply.Reply.TheVariants.{No}
+use Rattle.hub_requests.specs.declared.reply.Refusal.{Refusal}
+use Rattle.hub_requests.specs.declared.reply.Refusal.TheVariants as no
 use Rattle.hub_desk.proofs.Asking.{by_carrying, by_refusing, by_lacking, is_memory}
 use Rattle.hub_desk.proofs.Holdings.{held_still, held_in_changed, held_beside_cancelled, unheld_id}
 use Rattle.hub_desk.proofs.KeptFifodirs.{is_some-world_of}

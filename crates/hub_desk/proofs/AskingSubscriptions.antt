@@ -12,10 +12,10 @@ use Rattle.hub_desk.specs.Desks.{Desk, Fifodir, standing, held, world_of, subscr
 use Rattle.hub_desk.specs.Standing.{Local, AreKept, Stands, HasSubscription, AskedWith, Ended}
 use Rattle.hub_desk.specs.declared.local_desk.Holding.{Holding}
 use Rattle.hub_desk.specs.declared.local_desk.LocalFifodir.{LocalFifodir}
-use Rattle.hub_desk.specs.declared.request.Request.TheVariants.{Take, Cancel}
-use Rattle.hub_desk.specs.declared.reply.Reply.{Reply}
-use Rattle.hub_desk.specs.declared.reply.Reply.TheVariants.{Done, No}
-use Rattle.hub_desk.specs.declared.reply.Refusal.TheVariants as no
+use Rattle.hub_requests.specs.declared.request.Request.TheVariants.{Take, Cancel}
+use Rattle.hub_requests.specs.declared.reply.Reply.{Reply}
+use Rattle.hub_requests.specs.declared.reply.Reply.TheVariants.{Done, No}
+use Rattle.hub_requests.specs.declared.reply.Refusal.TheVariants as no
 use Rattle.hub_desk.proofs.Asking.{by_carrying, by_refusing, by_lacking, still_lacking, stands_same, Replaces, world_there, stands_replaced, stands_still}
 use Rattle.hub_desk.proofs.Holdings.{held_at, standing-dropped, length-dropped, standing-without, length-without, held_removed, held_beside_cancelled, apart_removed, go_on_removed}
 use Rattle.hub_desk.proofs.KeptFifodirs.{none_kept, some_kept, kept_set}

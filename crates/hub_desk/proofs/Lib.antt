@@ -10,7 +10,7 @@ pub mod HearingLetters
 pub mod HearingFronts
 pub mod AskingHolds
 pub mod AskingSubscriptions
-mod ShortReplies
+mod ShortRefusals
 pub mod Posts
 pub mod AskingServices
 mod UsedIds

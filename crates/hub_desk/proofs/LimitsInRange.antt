@@ -5,7 +5,7 @@ use Rattle.std.proofs.Math.Dec.{lit≤}
 use Rattle.std.proofs.Math.Decide.{dec_le}
 use Rattle.hub_record.specs.declared.limits.Limits.{Limits}
 use Rattle.hub_desk.specs.Answers.{limits_by, limits_of}
-use Rattle.hub_desk.specs.Ranges.{AreLimits}
+use Rattle.hub_requests.specs.Ranges.{AreLimits}
 
 module _ (waiting total : ℕ) (in_range : AreLimits waiting total)
     (waits : (1 ≤ waiting) × (waiting ≤ 4096)) (takes : (1 ≤ total) × (total ≤ 1000000000000)) (gives : (1 ≤ 1000000000000) × (1000000000000 ≤ 1000000000000)) where

@@ -14,19 +14,20 @@ use Rattle.hub_record.specs.declared.SubError.{SubError}
 use Rattle.hub_record.specs.declared.SubError.TheVariants as sub
 use Rattle.hub_record.specs.Kept.{Kept, StandsFor}
 use Rattle.hub_record.specs.World.{World, SubscribeReply, after_subscribe}
-use Rattle.hub_wait.specs.declared.tally.Span.{Span}
+use Rattle.hub_letters.specs.declared.span.Span.{Span}
 use Rattle.hub_wait.specs.Verdicts.{Tallied, tally_of}
 use Rattle.hub_wait.specs.Watching.{Watching, started}
 use Rattle.hub_desk.specs.Desks.{Fifodir, reports_of, with_world}
 use Rattle.hub_desk.specs.Opening.{OpensPost, OpensAll}
-use Rattle.hub_desk.specs.Replies.{subscribe_reply, refusal_of_sub}
+use Rattle.hub_desk.specs.Replies.{subscribe_reply}
+use Rattle.hub_requests.specs.Refusals.{refusal_of_sub}
 use Rattle.hub_desk.specs.Standing.{AreKept}
-use Rattle.hub_desk.specs.Texts.{number_or_dash, numbers_text}
+use Rattle.hub_requests.specs.Texts.{number_or_dash, numbers_text}
 use Rattle.hub_desk.specs.Waits.{status_of, watch_over, Opening, so_far, stopped, opened_by, opened_in, with_post, opened, without_posts}
 use Rattle.hub_desk.specs.declared.local_desk.LocalFifodir.{LocalFifodir}
 use Rattle.hub_desk.specs.declared.local_desk.waits.Post.{Post}
-use Rattle.hub_desk.specs.declared.reply.Refusal.{Refusal}
-use Rattle.hub_desk.specs.declared.reply.Refusal.TheVariants as no
+use Rattle.hub_requests.specs.declared.reply.Refusal.{Refusal}
+use Rattle.hub_requests.specs.declared.reply.Refusal.TheVariants as no
 use Rattle.hub_desk.proofs.KeptFifodirs.{none_kept, some_kept, kept_set, kept_still}
 use Rattle.hub_desk.proofs.RecordReplies.{subscribe_reply_is}
 

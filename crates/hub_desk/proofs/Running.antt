@@ -3,9 +3,9 @@ use Rattle.std.proofs.Common.{◌≡◌, ◌≢◌, ℕ, Bool, true, false, List
 use Rattle.std.proofs.lemmas.List.Elements.{All-head, All-tail}
 use Rattle.hub_desk.specs.Answers.{answer, answer_to, answers, desk_after, pattern_in, first_read, later_reads, AreReads}
 use Rattle.hub_desk.specs.Standing.{Stands, RunsAnswer, IsReadAs, over, asked}
-use Rattle.hub_desk.specs.declared.reply.Reply.{Reply}
-use Rattle.hub_desk.specs.declared.reply.Reply.TheVariants.{No}
-use Rattle.hub_desk.specs.declared.reply.Refusal.TheVariants.{Memory}
+use Rattle.hub_requests.specs.declared.reply.Reply.{Reply}
+use Rattle.hub_requests.specs.declared.reply.Reply.TheVariants.{No}
+use Rattle.hub_requests.specs.declared.reply.Refusal.TheVariants.{Memory}
 
 -- with the yes or no of a request with this pattern before those of the requests after it
 with_read : Bool → Option (List ℕ) → List Bool → List Bool

@@ -10,12 +10,13 @@ use Rattle.hub_letters.specs.declared.want.Want.{Want}
 use Rattle.hub_record.specs.declared.SubError.{SubError}
 use Rattle.hub_record.specs.World.{World, Subscription, found, found_from, changed_from, stopped as stopped_one, new_subscription, after_subscribe, after_cancel, after_cancel_for}
 use Rattle.hub_desk.specs.Desks.{Fifodir, world_of, reports_of, with_world, end_in}
-use Rattle.hub_desk.specs.Replies.{subscribe_reply, refusal_of_sub}
+use Rattle.hub_desk.specs.Replies.{subscribe_reply}
+use Rattle.hub_requests.specs.Refusals.{refusal_of_sub}
 use Rattle.hub_desk.specs.Waits.{Opening, watch_over, so_far, stopped, opened_by, opened_in, with_post, opened, without_subscription, without_posts, HasUsedIdsThere, WaitsUseIds}
 use Rattle.hub_desk.specs.declared.local_desk.Holding.{Holding}
 use Rattle.hub_desk.specs.declared.local_desk.waits.Post.{Post}
-use Rattle.hub_desk.specs.declared.reply.Refusal.{Refusal}
-use Rattle.hub_desk.specs.declared.reply.Refusal.TheVariants as no
+use Rattle.hub_requests.specs.declared.reply.Refusal.{Refusal}
+use Rattle.hub_requests.specs.declared.reply.Refusal.TheVariants as no
 use Rattle.hub_desk.proofs.AskingServices.{given_is}
 use Rattle.hub_desk.proofs.KeptFifodirs.{world_of-with_world}
 use Rattle.hub_desk.proofs.Worlds.{found_below}

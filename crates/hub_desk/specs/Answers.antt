@@ -6,8 +6,8 @@ use Rattle.std.proofs.Math.Dec.{lit≤}
 use Rattle.hub_letters.specs.Flags.{flags_of}
 use Rattle.hub_listen.specs.Hit.{IsPattern}
 use Rattle.hub_listen.specs.Listening.{unheard}
-use Rattle.hub_listen.specs.declared.listener.Mode.{Mode}
-use Rattle.hub_listen.specs.declared.listener.Mode.TheVariants.{Repeat}
+use Rattle.hub_letters.specs.declared.mode.Mode.{Mode}
+use Rattle.hub_letters.specs.declared.mode.Mode.TheVariants.{Repeat}
 use Rattle.hub_record.specs.World.{World, empty_world, letters, after_subscribe, after_publish, take_reply, take_events, after_take, close_reply, after_close}
 use Rattle.hub_record.specs.declared.Kind.{Kind}
 use Rattle.hub_record.specs.declared.Kind.TheVariants.{Plain, Service}
@@ -20,16 +20,17 @@ use Rattle.hub_record.specs.declared.NoId.{NoId}
 use Rattle.hub_record.specs.declared.Closed.{Closed}
 use Rattle.hub_desk.specs.Desks.{Desk, Answer, world_of, reports_of, with_world, standing, held, without_handle, refused}
 use Rattle.hub_desk.specs.Polls.{polled, LeftByPoll}
-use Rattle.hub_desk.specs.Replies.{subscribe_reply, publish_reply, refusal_of_sub, refusal_of_pub}
+use Rattle.hub_desk.specs.Replies.{subscribe_reply, publish_reply}
+use Rattle.hub_requests.specs.Refusals.{refusal_of_sub, refusal_of_pub}
 use Rattle.hub_desk.specs.Waits.{waited, LeftByWait}
 use Rattle.hub_desk.specs.declared.local_desk.Hearing.{Hearing}
 use Rattle.hub_desk.specs.declared.local_desk.Holding.{Holding}
-use Rattle.hub_desk.specs.declared.request.Request.{Request}
-use Rattle.hub_desk.specs.declared.request.Request.TheVariants.{Dir, Svc, Sub, Pub, Take, Cancel, Close, Status, Listen, Poll, Wait}
-use Rattle.hub_desk.specs.declared.reply.Reply.{Reply}
-use Rattle.hub_desk.specs.declared.reply.Reply.TheVariants.{Done, Number, State, Got, Nothing, End, No}
-use Rattle.hub_desk.specs.declared.reply.Refusal.{Refusal}
-use Rattle.hub_desk.specs.declared.reply.Refusal.TheVariants as no
+use Rattle.hub_requests.specs.declared.request.Request.{Request}
+use Rattle.hub_requests.specs.declared.request.Request.TheVariants.{Dir, Svc, Sub, Pub, Take, Cancel, Close, Status, Listen, Poll, Wait}
+use Rattle.hub_requests.specs.declared.reply.Reply.{Reply}
+use Rattle.hub_requests.specs.declared.reply.Reply.TheVariants.{Done, Number, State, Got, Nothing, End, No}
+use Rattle.hub_requests.specs.declared.reply.Refusal.{Refusal}
+use Rattle.hub_requests.specs.declared.reply.Refusal.TheVariants as no
 
 -- ---- what the desk itself refuses, in the order of the refusals
 

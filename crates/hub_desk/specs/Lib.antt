@@ -1,6 +1,3 @@
-pub mod Names
-pub mod Ranges
-pub mod Texts
 pub mod Replies
 pub mod Desks
 pub mod Polls

@@ -10,8 +10,8 @@ use Rattle.hub_desk.specs.Standing.{AreKept}
 use Rattle.hub_desk.specs.Waits.{so_far, stopped, with_post, opened}
 use Rattle.hub_desk.specs.declared.local_desk.LocalFifodir.{LocalFifodir}
 use Rattle.hub_desk.specs.declared.local_desk.waits.Post.{Post}
-use Rattle.hub_desk.specs.declared.reply.Refusal.{Refusal}
-use Rattle.hub_desk.specs.declared.reply.Refusal.TheVariants.{Name, Kind, Memory}
+use Rattle.hub_requests.specs.declared.reply.Refusal.{Refusal}
+use Rattle.hub_requests.specs.declared.reply.Refusal.TheVariants.{Name, Kind, Memory}
 
 -- ---- by name, among a desk's own fifodirs
 

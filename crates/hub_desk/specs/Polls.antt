@@ -4,14 +4,14 @@ use Rattle.std.specs.Prelude.{ℕ, ◌≡◌, ◌⊎◌, ◌+◌, ◌-◌, ◌<�
 use Rattle.hub_listen.specs.Each.{fitting}
 use Rattle.hub_listen.specs.Hit.{HasNoHit, hit_length}
 use Rattle.hub_listen.specs.Listening.{after_hit, after_quiet}
-use Rattle.hub_listen.specs.declared.listener.Mode.{Mode}
-use Rattle.hub_listen.specs.declared.listener.Mode.TheVariants.{Once, Repeat}
+use Rattle.hub_letters.specs.declared.mode.Mode.{Mode}
+use Rattle.hub_letters.specs.declared.mode.Mode.TheVariants.{Once, Repeat}
 use Rattle.hub_record.specs.World.{World, Subscription, letters, found, after_take}
 use Rattle.hub_record.specs.declared.Event.{Event}
 use Rattle.hub_desk.specs.Desks.{Desk, Answer, world_of, with_world, held, with_holding_from, without_handle}
 use Rattle.hub_desk.specs.declared.local_desk.Hearing.{Hearing}
 use Rattle.hub_desk.specs.declared.local_desk.Holding.{Holding}
-use Rattle.hub_desk.specs.declared.reply.Reply.TheVariants.{Hit, Nothing, End}
+use Rattle.hub_requests.specs.declared.reply.Reply.TheVariants.{Hit, Nothing, End}
 
 -- the events behind the cursor
 abbrev pub waiting_for : World → Option Subscription → List Event

@@ -1,4 +1,4 @@
--- What a record answers as a function of its world, and how a desk names what a record refuses.
+-- What a record answers as a function of its world.
 use Rattle.std.specs.Prelude.{ℕ, ◌≡◌, ◌≢◌, ◌==◌, ◌+◌, Bool, true, false, if◌then◌else◌, List, [], ◌∷◌, ◌++◌, length, nat_le, nat_lt, Option, Some, None, is_some, Result, Ok, Err}
 use Rattle.std.specs.Option.{option_map}
 use Rattle.hub_letters.specs.Stages.{followed}
@@ -10,8 +10,6 @@ use Rattle.hub_record.specs.declared.SubError.{SubError}
 use Rattle.hub_record.specs.declared.SubError.TheVariants as sub
 use Rattle.hub_record.specs.declared.PubError.{PubError}
 use Rattle.hub_record.specs.declared.PubError.TheVariants as post
-use Rattle.hub_desk.specs.declared.reply.Refusal.{Refusal}
-use Rattle.hub_desk.specs.declared.reply.Refusal.TheVariants as no
 
 abbrev pub subscribe_reply : World → Result (ℕ × ℕ) SubError
 subscribe_reply w =
@@ -51,20 +49,6 @@ open_reply w n None = lawful_reply w n
 abbrev pub publish_reply : World → List ℕ → Result ℕ PubError
 publish_reply w message =
     if w.closed then Err post.Closed else open_reply w (length message) (first_unlawful w.kind (letters w.events) message)
-
--- ---- refusals
-
-abbrev pub refusal_of_sub : SubError → Refusal
-refusal_of_sub sub.Closed = no.Closed
-refusal_of_sub sub.Many = no.Many
-refusal_of_sub sub.Spent = no.Spent
-refusal_of_sub sub.Memory = no.Memory
-
-abbrev pub refusal_of_pub : PubError → Refusal
-refusal_of_pub post.Closed = no.Closed
-refusal_of_pub (post.Unlawful place) = no.Unlawful place
-refusal_of_pub post.Spent = no.Spent
-refusal_of_pub post.Full = no.Full
 
 -- ---- laws
 

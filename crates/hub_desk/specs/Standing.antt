@@ -7,12 +7,12 @@ use Rattle.hub_desk.specs.Desks.{Fifodir, Desk, IsDesk, Answer, standing, ended}
 use Rattle.hub_desk.specs.Answers.{own_refusal, carried_out, answer_by, LeftBy, pattern_in, patterns_in, AreReads, answers, desk_after}
 use Rattle.hub_desk.specs.declared.local_desk.LocalFifodir.{LocalFifodir}
 use Rattle.hub_desk.specs.declared.local_desk.Holding.{Holding}
-use Rattle.hub_desk.specs.declared.request.Request.{Request}
-use Rattle.hub_desk.specs.declared.request.Request.TheVariants.{Dir, Svc, Sub, Pub, Take, Cancel, Close, Status, Listen, Poll, Wait}
-use Rattle.hub_desk.specs.declared.reply.Reply.{Reply}
-use Rattle.hub_desk.specs.declared.reply.Reply.TheVariants.{No}
-use Rattle.hub_desk.specs.declared.reply.Refusal.{Refusal}
-use Rattle.hub_desk.specs.declared.reply.Refusal.TheVariants.{Memory}
+use Rattle.hub_requests.specs.declared.request.Request.{Request}
+use Rattle.hub_requests.specs.declared.request.Request.TheVariants.{Dir, Svc, Sub, Pub, Take, Cancel, Close, Status, Listen, Poll, Wait}
+use Rattle.hub_requests.specs.declared.reply.Reply.{Reply}
+use Rattle.hub_requests.specs.declared.reply.Reply.TheVariants.{No}
+use Rattle.hub_requests.specs.declared.reply.Refusal.{Refusal}
+use Rattle.hub_requests.specs.declared.reply.Refusal.TheVariants.{Memory}
 
 -- what a contract sees of a `LocalDesk`: the fifodirs by name in the order they were made, what the standing handles
 -- hold by number, and how many handles were given

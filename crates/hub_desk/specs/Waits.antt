@@ -8,16 +8,17 @@ use Rattle.hub_record.specs.declared.Status.{Status}
 use Rattle.hub_record.specs.declared.SubError.{SubError}
 use Rattle.hub_wait.specs.Watching.{Watching, started, is_met_at}
 use Rattle.hub_wait.specs.Verdicts.{verdict}
-use Rattle.hub_wait.specs.declared.tally.Span.{Span}
+use Rattle.hub_letters.specs.declared.span.Span.{Span}
 use Rattle.hub_wait.specs.declared.tally.Verdict.{Verdict}
 use Rattle.hub_wait.specs.declared.tally.Verdict.TheVariants as verdict
-use Rattle.hub_desk.specs.Replies.{subscribe_reply, refusal_of_sub}
+use Rattle.hub_desk.specs.Replies.{subscribe_reply}
+use Rattle.hub_requests.specs.Refusals.{refusal_of_sub}
 use Rattle.hub_desk.specs.Desks.{Desk, Answer, Fifodir, world_of, reports_of, with_world, without_held}
 use Rattle.hub_desk.specs.declared.local_desk.waits.Post.{Post}
-use Rattle.hub_desk.specs.declared.reply.Reply.{Reply}
-use Rattle.hub_desk.specs.declared.reply.Reply.TheVariants.{Yes, Never, Late, No}
-use Rattle.hub_desk.specs.declared.reply.Refusal.{Refusal}
-use Rattle.hub_desk.specs.declared.reply.Refusal.TheVariants as no
+use Rattle.hub_requests.specs.declared.reply.Reply.{Reply}
+use Rattle.hub_requests.specs.declared.reply.Reply.TheVariants.{Yes, Never, Late, No}
+use Rattle.hub_requests.specs.declared.reply.Refusal.{Refusal}
+use Rattle.hub_requests.specs.declared.reply.Refusal.TheVariants as no
 
 -- ---- posts
 

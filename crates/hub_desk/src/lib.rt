@@ -1,22 +1,10 @@
-//! Requests to replies.
+//! The desk of one thread.
 //!
-//! A [`Request`] is what a client asks for and a [`Reply`] what it is answered. Whatever answers requests is a
-//! [`Desk`], one for each session. It keeps what the session holds: its subscriptions and listeners, each under a
-//! handle, a number that is given once and never again. Ending a desk gives back all that it holds; the fifodirs stay.
-//!
-//! A [`LocalDesk`] serves one thread, over records of its own, so that its replies are a function of the requests.
+//! A [`LocalDesk`] answers the requests of one session over records of its own, so that its replies are a function of
+//! the requests.
 #![tactic(auto)]
 
-mod desk;
 mod local_desk;
-mod name;
-mod reply;
-mod request;
-mod texts;
 
-pub use desk::Desk;
+pub use hub_requests::{Desk, Name, Names, Numbers, PatternText, Refusal, Reply, Request};
 pub use local_desk::LocalDesk;
-pub use name::Name;
-pub use reply::{Refusal, Reply};
-pub use request::Request;
-pub use texts::{Names, Numbers, PatternText};

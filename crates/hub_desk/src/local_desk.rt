@@ -1,16 +1,13 @@
 //! The desk of one thread.
 ghost use Rattle.std.specs.Prelude.{◌≡◌, IfOk, Some};
 ghost use Rattle.hub_desk.specs.Answers.{limits_of};
-ghost use Rattle.hub_desk.specs.Ranges.{AreLimits};
+ghost use Rattle.hub_requests.specs.Ranges.{AreLimits};
 
-use crate::desk::Desk;
 use crate::local_desk::subscriptions::release_all;
-use crate::name::Name;
-use crate::reply::Reply;
-use crate::request::Request;
 use hub_letters::Letter;
 use hub_listen::{Listener, Mode};
 use hub_record::{Kind, Limits, Record};
+use hub_requests::{Desk, Name, Reply, Request};
 use indexmap::IndexMap;
 use std::alloc::{AllocError, Global};
 use std::marker::Model;

@@ -2,11 +2,11 @@
 use Rattle.std.proofs.Common.{◌≡◌, ◌≢◌, ℕ, List, [], ◌∷◌, ◌++◌, length, flat_map, Option, None, Some, Result, Ok, Err, refl, sym, ap, ◌∙◌, subst, append-nil}
 use Rattle.std.specs.Io.KnownBytes.{Appends, Consumes, IsAtEnd}
 use Rattle.std.proofs.lemmas.List.Elements.{All-head, All-tail}
-use Rattle.hub_desk.specs.declared.request.Request.{Request}
-use Rattle.hub_desk.specs.declared.reply.Reply.{Reply}
-use Rattle.hub_desk.specs.declared.reply.Reply.TheVariants.{No}
-use Rattle.hub_desk.specs.declared.reply.Refusal.TheVariants.{Memory}
-use Rattle.hub_desk.specs.Texts.{text_of}
+use Rattle.hub_requests.specs.declared.request.Request.{Request}
+use Rattle.hub_requests.specs.declared.reply.Reply.{Reply}
+use Rattle.hub_requests.specs.declared.reply.Reply.TheVariants.{No}
+use Rattle.hub_requests.specs.declared.reply.Refusal.TheVariants.{Memory}
+use Rattle.hub_requests.specs.Texts.{text_of}
 use Rattle.hub_lines.specs.declared.parsing.Bad.{Bad}
 use Rattle.hub_lines.specs.declared.parsing.Bad.TheVariants as bad
 use Rattle.hub_lines.specs.Refusing.{refusal_of}

@@ -1,10 +1,10 @@
 -- Where replies stand: a desk's replies to the requests, and the refusals in their lines' places.
 use Rattle.std.specs.Prelude.{◌≡◌, ◌≢◌, ℕ, List, [], ◌∷◌, All, Result, Ok, Err}
 use Rattle.std.specs.List.{AllZip}
-use Rattle.hub_desk.specs.declared.request.Request.{Request}
-use Rattle.hub_desk.specs.declared.reply.Reply.{Reply}
-use Rattle.hub_desk.specs.declared.reply.Reply.TheVariants.{No}
-use Rattle.hub_desk.specs.declared.reply.Refusal.TheVariants.{Memory}
+use Rattle.hub_requests.specs.declared.request.Request.{Request}
+use Rattle.hub_requests.specs.declared.reply.Reply.{Reply}
+use Rattle.hub_requests.specs.declared.reply.Reply.TheVariants.{No}
+use Rattle.hub_requests.specs.declared.reply.Refusal.TheVariants.{Memory}
 use Rattle.hub_lines.specs.declared.parsing.Bad.{Bad}
 use Rattle.hub_lines.specs.declared.parsing.Bad.TheVariants as bad
 use Rattle.hub_lines.specs.Reading.{IsReading}

@@ -1,10 +1,10 @@
 -- What a session answers and writes.
 use Rattle.std.specs.Prelude.{◌≡◌, ◌⊎◌, ℕ, ◌<◌, ◌≤◌, List, [], ◌∷◌, ◌++◌, length, take, flat_map, Option, Result, Ok, Err}
 use Rattle.std.specs.Io.KnownBytes.{Appends, Consumes, IsAtEnd}
-use Rattle.hub_desk.specs.declared.request.Request.{Request}
-use Rattle.hub_desk.specs.declared.reply.Reply.{Reply}
-use Rattle.hub_desk.specs.declared.reply.Reply.TheVariants.{No}
-use Rattle.hub_desk.specs.Texts.{text_of}
+use Rattle.hub_requests.specs.declared.request.Request.{Request}
+use Rattle.hub_requests.specs.declared.reply.Reply.{Reply}
+use Rattle.hub_requests.specs.declared.reply.Reply.TheVariants.{No}
+use Rattle.hub_requests.specs.Texts.{text_of}
 use Rattle.hub_lines.specs.declared.parsing.Bad.{Bad}
 use Rattle.hub_front.specs.declared.fault.FrontError.{FrontError}
 use Rattle.hub_front.specs.declared.fault.FrontError.TheVariants as fault

@@ -1,10 +1,10 @@
 //! Where replies stand: laws of the definitions alone.
 ghost use Rattle.std.specs.Prelude.{◌≡◌, ℕ, List, Option};
-ghost use Rattle.hub_desk.specs.declared.reply.Reply.{Reply};
+ghost use Rattle.hub_requests.specs.declared.reply.Reply.{Reply};
 ghost use Rattle.hub_front.specs.Serving.{Run, Finished};
 ghost use Rattle.hub_front.specs.Places.{AreInPlace, IsFunction, NoneIsMemory};
 
-use hub_desk::Desk;
+use hub_requests::Desk;
 
 /// The replies to lines are the desk's to the requests among them, with the refusals in their lines' places.
 pub fn refusals_stand_in_place<D: Desk>()

@@ -17,7 +17,7 @@ use crate::fault::FrontError;
 use crate::session::Session;
 use crate::sink::Sink;
 use crate::source::Source;
-use hub_desk::Desk;
+use hub_requests::Desk;
 use std::alloc::{AllocError, Global};
 use std::sync::Wait;
 

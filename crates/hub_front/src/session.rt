@@ -1,7 +1,7 @@
 //! What a session keeps between two reads, and how it answers the bytes of one.
 ghost use Rattle.std.specs.Prelude.{◌≡◌, ◌+◌, ◌<◌, ◌≤◌, ◌^◌, List, [], ◌∷◌, length, OnOk, OnErr, IfOk, IfErr, vec_len, vec_capacity};
 ghost use Rattle.std.specs.Io.KnownBytes.{Appends};
-ghost use Rattle.hub_desk.specs.Texts.{text_of};
+ghost use Rattle.hub_requests.specs.Texts.{text_of};
 ghost use Rattle.hub_front.specs.Lines.{last_line};
 ghost use Rattle.hub_front.specs.Telling.{Grows};
 ghost use Rattle.hub_front.specs.Serving.{Answers, Served, AppendsPart, BreaksOff, write_faults};
@@ -9,8 +9,8 @@ ghost use Rattle.hub_front.specs.Pieces.{done, left};
 
 use crate::fault::FrontError;
 use crate::sink::Sink;
-use hub_desk::{Desk, Refusal, Reply};
 use hub_lines::{parse, write_reply};
+use hub_requests::{Desk, Refusal, Reply};
 use std::alloc::{AllocError, Global};
 use std::sync::Wait;
 

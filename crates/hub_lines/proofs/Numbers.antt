@@ -1,7 +1,7 @@
 -- The text of numbers, one after another.
 use Rattle.std.proofs.Common.{◌≡◌, ℕ, ◌+◌, ◌<◌, ◌≤◌, List, [], ◌∷◌, ◌++◌, length, take, drop, get_or, Option, refl, sym, ap, ◌∙◌, append_assoc, append-nil, take-append-drop, length-append, arith}
 use Rattle.std.proofs.lemmas.List.{take_more}
-use Rattle.hub_desk.specs.Texts.{number_or_dash, numbers_text}
+use Rattle.hub_requests.specs.Texts.{number_or_dash, numbers_text}
 
 pub numbers_text-append : (xs ys : List (Option ℕ)) → numbers_text (xs ++ ys) ≡ numbers_text xs ++ numbers_text ys
 numbers_text-append [] ys = refl

@@ -3,10 +3,10 @@ use Rattle.std.proofs.Common.{◌≡◌, ◌≢◌, ℕ, ◌<◌, ◌≤◌, Lis
 use Rattle.std.specs.Prelude.{Any}
 use Rattle.std.specs.Fmt.{decimal}
 use Rattle.hub_letters.specs.declared.want.Want.{Want}
-use Rattle.hub_listen.specs.declared.listener.Mode.{Mode}
-use Rattle.hub_wait.specs.declared.tally.Span.{Span}
-use Rattle.hub_desk.specs.declared.request.Request.{Request}
-use Rattle.hub_desk.specs.declared.request.Request.TheVariants as request
+use Rattle.hub_letters.specs.declared.mode.Mode.{Mode}
+use Rattle.hub_letters.specs.declared.span.Span.{Span}
+use Rattle.hub_requests.specs.declared.request.Request.{Request}
+use Rattle.hub_requests.specs.declared.request.Request.TheVariants as request
 use Rattle.hub_lines.specs.declared.parsing.Bad.{Bad}
 use Rattle.hub_lines.specs.declared.parsing.Bad.TheVariants.{Long, Text, Range, Memory}
 use Rattle.hub_lines.specs.declared.words.Word.{Word}

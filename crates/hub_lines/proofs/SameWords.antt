@@ -4,10 +4,10 @@ use Rattle.std.specs.Prelude.{if◌then◌else◌}
 use Rattle.std.specs.Str.{bytes_eq}
 use Rattle.hub_letters.specs.declared.want.Want.{Want}
 use Rattle.hub_letters.specs.declared.want.Want.TheVariants.{Up, Ready, Down, Finished}
-use Rattle.hub_listen.specs.declared.listener.Mode.{Mode}
-use Rattle.hub_listen.specs.declared.listener.Mode.TheVariants.{Once, Repeat}
-use Rattle.hub_wait.specs.declared.tally.Span.{Span}
-use Rattle.hub_wait.specs.declared.tally.Span.TheVariants.{All, Any}
+use Rattle.hub_letters.specs.declared.mode.Mode.{Mode}
+use Rattle.hub_letters.specs.declared.mode.Mode.TheVariants.{Once, Repeat}
+use Rattle.hub_letters.specs.declared.span.Span.{Span}
+use Rattle.hub_letters.specs.declared.span.Span.TheVariants.{All, Any}
 use Rattle.hub_lines.specs.declared.words.Word.{Word}
 use Rattle.hub_lines.specs.declared.words.Word.TheVariants as word
 use Rattle.hub_lines.specs.Spelling.{text_of_word, text_of_mode, text_of_span, text_of_want}

@@ -9,11 +9,11 @@ use Rattle.std.proofs.lemmas.Bool.{and_parts, or_cases, eqb-true, eqb-false, ne_
 use Rattle.std.proofs.lemmas.List.Elements.{All-nil, All-cons, All-head, All-tail, All-weaker}
 use Rattle.hub_letters.specs.declared.want.Want.{Want}
 use Rattle.hub_letters.specs.declared.want.Want.TheVariants.{Up, Ready, Down, Finished}
-use Rattle.hub_listen.specs.declared.listener.Mode.{Mode}
-use Rattle.hub_listen.specs.declared.listener.Mode.TheVariants.{Once, Repeat}
-use Rattle.hub_wait.specs.declared.tally.Span.{Span}
-use Rattle.hub_wait.specs.declared.tally.Span.TheVariants as span
-use Rattle.hub_desk.specs.Names.{within, is_name_byte}
+use Rattle.hub_letters.specs.declared.mode.Mode.{Mode}
+use Rattle.hub_letters.specs.declared.mode.Mode.TheVariants.{Once, Repeat}
+use Rattle.hub_letters.specs.declared.span.Span.{Span}
+use Rattle.hub_letters.specs.declared.span.Span.TheVariants as span
+use Rattle.hub_requests.specs.Names.{within, is_name_byte}
 use Rattle.hub_lines.specs.declared.words.Word.{Word}
 use Rattle.hub_lines.specs.declared.words.Word.TheVariants as word
 use Rattle.hub_lines.specs.Spelling.{IsName, IsNumeral, text_of_word, text_of_mode, text_of_span, text_of_want}

@@ -1,7 +1,7 @@
 -- What a line is read as: the request that it spells, or the first rule that it breaks.
 use Rattle.std.specs.Prelude.{◌≡◌, ◌≢◌, ℕ, ◌<◌, ◌≤◌, List, length, All, Any, Result, Ok, Err, ◌==◌}
 use Rattle.std.specs.List.{before_first}
-use Rattle.hub_desk.specs.declared.request.Request.{Request}
+use Rattle.hub_requests.specs.declared.request.Request.{Request}
 use Rattle.hub_lines.specs.declared.parsing.Bad.{Bad}
 use Rattle.hub_lines.specs.declared.parsing.Bad.TheVariants.{Long, Text, Range, Memory}
 use Rattle.hub_lines.specs.declared.parsing.Bad.TheVariants as bad

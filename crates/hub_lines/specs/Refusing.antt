@@ -1,6 +1,6 @@
 -- What a line that is no request is refused by.
-use Rattle.hub_desk.specs.declared.reply.Refusal.{Refusal}
-use Rattle.hub_desk.specs.declared.reply.Refusal.TheVariants as refusal
+use Rattle.hub_requests.specs.declared.reply.Refusal.{Refusal}
+use Rattle.hub_requests.specs.declared.reply.Refusal.TheVariants as refusal
 use Rattle.hub_lines.specs.declared.parsing.Bad.{Bad}
 use Rattle.hub_lines.specs.declared.parsing.Bad.TheVariants.{Long, Text, Word, Form, Range, Memory}
 

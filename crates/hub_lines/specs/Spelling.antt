@@ -4,14 +4,14 @@ use Rattle.std.specs.Fmt.{decimal}
 use Rattle.std.specs.List.{join_with_byte}
 use Rattle.hub_letters.specs.declared.want.Want.{Want}
 use Rattle.hub_letters.specs.declared.want.Want.TheVariants.{Up, Ready, Down, Finished}
-use Rattle.hub_listen.specs.declared.listener.Mode.{Mode}
-use Rattle.hub_listen.specs.declared.listener.Mode.TheVariants.{Once, Repeat}
-use Rattle.hub_wait.specs.declared.tally.Span.{Span}
-use Rattle.hub_wait.specs.declared.tally.Span.TheVariants as span
-use Rattle.hub_desk.specs.Names.{is_name}
-use Rattle.hub_desk.specs.Ranges.{AreLimits, IsTake}
-use Rattle.hub_desk.specs.declared.request.Request.{Request}
-use Rattle.hub_desk.specs.declared.request.Request.TheVariants as request
+use Rattle.hub_letters.specs.declared.mode.Mode.{Mode}
+use Rattle.hub_letters.specs.declared.mode.Mode.TheVariants.{Once, Repeat}
+use Rattle.hub_letters.specs.declared.span.Span.{Span}
+use Rattle.hub_letters.specs.declared.span.Span.TheVariants as span
+use Rattle.hub_requests.specs.Names.{is_name}
+use Rattle.hub_requests.specs.Ranges.{AreLimits, IsTake}
+use Rattle.hub_requests.specs.declared.request.Request.{Request}
+use Rattle.hub_requests.specs.declared.request.Request.TheVariants as request
 use Rattle.hub_lines.specs.declared.words.Word.{Word}
 use Rattle.hub_lines.specs.declared.words.Word.TheVariants as word
 

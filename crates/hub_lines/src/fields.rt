@@ -4,7 +4,7 @@ ghost use Rattle.hub_lines.specs.Spelling.{AreLetters, AreNames, IsName, IsPatte
 ghost use Rattle.hub_lines.specs.Reading.{IsTextByte};
 ghost use Rattle.hub_lines.specs.Fields.{is_space, fields_of, digits_from, IsNumeralOf};
 
-use hub_desk::Name;
+use hub_requests::Name;
 
 /// A numeral has at most so many digits.
 const MOST_DIGITS: usize = 13;

@@ -7,9 +7,7 @@ use crate::parts::{
     numeral_first, span_first, want_first,
 };
 use crate::words::Word;
-use hub_letters::Want;
-use hub_listen::Mode;
-use hub_wait::Span;
+use hub_letters::{Mode, Span, Want};
 
 /// What a line of a form says, its numbers not yet held to their ranges.
 #[derive(Clone, Copy)]

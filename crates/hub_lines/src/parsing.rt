@@ -1,6 +1,6 @@
 //! The request that a line spells.
 ghost use Rattle.std.specs.Prelude.{◌≡◌, ◌∷◌, [], IfOk};
-ghost use Rattle.hub_desk.specs.Ranges.{IsInRange};
+ghost use Rattle.hub_requests.specs.Ranges.{IsInRange};
 ghost use Rattle.hub_lines.specs.Fields.{fields_of};
 ghost use Rattle.hub_lines.specs.Forms.{IsRead};
 ghost use Rattle.hub_lines.specs.Reading.{IsReading, IsText};
@@ -10,7 +10,7 @@ use crate::fields::{is_text, split_at_space};
 use crate::forms::{Form, form_of_word};
 use crate::requests::{is_within, request_of};
 use crate::words::word_spelled;
-use hub_desk::{Refusal, Request};
+use hub_requests::{Refusal, Request};
 use std::alloc::Global;
 
 /// A line has at most so many bytes.

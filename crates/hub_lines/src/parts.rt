@@ -2,17 +2,15 @@
 ghost use Rattle.std.specs.Prelude.{◌≡◌, ◌≢◌, ◌∷◌, [], ℕ, List, MatchOption};
 ghost use Rattle.std.specs.Fmt.{decimal};
 ghost use Rattle.hub_letters.specs.declared.want.Want.{Want};
-ghost use Rattle.hub_listen.specs.declared.listener.Mode.{Mode};
-ghost use Rattle.hub_wait.specs.declared.tally.Span.{Span};
+ghost use Rattle.hub_letters.specs.declared.mode.Mode.{Mode};
+ghost use Rattle.hub_letters.specs.declared.span.Span.{Span};
 ghost use Rattle.hub_lines.specs.Spelling.{IsName, IsNumeral, IsPattern, AreLetters, AreNames, text_of_mode, text_of_span, text_of_want};
 ghost use Rattle.hub_lines.specs.Fields.{fields_of};
 
 use crate::fields::{are_letters, are_names, is_pattern, numeral, split_at_space};
 use crate::words::{mode_spelled, span_spelled, want_spelled};
-use hub_desk::Name;
-use hub_letters::Want;
-use hub_listen::Mode;
-use hub_wait::Span;
+use hub_letters::{Mode, Span, Want};
+use hub_requests::Name;
 
 /// A name, and what stands behind it.
 pub fn name_first(rest: &[u8]) -> Option<(&[u8], &[u8])>

@@ -1,14 +1,14 @@
 //! The request that a form asks for.
 ghost use Rattle.std.specs.Prelude.{◌≡◌, MatchBool, IfOk};
-ghost use Rattle.hub_desk.specs.Ranges.{AreLimits};
+ghost use Rattle.hub_requests.specs.Ranges.{AreLimits};
 ghost use Rattle.hub_lines.specs.Spelling.{IsName, IsPattern, AreLetters, AreNames, IsForm, IsWithin, form_of};
 ghost use Rattle.hub_lines.specs.Fields.{fields_of};
 ghost use Rattle.hub_lines.specs.Forms.{form_shown};
 
 use crate::forms::Form;
-use hub_desk::{Name, Names, PatternText, Request};
 use hub_letters::Letter;
 use hub_record::Letters;
+use hub_requests::{Name, Names, PatternText, Request};
 use std::alloc::{AllocError, Global};
 
 fn are_limits(waiting: u64, total: u64) -> bool

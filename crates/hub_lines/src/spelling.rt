@@ -1,6 +1,6 @@
 //! Laws of spelling: each line is read in one way, and each request has a line.
 ghost use Rattle.std.specs.Prelude.{◌≡◌, ◌≢◌, ◌≤◌, ℕ, List, length, Result, Ok, Err};
-ghost use Rattle.hub_desk.specs.declared.request.Request.{Request};
+ghost use Rattle.hub_requests.specs.declared.request.Request.{Request};
 ghost use Rattle.hub_lines.specs.declared.parsing.Bad.{Bad};
 ghost use Rattle.hub_lines.specs.Spelling.{Form, IsForm, IsWithin, spelling, form_of, word_of, text_of_word};
 ghost use Rattle.hub_lines.specs.Reading.{HasForm, Spells, IsReading, first_word};

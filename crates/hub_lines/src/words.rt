@@ -1,14 +1,12 @@
 //! The words of lines.
 ghost use Rattle.std.specs.Prelude.{◌≡◌, ◌≢◌, MatchOption};
 ghost use Rattle.hub_letters.specs.declared.want.Want.{Want};
-ghost use Rattle.hub_listen.specs.declared.listener.Mode.{Mode};
-ghost use Rattle.hub_wait.specs.declared.tally.Span.{Span};
+ghost use Rattle.hub_letters.specs.declared.mode.Mode.{Mode};
+ghost use Rattle.hub_letters.specs.declared.span.Span.{Span};
 ghost use Rattle.hub_lines.specs.Spelling.{text_of_word, text_of_mode, text_of_span, text_of_want};
 ghost use Rattle.hub_lines.specs.declared.words.Word.{Word};
 
-use hub_letters::Want;
-use hub_listen::Mode;
-use hub_wait::Span;
+use hub_letters::{Mode, Span, Want};
 
 /// The words that lines begin with.
 #[derive(Clone, Copy, Debug, PartialEq, Eq)]

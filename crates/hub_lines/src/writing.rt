@@ -1,13 +1,13 @@
 //! The text of a reply.
 ghost use Rattle.std.specs.Prelude.{◌≡◌, ◌++◌, ◌+◌, ◌∷◌, [], ◌≤◌, length, take, OnOk, OnErr, IsOk, vec_len, vec_capacity, codes};
 ghost use Rattle.std.specs.Fmt.{decimal};
-ghost use Rattle.hub_desk.specs.declared.reply.Reply.{Reply};
+ghost use Rattle.hub_requests.specs.declared.reply.Reply.{Reply};
 ghost use Rattle.hub_lines.specs.Writing.{Appends};
-ghost use Rattle.hub_desk.specs.Texts.{line_of, number_or_dash, numbers_text, text_of};
+ghost use Rattle.hub_requests.specs.Texts.{line_of, number_or_dash, numbers_text, text_of};
 
-use hub_desk::{Refusal, Reply};
 use hub_letters::Letter;
 use hub_record::Status;
+use hub_requests::{Refusal, Reply};
 use itoa::Buffer;
 use std::alloc::AllocError;
 

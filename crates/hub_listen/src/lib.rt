@@ -20,7 +20,8 @@ mod search;
 
 pub use each::{Each, feed_each};
 pub use feed::{Feed, FeedError};
-pub use listener::{ListenError, Listener, Mode};
+pub use hub_letters::Mode;
+pub use listener::{ListenError, Listener};
 
 #[cfg(test)]
 mod tests;

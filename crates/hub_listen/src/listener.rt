@@ -3,7 +3,7 @@ ghost use Rattle.std.specs.Prelude.{◌≡◌, ◌≤◌, length, IfOk, OnOk};
 
 use crate::feed::{Feed, FeedError};
 use crate::search::first_hit;
-use hub_letters::Letter;
+use hub_letters::{Letter, Mode};
 use regex::Regex;
 use std::alloc::{AllocError, Global};
 use std::marker::Model;
@@ -12,15 +12,6 @@ use thiserror::Error;
 
 /// How many letters a listener gathers at most.
 pub(crate) const ROOM: usize = 4096;
-
-/// Whether a listener goes on after a hit.
-#[derive(Clone, Copy, Debug, PartialEq, Eq)]
-pub enum Mode {
-    /// It has one hit, and is spent from then on.
-    Once,
-    /// It gathers anew after each hit.
-    Repeat,
-}
 
 /// Why there is no listener.
 #[derive(Clone, Copy, Debug, PartialEq, Eq, Error)]

@@ -8,8 +8,9 @@ mod sharing;
 
 use anyhow::{Result, anyhow};
 use dripping::Dripping;
-use hub_desk::{Desk, LocalDesk};
+use hub_desk::LocalDesk;
 use hub_front::{Source, serve};
+use hub_requests::Desk;
 use std::alloc::{AllocGlobal, Global};
 use std::process::ExitCode;
 use std::rt::Runtime;

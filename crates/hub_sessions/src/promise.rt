@@ -3,8 +3,8 @@ ghost use Rattle.std.specs.Arc.{arc_value};
 ghost use Rattle.hub_sessions.specs.Desks.{Begins};
 ghost use Rattle.hub_sessions.specs.Sessions.{IsResult};
 
-use hub_desk::Desk;
 use hub_front::{FrontError, Sink, Source};
+use hub_requests::Desk;
 use hub_shared::{Hub, SharedDesk};
 use hub_wait::Pause;
 use std::alloc::Global;

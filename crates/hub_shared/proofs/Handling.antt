@@ -1,14 +1,14 @@
 -- A handle on the fifodir that is kept under a name.
 use Rattle.std.proofs.Common.{ℕ, List, subst, inl}
 use Rattle.std.specs.Arc.{arc_value}
-use Rattle.hub_desk.specs.declared.reply.Reply.{Reply}
+use Rattle.hub_requests.specs.declared.reply.Reply.{Reply}
 use Rattle.hub_fifodir.specs.declared.fifodir.Fifodir.{Fifodir}
-use Rattle.hub_listen.specs.declared.listener.Mode.{Mode}
+use Rattle.hub_letters.specs.declared.mode.Mode.{Mode}
 use Rattle.hub_shared.specs.declared.hub.Found.{Found}
 use Rattle.hub_shared.specs.declared.shared_desk.fifodirs.Fifodirs.{Fifodirs}
-use Rattle.hub_shared.specs.declared.shared_desk.handles.Handles.{Handles}
+use Rattle.hub_handles.specs.declared.handles.Handles.{Handles}
 use Rattle.hub_shared.specs.Fifodirs.{IsKeptAs}
-use Rattle.hub_shared.specs.Handles.{Subscribes, Listens}
+use Rattle.hub_handles.specs.Handles.{Subscribes, Listens}
 use Rattle.hub_shared.specs.Desks.{SubscribesTo, ListensTo}
 
 pub subscribes_to : (fs : Fifodirs) (name : List ℕ) (found : Found) (old new : Handles) (reply : Reply) → IsKeptAs fs name found

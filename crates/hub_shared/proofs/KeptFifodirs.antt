@@ -4,7 +4,7 @@ use Rattle.std.proofs.lemmas.Bool.{cases_Bool}
 use Rattle.std.proofs.lemmas.Slice.Eq.{bytes_eq-Decides}
 use Rattle.std.specs.Map.{lookup}
 use Rattle.std.specs.Str.{bytes_eq}
-use Rattle.hub_desk.specs.declared.reply.Reply.{Reply}
+use Rattle.hub_requests.specs.declared.reply.Reply.{Reply}
 use Rattle.hub_fifodir.specs.declared.publisher.Publisher.{Publisher}
 use Rattle.hub_shared.specs.declared.shared_desk.fifodirs.Fifodirs.{Fifodirs}
 use Rattle.hub_shared.specs.declared.shared_desk.joined.Joined.{Joined}

@@ -1,7 +1,5 @@
-pub mod ShortTexts
+pub mod ShortRefusals
 pub mod Speakers
 pub mod KeptFifodirs
 pub mod WaitedNames
-pub mod Numbering
 pub mod Handling
-pub mod Hearings

@@ -1,6 +1,6 @@
 -- A publisher that spoke.
 use Rattle.std.proofs.Common.{ℕ, ◌≡◌, ◌≢◌, [], ◌∷◌, inl, refl, sym, subst, ap, ◌∙◌, arith}
-use Rattle.hub_desk.specs.declared.reply.Reply.{Reply}
+use Rattle.hub_requests.specs.declared.reply.Reply.{Reply}
 use Rattle.hub_fifodir.specs.declared.publisher.Publisher.{Publisher}
 use Rattle.hub_fifodir.specs.declared.views.Sight.{Sight}
 use Rattle.hub_fifodir.specs.Passes.{KnewOwnClose, publisher_sight, closed_mark}

@@ -1,18 +1,18 @@
 -- What a session is answered, and what it leaves.
 use Rattle.std.specs.Prelude.{◌≡◌, ℕ, List, [], Some, ◌⊎◌}
-use Rattle.hub_desk.specs.declared.reply.Refusal.TheVariants as no
-use Rattle.hub_desk.specs.declared.reply.Reply.{Reply}
-use Rattle.hub_desk.specs.declared.reply.Reply.TheVariants.{Done, No}
-use Rattle.hub_desk.specs.declared.request.Request.{Request}
-use Rattle.hub_desk.specs.declared.request.Request.TheVariants.{Dir, Svc, Sub, Pub, Take, Cancel, Close, Status, Listen, Poll, Wait}
+use Rattle.hub_requests.specs.declared.reply.Refusal.TheVariants as no
+use Rattle.hub_requests.specs.declared.reply.Reply.{Reply}
+use Rattle.hub_requests.specs.declared.reply.Reply.TheVariants.{Done, No}
+use Rattle.hub_requests.specs.declared.request.Request.{Request}
+use Rattle.hub_requests.specs.declared.request.Request.TheVariants.{Dir, Svc, Sub, Pub, Take, Cancel, Close, Status, Listen, Poll, Wait}
 use Rattle.hub_shared.specs.declared.shared_desk.fifodirs.Fifodirs.{Fifodirs}
-use Rattle.hub_listen.specs.declared.listener.Mode.{Mode}
-use Rattle.hub_shared.specs.declared.shared_desk.handles.Handles.{Handles}
+use Rattle.hub_letters.specs.declared.mode.Mode.{Mode}
+use Rattle.hub_handles.specs.declared.handles.Handles.{Handles}
 use Rattle.hub_shared.specs.declared.shared_desk.joined.Joined.{Joined}
 use Rattle.hub_shared.specs.declared.shared_desk.SharedDesk.{SharedDesk}
 use Rattle.hub_shared.specs.Speaking.{fifodir_of, says_published, says_closed, says_status}
 use Rattle.hub_shared.specs.Fifodirs.{kept, AsksByName, IsMissing, KeepsAll}
-use Rattle.hub_shared.specs.Handles.{Subscribes, Listens, TakesAt, PollsAt, Cancels}
+use Rattle.hub_handles.specs.Handles.{Subscribes, Listens, TakesAt, PollsAt, Cancels}
 use Rattle.hub_shared.specs.Waits.{WaitsFor, IsWaitRefusal}
 
 -- no fifodir was found and no handle given

@@ -3,10 +3,10 @@ use Rattle.std.specs.Prelude.{◌≡◌, List, ℕ, Option, None, Some, false, �
 use Rattle.std.specs.Arc.{arc_value}
 use Rattle.std.specs.Map.{lookup}
 use Rattle.std.specs.Str.{bytes_eq}
-use Rattle.hub_desk.specs.declared.reply.Refusal.{Refusal}
-use Rattle.hub_desk.specs.declared.reply.Refusal.TheVariants as no
-use Rattle.hub_desk.specs.declared.reply.Reply.{Reply}
-use Rattle.hub_desk.specs.declared.reply.Reply.TheVariants.{No}
+use Rattle.hub_requests.specs.declared.reply.Refusal.{Refusal}
+use Rattle.hub_requests.specs.declared.reply.Refusal.TheVariants as no
+use Rattle.hub_requests.specs.declared.reply.Reply.{Reply}
+use Rattle.hub_requests.specs.declared.reply.Reply.TheVariants.{No}
 use Rattle.hub_fifodir.specs.declared.publisher.Publisher.{Publisher}
 use Rattle.hub_shared.specs.declared.hub.Found.{Found}
 use Rattle.hub_shared.specs.declared.shared_desk.fifodirs.Fifodirs.{Fifodirs}

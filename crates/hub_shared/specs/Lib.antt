@@ -2,8 +2,5 @@ pub mod Refusals
 pub mod Hubs
 pub mod Speaking
 pub mod Fifodirs
-pub mod Taking
-pub mod Hearings
-pub mod Handles
 pub mod Waits
 pub mod Desks

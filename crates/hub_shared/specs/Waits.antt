@@ -5,11 +5,11 @@ use Rattle.hub_letters.specs.declared.want.Want.{Want}
 use Rattle.hub_record.specs.declared.Kind.{Kind}
 use Rattle.hub_record.specs.declared.Kind.TheVariants.{Plain, Service}
 use Rattle.hub_fifodir.specs.Passes.{kind_of}
-use Rattle.hub_desk.specs.declared.reply.Refusal.{Refusal}
-use Rattle.hub_desk.specs.declared.reply.Refusal.TheVariants as no
-use Rattle.hub_desk.specs.declared.reply.Reply.{Reply}
-use Rattle.hub_desk.specs.declared.reply.Reply.TheVariants as answer
-use Rattle.hub_wait.specs.declared.tally.Span.{Span}
+use Rattle.hub_requests.specs.declared.reply.Refusal.{Refusal}
+use Rattle.hub_requests.specs.declared.reply.Refusal.TheVariants as no
+use Rattle.hub_requests.specs.declared.reply.Reply.{Reply}
+use Rattle.hub_requests.specs.declared.reply.Reply.TheVariants as answer
+use Rattle.hub_letters.specs.declared.span.Span.{Span}
 use Rattle.hub_wait.specs.declared.tally.Verdict.TheVariants as verdict
 use Rattle.hub_wait.specs.Waits.{AreKept, IsAnswer, watches_of}
 use Rattle.hub_wait.specs.declared.post.Post.{Post}

@@ -4,9 +4,9 @@ ghost use Rattle.std.specs.Str.{bytes_eq};
 ghost use Rattle.indexmap.specs.IndexMap.{get, index_map_len};
 ghost use Rattle.hub_shared.specs.Hubs.{HasMade, shown};
 
-use hub_desk::Name;
 use hub_fifodir::Fifodir;
 use hub_record::{Kind, Limits};
+use hub_requests::Name;
 use indexmap::IndexMap;
 use std::alloc::{AllocError, Global};
 use std::sync::{Arc, RwLock, Wait};

@@ -1,29 +1,24 @@
 //! The desk of one session among several.
 ghost use Rattle.std.specs.Prelude.{◌≡◌, ◌≤◌, length, IfOk};
-ghost use Rattle.hub_desk.specs.Ranges.{AreLimits};
-ghost use Rattle.hub_desk.specs.Texts.{text_of};
+ghost use Rattle.hub_requests.specs.Ranges.{AreLimits};
+ghost use Rattle.hub_requests.specs.Texts.{text_of};
 ghost use Rattle.hub_shared.specs.Desks.{Asks, IsEnded, IsMadeReply, IsNewDesk};
 
 use crate::hub::{Hub, HubError};
-use hub_desk::{Desk, Name, PatternText, Refusal, Reply, Request};
-use hub_listen::Mode;
+use hub_handles::Handles;
 use hub_record::{Kind, Limits};
+use hub_requests::{Desk, Name, Refusal, Reply, Request};
 use hub_wait::Pause;
 use std::alloc::{AllocError, Global};
 use std::sync::{Arc, Wait};
 
 mod fifodirs;
-mod handles;
-mod hearing;
 mod joined;
-mod room;
-mod subscription;
 #[cfg(test)]
 mod tests;
 mod waits;
 
 use fifodirs::Fifodirs;
-use handles::Handles;
 
 /// How many ids each fifodir has.
 const IDS: u64 = 1_000_000_000_000;
@@ -110,7 +105,7 @@ impl<P: Pause + Copy> Desk for SharedDesk<P> {
                 notifies,
             } => self.make(rt, name, Kind::Service, *notifies, limits(*waiting, *total)),
             Request::Sub { name } => match self.fifodirs.find(rt, &self.hub, name) {
-                Ok(found) => self.handles.subscribe(rt, found),
+                Ok(found) => self.handles.subscribe(rt, found.dir),
                 Err(refusal) => Reply::No(refusal),
             },
             Request::Pub { name, letters } => self.fifodirs.publish(rt, &self.hub, name, letters),
@@ -123,7 +118,7 @@ impl<P: Pause + Copy> Desk for SharedDesk<P> {
                 mode,
                 pattern,
             } => match self.fifodirs.find(rt, &self.hub, name) {
-                Ok(found) => self.handles.listen(rt, found, *mode, pattern),
+                Ok(found) => self.handles.listen(rt, found.dir, *mode, pattern),
                 Err(refusal) => Reply::No(refusal),
             },
             Request::Poll { id } => self.handles.poll(rt, *id),

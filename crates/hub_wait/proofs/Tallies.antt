@@ -2,8 +2,8 @@
 use Rattle.std.proofs.Common.{◌≡◌, List, [], ◌∷◌, ◌++◌, Bool, true, false, ◌&&◌, ◌||◌, refl, sym, ap, ◌∙◌}
 use Rattle.std.specs.List.{list_all, list_any}
 use Rattle.std.proofs.lemmas.List.Folds.{list_all-append, list_any-append}
-use Rattle.hub_wait.specs.declared.tally.Span.{Span}
-use Rattle.hub_wait.specs.declared.tally.Span.TheVariants.{All, Any}
+use Rattle.hub_letters.specs.declared.span.Span.{Span}
+use Rattle.hub_letters.specs.declared.span.Span.TheVariants.{All, Any}
 use Rattle.hub_wait.specs.Watching.{Watching, is_met_at, is_lost_at}
 use Rattle.hub_wait.specs.Verdicts.{Tallied, tally_of, is_bar}
 

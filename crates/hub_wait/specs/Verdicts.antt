@@ -1,8 +1,8 @@
 -- The verdict over several watches.
 use Rattle.std.specs.Prelude.{Bool, ◌&&◌, not, List, Option, Some, None, if◌then◌else◌}
 use Rattle.std.specs.List.{list_all, list_any}
-use Rattle.hub_wait.specs.declared.tally.Span.{Span}
-use Rattle.hub_wait.specs.declared.tally.Span.TheVariants.{All, Any}
+use Rattle.hub_letters.specs.declared.span.Span.{Span}
+use Rattle.hub_letters.specs.declared.span.Span.TheVariants.{All, Any}
 use Rattle.hub_wait.specs.declared.tally.Verdict.{Verdict}
 use Rattle.hub_wait.specs.declared.tally.Verdict.TheVariants.{Yes, Never}
 use Rattle.hub_wait.specs.Watching.{Watching, is_met_at, is_lost_at}

@@ -1,7 +1,7 @@
 -- What a wait answers, and what it leaves of its posts.
 use Rattle.std.specs.Prelude.{◌≡◌, ℕ, ◌<◌, List, length, get_or, map, Some, None}
 use Rattle.hub_wait.specs.declared.post.Post.{Post}
-use Rattle.hub_wait.specs.declared.tally.Span.{Span}
+use Rattle.hub_letters.specs.declared.span.Span.{Span}
 use Rattle.hub_wait.specs.declared.tally.Verdict.{Verdict}
 use Rattle.hub_wait.specs.declared.tally.Verdict.TheVariants.{Yes, Never, Late}
 use Rattle.hub_wait.specs.Watching.{Watching}

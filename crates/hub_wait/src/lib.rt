@@ -21,9 +21,10 @@ mod tally;
 mod wait;
 mod watch;
 
+pub use hub_letters::Span;
 pub use pause::{BRIEF_TURNS, Backoff, Go, Pause};
 pub use post::Post;
-pub use tally::{Span, Tally, Verdict};
+pub use tally::{Tally, Verdict};
 pub use wait::{svlisten, svwait};
 pub use watch::Watch;
 

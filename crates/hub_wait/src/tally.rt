@@ -2,14 +2,8 @@
 ghost use Rattle.std.specs.Prelude.{◌≡◌, List, [], ◌∷◌, ◌++◌};
 
 use crate::watch::Watch;
+use hub_letters::Span;
 use std::marker::Model;
-
-/// How many of the services a wait is for, as `-a` and `-o` of `s6-svwait` say.
-#[derive(Clone, Copy, Debug, PartialEq, Eq)]
-pub enum Span {
-    All,
-    Any,
-}
 
 /// How a wait ends.
 #[derive(Clone, Copy, Debug, PartialEq, Eq)]

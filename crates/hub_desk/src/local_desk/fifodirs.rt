@@ -2,13 +2,12 @@
 ghost use Rattle.std.specs.Prelude.{◌≤◌, Some, length, false, true};
 ghost use Rattle.hub_desk.specs.Answers.{made, refusal_to_make};
 ghost use Rattle.hub_desk.specs.Standing.{Answers, AskedWith, Unchanged};
-ghost use Rattle.hub_desk.specs.Texts.{text_of};
-ghost use Rattle.hub_desk.specs.declared.request.Request.TheVariants.{Pub, Close, Status as Show};
+ghost use Rattle.hub_requests.specs.Texts.{text_of};
+ghost use Rattle.hub_requests.specs.declared.request.Request.TheVariants.{Pub, Close, Status as Show};
 
 use crate::local_desk::{LocalDesk, LocalFifodir};
-use crate::name::Name;
-use crate::reply::{Refusal, Reply};
 use hub_record::{Closed, Kind, Letters, Limits, Record, Status};
+use hub_requests::{Name, Refusal, Reply};
 
 const NAMES: usize = 256;
 

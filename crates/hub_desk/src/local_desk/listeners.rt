@@ -5,16 +5,14 @@ ghost use Rattle.hub_record.specs.Kept.{StandsFor};
 ghost use Rattle.hub_record.specs.World.{World, Subscription, found};
 ghost use Rattle.hub_desk.specs.Hearings.{Hears, HearsOne, TakesOne};
 ghost use Rattle.hub_desk.specs.Standing.{Asked, AskedWith, HasSubscription};
-ghost use Rattle.hub_desk.specs.Texts.{text_of};
-ghost use Rattle.hub_desk.specs.declared.request.Request.TheVariants.{Listen, Poll};
+ghost use Rattle.hub_requests.specs.Texts.{text_of};
+ghost use Rattle.hub_requests.specs.declared.request.Request.TheVariants.{Listen, Poll};
 
 use crate::local_desk::{Hearing, LocalDesk};
-use crate::name::Name;
-use crate::reply::{Refusal, Reply};
-use crate::texts::PatternText;
 use hub_letters::Letter;
 use hub_listen::{Feed, FeedError, ListenError, Listener, Mode};
 use hub_record::{Event, Letters, Record, Taken};
+use hub_requests::{Name, PatternText, Refusal, Reply};
 
 /// How many letters a listener gathers at most.
 const ROOM: usize = 4096;

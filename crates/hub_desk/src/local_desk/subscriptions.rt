@@ -5,18 +5,17 @@ ghost use Rattle.hub_record.specs.Kept.{StandsFor};
 ghost use Rattle.hub_record.specs.World.{World, letters, take_reply, take_events, after_take};
 ghost use Rattle.hub_desk.specs.Answers.{in_world, refusal_to_hold, subscribed, take_shown};
 ghost use Rattle.hub_desk.specs.Desks.{Desk, Fifodir, GoesOn, without_held, without_all, world_of};
-ghost use Rattle.hub_desk.specs.Ranges.{IsTake};
+ghost use Rattle.hub_requests.specs.Ranges.{IsTake};
 ghost use Rattle.hub_desk.specs.Replies.{subscribe_reply};
 ghost use Rattle.hub_desk.specs.Standing.{AreKept, Answers, AskedWith, HasSubscription, Stands, Unchanged};
-ghost use Rattle.hub_desk.specs.Texts.{text_of};
-ghost use Rattle.hub_desk.specs.declared.reply.Reply.TheVariants.{No};
-ghost use Rattle.hub_desk.specs.declared.request.Request.TheVariants.{Sub, Take, Cancel};
+ghost use Rattle.hub_requests.specs.Texts.{text_of};
+ghost use Rattle.hub_requests.specs.declared.reply.Reply.TheVariants.{No};
+ghost use Rattle.hub_requests.specs.declared.request.Request.TheVariants.{Sub, Take, Cancel};
 
 use crate::local_desk::{Hearing, Holding, LocalDesk, LocalFifodir};
-use crate::name::Name;
-use crate::reply::{Refusal, Reply};
 use hub_letters::Letter;
 use hub_record::{Event, Letters, Record, Taken};
+use hub_requests::{Name, Refusal, Reply};
 use indexmap::IndexMap;
 use std::alloc::{AllocError, Global};
 

@@ -1,18 +1,12 @@
 //! What requests are answered, line by line of a session, and the limits of one. Where a growth is refused, what wanted
 //! it is tried again, so that each test passes also with any one growth refused, whichever of those that it makes.
 ghost use Rattle.std.specs.Prelude.{IfOk};
-ghost use Rattle.hub_desk.specs.Ranges.{IsInRange};
+ghost use Rattle.hub_requests.specs.Ranges.{IsInRange};
 
-use crate::desk::Desk;
 use crate::local_desk::LocalDesk;
-use crate::name::Name;
-use crate::reply::{Refusal, Reply};
-use crate::request::Request;
-use crate::texts::{Names, PatternText};
-use hub_letters::{Letter, Want};
-use hub_listen::Mode;
+use hub_letters::{Letter, Mode, Span, Want};
 use hub_record::Letters;
-use hub_wait::Span;
+use hub_requests::{Desk, Name, Names, PatternText, Refusal, Reply, Request};
 use std::alloc::{AllocError, Global};
 use std::ops::Range;
 use std::process::Abort;

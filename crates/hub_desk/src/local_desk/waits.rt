@@ -4,17 +4,15 @@ ghost use Rattle.std.specs.List.{list_all};
 ghost use Rattle.hub_desk.specs.Answers.{refusal_to_wait};
 ghost use Rattle.hub_desk.specs.Desks.{Fifodir};
 ghost use Rattle.hub_desk.specs.Standing.{AreKept, Answers};
-ghost use Rattle.hub_desk.specs.Texts.{text_of};
-ghost use Rattle.hub_desk.specs.declared.reply.Reply.TheVariants.{No};
+ghost use Rattle.hub_requests.specs.Texts.{text_of};
+ghost use Rattle.hub_requests.specs.declared.reply.Reply.TheVariants.{No};
 ghost use Rattle.hub_desk.specs.Waits.{without_subscription, without_posts, number_of, verdict_shown, waited, LeftByWait};
 ghost use Rattle.hub_desk.specs.Opening.{is_there, is_service, refusal_among, OpensPost, OpensAll};
 
 use crate::local_desk::{LocalDesk, LocalFifodir};
-use crate::name::Name;
-use crate::reply::{Refusal, Reply};
-use crate::texts::{Names, Numbers};
 use hub_letters::Want;
 use hub_record::Status;
+use hub_requests::{Name, Names, Numbers, Refusal, Reply};
 use hub_wait::{Span, Tally, Verdict, Watch};
 use indexmap::IndexMap;
 

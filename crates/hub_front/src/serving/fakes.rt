@@ -3,7 +3,7 @@ ghost use Rattle.std.specs.Prelude.{◌≡◌, ◌<◌, ◌≤◌, if◌then◌e
 
 use crate::sink::Sink;
 use crate::source::Source;
-use hub_desk::{Desk, Reply, Request};
+use hub_requests::{Desk, Reply, Request};
 use std::io;
 use std::io::{ErrorKind, Read, Write};
 use std::sync::Wait;

@@ -2,7 +2,7 @@
 
 use super::told::told;
 use super::{Bad, parse};
-use hub_desk::Request;
+use hub_requests::Request;
 use std::alloc::Global;
 
 // One growth may be refused in a test, so want of memory isn't met twice.

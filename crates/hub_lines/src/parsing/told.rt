@@ -1,9 +1,7 @@
 //! Requests in words, so that a table can give them.
 
-use hub_desk::{Name, Names, Request};
-use hub_letters::Want;
-use hub_listen::Mode;
-use hub_wait::Span;
+use hub_letters::{Mode, Span, Want};
+use hub_requests::{Name, Names, Request};
 use std::alloc::{AllocError, Global};
 
 /// The request in words.

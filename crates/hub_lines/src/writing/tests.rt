@@ -1,9 +1,9 @@
 //! The text of each reply.
 
 use super::write_reply;
-use hub_desk::{Numbers, Refusal, Reply};
 use hub_letters::{Flags, Letter};
 use hub_record::{Letters, Status};
+use hub_requests::{Numbers, Refusal, Reply};
 use std::alloc::{AllocError, Global};
 
 fn letters_of(alloc: Global, text: &[u8]) -> Result<Letters, AllocError> {

@@ -1,12 +1,12 @@
 //! The fifodirs that a session found, by name.
 ghost use Rattle.std.specs.Prelude.{◌≡◌, ◌≤◌, [], length, IfErr, OnErr, OnOk, IfOk};
-ghost use Rattle.hub_desk.specs.Texts.{text_of};
-ghost use Rattle.hub_shared.specs.Refusals.{IsBrief};
+ghost use Rattle.hub_requests.specs.Texts.{text_of};
+ghost use Rattle.hub_handles.specs.Refusals.{IsBrief};
 
 use crate::shared_desk::joined::Joined;
 use crate::{Found, Hub};
-use hub_desk::{Name, Refusal, Reply};
 use hub_record::Letters;
+use hub_requests::{Name, Refusal, Reply};
 use indexmap::IndexMap;
 use std::alloc::Global;
 use std::mem;

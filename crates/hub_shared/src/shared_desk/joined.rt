@@ -1,15 +1,15 @@
 //! A fifodir that a session found, with the session's publisher there.
 ghost use Rattle.std.specs.Prelude.{◌≡◌, ◌≤◌, None, Some, length, IfOk, IfErr, OnErr};
 ghost use Rattle.std.specs.Arc.{arc_value};
-ghost use Rattle.hub_desk.specs.Texts.{text_of};
+ghost use Rattle.hub_requests.specs.Texts.{text_of};
 ghost use Rattle.hub_fifodir.specs.Passes.{IsPublisherOf};
 ghost use Rattle.hub_fifodir.specs.declared.publisher.Publisher.{Publisher};
 ghost use Rattle.hub_shared.specs.Refusals.{refusal_of_pass};
 
 use crate::Found;
-use hub_desk::{Refusal, Reply};
 use hub_fifodir::{PassError, Publisher};
 use hub_record::{Closed, Letters};
+use hub_requests::{Refusal, Reply};
 use std::sync::Wait;
 
 /// A fifodir that a session found, with the session's publisher there once it was made. It is given back by `leave`.

@@ -1,12 +1,11 @@
 //! Several sessions over one hub, request by request.
 ghost use Rattle.std.specs.Prelude.{IfOk};
-ghost use Rattle.hub_desk.specs.Ranges.{IsInRange};
+ghost use Rattle.hub_requests.specs.Ranges.{IsInRange};
 
 use crate::{Hub, SharedDesk};
-use hub_desk::{Desk, Name, Names, PatternText, Refusal, Reply, Request};
-use hub_letters::{Letter, Want};
-use hub_listen::Mode;
+use hub_letters::{Letter, Mode, Want};
 use hub_record::Letters;
+use hub_requests::{Desk, Name, Names, PatternText, Refusal, Reply, Request};
 use hub_wait::{Go, Pause, Span};
 use std::alloc::{AllocError, Global};
 use std::process::Abort;

@@ -1,15 +1,15 @@
 //! A session's waits: the posts of one, and what it is answered.
 ghost use Rattle.std.specs.Prelude.{◌≡◌, ◌≤◌, ◌+◌, length, map, vec_len, vec_capacity, IfOk, IfErr, OnOk, false};
-ghost use Rattle.hub_desk.specs.Texts.{number_or_dash, text_of};
-ghost use Rattle.hub_desk.specs.declared.reply.Reply.TheVariants.{Yes};
-ghost use Rattle.hub_shared.specs.Refusals.{IsBrief};
+ghost use Rattle.hub_requests.specs.Texts.{number_or_dash, text_of};
+ghost use Rattle.hub_requests.specs.declared.reply.Reply.TheVariants.{Yes};
+ghost use Rattle.hub_handles.specs.Refusals.{IsBrief};
 ghost use Rattle.hub_shared.specs.Waits.{Settles, number_met};
 
 use crate::Hub;
 use crate::shared_desk::fifodirs::Fifodirs;
-use hub_desk::{Name, Numbers, Refusal, Reply};
 use hub_letters::Want;
 use hub_record::Kind;
+use hub_requests::{Name, Numbers, Refusal, Reply};
 use hub_wait::{Pause, Post, Span, Verdict, svwait};
 use std::sync::Wait;
 

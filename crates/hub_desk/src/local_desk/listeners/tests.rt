@@ -1,15 +1,12 @@
 //! Listeners, line by line of a session.
 ghost use Rattle.std.specs.Prelude.{IfOk};
-ghost use Rattle.hub_desk.specs.Ranges.{IsInRange};
+ghost use Rattle.hub_requests.specs.Ranges.{IsInRange};
 
-use crate::desk::Desk;
 use crate::local_desk::LocalDesk;
 use crate::local_desk::tests::{Ask, Row, expect, expect_numbers, new_desk, run, run_anew};
-use crate::name::Name;
-use crate::request::Request;
-use hub_letters::Letter;
-use hub_listen::Mode;
+use hub_letters::{Letter, Mode};
 use hub_record::Letters;
+use hub_requests::{Desk, Name, Request};
 use std::alloc::{AllocError, Global};
 use std::process::Abort;
 use std::sync::Wait;

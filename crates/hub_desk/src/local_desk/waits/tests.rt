@@ -1,7 +1,6 @@
 //! Waits, line by line of a session, with what other requests show of them afterwards.
 use crate::local_desk::tests::{Ask, Row, expect_numbers, new_desk, run, run_anew};
-use hub_letters::Want;
-use hub_wait::Span;
+use hub_letters::{Span, Want};
 
 /// Without a turn, and for a name that stands twice.
 static ZERO_TURNS: [Row; 5] = [

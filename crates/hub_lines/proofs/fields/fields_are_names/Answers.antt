@@ -3,7 +3,7 @@ use Rattle.std.specs.List.{AllWithin, HoldsAt}
 use Rattle.std.proofs.lemmas.Iterator.{cases_from_all}
 use Rattle.std.proofs.lemmas.Iterator.Splits.{YieldsList-from_slice_split}
 use Rattle.std.proofs.lemmas.List.Elements.{All-from_all_within}
-use Rattle.hub_desk.specs.Names.{is_name}
+use Rattle.hub_requests.specs.Names.{is_name}
 use Rattle.hub_lines.specs.Spelling.{IsName}
 use Rattle.hub_lines.proofs.fields.fields_are_names.Goals as goal
 

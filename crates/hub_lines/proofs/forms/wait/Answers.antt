@@ -1,7 +1,7 @@
 use Rattle.std.proofs.Common.{◌≡◌, ◌≢◌, ℕ, List, ◌∷◌, [], sym, subst, arith}
 use Rattle.std.specs.Fmt.{decimal}
 use Rattle.hub_letters.specs.declared.want.Want.{Want}
-use Rattle.hub_wait.specs.declared.tally.Span.{Span}
+use Rattle.hub_letters.specs.declared.span.Span.{Span}
 use Rattle.hub_lines.specs.declared.words.Word.TheVariants as word
 use Rattle.hub_lines.specs.Spelling.{Wait, IsNumeral, text_of_span, text_of_want}
 use Rattle.hub_lines.specs.Fields.{fields_of, IsNoForm}

@@ -1,5 +1,5 @@
 use Rattle.std.proofs.Common.{◌≡◌, true, ap}
-use Rattle.hub_desk.specs.Names.{is_name}
+use Rattle.hub_requests.specs.Names.{is_name}
 use Rattle.hub_lines.proofs.Splits.{fields_of-one, text_of_one}
 use Rattle.hub_lines.proofs.Visible.{one_field, visible_name}
 use Rattle.hub_lines.proofs.parts.last_name.Goals as goal

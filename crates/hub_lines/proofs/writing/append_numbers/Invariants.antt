@@ -1,6 +1,6 @@
 use Rattle.std.proofs.Common.{◌≡◌, ◌++◌, ◌+◌, ◌≤◌, length, take, vec_len}
 use Rattle.std.specs.Prelude.{vec_capacity}
-use Rattle.hub_desk.specs.Texts.{numbers_text}
+use Rattle.hub_requests.specs.Texts.{numbers_text}
 use Rattle.hub_lines.proofs.writing.append_numbers.Given as goal
 
 -- the numbers so far are appended

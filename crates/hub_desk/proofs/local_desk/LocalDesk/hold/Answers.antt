@@ -3,11 +3,11 @@ use Rattle.std.specs.Map.{lookup}
 use Rattle.indexmap.proofs.CallerLemmas.{insert_entry-new}
 use Rattle.hub_desk.specs.Standing.{Local}
 use Rattle.hub_desk.specs.declared.local_desk.Holding.{Holding}
-use Rattle.hub_desk.specs.declared.reply.Reply.TheVariants.{No}
-use Rattle.hub_desk.specs.declared.reply.Refusal.{Refusal}
+use Rattle.hub_requests.specs.declared.reply.Reply.TheVariants.{No}
+use Rattle.hub_requests.specs.declared.reply.Refusal.{Refusal}
 use Rattle.hub_desk.proofs.Asking.{answers_from, same_parts, stands_on}
 use Rattle.hub_desk.proofs.AskingHolds.{hold_done, hold_refused, fresh_number, named_there, numbers_left, unrefused_at}
-use Rattle.hub_desk.proofs.ShortReplies.{short_number}
+use Rattle.hub_requests.proofs.ShortReplies.{short_number}
 use Rattle.hub_desk.proofs.local_desk.LocalDesk.hold.Goals as goal
 use Rattle.hub_desk.proofs.local_desk.LocalDesk.hold.Goals.{in-Some-3, in-None-4}
 

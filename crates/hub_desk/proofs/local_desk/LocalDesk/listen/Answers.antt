@@ -1,7 +1,7 @@
 use Rattle.std.proofs.Common.{◌≡◌, ℕ, List, true, ap, subst, ◌∙◌}
 use Rattle.hub_listen.specs.Hit.{IsPattern}
 use Rattle.hub_listen.specs.Listening.{unheard}
-use Rattle.hub_listen.specs.declared.listener.Mode.TheVariants.{Repeat}
+use Rattle.hub_letters.specs.declared.mode.Mode.TheVariants.{Repeat}
 use Rattle.hub_desk.proofs.AskingHolds.{listen_held}
 use Rattle.hub_desk.proofs.local_desk.LocalDesk.listen.Goals as goal
 

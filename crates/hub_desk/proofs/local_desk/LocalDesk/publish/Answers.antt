@@ -2,11 +2,12 @@ use Rattle.std.proofs.Common.{◌≤◌, false, refl, ap, sym, subst, ◌∙◌,
 use Rattle.hub_record.specs.World.{World, PublishReply, after_publish}
 use Rattle.hub_record.specs.Kept.{StandsFor}
 use Rattle.hub_record.specs.declared.PubError.{PubError}
-use Rattle.hub_desk.specs.declared.reply.Reply.{Reply}
-use Rattle.hub_desk.specs.declared.reply.Reply.TheVariants.{No}
-use Rattle.hub_desk.specs.declared.reply.Refusal.{Refusal}
-use Rattle.hub_desk.specs.Texts.{text_of}
-use Rattle.hub_desk.proofs.ShortReplies.{short_number, short_refused}
+use Rattle.hub_requests.specs.declared.reply.Reply.{Reply}
+use Rattle.hub_requests.specs.declared.reply.Reply.TheVariants.{No}
+use Rattle.hub_requests.specs.declared.reply.Refusal.{Refusal}
+use Rattle.hub_requests.specs.Texts.{text_of}
+use Rattle.hub_requests.proofs.ShortReplies.{short_number}
+use Rattle.hub_desk.proofs.ShortRefusals.{short_refused}
 use Rattle.hub_desk.proofs.KeptFifodirs.{some_kept}
 use Rattle.hub_desk.proofs.Asking.{same_parts, replaces, no_name, stands_on}
 use Rattle.hub_desk.proofs.AskingFifodirs.{publish_done, publish_refused}

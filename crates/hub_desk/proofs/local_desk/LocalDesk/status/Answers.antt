@@ -4,7 +4,7 @@ use Rattle.std.specs.Str.{bytes_eq}
 use Rattle.hub_desk.specs.Standing.{Local}
 use Rattle.hub_desk.proofs.Asking.{no_name}
 use Rattle.hub_desk.proofs.AskingFifodirs.{status_shown}
-use Rattle.hub_desk.proofs.ShortReplies.{short_state}
+use Rattle.hub_requests.proofs.ShortReplies.{short_state}
 use Rattle.hub_desk.proofs.local_desk.LocalDesk.status.Goals as goal
 
 pub returns-in_default-clause-step : goal.returns-in_default-clause-step

@@ -3,7 +3,7 @@ use Rattle.hub_record.specs.declared.Status.{Status}
 use Rattle.hub_wait.specs.Watching.{started}
 use Rattle.hub_desk.specs.Opening.{OpensPost}
 use Rattle.hub_desk.specs.declared.local_desk.LocalFifodir.{LocalFifodir}
-use Rattle.hub_desk.specs.declared.reply.Refusal.TheVariants as no
+use Rattle.hub_requests.specs.declared.reply.Refusal.TheVariants as no
 use Rattle.hub_desk.proofs.Posts.{opens_nowhere, opens_one, opens_refused}
 use Rattle.hub_desk.proofs.local_desk.waits.open.Goals as goal
 

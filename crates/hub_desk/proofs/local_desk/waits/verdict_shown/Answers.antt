@@ -1,5 +1,5 @@
 use Rattle.std.proofs.Common.{◌≤◌, ◌*◌, ◌+◌, ◌++◌, ◌∷◌, [], List, ℕ, Option, length, map, take, ap, sym, subst, ◌∙◌, arith}
-use Rattle.hub_desk.specs.Texts.{numbers_text}
+use Rattle.hub_requests.specs.Texts.{numbers_text}
 use Rattle.hub_desk.specs.Waits.{number_of}
 use Rattle.hub_desk.proofs.Posts.{map_more, tallied_more, numbers_text-push}
 use Rattle.hub_desk.proofs.local_desk.waits.verdict_shown.Goals as goal

@@ -1,6 +1,6 @@
 use Rattle.std.proofs.Common.{◌≡◌, ◌≤◌, ◌*◌, length, map, take, vec_len, vec_capacity}
 use Rattle.hub_wait.specs.Verdicts.{tally_of}
-use Rattle.hub_desk.specs.Texts.{numbers_text}
+use Rattle.hub_requests.specs.Texts.{numbers_text}
 use Rattle.hub_desk.specs.Waits.{number_of}
 use Rattle.hub_desk.proofs.local_desk.waits.verdict_shown.Given as goal
 

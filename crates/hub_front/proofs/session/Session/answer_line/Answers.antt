@@ -1,6 +1,6 @@
 use Rattle.std.proofs.Common.{◌≡◌, rules, subst}
 use Rattle.std.specs.Io.KnownBytes.{Appends}
-use Rattle.hub_desk.specs.Texts.{text_of}
+use Rattle.hub_requests.specs.Texts.{text_of}
 use Rattle.hub_front.specs.Serving.{AppendsPart}
 use Rattle.hub_front.proofs.Outcomes.{OnErr-known}
 use Rattle.hub_front.proofs.Runs.{answers_same, served_one, breaks_at_once}

@@ -1,5 +1,5 @@
 use Rattle.std.proofs.Common.{ℕ, List, inl, refl, subst, sym}
-use Rattle.hub_desk.specs.declared.request.Request.{Request}
+use Rattle.hub_requests.specs.declared.request.Request.{Request}
 use Rattle.hub_shared.specs.Desks.{Answers}
 use Rattle.hub_shared.specs.Waits.{WaitsFor}
 use Rattle.hub_shared.proofs.Handling.{subscribes_to, listens_to}

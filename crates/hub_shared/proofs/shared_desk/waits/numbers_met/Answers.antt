@@ -1,7 +1,7 @@
 use Rattle.std.proofs.Common.{◌+◌, ◌*◌, ◌≤◌, ℕ, List, length, Option, subst, sym, arith}
 use Rattle.std.proofs.lemmas.Grind.{common_steps}
-use Rattle.hub_desk.specs.Texts.{numbers_text}
-use Rattle.hub_shared.proofs.ShortTexts.{short_push}
+use Rattle.hub_requests.specs.Texts.{numbers_text}
+use Rattle.hub_requests.proofs.ShortReplies.{short_push}
 use Rattle.hub_shared.proofs.shared_desk.waits.numbers_met.Goals as goal
 
 pub loop-post-preserved : goal.loop-post-preserved

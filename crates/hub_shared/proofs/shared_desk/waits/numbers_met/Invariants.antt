@@ -1,5 +1,5 @@
 use Rattle.std.proofs.Common.{◌≡◌, ◌≤◌, ◌*◌, length, map, take, vec_len, vec_capacity}
-use Rattle.hub_desk.specs.Texts.{numbers_text}
+use Rattle.hub_requests.specs.Texts.{numbers_text}
 use Rattle.hub_shared.specs.Waits.{number_met}
 use Rattle.hub_shared.proofs.shared_desk.waits.numbers_met.Given as goal
 

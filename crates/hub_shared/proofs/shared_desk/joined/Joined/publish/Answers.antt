@@ -1,9 +1,10 @@
 use Rattle.std.proofs.Common.{ℕ, List, ◌≤◌, length, refl, subst, sym, arith}
-use Rattle.hub_desk.specs.Texts.{text_of}
-use Rattle.hub_desk.specs.declared.reply.Refusal.{Refusal}
-use Rattle.hub_desk.specs.declared.reply.Reply.TheVariants.{No}
+use Rattle.hub_requests.specs.Texts.{text_of}
+use Rattle.hub_requests.specs.declared.reply.Refusal.{Refusal}
+use Rattle.hub_requests.specs.declared.reply.Reply.TheVariants.{No}
 use Rattle.hub_fifodir.specs.Passes.{HasPublished, IsRefusedAt}
-use Rattle.hub_shared.proofs.ShortTexts.{short_number, short_refused}
+use Rattle.hub_requests.proofs.ShortReplies.{short_number}
+use Rattle.hub_shared.proofs.ShortRefusals.{short_refused}
 use Rattle.hub_shared.proofs.Speakers.{spoke}
 use Rattle.hub_shared.proofs.shared_desk.joined.Joined.publish.Goals as goal
 

@@ -1,6 +1,6 @@
 use Rattle.std.proofs.Common.{refl, ap, arith}
 use Rattle.hub_fifodir.specs.Steps.{mine_of}
-use Rattle.hub_shared.proofs.ShortTexts.{short_state}
+use Rattle.hub_requests.proofs.ShortReplies.{short_state}
 use Rattle.hub_shared.proofs.Speakers.{spoke, same_number, knew}
 use Rattle.hub_shared.proofs.shared_desk.joined.Joined.status.Goals as goal
 

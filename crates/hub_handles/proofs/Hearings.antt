@@ -1,0 +1,180 @@
+-- Letters that come to a listener, and how polls follow from what it hears.
+use Rattle.std.proofs.Common.{◌≡◌, ◌≤◌, ◌<◌, ◌+◌, ℕ, Bool, true, false, List, [], ◌∷◌, ◌++◌, length, Option, Some, None, Result, Ok, Err, refl, sym, ap, subst, ◌∙◌, inl, inr, append-nil, append_assoc, length-append}
+use Rattle.std.specs.Prelude.{if◌then◌else◌}
+use Rattle.hub_requests.specs.declared.reply.Reply.{Reply}
+use Rattle.hub_requests.specs.declared.reply.Reply.TheVariants as answer
+use Rattle.hub_fifodir.specs.Passes.{got, ticket_sight}
+use Rattle.hub_fifodir.proofs.Logs.{letters-append}
+use Rattle.hub_fifodir.proofs.Meeting.{grows_self, grows_through}
+use Rattle.hub_listen.specs.Listening.{Listening, is_spent, spent_by, Feeds}
+use Rattle.hub_listen.specs.Pieces.{counted_from}
+use Rattle.hub_listen.specs.declared.feed.Feed.{Feed}
+use Rattle.hub_listen.specs.declared.feed.Feed.TheVariants.{Hit, Quiet}
+use Rattle.hub_letters.specs.declared.mode.Mode.{Mode}
+use Rattle.hub_letters.specs.declared.mode.Mode.TheVariants.{Repeat}
+use Rattle.hub_listen.proofs.Cuts.{cuts_anywhere}
+use Rattle.hub_listen.proofs.Singly.{nothing_is_quiet}
+use Rattle.hub_record.specs.World.{letters}
+use Rattle.hub_handles.specs.declared.hearing.Hearing.{Hearing}
+use Rattle.hub_handles.specs.declared.subscription.Subscription.{Subscription}
+use Rattle.hub_handles.specs.Taking.{IsSameTicket, TakesOne}
+use Rattle.hub_handles.specs.Hearings.{held_letters, Comes, Hears, Stops, Gives, HearsOne, Polls}
+
+same_ticket : (s : Subscription) → IsSameTicket s s
+same_ticket s = record { dir = refl; id = refl; mark = refl; seen = grows_self (ticket_sight s.ticket) }
+
+same_ticket_through : (a b c : Subscription) → IsSameTicket a b → IsSameTicket b c → IsSameTicket a c
+same_ticket_through a b c p q = record {
+  dir = q.dir ∙ p.dir;
+  id = q.id ∙ p.id;
+  mark = q.mark ∙ p.mark;
+  seen = grows_through (ticket_sight a.ticket) (ticket_sight b.ticket) (ticket_sight c.ticket) p.seen q.seen;
+}
+
+-- ---- letters come
+
+comes_none : (h : Hearing) → Comes h [] h
+comes_none h = record {
+  ticket = same_ticket h.subscription;
+  mode = refl;
+  taken = [];
+  took = sym (append-nil (letters (got h.subscription.ticket)));
+  once = append-nil (held_letters h.held);
+}
+
+comes_on : (a b c : Hearing) (come more : List ℕ) → Comes a come b → Comes b more c → Comes a (come ++ more) c
+comes_on a b c come more p q = record {
+  ticket = same_ticket_through a.subscription b.subscription c.subscription p.ticket q.ticket;
+  mode = q.mode ∙ p.mode;
+  taken = p.taken ++ q.taken;
+  took = q.took ∙ ap (λ (l : List ℕ). l ++ q.taken) p.took ∙ append_assoc (letters (got a.subscription.ticket)) p.taken q.taken;
+  once = sym (append_assoc (held_letters a.held) p.taken q.taken) ∙ ap (λ (l : List ℕ). l ++ q.taken) p.once
+      ∙ append_assoc come (held_letters b.held) q.taken ∙ ap (λ (l : List ℕ). come ++ l) q.once
+      ∙ sym (append_assoc come more (held_letters c.held));
+}
+
+-- the letter that was held
+pub gives_held : (old new : Hearing) (letter : ℕ) → old.held ≡ Some letter → new.held ≡ None → new.subscription ≡ old.subscription → new.mode ≡ old.mode
+    → Gives old (Ok letter) new
+gives_held old new letter was is same mode = (
+  record {
+    ticket = subst (λ (s : Subscription). IsSameTicket old.subscription s) (sym same) (same_ticket old.subscription);
+    mode = mode;
+    taken = [];
+    took = ap (λ (s : Subscription). letters (got s.ticket)) same ∙ sym (append-nil (letters (got old.subscription.ticket)));
+    once = ap (λ (o : Option ℕ). held_letters o ++ []) was ∙ sym (ap (λ (o : Option ℕ). letter ∷ held_letters o) is);
+  },
+  is,
+)
+
+nothing_held : (old new : Hearing) → old.held ≡ None → new.held ≡ None → held_letters old.held ++ [] ≡ [] ++ held_letters new.held
+nothing_held old new was is = ap (λ (o : Option ℕ). held_letters o ++ []) was ∙ sym (ap held_letters is)
+
+-- the letter that was taken, or none
+pub gives_taken : (old new : Hearing) (result : Result ℕ Reply) → old.held ≡ None → new.held ≡ None → new.mode ≡ old.mode
+    → TakesOne old.subscription result new.subscription → Gives old result new
+gives_taken old new (Ok letter) was is mode takes =
+    let shows = takes.shows in (
+      record {
+        ticket = takes.same;
+        mode = mode;
+        taken = letter ∷ [];
+        took = ap letters shows.1.3 ∙ letters-append (got old.subscription.ticket) _ ∙ ap (λ (l : List ℕ). letters (got old.subscription.ticket) ++ l) (sym shows.2);
+        once = ap (λ (o : Option ℕ). held_letters o ++ letter ∷ []) was ∙ sym (ap (λ (o : Option ℕ). letter ∷ held_letters o) is);
+      },
+      is,
+    )
+gives_taken old new (Err answer.Nothing) was is mode takes =
+    let shows = takes.shows in (
+      record {
+        ticket = takes.same;
+        mode = mode;
+        taken = [];
+        took = ap letters shows.3 ∙ sym (append-nil (letters (got old.subscription.ticket)));
+        once = nothing_held old new was is;
+      },
+      (is, (shows.2 ∙ shows.0, shows.1)),
+    )
+gives_taken old new (Err answer.End) was is mode takes =
+    let shows = takes.shows in (
+      record {
+        ticket = takes.same;
+        mode = mode;
+        taken = [];
+        took = ap letters shows.3 ∙ sym (append-nil (letters (got old.subscription.ticket)));
+        once = nothing_held old new was is;
+      },
+      (is, (shows.2 ∙ shows.0, shows.1)),
+    )
+gives_taken old new (Err answer.Done) was is mode takes = absurd takes
+gives_taken old new (Err (answer.Number n)) was is mode takes = absurd takes
+gives_taken old new (Err (answer.State s)) was is mode takes = absurd takes
+gives_taken old new (Err (answer.Got l)) was is mode takes = absurd takes
+gives_taken old new (Err (answer.Hit l)) was is mode takes = absurd takes
+gives_taken old new (Err (answer.Yes l)) was is mode takes = absurd takes
+gives_taken old new (Err answer.Never) was is mode takes = absurd takes
+gives_taken old new (Err answer.Late) was is mode takes = absurd takes
+gives_taken old new (Err (answer.No r)) was is mode takes = absurd takes
+
+-- ---- and are heard
+
+unspent : (l : Listening) → l.mode ≡ Repeat → is_spent l ≡ false
+unspent l e = ap (λ (m : Mode). spent_by m l.hit) e
+
+pub hears_none : (h : Hearing) → h.listener.mode ≡ Repeat → length h.listener.gathered ≤ 4096 → Hears h [] (Ok Quiet) h
+hears_none h repeats fits = record { comes = comes_none h; feeds = nothing_is_quiet h.listener (unspent h.listener repeats) fits }
+
+-- what came wasn't heard: it is held, or there was none
+pub hears_nothing : (old new : Hearing) → Comes old [] new → new.listener ≡ old.listener → old.listener.mode ≡ Repeat → length old.listener.gathered ≤ 4096
+    → Hears old [] (Ok Quiet) new
+hears_nothing old new comes same repeats fits = record {
+  comes = comes;
+  feeds = (unspent old.listener repeats, (hears_none old repeats fits).feeds.1, (hears_none old repeats fits).feeds.2, same ∙ (hears_none old repeats fits).feeds.3);
+}
+
+hears_on : (a b c : Hearing) (fed more : List ℕ) (heard : Feed) → Hears a fed (Ok Quiet) b → Hears b more (Ok heard) c
+    → Hears a (fed ++ more) (counted_from (length fed) (Ok heard)) c
+hears_on a b c fed more heard p q = record {
+  comes = comes_on a b c fed more p.comes q.comes;
+  feeds = cuts a.listener b.listener c.listener fed more heard p.feeds q.feeds;
+}
+  where
+    cuts : (old between new : Listening) (first second : List ℕ) (feed : Feed) → Feeds old first (Ok Quiet) between → Feeds between second (Ok feed) new
+        → Feeds old (first ++ second) (counted_from (length first) (Ok feed)) new
+    cuts old between new first second feed f g = cuts_anywhere old between new first second (Ok feed) f g
+
+-- one letter more, quietly
+pub hears_quietly : (a b c : Hearing) (fed : List ℕ) → Hears a fed (Ok Quiet) b → HearsOne b false c → (more : List ℕ) × Hears a more (Ok Quiet) c
+hears_quietly a b c fed p q = (fed ++ q.0 ∷ [], hears_on a b c fed (q.0 ∷ []) Quiet p q.1)
+
+pub gathers_one : (b c : Hearing) → HearsOne b false c → length c.listener.gathered ≡ length b.listener.gathered + 1
+gathers_one b c q = ap (λ (l : Listening). length l.gathered) q.1.feeds.3 ∙ length-append b.listener.gathered (q.0 ∷ [])
+
+pub hit_polls : (a b c : Hearing) (fed hit : List ℕ) → Hears a fed (Ok Quiet) b → HearsOne b true c → hit ≡ c.listener.hit → Polls a (answer.Hit hit) c
+hit_polls a b c fed hit p q same =
+    let long : length fed + 1 ≡ length (fed ++ q.0 ∷ []) = sym (length-append fed (q.0 ∷ [])) in
+    (fed ++ q.0 ∷ [], subst (λ (n : ℕ). Hears a (fed ++ q.0 ∷ []) (Ok (Hit n)) c) long (hears_on a b c fed (q.0 ∷ []) (Hit 1) p q.1), same, q.2)
+
+pub stop_polls : (a b c : Hearing) (reply : Reply) (fed : List ℕ) → Hears a fed (Ok Quiet) b → Hears b [] (Ok Quiet) c → Stops reply c
+    → length a.listener.gathered < 4096 → Polls a reply c
+stop_polls a b c answer.Nothing fed p q stops few = (few, (fed ++ [], hears_on a b c fed [] Quiet p q), inl stops)
+stop_polls a b c answer.End fed p q stops few = (few, (fed ++ [], hears_on a b c fed [] Quiet p q), stops)
+stop_polls a b c (answer.No refusal) fed p q stops few = inr (stops, few, (fed ++ [], hears_on a b c fed [] Quiet p q))
+stop_polls a b c answer.Done fed p q stops few = absurd stops
+stop_polls a b c (answer.Number n) fed p q stops few = absurd stops
+stop_polls a b c (answer.State s) fed p q stops few = absurd stops
+stop_polls a b c (answer.Got l) fed p q stops few = absurd stops
+stop_polls a b c (answer.Hit l) fed p q stops few = absurd stops
+stop_polls a b c (answer.Yes l) fed p q stops few = absurd stops
+stop_polls a b c answer.Never fed p q stops few = absurd stops
+stop_polls a b c answer.Late fed p q stops few = absurd stops
+
+-- ---- after a poll
+
+pub gone_if : (h : Hearing) (o : Option Hearing) (ends : Bool) → ends ≡ true → o ≡ None → o ≡ (if ends then None else Some h)
+gone_if h o true e gone = gone
+gone_if h o false e gone = absurd (let k : ⊥ = cc in k)
+
+pub stays_if : (h : Hearing) (o : Option Hearing) (ends : Bool) → ends ≡ false → o ≡ Some h → o ≡ (if ends then None else Some h)
+stays_if h o true e stays = absurd (let k : ⊥ = cc in k)
+stays_if h o false e stays = stays

@@ -1,0 +1,3 @@
+pub mod ShortRefusals
+pub mod Numbering
+pub mod Hearings

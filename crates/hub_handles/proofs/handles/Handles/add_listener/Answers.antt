@@ -1,0 +1,18 @@
+use Rattle.std.proofs.Common.{refl, sym, subst, ap, ◌∙◌, nat_eq, List, ℕ}
+use Rattle.std.specs.Map.{lookup}
+use Rattle.hub_listen.specs.Listening.{unheard}
+use Rattle.hub_letters.specs.declared.mode.Mode.TheVariants.{Repeat}
+use Rattle.hub_handles.specs.declared.subscription.Subscription.{Subscription}
+use Rattle.hub_handles.specs.Taking.{Begins}
+use Rattle.std.specs.Arc.{arc_value}
+use Rattle.hub_handles.proofs.Numbering.{adds_listener}
+use Rattle.hub_handles.proofs.handles.Handles.add_listener.Goals as goal
+
+pub returns-clause-ok : goal.returns-clause-ok
+returns-clause-ok g c =
+    let put = rw c.unwrap.ensures at c.insert.ensures.updates in
+    let made = c.new-hearing.ensures in
+    adds_listener c.args.self.now _ _ _ _ c.new-hearing.result c.in_ok-has_room.ensures.ok
+    (subst (λ (s : Subscription). Begins (arc_value c.args.dir) s) (sym made.subscription) c.in_ok-subscription.ensures)
+    (made.listener ∙ c.in-Ok.ensures.ok ∙ ap (λ (p : List ℕ). unheard p Repeat) c.items.ensures) made.mode refl refl put.1
+    (λ other h. put.2 other h ∙ ap (lookup (nat_eq other)) c.reserve.ensures.entries)

@@ -1,0 +1,27 @@
+use Rattle.std.proofs.Common.{◌<◌, ◌+◌, length, [], Bool, refl, subst, ap, ◌∙◌, inr, arith}
+use Rattle.hub_handles.specs.Hearings.{HearsOne}
+use Rattle.hub_handles.proofs.Hearings.{hears_none, hears_quietly, gathers_one, hit_polls, stop_polls}
+use Rattle.hub_handles.proofs.hearing.Hearing.poll.Goals as goal
+
+pub returns-in_default-clause-polled : goal.returns-in_default-clause-polled
+returns-in_default-clause-polled g c =
+    let few : length c.args.self.now.listener.gathered < 4096 = (let l = ap length c.text.ensures.value in let t = c.if-text-ge-GATHERED.false in omega arith) in
+    inr (refl, few, ([], hears_none c.args.self.now c.args.self.now.repeats c.text.ensures.short))
+
+pub returns-in-Ok-true-clause-polled : goal.returns-in-Ok-true-clause-polled
+returns-in-Ok-true-clause-polled g c =
+    let heard = subst (λ (hit : Bool). HearsOne c.loop.self hit c.hear.new.self) c.in-Ok-true.field-0-test c.in-Ok-true.ensures.heard in
+    hit_polls c.args.self.now c.loop.self c.hear.new.self c.loop.invariant.0.0 c.copied.result c.loop.invariant.0.1 heard (c.copied.ensures ∙ c.hit.ensures.value)
+
+pub returns-in-Err-clause-polled : goal.returns-in-Err-clause-polled
+returns-in-Err-clause-polled g c =
+    let few : length c.args.self.now.listener.gathered < 4096 = (let l = ap length c.text.ensures.value in let t = c.if-text-ge-GATHERED.false in omega arith) in
+    let stopped = c.in-Err.ensures.stopped in
+    stop_polls c.args.self.now c.loop.self c.hear.new.self c.in-Err.reply c.loop.invariant.0.0 c.loop.invariant.0.1 stopped.0 stopped.1 few
+
+pub loop-preserved : goal.loop-preserved
+loop-preserved g c =
+    let heard = subst (λ (hit : Bool). HearsOne c.loop.self hit c.hear.new.self) c.in-Ok-false.field-0-test c.in-Ok-false.ensures.heard in (
+      hears_quietly c.args.self.now c.loop.self c.hear.new.self c.loop.invariant.0.0 c.loop.invariant.0.1 heard,
+      gathers_one c.loop.self c.hear.new.self heard ∙ ap (λ n. n + 1) c.loop.invariant.1,
+    )

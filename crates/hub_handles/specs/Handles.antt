@@ -1,0 +1,139 @@
+-- What a session holds, by handle.
+use Rattle.std.specs.Prelude.{◌≡◌, ◌+◌, ◌≤◌, ◌<◌, ℕ, Option, None, Some, true, false, nat_eq, is_some, if◌then◌else◌, ◌⊎◌, List}
+use Rattle.std.specs.Map.{lookup}
+use Rattle.indexmap.specs.IndexMap.{index_map_len}
+use Rattle.hub_requests.specs.declared.reply.Refusal.{Refusal}
+use Rattle.hub_requests.specs.declared.reply.Refusal.TheVariants as no
+use Rattle.hub_requests.specs.declared.reply.Reply.{Reply}
+use Rattle.hub_requests.specs.declared.reply.Reply.TheVariants.{Done, Number, No}
+use Rattle.hub_fifodir.specs.declared.fifodir.Fifodir.{Fifodir}
+use Rattle.hub_listen.specs.Listening.{unheard}
+use Rattle.hub_letters.specs.declared.mode.Mode.{Mode}
+use Rattle.hub_letters.specs.declared.mode.Mode.TheVariants.{Repeat}
+use Rattle.hub_handles.specs.declared.handles.Handles.{Handles}
+use Rattle.hub_handles.specs.declared.hearing.Hearing.{Hearing}
+use Rattle.hub_handles.specs.declared.subscription.Subscription.{Subscription}
+use Rattle.hub_handles.specs.Taking.{Begins, TakesFrom}
+use Rattle.hub_handles.specs.Hearings.{Polls, ends_by}
+
+-- what stands under the number
+abbrev pub subscription_of : Handles → ℕ → Option Subscription
+subscription_of hs id = lookup (nat_eq id) hs.subscriptions.entries
+
+abbrev pub listener_of : Handles → ℕ → Option Hearing
+listener_of hs id = lookup (nat_eq id) hs.listeners.entries
+
+-- how many handles stand
+abbrev pub standing : Handles → ℕ
+standing hs = index_map_len hs.subscriptions + index_map_len hs.listeners
+
+-- one more handle may be given
+pub record HasRoom (hs : Handles) : Type 0 where
+  pub few : standing hs < 256
+  pub within : hs.given < 1000000
+
+-- why no further handle may be given
+abbrev pub IsFullAs : Handles → Refusal → Type 0
+IsFullAs hs refusal = ((refusal ≡ no.Many) × (256 ≤ standing hs)) ⊎ ((refusal ≡ no.Spent) × (standing hs < 256) × (1000000 ≤ hs.given))
+
+-- these refusals come first
+pub record IsInPlace (hs : Handles) (refusal : Refusal) : Type 0 where
+  pub many : 256 ≤ standing hs → refusal ≡ no.Many
+  pub spent : standing hs < 256 → 1000000 ≤ hs.given → refusal ≡ no.Spent
+
+-- the same handles stand, and as many were given
+pub record IsStill (old new : Handles) : Type 0 where
+  pub given : new.given ≡ old.given
+  pub subscriptions : new.subscriptions.entries ≡ old.subscriptions.entries
+  pub listeners : new.listeners.entries ≡ old.listeners.entries
+
+-- the number is the next one, which was never given
+pub record IsNext (old : Handles) (number : ℕ) (new : Handles) : Type 0 where
+  pub few : standing old < 256
+  pub next : number ≡ old.given + 1
+  pub within : number ≤ 1000000
+  pub given : new.given ≡ number
+  pub unsubscribed : subscription_of old number ≡ None
+  pub unheard : listener_of old number ≡ None
+
+-- a subscription to the fifodir that begins now stands under the next number
+pub record AddsSubscription (old : Handles) (fifodir : Fifodir) (number : ℕ) (new : Handles) : Type 0 where
+  pub is_next : IsNext old number new
+  pub subscription : Subscription
+  pub begins : Begins fifodir subscription
+  pub stands : subscription_of new number ≡ Some subscription
+  pub others : (other : ℕ) → nat_eq number other ≡ false → subscription_of new other ≡ subscription_of old other
+  pub listeners : new.listeners.entries ≡ old.listeners.entries
+
+-- a listener in this mode that has heard nothing hears such a subscription
+pub record AddsListener (old : Handles) (fifodir : Fifodir) (mode : Mode) (pattern : List ℕ) (number : ℕ) (new : Handles) : Type 0 where
+  pub is_next : IsNext old number new
+  pub hearing : Hearing
+  pub begins : Begins fifodir hearing.subscription
+  pub heard : hearing.listener ≡ unheard pattern Repeat
+  pub mode_is : hearing.mode ≡ mode
+  pub stands : listener_of new number ≡ Some hearing
+  pub others : (other : ℕ) → nat_eq number other ≡ false → listener_of new other ≡ listener_of old other
+  pub subscriptions : new.subscriptions.entries ≡ old.subscriptions.entries
+
+-- a handle under the next number, or none
+abbrev pub Subscribes : Fifodir → Handles → Reply → Handles → Type 0
+Subscribes fifodir old (Number n) new = AddsSubscription old fifodir n new
+Subscribes fifodir old (No refusal) new = IsStill old new × IsInPlace old refusal
+Subscribes fifodir old _ new = ⊥
+
+abbrev pub Listens : Fifodir → Mode → List ℕ → Handles → Reply → Handles → Type 0
+Listens fifodir mode pattern old (Number n) new = AddsListener old fifodir mode pattern n new
+Listens fifodir mode pattern old (No refusal) new = IsStill old new × IsInPlace old refusal
+Listens fifodir mode pattern old _ new = ⊥
+
+-- ---- take
+
+-- the subscription under the number takes, and nothing else has changed
+pub record TakesHere (old : Handles) (id max : ℕ) (reply : Reply) (new : Handles) : Type 0 where
+  pub before : Subscription
+  pub after : Subscription
+  pub held : subscription_of old id ≡ Some before
+  pub takes : TakesFrom max before reply after
+  pub kept : subscription_of new id ≡ Some after
+  pub others : (other : ℕ) → nat_eq id other ≡ false → subscription_of new other ≡ subscription_of old other
+  pub listeners : new.listeners.entries ≡ old.listeners.entries
+  pub given : new.given ≡ old.given
+
+-- no subscription has the number, or there is no memory for the reply
+pub record TakesNone (old : Handles) (id : ℕ) (reply : Reply) (new : Handles) : Type 0 where
+  pub still : IsStill old new
+  pub refused : ((subscription_of old id ≡ None) × (reply ≡ No no.Id)) ⊎ ((is_some (subscription_of old id) ≡ true) × (reply ≡ No no.Memory))
+
+abbrev pub TakesAt : Handles → ℕ → ℕ → Reply → Handles → Type 0
+TakesAt old id max reply new = TakesHere old id max reply new ⊎ TakesNone old id reply new
+
+-- ---- poll and cancel
+
+-- the listener under the number is polled, and is gone where that was its one hit; nothing else has changed
+pub record PollsHere (old : Handles) (id : ℕ) (reply : Reply) (new : Handles) : Type 0 where
+  pub before : Hearing
+  pub after : Hearing
+  pub held : listener_of old id ≡ Some before
+  pub polls : Polls before reply after
+  pub kept : listener_of new id ≡ (if ends_by after.mode reply then None else Some after)
+  pub others : (other : ℕ) → nat_eq id other ≡ false → listener_of new other ≡ listener_of old other
+  pub subscriptions : new.subscriptions.entries ≡ old.subscriptions.entries
+  pub given : new.given ≡ old.given
+
+-- no listener has the number
+pub record PollsNone (old : Handles) (id : ℕ) (reply : Reply) (new : Handles) : Type 0 where
+  pub still : IsStill old new
+  pub unknown : listener_of old id ≡ None
+  pub refused : reply ≡ No no.Id
+
+abbrev pub PollsAt : Handles → ℕ → Reply → Handles → Type 0
+PollsAt old id reply new = PollsHere old id reply new ⊎ PollsNone old id reply new
+
+pub record Cancels (old : Handles) (id : ℕ) (reply : Reply) (new : Handles) : Type 0 where
+  pub unknown : subscription_of old id ≡ None → listener_of old id ≡ None → (reply ≡ No no.Id) × IsStill old new
+  pub known : (is_some (subscription_of old id) ≡ true) ⊎ (is_some (listener_of old id) ≡ true) → reply ≡ Done
+  pub gone : is_some (subscription_of old id) ≡ true → subscription_of new id ≡ None
+  pub unheard : subscription_of old id ≡ None → listener_of new id ≡ None
+  pub others : (other : ℕ) → nat_eq id other ≡ false → (subscription_of new other ≡ subscription_of old other) × (listener_of new other ≡ listener_of old other)
+  pub given : new.given ≡ old.given

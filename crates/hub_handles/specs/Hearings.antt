@@ -1,0 +1,77 @@
+-- What a session's listener hears of what its subscription takes.
+use Rattle.std.specs.Prelude.{◌≡◌, ◌≢◌, ◌≤◌, ◌<◌, ◌⊎◌, ℕ, Bool, true, false, List, [], ◌∷◌, ◌++◌, length, Option, Some, None, Result, Ok, Err}
+use Rattle.hub_requests.specs.declared.reply.Refusal.TheVariants as no
+use Rattle.hub_requests.specs.declared.reply.Reply.{Reply}
+use Rattle.hub_requests.specs.declared.reply.Reply.TheVariants as answer
+use Rattle.hub_fifodir.specs.declared.ticket.Ticket.{Ticket}
+use Rattle.hub_fifodir.specs.Passes.{got, ticket_seen, ticket_closed}
+use Rattle.hub_listen.specs.Listening.{Feeds}
+use Rattle.hub_listen.specs.declared.feed.Feed.{Feed}
+use Rattle.hub_listen.specs.declared.feed.Feed.TheVariants.{Hit, Quiet}
+use Rattle.hub_listen.specs.declared.feed.FeedError.{FeedError}
+use Rattle.hub_letters.specs.declared.mode.Mode.{Mode}
+use Rattle.hub_letters.specs.declared.mode.Mode.TheVariants.{Once, Repeat}
+use Rattle.hub_record.specs.World.{letters}
+use Rattle.hub_handles.specs.declared.hearing.Hearing.{Hearing}
+use Rattle.hub_handles.specs.Taking.{IsSameTicket}
+
+abbrev pub held_letters : Option ℕ → List ℕ
+held_letters None = []
+held_letters (Some letter) = letter ∷ []
+
+-- What was held and what its ticket took meanwhile are these letters and what is held now: each once, in order.
+pub record Comes (old : Hearing) (come : List ℕ) (new : Hearing) : Type 0 where
+  pub ticket : IsSameTicket old.subscription new.subscription
+  pub mode : new.mode ≡ old.mode
+  pub taken : List ℕ
+  pub took : letters (got new.subscription.ticket) ≡ letters (got old.subscription.ticket) ++ taken
+  pub once : held_letters old.held ++ taken ≡ come ++ held_letters new.held
+
+-- and its listener heard them, with this answer
+pub record Hears (old : Hearing) (fed : List ℕ) (heard : Result Feed FeedError) (new : Hearing) : Type 0 where
+  pub comes : Comes old fed new
+  pub feeds : Feeds old.listener fed heard new.listener
+
+-- nothing waits for it, and the fifodir is open or closed
+abbrev pub IsIdle : Ticket → Type 0
+IsIdle t = (t.next ≡ length (ticket_seen t)) × (ticket_closed t ≡ 0)
+
+abbrev pub IsOver : Ticket → Type 0
+IsOver t = (t.next ≡ length (ticket_seen t)) × (ticket_closed t ≢ 0)
+
+-- why no further letter is heard
+abbrev pub Stops : Reply → Hearing → Type 0
+Stops answer.Nothing h = (h.held ≡ None) × IsIdle h.subscription.ticket
+Stops answer.End h = (h.held ≡ None) × IsOver h.subscription.ticket
+Stops (answer.No refusal) h = refusal ≡ no.Memory
+Stops _ h = ⊥
+
+-- the letter that is to be heard next, or why there is none
+abbrev pub Gives : Hearing → Result ℕ Reply → Hearing → Type 0
+Gives old (Ok letter) new = Comes old (letter ∷ []) new × (new.held ≡ None)
+Gives old (Err reply) new = Comes old [] new × Stops reply new
+
+-- one letter was heard, and did or didn't complete a hit
+abbrev pub HearsOne : Hearing → Bool → Hearing → Type 0
+HearsOne old true new = (letter : ℕ) × Hears old (letter ∷ []) (Ok (Hit 1)) new × (new.held ≡ None)
+HearsOne old false new = (letter : ℕ) × Hears old (letter ∷ []) (Ok Quiet) new × (new.held ≡ None)
+
+-- A hit ends with the last letter that was heard. Without one all were heard quietly, until none waits or as many are
+-- gathered as may be.
+abbrev pub Polls : Hearing → Reply → Hearing → Type 0
+Polls old (answer.Hit hit) new = (fed : List ℕ) × Hears old fed (Ok (Hit (length fed))) new × (hit ≡ new.listener.hit) × (new.held ≡ None)
+Polls old answer.Nothing new = (length old.listener.gathered < 4096) × ((fed : List ℕ) × Hears old fed (Ok Quiet) new) × (Stops answer.Nothing new ⊎ (4096 ≤ length new.listener.gathered))
+Polls old answer.End new = (length old.listener.gathered < 4096) × ((fed : List ℕ) × Hears old fed (Ok Quiet) new) × Stops answer.End new
+Polls old (answer.No refusal) new =
+    ((refusal ≡ no.Overlong) × (4096 ≤ length old.listener.gathered) × (new ≡ old))
+    ⊎ ((refusal ≡ no.Memory) × (length old.listener.gathered < 4096) × ((fed : List ℕ) × Hears old fed (Ok Quiet) new))
+Polls old _ new = ⊥
+
+-- the one hit of mode Once is the last reply
+abbrev pub is_once : Mode → Bool
+is_once Once = true
+is_once Repeat = false
+
+abbrev pub ends_by : Mode → Reply → Bool
+ends_by mode (answer.Hit hit) = is_once mode
+ends_by mode _ = false

@@ -1,0 +1,4 @@
+pub mod Refusals
+pub mod Taking
+pub mod Hearings
+pub mod Handles

@@ -1,0 +1,41 @@
+-- What a session takes by a ticket.
+use Rattle.std.specs.Prelude.{◌≡◌, ℕ, [], ◌∷◌, Result, Ok, Err}
+use Rattle.std.specs.Arc.{arc_value}
+use Rattle.hub_requests.specs.declared.reply.Reply.{Reply}
+use Rattle.hub_requests.specs.declared.reply.Reply.TheVariants as answer
+use Rattle.hub_fifodir.specs.declared.fifodir.Fifodir.{Fifodir}
+use Rattle.hub_fifodir.specs.declared.ticket.Ticket.{Ticket}
+use Rattle.hub_fifodir.specs.Passes.{HasSubscribed, HasTaken, sent_on, ticket_sight}
+use Rattle.hub_fifodir.specs.Steps.{Grows}
+use Rattle.hub_record.specs.declared.Taken.TheVariants.{Got, Nothing, End}
+use Rattle.hub_handles.specs.declared.subscription.Subscription.{Subscription}
+
+-- the letters that are answered are those of the events that the ticket took, at most so many
+abbrev pub Shows : ℕ → Ticket → Reply → Ticket → Type 0
+Shows max old (answer.Got letters) new = (n : ℕ) × HasTaken old max (Got n) new × (letters ≡ sent_on old (Got n) new)
+Shows max old answer.Nothing new = HasTaken old max Nothing new
+Shows max old answer.End new = HasTaken old max End new
+Shows max old _ new = ⊥
+
+-- it is the same ticket, of the same fifodir, and has seen no less
+pub record IsSameTicket (old new : Subscription) : Type 0 where
+  pub dir : new.dir ≡ old.dir
+  pub id : new.ticket.id ≡ old.ticket.id
+  pub mark : new.ticket.mark ≡ old.ticket.mark
+  pub seen : Grows (ticket_sight old.ticket) (ticket_sight new.ticket)
+
+pub record TakesFrom (max : ℕ) (old : Subscription) (reply : Reply) (new : Subscription) : Type 0 where
+  pub same : IsSameTicket old new
+  pub shows : Shows max old.ticket reply new.ticket
+
+-- a letter, or the answer where there is none
+abbrev pub TakesOne : Subscription → Result ℕ Reply → Subscription → Type 0
+TakesOne old (Ok letter) new = TakesFrom 1 old (answer.Got (letter ∷ [])) new
+TakesOne old (Err answer.Nothing) new = TakesFrom 1 old answer.Nothing new
+TakesOne old (Err answer.End) new = TakesFrom 1 old answer.End new
+TakesOne old (Err _) new = ⊥
+
+-- a subscription that begins now, at the end of what its ticket has seen
+pub record Begins (fifodir : Fifodir) (s : Subscription) : Type 0 where
+  pub dir : arc_value s.dir ≡ fifodir
+  pub begun : HasSubscribed s.ticket

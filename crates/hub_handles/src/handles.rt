@@ -1,0 +1,224 @@
+//! What a session holds, by handle.
+ghost use Rattle.std.specs.Prelude.{◌≡◌, ◌≤◌, ◌<◌, ℕ, None, false, [], length, nat_eq, IfOk, IfErr, OnOk, OnErr};
+ghost use Rattle.std.specs.Arc.{arc_value};
+ghost use Rattle.std.specs.Map.{lookup};
+ghost use Rattle.hub_requests.specs.Ranges.{IsTake};
+ghost use Rattle.hub_requests.specs.Texts.{text_of};
+ghost use Rattle.hub_handles.specs.Refusals.{IsBrief};
+
+use crate::hearing::Hearing;
+use crate::room::Room;
+use crate::subscription::Subscription;
+use hub_fifodir::Fifodir;
+use hub_listen::{ListenError, Listener, Mode};
+use hub_requests::{PatternText, Refusal, Reply};
+use indexmap::IndexMap;
+use std::alloc::{AllocError, Global};
+use std::mem;
+use std::sync::{Arc, Wait};
+
+/// How many handles may stand.
+const HANDLES: usize = 256;
+
+/// How many handles may be given.
+const NUMBERS: u64 = 1_000_000;
+
+/// What the standing handles of a session hold, by number. Subscriptions and listeners are numbered in one sequence.
+#[derive(Drop)]
+pub struct Handles {
+    alloc: Global,
+    /// How many handles were given.
+    given: u64,
+    subscriptions: IndexMap<u64, Subscription>,
+    listeners: IndexMap<u64, Hearing>,
+    /// Shared by all takes.
+    room: Room,
+    ghost subscribed: { (id : ℕ) → given < id → lookup (nat_eq id) subscriptions.entries ≡ None },
+    ghost listening: { (id : ℕ) → given < id → lookup (nat_eq id) listeners.entries ≡ None },
+}
+
+impl Handles {
+    ghost use Rattle.hub_handles.specs.Handles.{Subscribes, Listens, TakesAt, PollsAt, Cancels, IsStill, HasRoom, IsFullAs, IsInPlace, AddsSubscription, AddsListener, listener_of};
+
+    pub fn new(alloc: Global) -> Result<Handles, AllocError>
+        ensures given { IfOk result (λ handles. handles.given ≡ 0) }
+        ensures subscriptions { IfOk result (λ handles. handles.subscriptions.entries ≡ []) }
+        ensures listeners { IfOk result (λ handles. handles.listeners.entries ≡ []) }
+    {
+        let room = Room::new(alloc)?;
+        Ok(Handles {
+            alloc,
+            given: 0,
+            subscriptions: IndexMap::new(alloc),
+            listeners: IndexMap::new(alloc),
+            room,
+        })
+    }
+
+    /// Whether one more handle may be given.
+    fn has_room(&self) -> Result<(), Refusal>
+        ensures ok { OnOk result (HasRoom self.now) }
+        ensures err { IfErr result (IsFullAs self.now) }
+        ensures brief { IfErr result IsBrief }
+    {
+        if self.subscriptions.len() + self.listeners.len() >= HANDLES {
+            return Err(Refusal::Many);
+        }
+        if self.given >= NUMBERS {
+            return Err(Refusal::Spent);
+        }
+        Ok(())
+    }
+
+    /// Begins a subscription, under the next number.
+    pub fn subscribe<H: Wait>(&mut self, rt: &H, dir: Arc<Fifodir, Global>) -> Reply
+        ensures step { Subscribes (arc_value dir) self.old result self.new }
+        ensures short { length (text_of result) ≤ 4101 }
+    {
+        match self.add_subscription(rt, dir) {
+            Ok(number) => Reply::Number(number),
+            Err(refusal) => Reply::No(refusal),
+        }
+    }
+
+    fn add_subscription<H: Wait>(
+        &mut self,
+        rt: &H,
+        dir: Arc<Fifodir, Global>,
+    ) -> Result<u64, Refusal>
+        ensures ok { IfOk result (λ number. AddsSubscription self.old (arc_value dir) number self.new) }
+        ensures err { OnErr result (IsStill self.old self.new) }
+        ensures in_place { IfErr result (IsInPlace self.old) }
+        ensures brief { IfErr result IsBrief }
+    {
+        self.has_room()?;
+        if self.subscriptions.reserve(1).is_err() {
+            return Err(Refusal::Memory);
+        }
+        let subscription = Subscription::new(rt, dir)?;
+        let number = self.given + 1;
+        self.subscriptions.insert(number, subscription).unwrap();
+        self.given = number;
+        Ok(number)
+    }
+
+    /// Begins a subscription that a listener hears, under the next number.
+    pub fn listen<H: Wait>(
+        &mut self,
+        rt: &H,
+        dir: Arc<Fifodir, Global>,
+        mode: Mode,
+        pattern: &PatternText,
+    ) -> Reply
+        ensures step { Listens (arc_value dir) mode pattern.now self.old result self.new }
+        ensures short { length (text_of result) ≤ 4101 }
+    {
+        match self.add_listener(rt, dir, mode, pattern) {
+            Ok(number) => Reply::Number(number),
+            Err(refusal) => Reply::No(refusal),
+        }
+    }
+
+    fn add_listener<H: Wait>(
+        &mut self,
+        rt: &H,
+        dir: Arc<Fifodir, Global>,
+        mode: Mode,
+        pattern: &PatternText,
+    ) -> Result<u64, Refusal>
+        ensures ok { IfOk result (λ number. AddsListener self.old (arc_value dir) mode pattern.now number self.new) }
+        ensures err { OnErr result (IsStill self.old self.new) }
+        ensures in_place { IfErr result (IsInPlace self.old) }
+        ensures brief { IfErr result IsBrief }
+    {
+        self.has_room()?;
+        let listener = match Listener::new(self.alloc, pattern.items(), Mode::Repeat) {
+            Ok(listener) => listener,
+            Err(ListenError::Pattern) => return Err(Refusal::Pattern),
+            Err(ListenError::Memory) => return Err(Refusal::Memory),
+        };
+        if self.listeners.reserve(1).is_err() {
+            return Err(Refusal::Memory);
+        }
+        let subscription = Subscription::new(rt, dir)?;
+        let number = self.given + 1;
+        let hearing = Hearing::new(subscription, listener, mode);
+        self.listeners.insert(number, hearing).unwrap();
+        self.given = number;
+        Ok(number)
+    }
+
+    /// Takes at most `max` events that wait for a subscription.
+    pub fn take<H: Wait>(&mut self, rt: &H, id: u64, max: u64) -> Reply
+        requires { IsTake max }
+        ensures step { TakesAt self.old id max result self.new }
+        ensures short { length (text_of result) ≤ 4101 }
+    {
+        let Some(subscription) = self.subscriptions.get_mut(&id) else {
+            return Reply::No(Refusal::Id);
+        };
+        match Vec::with_capacity(self.alloc, max as usize) {
+            Ok(letters) => subscription.take(rt, max as usize, &mut self.room, letters),
+            Err(_) => Reply::No(Refusal::Memory),
+        }
+    }
+
+    /// Looks for the next hit of a listener. After its hit in mode `Once` it is ended.
+    pub fn poll<H: Wait>(&mut self, rt: &H, id: u64) -> Reply
+        ensures step { PollsAt self.old id result self.new }
+        ensures short { length (text_of result) ≤ 4101 }
+    {
+        let Some(hearing) = self.listeners.get_mut(&id) else {
+            return Reply::No(Refusal::Id);
+        };
+        let reply = hearing.poll(rt, self.alloc);
+        if hearing.ends_with(&reply) {
+            self.end_listener(rt, id);
+        }
+        reply
+    }
+
+    /// Ends a listener that stands.
+    fn end_listener<H: Wait>(&mut self, rt: &H, id: u64)
+        ensures gone { listener_of self.new id ≡ None }
+        ensures others { (other : ℕ) → nat_eq id other ≡ false → listener_of self.new other ≡ listener_of self.old other }
+        ensures subscriptions { self.new.subscriptions.entries ≡ self.old.subscriptions.entries }
+        ensures given { self.new.given ≡ self.old.given }
+    {
+        if let Some(hearing) = self.listeners.swap_remove(&id) {
+            hearing.cancel(rt);
+        }
+    }
+
+    /// Ends a subscription or a listener.
+    pub fn cancel<H: Wait>(&mut self, rt: &H, id: u64) -> Reply
+        ensures step { Cancels self.old id result self.new }
+        ensures short { length (text_of result) ≤ 4101 }
+    {
+        if let Some(subscription) = self.subscriptions.swap_remove(&id) {
+            subscription.cancel(rt);
+            return Reply::Done;
+        }
+        if let Some(hearing) = self.listeners.swap_remove(&id) {
+            hearing.cancel(rt);
+            return Reply::Done;
+        }
+        Reply::No(Refusal::Id)
+    }
+
+    /// Ends all subscriptions and listeners.
+    pub fn end<H: Wait>(&mut self, rt: &H)
+        ensures given { self.new.given ≡ self.old.given }
+        ensures subscriptions { self.new.subscriptions.entries ≡ [] }
+        ensures listeners { self.new.listeners.entries ≡ [] }
+    {
+        let subscriptions = mem::replace(&mut self.subscriptions, IndexMap::new(self.alloc));
+        for (_, subscription) in subscriptions {
+            subscription.cancel(rt);
+        }
+        let listeners = mem::replace(&mut self.listeners, IndexMap::new(self.alloc));
+        for (_, hearing) in listeners {
+            hearing.cancel(rt);
+        }
+    }
+}

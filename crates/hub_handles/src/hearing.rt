@@ -1,0 +1,131 @@
+//! A session's listeners.
+ghost use Rattle.std.specs.Prelude.{◌≡◌, ◌≤◌, ◌<◌, [], Ok, length, vec_len, vec_capacity, IfOk, IfErr};
+ghost use Rattle.hub_requests.specs.Texts.{text_of};
+ghost use Rattle.hub_listen.specs.declared.feed.Feed.TheVariants.{Quiet};
+ghost use Rattle.hub_letters.specs.declared.mode.Mode.TheVariants.{Repeat};
+
+use crate::subscription::Subscription;
+use hub_letters::Letter;
+use hub_listen::{Feed, FeedError, Listener, Mode};
+use hub_record::Letters;
+use hub_requests::{Refusal, Reply};
+use std::alloc::Global;
+use std::sync::Wait;
+
+/// How many letters a listener gathers.
+const GATHERED: usize = 4096;
+
+/// A listener that hears a subscription. It hears in mode `Repeat` whatever its own mode is: after the one hit of mode
+/// `Once` the session ends it.
+#[derive(Drop)]
+pub struct Hearing {
+    subscription: Subscription,
+    listener: Listener,
+    mode: Mode,
+    /// The letter that was taken when a search found no memory. It is heard first.
+    held: Option<Letter>,
+    ghost repeats: { listener.mode ≡ Repeat },
+}
+
+impl Hearing {
+    ghost use Rattle.hub_handles.specs.Hearings.{Gives, Hears, HearsOne, Polls, Stops, ends_by};
+
+    pub fn new(subscription: Subscription, listener: Listener, mode: Mode) -> Hearing
+        requires { listener.mode ≡ Repeat }
+        ensures subscription { result.subscription ≡ subscription }
+        ensures listener { result.listener ≡ listener }
+        ensures mode { result.mode ≡ mode }
+    {
+        Hearing {
+            subscription,
+            listener,
+            mode,
+            held: None,
+        }
+    }
+
+    /// Whether this was the last reply that it has.
+    pub fn ends_with(&self, reply: &Reply) -> bool
+        ensures { result ≡ ends_by self.now.mode reply.now }
+    {
+        match reply {
+            Reply::Hit(_) => self.mode == Mode::Once,
+            _ => false,
+        }
+    }
+
+    /// Hears letter after letter, up to the next hit or as far as it gathers.
+    pub fn poll<H: Wait>(&mut self, rt: &H, alloc: Global) -> Reply
+        ensures polled { Polls self.old result self.new }
+        ensures short { length (text_of result) ≤ 4101 }
+    {
+        if self.listener.text().len() >= GATHERED {
+            return Reply::No(Refusal::Overlong);
+        }
+        let Ok(room) = Vec::with_capacity(alloc, GATHERED) else {
+            return Reply::No(Refusal::Memory);
+        };
+        for _ in self.listener.text().len()..GATHERED {
+            match self.hear(rt) {
+                Ok(false) => {}
+                Ok(true) => return Reply::Hit(copied(self.listener.hit(), room)),
+                Err(reply) => return reply,
+            }
+        }
+        Reply::Nothing
+    }
+
+    /// Hears one letter more, and tells whether it completes a hit; or what to answer where none can be heard.
+    fn hear<H: Wait>(&mut self, rt: &H) -> Result<bool, Reply>
+        requires { length self.old.listener.gathered < 4096 }
+        ensures heard { IfOk result (λ hit. HearsOne self.old hit self.new) }
+        ensures stopped { IfErr result (λ reply. Hears self.old [] (Ok Quiet) self.new × Stops reply self.new) }
+        ensures short { IfErr result (λ reply. length (text_of reply) ≤ 4101) }
+    {
+        let letter = self.next_letter(rt)?;
+        match self.listener.feed(&[letter]) {
+            Ok(Feed::Quiet) => Ok(false),
+            Ok(Feed::Hit(_)) => Ok(true),
+            Err(FeedError::Memory) => {
+                self.held = Some(letter);
+                Err(Reply::No(Refusal::Memory))
+            }
+            Ok(Feed::Spent) | Err(FeedError::Overlong) => unreachable!(),
+        }
+    }
+
+    /// The letter that is held, or the next one; or what to answer where there is none.
+    fn next_letter<H: Wait>(&mut self, rt: &H) -> Result<Letter, Reply>
+        ensures gives { Gives self.old result self.new }
+        ensures listener { self.new.listener ≡ self.old.listener }
+        ensures short { IfErr result (λ reply. length (text_of reply) ≤ 4101) }
+    {
+        match self.held.take() {
+            Some(letter) => Ok(letter),
+            None => self.subscription.take_letter(rt),
+        }
+    }
+
+    /// Gives the subscription back.
+    pub fn cancel<H: Wait>(self, rt: &H) {
+        let Hearing {
+            subscription,
+            listener: _,
+            mode: _,
+            held: _,
+        } = self;
+        subscription.cancel(rt);
+    }
+}
+
+/// The letters again, in a list that has room for them.
+fn copied(letters: &[Letter], mut room: Vec<Letter>) -> Letters
+    requires empty { vec_len room ≡ 0 }
+    requires fits { length letters.now ≤ vec_capacity room }
+    ensures { result ≡ letters.now }
+{
+    for letter in letters {
+        room.push_reserved(*letter);
+    }
+    Letters::of(room)
+}

@@ -1,0 +1,105 @@
+//! A session's subscriptions.
+ghost use Rattle.std.specs.Prelude.{◌≡◌, ◌≤◌, length, vec_len, vec_capacity, IfOk, IfErr};
+ghost use Rattle.std.specs.Arc.{arc_value};
+ghost use Rattle.hub_requests.specs.Texts.{text_of};
+ghost use Rattle.hub_fifodir.specs.Passes.{IsTicketOf};
+ghost use Rattle.hub_record.specs.World.{letters};
+
+use crate::room::Room;
+use hub_fifodir::{Fifodir, Ticket};
+use hub_letters::Letter;
+use hub_record::{Event, Letters, SubError, Taken};
+use hub_requests::Reply;
+use std::alloc::Global;
+use std::sync::{Arc, Wait};
+
+/// A ticket beside its fifodir. It is given back by `cancel`.
+#[derive(Drop)]
+pub struct Subscription {
+    dir: Arc<Fifodir, Global>,
+    ticket: Ticket,
+    ghost of: { IsTicketOf (arc_value dir) ticket },
+}
+
+impl Subscription {
+    ghost use Rattle.hub_handles.specs.Taking.{Begins, TakesFrom, TakesOne};
+
+    pub fn new<H: Wait>(rt: &H, dir: Arc<Fifodir, Global>) -> Result<Subscription, SubError>
+        ensures { IfOk result (λ s. Begins (arc_value dir) s) }
+    {
+        let ticket = dir.subscribe(rt)?;
+        Ok(Subscription { dir, ticket })
+    }
+
+    /// Takes at most `max` events through the room, and answers their letters in a list that has room for them.
+    pub fn take<H: Wait>(
+        &mut self,
+        rt: &H,
+        max: usize,
+        room: &mut Room,
+        letters: Vec<Letter>,
+    ) -> Reply
+        requires few { max ≤ 256 }
+        requires empty { vec_len letters ≡ 0 }
+        requires fits { max ≤ vec_capacity letters }
+        ensures step { TakesFrom max self.old result self.new }
+        ensures short { length (text_of result) ≤ 4101 }
+    {
+        self.take_through(rt, max, &mut room.events, letters)
+    }
+
+    fn take_through<H: Wait>(
+        &mut self,
+        rt: &H,
+        max: usize,
+        events: &mut [Event],
+        letters: Vec<Letter>,
+    ) -> Reply
+        requires few { max ≤ 256 }
+        requires places { max ≤ length events.old }
+        requires empty { vec_len letters ≡ 0 }
+        requires fits { max ≤ vec_capacity letters }
+        ensures step { TakesFrom max self.old result self.new }
+        ensures short { length (text_of result) ≤ 4101 }
+    {
+        match self.dir.take_into(rt, &mut self.ticket, &mut events[..max]) {
+            Taken::Got(count) => Reply::Got(letters_of(&events[..count], letters)),
+            Taken::Nothing => Reply::Nothing,
+            Taken::End => Reply::End,
+        }
+    }
+
+    /// Takes the next letter, or tells what to answer where there is none.
+    pub fn take_letter<H: Wait>(&mut self, rt: &H) -> Result<Letter, Reply>
+        ensures step { TakesOne self.old result self.new }
+        ensures short { IfErr result (λ reply. length (text_of reply) ≤ 4101) }
+    {
+        let mut event = [Event {
+            who: 0,
+            letter: Letter::least(),
+        }];
+        match self.dir.take_into(rt, &mut self.ticket, &mut event) {
+            Taken::Got(_) => Ok(event[0].letter),
+            Taken::Nothing => Err(Reply::Nothing),
+            Taken::End => Err(Reply::End),
+        }
+    }
+
+    /// Gives the ticket back.
+    pub fn cancel<H: Wait>(self, rt: &H) {
+        let Subscription { dir, ticket } = self;
+        dir.cancel(rt, ticket);
+    }
+}
+
+/// The events' letters, in a list that has room for them.
+fn letters_of(events: &[Event], mut room: Vec<Letter>) -> Letters
+    requires empty { vec_len room ≡ 0 }
+    requires fits { length events.now ≤ vec_capacity room }
+    ensures { result ≡ letters events.now }
+{
+    for event in events {
+        room.push_reserved(event.letter);
+    }
+    Letters::of(room)
+}

@@ -1,0 +1,4 @@
+pub mod Names
+pub mod Ranges
+pub mod Texts
+pub mod Refusals

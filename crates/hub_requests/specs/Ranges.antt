@@ -1,0 +1,33 @@
+-- The ranges of a request's numbers.
+use Rattle.std.specs.Prelude.{ℕ, ◌≤◌, List, length}
+use Rattle.hub_requests.specs.declared.request.Request.{Request}
+use Rattle.hub_requests.specs.declared.request.Request.TheVariants.{Dir, Svc, Sub, Pub, Take, Cancel, Close, Status, Listen, Poll, Wait}
+
+pub record AreLimits (waiting total : ℕ) : Type 0 where
+  pub some_wait : 1 ≤ waiting
+  pub few_wait : waiting ≤ 4096
+  pub some : 1 ≤ total
+  pub within : total ≤ 1000000000000
+
+pub record IsTake (max : ℕ) : Type 0 where
+  pub some : 1 ≤ max
+  pub few : max ≤ 256
+
+pub record IsWait (turns : ℕ) (names : List (List ℕ)) : Type 0 where
+  pub patient : turns ≤ 1000000
+  pub some : 1 ≤ length names
+  pub few : length names ≤ 32
+
+-- each number of the request is in its range
+abbrev pub IsInRange : Request → Type 0
+IsInRange (Dir name waiting total) = AreLimits waiting total
+IsInRange (Svc name waiting total notifies) = AreLimits waiting total
+IsInRange (Sub name) = Unit {0}
+IsInRange (Pub name letters) = Unit {0}
+IsInRange (Take id max) = IsTake max
+IsInRange (Cancel id) = Unit {0}
+IsInRange (Close name) = Unit {0}
+IsInRange (Status name) = Unit {0}
+IsInRange (Listen name mode pattern) = Unit {0}
+IsInRange (Poll id) = Unit {0}
+IsInRange (Wait span want turns names) = IsWait turns names

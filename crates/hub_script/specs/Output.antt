@@ -1,0 +1,42 @@
+-- What the program writes: the texts of a new desk's answers to the requests, with the refusals in their lines' places.
+-- Whether each pattern of the requests is read stands beside the input.
+use Rattle.std.specs.Prelude.{◌≡◌, ◌≢◌, ℕ, Bool, List, All, length, flat_map, Option, Result, Err}
+use Rattle.std.specs.List.{AllZip}
+use Rattle.std.specs.Io.KnownBytes.{Appends, Consumes, IsAtEnd}
+use Rattle.hub_desk.specs.Answers.{answers, patterns_in, AreReads}
+use Rattle.hub_desk.specs.Desks.{new_desk}
+use Rattle.hub_requests.specs.Texts.{text_of}
+use Rattle.hub_requests.specs.declared.reply.Reply.{Reply}
+use Rattle.hub_requests.specs.declared.request.Request.{Request}
+use Rattle.hub_front.specs.Lines.{lines_of}
+use Rattle.hub_front.specs.Places.{NoneIsMemory, in_place, requests_of}
+use Rattle.hub_lines.specs.Reading.{IsReading}
+use Rattle.hub_lines.specs.declared.parsing.Bad.{Bad}
+use Rattle.hub_lines.specs.declared.parsing.Bad.TheVariants.{Memory}
+
+-- the replies to these lines, with memory enough, where `patterns` says of each pattern in them whether it is read
+pub record AreReplies (patterns : List Bool) (lines : List (List ℕ)) (replies : List Reply) : Type 0 where
+  pub reads : List (Result Request Bad)
+  pub readings : AllZip IsReading lines reads
+  pub enough : All (λ read. read ≢ Err Memory) reads
+  pub are_patterns : AreReads patterns (patterns_in (requests_of reads))
+  pub placed : replies ≡ in_place reads (answers new_desk patterns (requests_of reads))
+
+-- the output of an input
+pub record IsOutput (patterns : List Bool) (input output : List ℕ) : Type 0 where
+  pub replies : List Reply
+  pub answered : AreReplies patterns (lines_of input) replies
+  pub texts : output ≡ flat_map text_of replies
+
+-- What a session over a new desk did that ended with its input: n lines were read, and the texts of as many replies
+-- were written. Where none is for want of memory, that is the output of the input. had and has are what the reader had
+-- left before and has left after, held and holds what the writer held before and holds after.
+pub record Serves (held holds had has : Option (List ℕ)) (n : ℕ) : Type 0 where
+  pub input : List ℕ
+  pub consumed : Consumes had has input
+  pub whole : IsAtEnd has
+  pub counted : n ≡ length (lines_of input)
+  pub replies : List Reply
+  pub each : length replies ≡ n
+  pub written : Appends held holds (flat_map text_of replies)
+  pub output : NoneIsMemory replies → (patterns : List Bool) × IsOutput patterns input (flat_map text_of replies)

@@ -1,9 +1,0 @@
-use Rattle.std.proofs.Common.{arith}
-use Rattle.hub_shared.proofs.ShortTexts.{short_number, short_brief}
-use Rattle.hub_shared.proofs.shared_desk.handles.Handles.listen.Goals as goal
-
-pub returns-in-Ok-clause-short : goal.returns-in-Ok-clause-short
-returns-in-Ok-clause-short g c = short_number c.in-Ok.number (let w = c.in-Ok.ensures.ok.is_next.within in omega arith)
-
-pub returns-in-Err-clause-short : goal.returns-in-Err-clause-short
-returns-in-Err-clause-short g c = short_brief c.in-Err.refusal c.in-Err.ensures.brief

@@ -1,9 +1,0 @@
-use Rattle.std.proofs.Common.{◌≡◌, None, refl}
-use Rattle.hub_shared.proofs.Hearings.{gives_taken}
-use Rattle.hub_shared.proofs.shared_desk.hearing.Hearing.next_letter.Goals as goal
-
-pub returns-in-None-clause-gives : goal.returns-in-None-clause-gives
-returns-in-None-clause-gives g c =
-    let was : c.args.self.now.held ≡ None = cc in
-    let is : c.take.new.self ≡ None = cc in
-    gives_taken c.args.self.now _ c.take_letter.result was is refl c.take_letter.ensures.step
