@@ -29,14 +29,15 @@ fail() {
 }
 
 # start NAME COMMAND..: runs what makes a service ready, and publishes how it goes, as a supervisor does. In one session:
-# the letters are lines of the same connection.
+# the letters are lines of the same connection. A fault of it is told at the end: where this script gives up, its hub ends
+# before the services do.
 start() {
     name=$1
     shift
     {
         echo "pub $name u"
         if "$@" </dev/null >&2; then echo "pub $name U"; else echo "pub $name dOD"; fi
-    } | "$ftrighub" call "$socket" | grep '^no ' >&2 &
+    } | "$ftrighub" call "$socket" 2>>"$work/faults" | grep '^no ' >&2 &
 }
 
 "$ftrighub" --help >/dev/null || exit 1 # where the program isn't built yet, this builds it
@@ -50,7 +51,7 @@ fi
 # Makes the services. The hub listens a moment after it was started, so this tries until it can connect. The letter `s`
 # is published before the wait begins: it ends whatever the services were before, where the hub is an old one.
 tries=0
-until made=$(printf 'svc db 64 1000 1\nsvc web 64 1000 1\npub db s\npub web s\n' | "$ftrighub" call "$socket" 2>/dev/null); do
+until made=$(printf 'svc db 64 1000000000000 1\nsvc web 64 1000000000000 1\npub db s\npub web s\n' | "$ftrighub" call "$socket" 2>/dev/null); do
     tries=$((tries + 1))
     [ "$tries" -lt 50 ] || fail "no hub answers at $socket"
     sleep 0.1
@@ -74,3 +75,4 @@ esac
 
 wait # for the last replies, and for the hub, which ends with its fourth session
 hub=
+cat "$work/faults" >&2

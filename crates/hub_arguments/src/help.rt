@@ -29,9 +29,9 @@ Each line of standard input is a request, and each gets one reply line, in order
 (letters, digits, `_`, `.`, `-`). Fields are separated by exactly one space.
 
   dir N W T      make a fifodir: at most W events wait (1 to 4096), T in its life (1 to 10^12)
-                 dir web 64 1000        ok
+                 dir web 64 1000000000000 ok
   svc N W T R    the same of a service, whose letters keep their lawful order; R is 1 where it reports readiness
-                 svc db 64 1000 1       ok
+                 svc db 64 1000000000000 1 ok
   sub N          subscribe; the reply has the handle
                  sub web                ok 1
   pub N LETTERS  publish letters (bytes from ! to ~); the reply has the number of the first event
@@ -75,7 +75,7 @@ all see, and what one publishes, the subscriptions of the others get. A session'
 fifodir stays as long as the server.
 
   ftrighub serve /run/hub.sock --sessions 8 &
-  printf 'svc db 64 1000 1\\n' | ftrighub call /run/hub.sock
+  printf 'svc db 64 1000000000000 1\\n' | ftrighub call /run/hub.sock
 
 It ends when N connections were made and all have ended, so N is the number of calls that a start-up makes in all.
 A connection ends when its client hangs up.

@@ -6,8 +6,8 @@
 //! pieces, the hits are the same, and that is proved ([`laws`]).
 //!
 //! A [`Listener`] gathers letters since its last hit, and searches what it has gathered after each letter, as a text of
-//! its own: `^` is where the gathering began, `$` the end of the newest letter, and a pattern that matches the empty
-//! text hits at each letter. It gathers at most 4096 letters. A piece that doesn't fit, and has no hit before that, is
+//! its own: `^` is where the gathering began, `$` the end of the newest letter, and a pattern that finds a
+//! match at any place of every text, such as `a*`, hits at each letter. It gathers at most 4096 letters. A piece that doesn't fit, and has no hit before that, is
 //! refused whole. All of its room is made at the start; after that only a search may find no memory, and then nothing
 //! has changed. In mode [`Mode::Once`] a listener is spent after its hit.
 #![tactic(auto)]
