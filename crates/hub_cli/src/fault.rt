@@ -2,7 +2,7 @@
 use hub_front::FrontError;
 use hub_relay::RelayError;
 use hub_sessions::ServeError;
-use std::alloc::AllocError;
+use std::alloc::{AllocError, Global};
 use std::io;
 use std::io::Write;
 use thiserror::Error;
@@ -37,9 +37,13 @@ pub enum Fault {
 }
 
 impl Fault {
-    /// Writes the fault's line. That a fault can't be told to anybody is no fault of its own.
-    pub fn tell<W: Write>(self, out: &mut W) {
-        let _: io::Result<()> = writeln!(out, "ftrighub: {self}");
+    /// Writes the fault's line, at once, so that lines of several programs don't mix. Only where there is no memory for it is
+    /// it written in pieces. That a fault can't be told to anybody is no fault of its own.
+    pub fn tell<W: Write>(self, alloc: Global, out: &mut W) {
+        let _: io::Result<()> = match format!(in alloc; "ftrighub: {self}\n") {
+            Ok(line) => out.write_all(line.as_bytes()),
+            Err(_) => writeln!(out, "ftrighub: {self}"),
+        };
     }
 }
 

@@ -36,7 +36,7 @@ fn main(rt: HostRuntime) -> ExitCode {
     match run(&rt, alloc, &mut rt.stdin(), &mut rt.stdout(), &mut faults) {
         Ok(status) => ExitCode::from(status),
         Err(fault) => {
-            fault.tell(&mut faults);
+            fault.tell(alloc, &mut faults);
             ExitCode::from(FAULTY)
         }
     }
@@ -57,7 +57,7 @@ where
         Ok(words) => words,
         Err(error) if error.kind() == io::ErrorKind::OutOfMemory => return Err(Fault::Memory),
         Err(_) => {
-            let _ = writeln!(faults, "ftrighub: an argument is not UTF-8");
+            let _: io::Result<()> = faults.write_all(b"ftrighub: an argument is not UTF-8\n");
             return Ok(REFUSED);
         }
     };
@@ -91,7 +91,7 @@ where
         }
         Plan::Serve { socket, sessions } => {
             let report = serve(rt, alloc, socket, sessions)?;
-            tell_faults(&report, faults);
+            tell_faults(alloc, &report, faults);
             if !is_clean(&report) {
                 return Ok(FAULTY);
             }

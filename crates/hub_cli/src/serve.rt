@@ -42,6 +42,14 @@ impl Gate<UnixStream, UnixStream> for Door {
     }
 }
 
+/// Listens at the socket. An empty path is none: the system would choose an address that nobody finds.
+fn listen<H: Files + Net>(rt: &H, socket: &str) -> Result<UnixListener, Fault> {
+    if socket.is_empty() {
+        return Err(Fault::Listen);
+    }
+    UnixListener::bind(rt, socket).map_err(|_| Fault::Listen)
+}
+
 /// Accepts so many connections at the socket, and serves them all at the same time, over one hub. Where it answers, all
 /// have ended. The socket's file is left.
 pub fn serve<H>(rt: &H, alloc: Global, socket: &str, sessions: u64) -> Result<Report, Fault>
@@ -51,10 +59,9 @@ where
     let Ok(hub) = Arc::new(alloc, Hub::new(alloc)?) else {
         return Err(Fault::Memory);
     };
-    let Ok(listener) = UnixListener::bind(rt, socket) else {
-        return Err(Fault::Listen);
+    let mut door = Door {
+        listener: listen(rt, socket)?,
     };
-    let mut door = Door { listener };
     let pause = Backoff::new(*rt);
     Ok(serve_all(rt, alloc, hub, &mut door, sessions, pause)?)
 }
@@ -67,16 +74,16 @@ pub fn is_clean(report: &Report) -> bool
 }
 
 /// Writes the line of each session that stopped, in their order, and then that of a gate that failed.
-pub fn tell_faults<W: Write>(report: &Report, out: &mut W) {
+pub fn tell_faults<W: Write>(alloc: Global, report: &Report, out: &mut W) {
     let mut number = 0u64;
     for ended in report.results.iter() {
         number = number.saturating_add(1);
         if let Err(fault) = ended {
             let fault = *fault;
-            Fault::Session { number, fault }.tell(out);
+            Fault::Session { number, fault }.tell(alloc, out);
         }
     }
     if report.gate_failed {
-        Fault::Accept.tell(out);
+        Fault::Accept.tell(alloc, out);
     }
 }

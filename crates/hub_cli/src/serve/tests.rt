@@ -33,7 +33,7 @@ fn each_fault_has_its_line(rt: HostRuntime) -> Result<(), Fail> {
         (Fault::from(RelayError::Memory), "ftrighub: out of memory\n"),
     ] {
         let mut told: Vec<u8> = Vec::new(rt.alloc());
-        fault.tell(&mut told);
+        fault.tell(rt.alloc(), &mut told);
         assert_eq!(rt; told.as_slice(), line.as_bytes());
     }
     Ok(())
@@ -71,7 +71,7 @@ fn faults_in_the_order_of_acceptance(rt: HostRuntime) -> Result<(), Fail> {
             gate_failed,
         };
         let mut told: Vec<u8> = Vec::new(rt.alloc());
-        tell_faults(&report, &mut told);
+        tell_faults(rt.alloc(), &report, &mut told);
         assert_eq!(rt; told.as_slice(), lines.as_bytes());
         assert_eq!(rt; is_clean(&report), lines.is_empty());
     }
