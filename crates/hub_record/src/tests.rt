@@ -3,7 +3,7 @@ use crate::{
     Call, Closed, Event, Kind, Letters, Limits, NoId, PubError, Record, Said, SubError, Taken,
     replay,
 };
-use hub_letters::{Flags, Letter, Stage};
+use hub_letters::{Letter, Stage};
 use std::alloc::{AllocError, Global};
 use std::process::Abort;
 use std::test::Fail;
@@ -53,106 +53,157 @@ fn limits_are_within_their_ranges(rt: HostRuntime) -> Result<(), Fail> {
     Ok(())
 }
 
-#[test]
-fn ids_are_never_given_again(rt: HostRuntime) -> Result<(), Fail> {
-    let limits = Limits::of(2, 5, 1).ok_or("no limits")?;
-    let mut record = Record::new(rt.alloc(), Kind::Plain, limits)?;
-    assert_eq!(rt; record.subscribe(), Ok((1, 0)));
-    assert_eq!(rt; record.cancel(1), Ok(()));
-    assert_eq!(rt; record.subscribe(), Err(SubError::Spent));
-    assert_eq!(rt; record.close(), Ok(()));
-    assert_eq!(rt; record.subscribe(), Err(SubError::Closed));
-    assert_eq!(rt; record.publish(1, &[]), Err(PubError::Closed));
-    assert_eq!(rt; record.close(), Err(Closed));
-    assert_eq!(rt; record.cancel(1), Err(NoId));
-    Ok(())
+/// A call and what it answers. A message and what a take puts into three places are spelled by letters.
+#[derive(Clone, Copy)]
+enum Step {
+    Subscribe(Result<(u64, u64), SubError>),
+    Publish(u64, &'static str, Result<u64, PubError>),
+    Take(u64, Result<Taken, NoId>, [(u64, u8); 3]),
+    Cancel(u64, Result<(), NoId>),
+    Close(Result<(), Closed>),
+    /// The end, the base, and how many events wait for subscription 1.
+    Counts(u64, u64, Option<u64>),
+    /// The stage, the flags' code, and whether it is closed.
+    Shows(Stage, u64, bool),
 }
 
-#[test]
-fn full_is_exact(rt: HostRuntime) -> Result<(), Fail> {
-    let limits = Limits::of(2, 100, 10).ok_or("no limits")?;
-    let (ab, c, five) = (
-        word(rt.alloc(), "ab")?,
-        word(rt.alloc(), "c")?,
-        word(rt.alloc(), "abcde")?,
-    );
-    let mut record = Record::new(rt.alloc(), Kind::Plain, limits)?;
-    assert_eq!(rt; record.subscribe(), Ok((1, 0)));
-    assert_eq!(rt; record.publish(1, &ab), Ok(0));
-    assert_eq!(rt; record.publish(1, &[]), Ok(2));
-    assert_eq!(rt; record.publish(1, &c), Err(PubError::Full));
-    assert_eq!(rt;
-        (record.end(), record.base(), record.waiting(1)),
-        (2, 0, Some(2))
-    );
-    let mut alone = Record::new(rt.alloc(), Kind::Plain, limits)?;
-    assert_eq!(rt; alone.publish(1, &five), Ok(0));
-    assert_eq!(rt; (alone.end(), alone.base(), alone.waiting(1)), (5, 5, None));
-    Ok(())
+/// What a place has that no take wrote to.
+const BLANK: (u64, u8) = (0, b'!');
+
+/// A record of this kind, with these limits, answers these calls so.
+struct Row {
+    name: &'static str,
+    kind: Kind,
+    limits: (u64, u64, u64),
+    steps: &'static [Step],
 }
 
-#[test]
-fn the_slowest_holds_the_base(rt: HostRuntime) -> Result<(), Fail> {
-    let limits = Limits::of(4, 100, 10).ok_or("no limits")?;
-    let (ab, cd) = (word(rt.alloc(), "ab")?, word(rt.alloc(), "cd")?);
-    let mut record = Record::new(rt.alloc(), Kind::Plain, limits)?;
+static ROWS: [Row; 5] = [
+    Row {
+        name: "ids are never given again",
+        kind: Kind::Plain,
+        limits: (2, 5, 1),
+        steps: &[
+            Step::Subscribe(Ok((1, 0))),
+            Step::Cancel(1, Ok(())),
+            Step::Subscribe(Err(SubError::Spent)),
+            Step::Close(Ok(())),
+            Step::Subscribe(Err(SubError::Closed)),
+            Step::Publish(1, "", Err(PubError::Closed)),
+            Step::Close(Err(Closed)),
+            Step::Cancel(1, Err(NoId)),
+        ],
+    },
+    Row {
+        name: "full is exact",
+        kind: Kind::Plain,
+        limits: (2, 100, 10),
+        steps: &[
+            Step::Subscribe(Ok((1, 0))),
+            Step::Publish(1, "ab", Ok(0)),
+            Step::Publish(1, "", Ok(2)),
+            Step::Publish(1, "c", Err(PubError::Full)),
+            Step::Counts(2, 0, Some(2)),
+        ],
+    },
+    Row {
+        name: "nobody is too slow where nobody subscribed",
+        kind: Kind::Plain,
+        limits: (2, 100, 10),
+        steps: &[
+            Step::Publish(1, "abcde", Ok(0)),
+            Step::Counts(5, 5, None),
+            Step::Shows(Stage::Off, 0, false),
+        ],
+    },
+    Row {
+        name: "the slowest holds the base",
+        kind: Kind::Plain,
+        limits: (4, 100, 10),
+        steps: &[
+            Step::Subscribe(Ok((1, 0))),
+            Step::Publish(7, "ab", Ok(0)),
+            Step::Subscribe(Ok((2, 2))),
+            Step::Take(2, Ok(Taken::Nothing), [BLANK, BLANK, BLANK]),
+            Step::Publish(9, "cd", Ok(2)),
+            Step::Take(2, Ok(Taken::Got(2)), [(9, b'c'), (9, b'd'), BLANK]),
+            Step::Counts(4, 0, Some(4)),
+            Step::Take(1, Ok(Taken::Got(3)), [(7, b'a'), (7, b'b'), (9, b'c')]),
+            Step::Counts(4, 3, Some(1)),
+            Step::Cancel(1, Ok(())),
+            Step::Counts(4, 4, None),
+            Step::Close(Ok(())),
+            Step::Take(2, Ok(Taken::End), [BLANK, BLANK, BLANK]),
+            Step::Take(1, Err(NoId), [BLANK, BLANK, BLANK]),
+        ],
+    },
+    Row {
+        name: "an unlawful letter stops the whole message",
+        kind: Kind::Service,
+        limits: (8, 100, 10),
+        steps: &[
+            Step::Subscribe(Ok((1, 0))),
+            Step::Publish(1, "su", Ok(0)),
+            Step::Publish(1, "UdU", Err(PubError::Unlawful(2))),
+            Step::Counts(2, 0, Some(2)),
+            Step::Shows(Stage::Starting, 5, false),
+            Step::Publish(1, "UdD", Ok(2)),
+            Step::Counts(5, 0, Some(5)),
+            Step::Shows(Stage::Idle, 6, false),
+        ],
+    },
+];
+
+fn are_events(out: &[Event; 3], wanted: &[(u64, u8); 3]) -> bool {
+    out.iter().zip(wanted.iter()).all(|(event, (who, byte))| event.who == *who
+        && event.letter.byte() == *byte)
+}
+
+fn takes(
+    record: &mut Record,
+    id: u64,
+    answer: Result<Taken, NoId>,
+    wanted: [(u64, u8); 3],
+) -> bool {
     let mut out = [filler(); 3];
-    assert_eq!(rt; record.subscribe(), Ok((1, 0)));
-    assert_eq!(rt; record.publish(7, &ab), Ok(0));
-    assert_eq!(rt; record.subscribe(), Ok((2, 2)));
-    assert_eq!(rt; record.take_into(2, &mut out), Ok(Taken::Nothing));
-    assert_eq!(rt; record.publish(9, &cd), Ok(2));
-    assert_eq!(rt; record.take_into(2, &mut out), Ok(Taken::Got(2)));
-    assert_eq!(rt;
-        (Some(out[0]), Some(out[1]), Some(out[2])),
-        (event(9, b'c'), event(9, b'd'), event(0, b'!'))
-    );
-    assert_eq!(rt; record.base(), 0);
-    assert_eq!(rt; record.take_into(1, &mut out), Ok(Taken::Got(3)));
-    assert_eq!(rt;
-        (Some(out[0]), Some(out[1]), Some(out[2])),
-        (event(7, b'a'), event(7, b'b'), event(9, b'c'))
-    );
-    assert_eq!(rt; record.base(), 3);
-    assert_eq!(rt; record.cancel(1), Ok(()));
-    assert_eq!(rt; record.base(), 4);
-    assert_eq!(rt; record.close(), Ok(()));
-    assert_eq!(rt; record.take_into(2, &mut out), Ok(Taken::End));
-    assert_eq!(rt; record.take_into(1, &mut out), Err(NoId));
-    Ok(())
+    record.take_into(id, &mut out) == answer && are_events(&out, &wanted)
+}
+
+/// Whether the record answers so.
+fn answers(alloc: Global, record: &mut Record, step: Step) -> Result<bool, AllocError> {
+    Ok(match step {
+        Step::Subscribe(answer) => record.subscribe() == answer,
+        Step::Publish(who, text, answer) => record.publish(who, &word(alloc, text)?) == answer,
+        Step::Take(id, answer, events) => takes(record, id, answer, events),
+        Step::Cancel(id, answer) => record.cancel(id) == answer,
+        Step::Close(answer) => record.close() == answer,
+        Step::Counts(end, base, waiting) => {
+            (record.end(), record.base(), record.waiting(1)) == (end, base, waiting)
+        }
+        Step::Shows(stage, code, closed) => {
+            (record.stage(), record.flags().code(), record.closed()) == (stage, code, closed)
+        }
+    })
+}
+
+/// The place of the first step that goes otherwise.
+fn first_unlike(alloc: Global, row: &Row) -> Result<Option<usize>, Fail> {
+    let (waiting, total, ids) = row.limits;
+    let limits = Limits::of(waiting, total, ids).ok_or("no limits")?;
+    let mut record = Record::new(alloc, row.kind, limits)?;
+    for (place, step) in row.steps.iter().enumerate() {
+        if !answers(alloc, &mut record, *step)? {
+            return Ok(Some(place));
+        }
+    }
+    Ok(None)
 }
 
 #[test]
-fn an_unlawful_letter_stops_the_whole_message(rt: HostRuntime) -> Result<(), Fail> {
-    let limits = Limits::of(8, 100, 10).ok_or("no limits")?;
-    let mut record = Record::new(rt.alloc(), Kind::Service, limits)?;
-    assert_eq!(rt; record.subscribe(), Ok((1, 0)));
-    assert_eq!(rt; record.publish(1, &word(rt.alloc(), "su")?), Ok(0));
-    assert_eq!(rt;
-        record.publish(1, &word(rt.alloc(), "UdU")?),
-        Err(PubError::Unlawful(2))
-    );
-    assert_eq!(rt;
-        (
-            record.end(),
-            record.stage(),
-            record.flags().code(),
-            record.closed()
-        ),
-        (2, Stage::Starting, 5, false)
-    );
-    assert_eq!(rt; record.publish(1, &word(rt.alloc(), "UdD")?), Ok(2));
-    assert_eq!(rt;
-        (
-            record.end(),
-            record.stage(),
-            record.flags().code(),
-            record.closed()
-        ),
-        (5, Stage::Idle, 6, false)
-    );
-    let plain = Record::new(rt.alloc(), Kind::Plain, limits)?;
-    assert_eq!(rt; (plain.stage(), plain.flags()), (Stage::Off, Flags::none()));
+fn rows(rt: HostRuntime) -> Result<(), Fail> {
+    for row in ROWS.iter() {
+        assert_eq!(rt; first_unlike(rt.alloc(), row)?, None, "at {}", row.name);
+    }
     Ok(())
 }
 
