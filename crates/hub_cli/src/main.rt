@@ -1,17 +1,11 @@
 //! The program `ftrighub`.
 #![tactic(auto)]
 
-mod call;
-mod fault;
-mod serve;
-
-use call::call;
 use clap::error::ErrorKind;
-use fault::Fault;
 use hub_arguments::{Plan, read_words, status_of};
+use hub_commands::{Fault, call, serve, tell_faults};
 use hub_front::{FrontError, Sink, Source};
 use hub_script::script;
-use serve::{is_clean, serve, tell_faults};
 use std::alloc::{AllocGlobal, Global};
 use std::io::Write;
 use std::net::Net;
@@ -92,7 +86,7 @@ where
         Plan::Serve { socket, sessions } => {
             let report = serve(rt, alloc, socket, sessions)?;
             tell_faults(alloc, &report, faults);
-            if !is_clean(&report) {
+            if !report.is_clean() {
                 return Ok(FAULTY);
             }
         }

@@ -17,8 +17,6 @@ mod fifodirs;
 mod laws;
 mod listeners;
 mod subscriptions;
-#[cfg(test)]
-mod tests;
 mod waits;
 
 /// How many ids each fifodir has.

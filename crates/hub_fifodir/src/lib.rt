@@ -18,12 +18,10 @@ mod pass;
 mod publisher;
 pub mod rule;
 mod steps;
-#[cfg(test)]
-mod tests;
 mod ticket;
 pub mod together;
 pub mod views;
-mod word;
+pub mod word;
 
 pub use fifodir::Fifodir;
 pub use hub_record::Status;

@@ -6,7 +6,7 @@ ghost use Rattle.hub_fifodir.specs.Word.{packed};
 use hub_letters::Flags;
 use hub_record::Status;
 
-pub(crate) fn pack(status: Status) -> u64
+pub fn pack(status: Status) -> u64
     requires { status.number ≤ 1000000000000 }
     ensures { result ≡ packed status.number status.closed status.flags }
 {
@@ -14,7 +14,7 @@ pub(crate) fn pack(status: Status) -> u64
     status.number * 32 + closed * 16 + status.flags.code()
 }
 
-pub(crate) fn unpack(word: u64) -> Status
+pub fn unpack(word: u64) -> Status
     ensures { (number : ℕ) (closed : Bool) (flags : Flags) → word ≡ packed number closed flags → (result.number ≡ number) × (result.closed ≡ closed) × (result.flags ≡ flags) }
 {
     Status {

@@ -6,13 +6,6 @@ ghost use Rattle.hub_front.specs.Telling.{Grows};
 ghost use Rattle.hub_front.specs.Serving.{Finished, Stopped, StopsAt, Served, ReadsWithin, read_faults, write_faults};
 ghost use Rattle.hub_front.specs.Pieces.{IsUnderWay};
 
-#[cfg(test)]
-mod fakes;
-#[cfg(test)]
-mod first_run;
-#[cfg(test)]
-mod tests;
-
 use crate::fault::FrontError;
 use crate::session::Session;
 use crate::sink::Sink;

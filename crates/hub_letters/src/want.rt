@@ -41,6 +41,3 @@ impl Want {
         }
     }
 }
-
-#[cfg(test)]
-mod tests;

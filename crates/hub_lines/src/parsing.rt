@@ -96,8 +96,3 @@ fn refusal_of_word(line: &[u8]) -> Bad
         None => Bad::Word,
     }
 }
-
-#[cfg(test)]
-mod tests;
-#[cfg(test)]
-mod told;

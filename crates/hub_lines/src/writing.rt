@@ -126,6 +126,3 @@ fn append_refusal(refusal: Refusal, out: &mut Vec<u8>) -> Result<(), AllocError>
         Refusal::Memory => out.extend_from_slice(b"no memory"),
     }
 }
-
-#[cfg(test)]
-mod tests;

@@ -22,6 +22,3 @@ pub use each::{Each, feed_each};
 pub use feed::{Feed, FeedError};
 pub use hub_letters::Mode;
 pub use listener::{ListenError, Listener};
-
-#[cfg(test)]
-mod tests;

@@ -119,6 +119,3 @@ pub struct Status {
     /// Whether it is closed.
     pub closed: bool,
 }
-
-#[cfg(test)]
-mod tests;

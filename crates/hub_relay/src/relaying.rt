@@ -8,13 +8,6 @@ ghost use Rattle.hub_relay.specs.Pending.{pending};
 ghost use Rattle.hub_relay.specs.Passing.{has_lf, IsLine, Moves, slack_of, EndsAs};
 ghost use Rattle.hub_relay.specs.UnderWay.{sent_of, slack_for, FailsToSend, FailsToReceive};
 
-#[cfg(test)]
-mod fakes;
-#[cfg(test)]
-mod sizes;
-#[cfg(test)]
-mod tests;
-
 use crate::buffer::{Buffer, Passed};
 use crate::fault::{RelayError, of_receiving, of_sending};
 use hub_front::{Sink, Source, write_whole};

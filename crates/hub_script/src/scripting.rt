@@ -39,6 +39,3 @@ pub fn script<H: Wait, R: Source, W: Sink>(
 pub fn input_has_one_output()
     ensures { (patterns : List Bool) (input a b : List ℕ) → IsOutput patterns input a → IsOutput patterns input b → a ≡ b }
 {}
-
-#[cfg(test)]
-mod tests;

@@ -9,8 +9,6 @@
 mod gate;
 mod promise;
 mod report;
-#[cfg(test)]
-mod tests;
 mod together;
 
 pub use gate::{Gate, Next};

@@ -1,4 +1,6 @@
 //! What serving came to.
+ghost use Rattle.std.specs.Prelude.{◌≡◌, ◌↔◌, IsTrue, All, IsOk, false};
+
 use hub_front::FrontError;
 use thiserror::Error;
 
@@ -9,6 +11,15 @@ pub struct Report {
     pub results: Vec<Result<u64, FrontError>>,
     /// Whether the gate failed, after the last of them.
     pub gate_failed: bool,
+}
+
+impl Report {
+    /// Whether all went well: every session ended with its input, and the gate didn't fail.
+    pub fn is_clean(&self) -> bool
+        ensures { IsTrue result ↔ (All IsOk self.now.results.items × (self.now.gate_failed ≡ false)) }
+    {
+        self.results.iter().all(|ended| ended.is_ok()) && !self.gate_failed
+    }
 }
 
 /// Why sessions can't be served. Those that run have ended by then.

@@ -14,8 +14,6 @@ use std::sync::{Arc, Wait};
 
 mod fifodirs;
 mod joined;
-#[cfg(test)]
-mod tests;
 mod waits;
 
 use fifodirs::Fifodirs;

@@ -27,6 +27,3 @@ pub use post::Post;
 pub use tally::{Tally, Verdict};
 pub use wait::{svlisten, svwait};
 pub use watch::Watch;
-
-#[cfg(test)]
-mod tests;

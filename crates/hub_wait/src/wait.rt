@@ -72,6 +72,3 @@ fn catch_up_all<R: Wait>(rt: &R, posts: &mut [Post])
         posts[i].catch_up(rt);
     }
 }
-
-#[cfg(test)]
-mod tests;

@@ -149,6 +149,3 @@ fn take_one(kept: &mut Record, id: u64) -> Result<Letter, Heard>
         Err(_) => unreachable!(),
     }
 }
-
-#[cfg(test)]
-mod tests;

@@ -179,6 +179,3 @@ fn verdict_shown(span: Span, posts: &[Post], mut numbers: Vec<Option<u64>>) -> R
         Some(Verdict::Late) | None => Reply::Late,
     }
 }
-
-#[cfg(test)]
-mod tests;

@@ -1,0 +1,17 @@
+//! Tests of the two desks: tables of requests and replies, whose values were found by hand.
+//!
+//! They call what is public. A crate that had its tests in itself would be proved twice: by itself, and with them.
+#![tactic(auto)]
+
+#[cfg(test)]
+mod desks;
+#[cfg(test)]
+mod listeners;
+#[cfg(test)]
+mod requests;
+#[cfg(test)]
+mod rows;
+#[cfg(test)]
+mod shared;
+#[cfg(test)]
+mod waits;

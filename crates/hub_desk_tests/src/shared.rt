@@ -1,0 +1,70 @@
+//! Several sessions over one hub.
+use crate::desks::{new_hub, session};
+use crate::rows::{Ask, Row, named, run};
+use hub_requests::Desk;
+use hub_shared::Hub;
+use std::alloc::AllocGlobal;
+use std::process::Abort;
+use std::sync::Wait;
+use std::test::Fail;
+
+/// A session whose subscription holds every letter of a full fifodir.
+static FILLS: [Row; 4] = [
+    (Ask::Dir("web", 2, 100), "ok"),
+    (Ask::Sub("web"), "ok 1"),
+    (Ask::Pub("web", "ab"), "ok 0"),
+    (Ask::Pub("web", "c"), "no Full"),
+];
+
+/// Another session finds room after that one has ended.
+static FINDS_ROOM: [Row; 2] = [
+    (Ask::Pub("web", "c"), "ok 2"),
+    (Ask::Status("web"), "ok 3 0 open"),
+];
+
+/// The one that has ended serves on.
+static SERVES_ON: [Row; 3] = [
+    (Ask::Take(1, 5), "no Id"),
+    (Ask::Sub("web"), "ok 2"),
+    (Ask::Status("web"), "ok 3 0 open"),
+];
+
+#[test]
+fn a_session_that_ends_holds_no_one_up(rt: HostRuntime) {
+    let hub = new_hub(&rt);
+    let mut first = session(&rt, &hub);
+    let mut second = session(&rt, &hub);
+    run(&rt, &mut first, &FILLS);
+    first.end(&rt);
+    run(&rt, &mut second, &FINDS_ROOM);
+    run(&rt, &mut first, &SERVES_ON);
+}
+
+/// The number that the next publisher under the name gets.
+fn next_number<H: AllocGlobal + Abort + Wait>(rt: &H, hub: &Hub) -> Result<u64, Fail> {
+    let web = named(rt, rt.alloc(), "web")?;
+    let found = hub.find(rt, &web)?.ok_or("found")?;
+    let publisher = found.dir.publisher(rt)?;
+    let number = publisher.number();
+    found.dir.leave(rt, publisher);
+    Ok(number)
+}
+
+/// A session makes one publisher under a name, whatever it asks of it.
+static SPEAKS: [Row; 5] = [
+    (Ask::Dir("web", 64, 100), "ok"),
+    (Ask::Status("web"), "ok 0 0 open"),
+    (Ask::Pub("web", "a"), "ok 0"),
+    (Ask::Pub("web", "b"), "ok 1"),
+    (Ask::Close("web"), "ok"),
+];
+
+#[test]
+fn a_session_keeps_its_publisher(rt: HostRuntime) -> Result<(), Fail> {
+    let hub = new_hub(&rt);
+    let mut desk = session(&rt, &hub);
+    run(&rt, &mut desk, &SPEAKS);
+    assert_eq!(rt; next_number(&rt, &hub)?, 2);
+    desk.end(&rt);
+    Ok(())
+}

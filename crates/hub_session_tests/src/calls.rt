@@ -1,0 +1,53 @@
+//! A call of a server in the same process.
+use hub_commands::{Fault, call, serve};
+use std::alloc::Global;
+use std::fs::Files;
+use std::net::Net;
+use std::rt::Clock;
+use std::sync::Wait;
+use std::test::Fail;
+use std::thread::{JoinHandle, Threads};
+use std::time::Duration;
+use std::{fs, thread};
+
+const SOCKET: &str = "call.sock";
+
+/// Serves one connection, and tells whether all went well.
+fn is_served<H>(rt: &H, alloc: Global) -> bool
+where
+    H: Files + Net + Clock + Threads + Wait + Copy + Send + 'static,
+{
+    serve(rt, alloc, SOCKET, 1).is_ok_and(|report| report.is_clean())
+}
+
+/// Calls as soon as a server listens. Nothing of the input is read before.
+fn call_when_it_listens<H: Net + Wait + Clock>(
+    rt: &H,
+    alloc: Global,
+    mut input: &[u8],
+    output: &mut Vec<u8>,
+) -> Result<u64, Fault> {
+    for _ in 0..1_000 {
+        let called = call(rt, alloc, SOCKET, &mut input, output);
+        if called != Err(Fault::Connect) {
+            return called;
+        }
+        thread::sleep(rt, Duration::from_millis(10));
+    }
+    Err(Fault::Connect)
+}
+
+#[test]
+fn a_call_of_a_server(rt: HostRuntime) -> Result<(), Fail> {
+    let alloc: Global = rt.alloc();
+    let _ = fs::remove_file(&rt, SOCKET);
+    let serving: JoinHandle<bool> = thread::spawn(&rt, move || is_served(&rt, alloc))?;
+    let mut output: Vec<u8> = Vec::new(alloc);
+    let input = b"dir web 64 1000\nsub web\npub web ab\ntake 1 10\n".as_slice();
+    let called = call_when_it_listens(&rt, alloc, input, &mut output);
+    assert!(rt; serving.join(&rt));
+    assert_eq!(rt; called, Ok(4));
+    assert_eq!(rt; output.as_slice(), b"ok\nok 1\nok 0\ngot ab\n".as_slice());
+    fs::remove_file(&rt, SOCKET)?;
+    Ok(())
+}

@@ -1,0 +1,150 @@
+//! Sixteen clients at once, over one hub: eight publish and eight listen.
+ghost use Rattle.std.specs.Prelude.{◌<◌};
+
+use crate::clients::Client;
+use crate::sockets::{open, serve_door};
+use std::alloc::Global;
+use std::test::Fail;
+use std::thread::{JoinHandle, Threads};
+use std::{io, thread};
+
+/// How many clients publish, and how many listen.
+const HALF: usize = 8;
+
+/// How many letters each publisher sends, one a message.
+const LETTERS: usize = 110;
+
+/// How many letters each publisher has for its own. It sends them over and over, in their order.
+const OWN: usize = 11;
+
+/// Tries of what waits for others.
+const PATIENCE: usize = 1_000_000;
+
+/// The letter that a publisher sends at place `i`.
+fn letter(publisher: usize, i: usize) -> u8
+    requires { publisher < 8 }
+{
+    b'!' + (publisher * OWN + i % OWN) as u8
+}
+
+/// Publishes one letter after another, and gives the client back.
+fn publish_all(mut client: Client, publisher: usize) -> io::Result<Client>
+    requires { publisher < 8 }
+{
+    let mut line = *b"pub web ?";
+    for i in 0..LETTERS {
+        line[8] = letter(publisher, i);
+        for _ in 0..PATIENCE {
+            if client.ask(&line)? != b"no full".as_slice() {
+                break;
+            }
+            thread::yield_now();
+        }
+    }
+    Ok(client)
+}
+
+/// Takes what the subscription gets until the fifodir is closed.
+fn take_all(alloc: Global, mut client: Client) -> io::Result<Vec<u8>> {
+    let mut letters: Vec<u8> = Vec::new(alloc);
+    for _ in 0..PATIENCE {
+        match client.ask(b"take 1 256")? {
+            [b'g', b'o', b't', b' ', taken @ ..] => letters.extend_from_slice(taken)?,
+            [b'e', b'n', b'd'] => break,
+            _ => thread::yield_now(),
+        }
+    }
+    Ok(letters)
+}
+
+/// Whether the letters are those of each publisher, in its own order, each once.
+fn are_all(letters: &[u8]) -> bool {
+    let mut sent = [0usize; HALF];
+    for byte in letters {
+        let Some(offset) = byte.checked_sub(b'!') else {
+            return false;
+        };
+        let publisher = usize::from(offset) / OWN;
+        if publisher >= HALF || *byte != letter(publisher, sent[publisher]) {
+            return false;
+        }
+        sent[publisher] = sent[publisher].saturating_add(1);
+    }
+    sent == [LETTERS; HALF]
+}
+
+type Taking = JoinHandle<Option<Vec<u8>>>;
+
+fn start_taking<H: Threads>(
+    rt: &H,
+    alloc: Global,
+    mut client: Client,
+    running: &mut Vec<Taking>,
+) -> io::Result<()> {
+    if client.ask(b"sub web")? != b"ok 1".as_slice() {
+        return Err(io::Error::from(io::ErrorKind::Other));
+    }
+    running.push(thread::spawn(rt, move || take_all(alloc, client).ok())?)?;
+    Ok(())
+}
+
+/// Runs the clients. The first that listens does so from the beginning, and the others begin while letters come.
+fn run_all<H: Threads>(rt: &H, alloc: Global, mut clients: Vec<Client>) -> io::Result<bool> {
+    let mut taking: Vec<Taking> = Vec::new(alloc);
+    let mut publishing: Vec<JoinHandle<Option<Client>>> = Vec::new(alloc);
+    let Some(mut first) = clients.pop() else {
+        return Ok(false);
+    };
+    first.ask(b"dir web 4096 1000000")?;
+    start_taking(rt, alloc, first, &mut taking)?;
+    for publisher in 0..HALF {
+        if let Some(client) = clients.pop() {
+            let handle = thread::spawn(rt, move || publish_all(client, publisher).ok())?;
+            publishing.push(handle)?;
+        }
+    }
+    for client in clients {
+        start_taking(rt, alloc, client, &mut taking)?;
+    }
+    let mut closer = None;
+    for handle in publishing {
+        closer = handle.join(rt);
+    }
+    if let Some(mut client) = closer {
+        client.ask(b"close web")?;
+    }
+    Ok(are_right(rt, taking))
+}
+
+/// Whether the first has all letters, and each other one those from its mark on.
+fn are_right<H: Threads>(rt: &H, taking: Vec<Taking>) -> bool {
+    let mut whole = None;
+    let mut right = taking.len() == HALF;
+    for handle in taking {
+        match (handle.join(rt), &whole) {
+            (Some(letters), None) => {
+                right = right && are_all(letters.as_slice());
+                whole = Some(letters);
+            }
+            (Some(letters), Some(all)) => {
+                right = right && all.as_slice().ends_with(letters.as_slice());
+            }
+            (None, _) => right = false,
+        }
+    }
+    right
+}
+
+#[test]
+fn listeners_get_one_list_from_their_marks(rt: HostRuntime) -> Result<(), Fail> {
+    let alloc: Global = rt.alloc();
+    let (door, clients) = open(&rt, alloc, "crowd.sock", 2 * HALF)?;
+    let asking: JoinHandle<bool> = thread::spawn(&rt, move || {
+        run_all(&rt, alloc, clients).unwrap_or(false)
+    })?;
+    let report = serve_door(&rt, alloc, door, 16)?;
+    assert!(rt; asking.join(&rt));
+    assert_eq!(rt; report.results.len(), 2 * HALF);
+    assert!(rt; report.results.iter().all(|ended| ended.is_ok()));
+    Ok(())
+}

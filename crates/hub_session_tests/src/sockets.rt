@@ -1,0 +1,123 @@
+//! Sessions over Unix sockets.
+use crate::clients::Client;
+use crate::gates::Door;
+use hub_sessions::{Report, serve_all};
+use hub_shared::Hub;
+use hub_wait::Backoff;
+use std::alloc::Global;
+use std::fs::Files;
+use std::net::Net;
+use std::os::unix::net::{UnixListener, UnixStream};
+use std::rt::Clock;
+use std::sync::{Arc, Wait};
+use std::test::Fail;
+use std::thread::{JoinHandle, Threads};
+use std::{fs, io, thread};
+
+/// A server's socket, and so many clients that are connected to it already.
+pub fn open(
+    rt: &(impl Files + Net),
+    alloc: Global,
+    path: &'static str,
+    count: usize,
+) -> io::Result<(Door, Vec<Client>)> {
+    let _ = fs::remove_file(rt, path);
+    let listener = UnixListener::bind(rt, path)?;
+    let mut clients = Vec::new(alloc);
+    for _ in 0..count {
+        clients.push(Client::new(alloc, UnixStream::connect(rt, path)?)?)?;
+    }
+    let _ = fs::remove_file(rt, path);
+    Ok((Door { listener }, clients))
+}
+
+/// Serves so many connections over a new hub.
+pub fn serve_door<H>(rt: &H, alloc: Global, mut door: Door, sessions: u64) -> io::Result<Report>
+where
+    H: Clock + Threads + Wait + Copy + Send + 'static,
+{
+    let hub = Arc::new(alloc, Hub::new(alloc)?)?;
+    match serve_all(rt, alloc, hub, &mut door, sessions, Backoff::new(*rt)) {
+        Ok(report) => Ok(report),
+        Err(_) => Err(io::Error::from(io::ErrorKind::Other)),
+    }
+}
+
+/// A session that has ended, while another goes on.
+fn end_one_of_two(mut first: Client, mut second: Client) -> io::Result<bool> {
+    first.ask(b"dir web 64 1000")?;
+    first.finish()?;
+    let hung_up = first.rest()?.is_empty();
+    Ok(hung_up && !second.ask(b"status web")?.is_empty())
+}
+
+#[test]
+fn a_connection_ends_with_its_session(rt: HostRuntime) -> Result<(), Fail> {
+    let (door, mut clients) = open(&rt, rt.alloc(), "ends.sock", 2)?;
+    let second = clients.pop().ok_or("two")?;
+    let first = clients.pop().ok_or("two")?;
+    let asking: JoinHandle<bool> = thread::spawn(&rt, move || {
+        end_one_of_two(first, second).unwrap_or(false)
+    })?;
+    let report = serve_door(&rt, rt.alloc(), door, 2)?;
+    assert!(rt; asking.join(&rt));
+    assert_eq!(rt; report.results.as_slice(), [Ok(1), Ok(1)].as_slice());
+    Ok(())
+}
+
+/// A line of ten million bytes that doesn't end.
+fn send_without_end(alloc: Global, mut client: Client) -> io::Result<bool> {
+    let piece = vec![in alloc; b'a'; 100_000]?;
+    for _ in 0..100 {
+        client.send(&piece)?;
+    }
+    client.finish()?;
+    Ok(client.rest()? == b"no long\n".as_slice())
+}
+
+#[test]
+fn a_line_of_ten_million_bytes(rt: HostRuntime) -> Result<(), Fail> {
+    let alloc: Global = rt.alloc();
+    let (door, mut clients) = open(&rt, alloc, "long.sock", 1)?;
+    let client = clients.pop().ok_or("one")?;
+    let sending: JoinHandle<bool> = thread::spawn(&rt, move || {
+        send_without_end(alloc, client).unwrap_or(false)
+    })?;
+    let report = serve_door(&rt, alloc, door, 1)?;
+    assert!(rt; sending.join(&rt));
+    assert_eq!(rt; report.results.as_slice(), [Ok(1)].as_slice());
+    Ok(())
+}
+
+/// One client holds a full fifodir's only subscription and is cut off in mid-line; the other publishes as soon as it
+/// may.
+fn cut_off_one_of_two(mut first: Client, mut second: Client) -> io::Result<bool> {
+    let ready = first.ask(b"dir web 2 100")? == b"ok".as_slice()
+        && first.ask(b"sub web")? == b"ok 1".as_slice()
+        && first.ask(b"pub web ab")? == b"ok 0".as_slice()
+        && second.ask(b"pub web c")? == b"no full".as_slice();
+    first.send(b"pub we")?;
+    drop(first);
+    for _ in 0..1_000_000 {
+        let reply = second.ask(b"pub web c")?;
+        if reply != b"no full".as_slice() {
+            return Ok(ready && reply == b"ok 2".as_slice());
+        }
+        thread::yield_now();
+    }
+    Ok(false)
+}
+
+#[test]
+fn a_client_that_is_cut_off_holds_nobody_up(rt: HostRuntime) -> Result<(), Fail> {
+    let (door, mut clients) = open(&rt, rt.alloc(), "cut.sock", 2)?;
+    let second = clients.pop().ok_or("two")?;
+    let first = clients.pop().ok_or("two")?;
+    let asking: JoinHandle<bool> = thread::spawn(&rt, move || {
+        cut_off_one_of_two(first, second).unwrap_or(false)
+    })?;
+    let report = serve_door(&rt, rt.alloc(), door, 2)?;
+    assert!(rt; asking.join(&rt));
+    assert_eq!(rt; report.results.len(), 2);
+    Ok(())
+}

@@ -1,0 +1,100 @@
+//! The text of each reply.
+
+use hub_letters::{Flags, Letter};
+use hub_lines::write_reply;
+use hub_record::{Letters, Status};
+use hub_requests::{Numbers, Refusal, Reply};
+use std::alloc::{AllocError, Global};
+
+fn letters_of(alloc: Global, text: &[u8]) -> Result<Letters, AllocError> {
+    let mut letters = Vec::new(alloc);
+    for b in text {
+        if let Some(letter) = Letter::of(*b) {
+            letters.push(letter)?;
+        }
+    }
+    Ok(Letters::of(letters))
+}
+
+fn numbers_of(alloc: Global, list: &[Option<u64>]) -> Result<Numbers, AllocError> {
+    let mut numbers = Vec::new(alloc);
+    for number in list {
+        numbers.push(*number)?;
+    }
+    Ok(Numbers::of(numbers))
+}
+
+#[test]
+fn each_reply_has_its_text(rt: HostRuntime) {
+    let Ok(letters) = letters_of(rt.alloc(), b"sU") else {
+        return;
+    };
+    let Ok(hit) = letters_of(rt.alloc(), b"suU") else {
+        return;
+    };
+    let Ok(one) = numbers_of(rt.alloc(), &[Some(2)]) else {
+        return;
+    };
+    let Ok(two) = numbers_of(rt.alloc(), &[None, Some(2)]) else {
+        return;
+    };
+    let up = Flags {
+        up: true,
+        settled: false,
+        supervised: true,
+        failed: false,
+    };
+    let open = Status {
+        number: 12,
+        flags: up,
+        closed: false,
+    };
+    let closed = Status {
+        number: 0,
+        flags: Flags::none(),
+        closed: true,
+    };
+    for (reply, want) in [
+        (Reply::Done, "ok\n"),
+        (Reply::Number(0), "ok 0\n"),
+        (
+            Reply::Number(18446744073709551615),
+            "ok 18446744073709551615\n",
+        ),
+        (Reply::State(open), "ok 12 5 open\n"),
+        (Reply::State(closed), "ok 0 0 closed\n"),
+        (Reply::Got(letters), "got sU\n"),
+        (Reply::Nothing, "none\n"),
+        (Reply::End, "end\n"),
+        (Reply::Hit(hit), "hit suU\n"),
+        (Reply::Yes(one), "yes 2\n"),
+        (Reply::Yes(two), "yes - 2\n"),
+        (Reply::Never, "never\n"),
+        (Reply::Late, "late\n"),
+        (Reply::No(Refusal::Long), "no long\n"),
+        (Reply::No(Refusal::Text), "no text\n"),
+        (Reply::No(Refusal::Word), "no word\n"),
+        (Reply::No(Refusal::Form), "no form\n"),
+        (Reply::No(Refusal::Range), "no range\n"),
+        (Reply::No(Refusal::Name), "no name\n"),
+        (Reply::No(Refusal::Exists), "no exists\n"),
+        (Reply::No(Refusal::Kind), "no kind\n"),
+        (Reply::No(Refusal::Id), "no id\n"),
+        (Reply::No(Refusal::Many), "no many\n"),
+        (Reply::No(Refusal::Spent), "no spent\n"),
+        (Reply::No(Refusal::Closed), "no closed\n"),
+        (Reply::No(Refusal::Unlawful(10)), "no unlawful 10\n"),
+        (Reply::No(Refusal::Full), "no full\n"),
+        (Reply::No(Refusal::Pattern), "no pattern\n"),
+        (Reply::No(Refusal::Overlong), "no overlong\n"),
+        (Reply::No(Refusal::Memory), "no memory\n"),
+    ] {
+        let mut out = Vec::new(rt.alloc());
+        if write_reply(&reply, &mut out).is_err() {
+            // A growth was refused. It changed nothing, and the next one isn't refused.
+            assert!(rt; out.is_empty(), "{want}");
+            assert!(rt; write_reply(&reply, &mut out).is_ok(), "{want}");
+        }
+        assert_eq!(rt; out.as_slice(), want.as_bytes(), "{want}");
+    }
+}
