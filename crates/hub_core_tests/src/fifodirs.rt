@@ -1,7 +1,7 @@
 ghost use Rattle.std.specs.Prelude.{◌≡◌, IfOk};
 ghost use Rattle.hub_fifodir.specs.Passes.{IsPublisherOf, IsTicketOf};
 
-use hub_fifodir::together::{send_both, send_on};
+use hub_fifodir::together::{Unsent, send_both, send_on};
 use hub_fifodir::{Fifodir, PassError, Publisher, Ticket, word};
 use hub_letters::{Flags, Letter};
 use hub_record::{Closed, Event, Kind, Limits, PubError, Status, SubError, Taken};
@@ -388,20 +388,24 @@ fn two_send_at_once(rt: HostRuntime) -> Result<(), Fail> {
 #[test]
 fn letters_go_on(rt: HostRuntime) -> Result<(), Fail> {
     let from = open(rt.alloc(), Kind::Plain, 64, 1000, 10)?;
-    let to = open(rt.alloc(), Kind::Plain, 64, 1000, 10)?;
+    let to = open(rt.alloc(), Kind::Plain, 64, 1, 10)?;
     let mut ticket = from.subscribe(&rt)?;
     let mut source = from.publisher(&rt)?;
     let mut sink = to.publisher(&rt)?;
-    let a = [letter(b'a')];
-    assert_eq!(rt; from.publish(&rt, &mut source, &a), Ok(0));
-    assert_eq!(rt;
-        send_on(&rt, &from, &mut ticket, &to, &mut sink),
-        Ok(Taken::Got(1))
-    );
-    assert_eq!(rt;
-        send_on(&rt, &from, &mut ticket, &to, &mut sink),
-        Ok(Taken::Nothing)
-    );
+    let ab = [letter(b'a'), letter(b'b')];
+    assert_eq!(rt; from.publish(&rt, &mut source, &ab), Ok(0));
+    let first = send_on(&rt, &from, &mut ticket, &to, &mut sink);
+    assert_eq!(rt; first, Ok(Taken::Got(1)));
+    // The second letter is one more than the total.
+    let event = Event {
+        who: 1,
+        letter: letter(b'b'),
+    };
+    let why = PubError::Spent;
+    let second = send_on(&rt, &from, &mut ticket, &to, &mut sink);
+    assert_eq!(rt; second, Err(Unsent { event, why }));
+    let third = send_on(&rt, &from, &mut ticket, &to, &mut sink);
+    assert_eq!(rt; third, Ok(Taken::Nothing));
     assert_eq!(rt; to.front(&mut sink), 1);
     Ok(())
 }

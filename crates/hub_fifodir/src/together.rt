@@ -1,7 +1,7 @@
 //! Programs over fifodirs: two threads publish at once, and events go on from one fifodir to another.
-ghost use Rattle.std.specs.Prelude.{◌≡◌, ℕ, ◌++◌, [], ◌∷◌, OnOk, IfOk, IfErr};
+ghost use Rattle.std.specs.Prelude.{◌≡◌, ℕ, ◌++◌, [], ◌∷◌, OnOk, OnErr, IfOk, IfErr};
 ghost use Rattle.hub_record.specs.Runs.{by};
-ghost use Rattle.hub_fifodir.specs.Passes.{IsPublisherOf, IsTicketOf, HasTaken, IsRefusedAt, seen, mine, sent_on};
+ghost use Rattle.hub_fifodir.specs.Passes.{IsPublisherOf, IsTicketOf, HasTaken, IsRefusedAt, got, seen, mine, sent_on};
 
 use crate::fifodir::Fifodir;
 use crate::publisher::Publisher;
@@ -11,6 +11,7 @@ use hub_record::{Event, PubError, Taken};
 use std::sync::Wait;
 use std::thread;
 use std::thread::Threads;
+use thiserror::Error;
 
 type Sent = (Publisher, Result<u64, PubError>);
 
@@ -56,20 +57,33 @@ pub fn send_both<R: Threads + Wait + Sync>(
     (one, other)
 }
 
-/// Takes one event from a fifodir, and sends its letter on to another.
+/// An event that was taken and couldn't be sent on.
+#[derive(Clone, Copy, Debug, PartialEq, Eq, Error)]
+#[error("the event could not be sent on: {why}")]
+pub struct Unsent {
+    /// The event. The ticket doesn't take it again, so whoever wants it sent keeps it.
+    pub event: Event,
+    /// Why the other fifodir refused its letter.
+    pub why: PubError,
+}
+
+/// Takes one event from a fifodir, and sends its letter on to another. If the other refuses it, the event comes back in the
+/// error.
 pub fn send_on<R: Wait>(
     rt: &R,
     from: &Fifodir,
     ticket: &mut Ticket,
     to: &Fifodir,
     publisher: &mut Publisher,
-) -> Result<Taken, PubError>
+) -> Result<Taken, Unsent>
     requires from { IsTicketOf from.now ticket.old }
     requires to { IsPublisherOf to.now publisher.old }
     ensures from { IsTicketOf from.now ticket.new }
     ensures to { IsPublisherOf to.now publisher.new }
     ensures took { IfOk result (λ taken. HasTaken ticket.old 1 taken ticket.new) }
-    ensures refused { IfErr result (λ e. HasTaken ticket.old 1 (Taken.Got 1) ticket.new × ((letter : ℕ) × IsRefusedAt publisher.new (letter ∷ []) e)) }
+    ensures refused { IfErr result (λ unsent. HasTaken ticket.old 1 (Taken.Got 1) ticket.new
+        × (got ticket.new ≡ got ticket.old ++ unsent.event ∷ []) × IsRefusedAt publisher.new (unsent.event.letter ∷ []) unsent.why) }
+    ensures unsent { OnErr result (mine publisher.new ≡ mine publisher.old) }
     ensures sent { IfOk result (λ taken. mine publisher.new ≡ mine publisher.old ++ sent_on ticket.old taken ticket.new) }
 {
     let mut out = [Event {
@@ -77,8 +91,11 @@ pub fn send_on<R: Wait>(
         letter: Letter::least(),
     }];
     let taken = from.take_into(rt, ticket, &mut out);
+    let [event] = out;
     if let Taken::Got(_) = taken {
-        to.publish(rt, publisher, &[out[0].letter])?;
+        if let Err(why) = to.publish(rt, publisher, &[event.letter]) {
+            return Err(Unsent { event, why });
+        }
     }
     Ok(taken)
 }

@@ -5,6 +5,7 @@
 //! at, so that replies come in the order of the lines however the bytes were cut on their way.
 #![tactic(auto)]
 
+mod again;
 mod fault;
 mod places;
 mod serving;

@@ -5,6 +5,7 @@ ghost use Rattle.std.specs.Io.KnownBytes.{WriteAppends};
 ghost use Rattle.std.specs.IoError.{error_kind};
 ghost use Rattle.hub_front.specs.Telling.{Grows, faults_of_write};
 
+use crate::again::write_again;
 use std::io;
 use std::io::{ErrorKind, Stdout, Write};
 use std::os::unix::net::UnixStream;
@@ -15,7 +16,7 @@ pub trait Sink: Write {
     /// How many writes have failed or taken no byte, where that is known.
     ghost faults: { Self → Option ℕ };
 
-    /// Writes once, as `write` does.
+    /// Writes once, as `write` does. Where the operating system writes, a write that a signal broke off is made again.
     fn push(&mut self, bytes: &[u8]) -> io::Result<usize>
         requires { 0 < length bytes.now }
         ensures bound { WritesAtMost result bytes.now }
@@ -41,7 +42,7 @@ impl Sink for Stdout {
     ghost faults = { λ _. None };
 
     fn push(&mut self, bytes: &[u8]) -> io::Result<usize> {
-        self.write(bytes)
+        write_again(self, bytes)
     }
 }
 
@@ -49,6 +50,6 @@ impl Sink for UnixStream {
     ghost faults = { λ _. None };
 
     fn push(&mut self, bytes: &[u8]) -> io::Result<usize> {
-        self.write(bytes)
+        write_again(self, bytes)
     }
 }

@@ -4,6 +4,7 @@ ghost use Rattle.std.specs.Io.{ReadsAtMost};
 ghost use Rattle.std.specs.Io.KnownBytes.{ReadConsumes};
 ghost use Rattle.hub_front.specs.Telling.{Grows, faults_of_read};
 
+use crate::again::read_again;
 use std::io;
 use std::io::{Read, Stdin};
 use std::os::unix::net::UnixStream;
@@ -16,7 +17,7 @@ pub trait Source: Read {
     /// How many reads have failed, where that is known.
     ghost faults: { Self → Option ℕ };
 
-    /// Reads once, as `read` does.
+    /// Reads once, as `read` does. Where the operating system reads, a read that a signal broke off is made again.
     fn pull(&mut self, buf: &mut [u8]) -> io::Result<usize>
         ensures bound { ReadsAtMost result buf.new }
         ensures bytes { ReadConsumes (Self.remaining self.old) (Self.remaining self.new) result buf.new }
@@ -40,7 +41,7 @@ impl Source for Stdin {
     ghost faults = { λ _. None };
 
     fn pull(&mut self, buf: &mut [u8]) -> io::Result<usize> {
-        self.read(buf)
+        read_again(self, buf)
     }
 }
 
@@ -50,6 +51,6 @@ impl Source for UnixStream {
     ghost faults = { λ _. None };
 
     fn pull(&mut self, buf: &mut [u8]) -> io::Result<usize> {
-        self.read(buf)
+        read_again(self, buf)
     }
 }
