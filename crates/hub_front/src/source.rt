@@ -23,6 +23,12 @@ pub trait Source: Read {
         ensures bytes { ReadConsumes (Self.remaining self.old) (Self.remaining self.new) result buf.new }
         ensures counted { Grows (reads self.old) (reads self.new) 1 }
         ensures told { Grows (faults self.old) (faults self.new) (faults_of_read result) };
+
+    /// The connection that is read, by a descriptor of its own, so that a session that waits can look whether its client is
+    /// still there. None if what is read is no connection, or if the system has no descriptor left.
+    fn connection(&self) -> Option<UnixStream> {
+        None
+    }
 }
 
 impl Source for &[u8] {
@@ -52,5 +58,9 @@ impl Source for UnixStream {
 
     fn pull(&mut self, buf: &mut [u8]) -> io::Result<usize> {
         read_again(self, buf)
+    }
+
+    fn connection(&self) -> Option<UnixStream> {
+        self.try_clone().ok()
     }
 }

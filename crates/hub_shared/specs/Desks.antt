@@ -64,13 +64,15 @@ pub record Ends (old : Handles) (fs : Fifodirs) (hs : Handles) : Type 0 where
 
 -- ---- what contracts see of a desk
 
--- the desk answers so and goes on, over the same hub and with the same pause
+-- the desk answers so and goes on, over the same hub, with the same pause and for the same client
 pub record Asks {P : Type 0} (old : SharedDesk P) (request : Request) (reply : Reply) (new : SharedDesk P) : Type 0 where
   pub hub : new.hub ≡ old.hub
   pub pause : new.pause ≡ old.pause
+  pub client : new.client ≡ old.client
   pub answers : Answers old.fifodirs old.handles request reply new.fifodirs new.handles
 
 pub record IsEnded {P : Type 0} (old new : SharedDesk P) : Type 0 where
   pub hub : new.hub ≡ old.hub
   pub pause : new.pause ≡ old.pause
+  pub client : new.client ≡ old.client
   pub ends : Ends old.handles new.fifodirs new.handles

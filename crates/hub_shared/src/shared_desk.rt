@@ -10,13 +10,16 @@ use hub_record::{Kind, Limits};
 use hub_requests::{Desk, Name, Refusal, Reply, Request};
 use hub_wait::Pause;
 use std::alloc::{AllocError, Global};
+use std::os::unix::net::UnixStream;
 use std::sync::{Arc, Wait};
 
 mod fifodirs;
 mod joined;
 mod waits;
+mod watched;
 
 use fifodirs::Fifodirs;
+use watched::Watched;
 
 /// How many ids each fifodir has.
 const IDS: u64 = 1_000_000_000_000;
@@ -31,6 +34,8 @@ const IDS: u64 = 1_000_000_000_000;
 pub struct SharedDesk<P: Pause + Copy> {
     hub: Arc<Hub, Global>,
     pause: P,
+    /// The connection of its client, at which its waits look.
+    client: Option<UnixStream>,
     fifodirs: Fifodirs,
     handles: Handles,
 }
@@ -46,9 +51,22 @@ impl<P: Pause + Copy> SharedDesk<P> {
         Ok(SharedDesk {
             hub,
             pause,
+            client: None,
             fifodirs: Fifodirs::new(alloc),
             handles,
         })
+    }
+
+    /// From now on a wait answers `late` within about half a second of the end of its client, who reads no reply. Else a session
+    /// whose client was killed would hold its subscriptions until the wait is over.
+    pub fn watch(&mut self, client: Option<UnixStream>)
+        ensures fifodirs { self.new.fifodirs ≡ self.old.fifodirs }
+        ensures handles { self.new.handles ≡ self.old.handles }
+        ensures hub { self.new.hub ≡ self.old.hub }
+        ensures pause { self.new.pause ≡ self.old.pause }
+        ensures client { self.new.client ≡ client }
+    {
+        self.client = client;
     }
 
     fn make<H: Wait>(
@@ -129,7 +147,7 @@ impl<P: Pause + Copy> Desk for SharedDesk<P> {
                 .fifodirs
                 .open_posts(rt, &self.hub, *want, names.items())
             {
-                Ok(posts) => posts.settle(rt, *span, *turns, self.pause),
+                Ok(posts) => posts.settle(rt, *span, *turns, Watched::new(self.pause, self.client.as_ref())),
                 Err(refusal) => Reply::No(refusal),
             },
         }

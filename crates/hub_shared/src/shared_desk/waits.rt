@@ -107,7 +107,7 @@ impl Fifodirs {
 
 impl Posts {
     /// Waits, and gives the posts back.
-    pub fn settle<H: Wait, P: Pause + Copy>(
+    pub fn settle<H: Wait, P: Pause + Drop>(
         self,
         rt: &H,
         span: Span,

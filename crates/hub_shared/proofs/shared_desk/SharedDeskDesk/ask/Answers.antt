@@ -9,6 +9,7 @@ pub returns-in-Ok-clause-step : goal.returns-in-Ok-clause-step
 returns-in-Ok-clause-step g c = record {
   hub = refl;
   pause = refl;
+  client = refl;
   answers = subst (λ (r : Request). Answers c.args.self.now.fifodirs c.args.self.now.handles r c.subscribe.result c.find.new.self c.subscribe.new.self) (sym c.in-Sub.is)
       (c.in-Ok.ensures.kept, subscribes_to c.find.new.self c.in-Sub.name c.in-Ok.found c.args.self.now.handles c.subscribe.new.self c.subscribe.result c.in-Ok.ensures.ok c.subscribe.ensures.step);
 }
@@ -17,6 +18,7 @@ pub returns-in-Ok-find-clause-step : goal.returns-in-Ok-find-clause-step
 returns-in-Ok-find-clause-step g c = record {
   hub = refl;
   pause = refl;
+  client = refl;
   answers = subst (λ (r : Request). Answers c.args.self.now.fifodirs c.args.self.now.handles r c.listen.result c.find-in-Listen.new.self c.listen.new.self) (sym c.in-Listen.is) (
     c.in-Ok-find.ensures.kept,
     listens_to c.find-in-Listen.new.self c.in-Listen.name c.in-Ok-find.found c.in-Listen.mode c.in-Listen.pattern
@@ -37,6 +39,7 @@ returns-in-Ok-open_posts-clause-step g c =
     record {
       hub = refl;
       pause = refl;
+      client = refl;
       answers = subst (λ (r : Request). Answers c.args.self.now.fifodirs c.args.self.now.handles r c.settle.result fifodirs c.args.self.now.handles) (sym c.in-Wait.is) (
         opened.kept,
         inl (subst (λ (names : List (List ℕ)). WaitsFor fifodirs c.in-Wait.span c.in-Wait.want names c.settle.result) c.items.ensures waits),
