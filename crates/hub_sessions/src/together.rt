@@ -41,6 +41,7 @@ fn serve_one<H: Wait + Drop, R: Source + Drop, W: Sink + Drop, P: Pause + Copy>(
     let Ok(mut desk) = SharedDesk::new(alloc, hub, pause) else {
         return Err(FrontError::Memory);
     };
+    desk.watch(reader.connection());
     serve(&rt, alloc, &mut desk, &mut reader, &mut writer)
 }
 
