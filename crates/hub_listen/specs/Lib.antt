@@ -1,4 +1,5 @@
 pub mod Hit
+pub mod Size
 pub mod Listening
 pub mod Kept
 pub mod Pieces

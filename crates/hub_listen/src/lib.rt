@@ -12,12 +12,14 @@
 //! has changed. In mode [`Mode::Once`] a listener is spent after its hit.
 #![tactic(auto)]
 
+mod compile;
 mod each;
 mod feed;
 pub mod laws;
 mod listener;
 mod search;
 
+pub use compile::MOST_BYTES;
 pub use each::{Each, feed_each};
 pub use feed::{Feed, FeedError};
 pub use hub_letters::Mode;

@@ -1,6 +1,7 @@
 //! Listeners.
 ghost use Rattle.std.specs.Prelude.{◌≡◌, ◌≤◌, length, IfOk, OnOk};
 
+use crate::compile::compile;
 use crate::feed::{Feed, FeedError};
 use crate::search::first_hit;
 use hub_letters::{Letter, Mode};
@@ -79,14 +80,16 @@ impl Model for Listener {
 
 impl Listener {
     ghost use Rattle.hub_listen.specs.Hit.{IsPattern};
+    ghost use Rattle.hub_listen.specs.Size.{IsSmall};
     ghost use Rattle.hub_listen.specs.Listening.{Feeds, unheard, is_spent};
 
     /// A listener that has heard nothing. All of its room is made here.
     pub fn new(alloc: Global, pattern: &str, mode: Mode) -> Result<Listener, ListenError>
         ensures ok { IfOk result (λ listener. listener ≡ unheard pattern.now mode) }
         ensures read { OnOk result (IsPattern pattern.now) }
+        ensures small { OnOk result (IsSmall pattern.now) }
     {
-        let regex = Regex::new(alloc, pattern)?;
+        let regex = compile(alloc, pattern)?;
         let text = String::with_capacity(alloc, ROOM)?;
         let letters = Vec::with_capacity(alloc, ROOM)?;
         let hit = Vec::with_capacity(alloc, ROOM)?;

@@ -1,0 +1,24 @@
+//! What compiles the text of a pattern.
+ghost use Rattle.std.specs.Prelude.{◌≡◌, ◌≤◌, IfOk};
+ghost use Rattle.regex.specs.Strings.{regex_source, regex_config, regex_size, IsReadFromSource};
+ghost use Rattle.regex.specs.Patterns.{default_config};
+ghost use Rattle.hub_listen.specs.Size.{most_bytes};
+
+use regex::{Error, Regex, RegexBuilder};
+use std::alloc::Global;
+
+/// How many bytes the tables of a compiled pattern take at most, but for the 24 that `regex` adds to a limit. `\w{20}`
+/// needs 285,814; a session of 256 listeners has that much 256 times, and what else a pattern keeps.
+pub const MOST_BYTES: usize = 280 << 10;
+
+/// Compiles the text of a pattern, read with the default options, if its tables stay within [`MOST_BYTES`].
+pub(crate) fn compile(alloc: Global, pattern: &str) -> Result<Regex, Error>
+    ensures source { IfOk result (λ regex. regex_source regex ≡ pattern.now) }
+    ensures config { IfOk result (λ regex. regex_config regex ≡ default_config) }
+    ensures read { IfOk result IsReadFromSource }
+    ensures small { IfOk result (λ regex. regex_size regex ≤ most_bytes) }
+{
+    RegexBuilder::new(pattern)
+        .size_limit(MOST_BYTES)
+        .build(alloc)
+}
