@@ -1,5 +1,5 @@
 -- Lines with their LFs, and how bytes are cut into them.
-use Rattle.std.proofs.Common.{◌≡◌, ℕ, ◌+◌, ◌<◌, ◌≤◌, suc, Bool, true, false, ◌||◌, cond, List, [], ◌∷◌, ◌++◌, ◌==◌, length, inl, inr, refl, sym, ap, ◌∙◌, subst, arith, append-nil, append_assoc, length-append}
+use Rattle.std.proofs.Common.{◌≡◌, ℕ, ◌<◌, ◌≤◌, Bool, true, false, ◌||◌, cond, List, [], ◌∷◌, ◌++◌, ◌==◌, length, inl, inr, refl, sym, ap, ◌∙◌, subst, arith, append-nil, append_assoc, length-append}
 use Rattle.std.proofs.lemmas.Bool.{cases_Bool, eqb-true}
 use Rattle.std.proofs.lemmas.List.Folds.{list_any-append}
 use Rattle.std.proofs.lemmas.Grind.{flat_map-append}
@@ -28,13 +28,13 @@ complete-line (b ∷ bs) rest cut =
     ap (λ t. cond t ([] ∷ complete_of (bs ++ 10 ∷ rest)) (onto_first (b ∷ []) (complete_of (bs ++ 10 ∷ rest)))) (or_left (b == 10) (has_lf bs) cut)
     ∙ ap (onto_first (b ∷ [])) (complete-line bs rest (or_right (b == 10) (has_lf bs) cut))
 
-complete-none : (part : List ℕ) → has_lf part ≡ false → complete_of part ≡ []
+pub complete-none : (part : List ℕ) → has_lf part ≡ false → complete_of part ≡ []
 complete-none [] cut = refl
 complete-none (b ∷ bs) cut =
     ap (λ t. cond t ([] ∷ complete_of bs) (onto_first (b ∷ []) (complete_of bs))) (or_left (b == 10) (has_lf bs) cut)
     ∙ ap (onto_first (b ∷ [])) (complete-none bs (or_right (b == 10) (has_lf bs) cut))
 
-has_lf-line : (line rest : List ℕ) → has_lf (line ++ 10 ∷ rest) ≡ true
+pub has_lf-line : (line rest : List ℕ) → has_lf (line ++ 10 ∷ rest) ≡ true
 has_lf-line line rest = list_any-append (λ b. b == 10) line (10 ∷ rest) ∙ or_true (has_lf line)
 
 rest-line : (line rest : List ℕ) → rest_of (line ++ 10 ∷ rest) ≡ rest_of rest
@@ -42,7 +42,7 @@ rest-line [] rest = refl
 rest-line (b ∷ bs) rest =
     ap (λ t. cond t (rest_of (bs ++ 10 ∷ rest)) (b ∷ (bs ++ 10 ∷ rest))) (has_lf-line (b ∷ bs) rest) ∙ rest-line bs rest
 
-rest-none : (part : List ℕ) → has_lf part ≡ false → rest_of part ≡ part
+pub rest-none : (part : List ℕ) → has_lf part ≡ false → rest_of part ≡ part
 rest-none [] cut = refl
 rest-none (b ∷ bs) cut = ap (λ t. cond t (rest_of bs) (b ∷ bs)) cut
 
@@ -70,7 +70,7 @@ ended_one line = append-nil (line ++ 10 ∷ [])
 pub ended_more : (lines : List (List ℕ)) (line : List ℕ) → ended_lines (lines ++ line ∷ []) ≡ ended_lines lines ++ (line ++ 10 ∷ [])
 ended_more lines line = ended-append lines (line ∷ []) ∙ ap (λ l. ended_lines lines ++ l) (ended_one line)
 
-ended_first : (line : List ℕ) (lines : List (List ℕ)) (rest : List ℕ) → ended_lines (line ∷ lines) ++ rest ≡ line ++ 10 ∷ (ended_lines lines ++ rest)
+pub ended_first : (line : List ℕ) (lines : List (List ℕ)) (rest : List ℕ) → ended_lines (line ∷ lines) ++ rest ≡ line ++ 10 ∷ (ended_lines lines ++ rest)
 ended_first line lines rest = append_assoc (line ++ 10 ∷ []) (ended_lines lines) rest ∙ append_assoc line (10 ∷ []) (ended_lines lines ++ rest)
 
 pub cut_more : (lines : List (List ℕ)) (line : List ℕ) → AreCut lines → has_lf line ≡ false → AreCut (lines ++ line ∷ [])
@@ -86,6 +86,20 @@ pub lines-ended : (lines : List (List ℕ)) (rest : List ℕ) → AreCut lines �
 lines-ended [] rest c = refl
 lines-ended (l ∷ ls) rest c =
     ap lines_of (ended_first l ls rest) ∙ lines-line l (ended_lines ls ++ rest) c.0 ∙ ap (λ x. l ∷ x) (lines-ended ls rest c.1)
+
+pub rest-ended : (lines : List (List ℕ)) (rest : List ℕ) → AreCut lines → rest_of (ended_lines lines ++ rest) ≡ rest_of rest
+rest-ended [] rest c = refl
+rest-ended (l ∷ ls) rest c = ap rest_of (ended_first l ls rest) ∙ rest-line l (ended_lines ls ++ rest) ∙ rest-ended ls rest c.1
+
+-- up to the first LF
+pub first_line : (bytes : List ℕ) → has_lf bytes ≡ true → (line after : List ℕ) × (has_lf line ≡ false) × (bytes ≡ line ++ 10 ∷ after)
+first_line [] e = cc
+first_line (b ∷ bs) e = elim (cases_Bool (b == 10)) [
+  | inl lf ↦ ([], bs, refl, ap (λ x. x ∷ bs) (eqb-true b 10 lf))
+  | inr other ↦
+      let (line, after, cut, is) = first_line bs (sym (ap (λ t. t || has_lf bs) other) ∙ e) in
+      (b ∷ line, after, ap (λ t. t || has_lf line) other ∙ cut, ap (λ l. b ∷ l) is)
+]
 
 -- lines, and a part of one
 pub lines-ended_part : (lines : List (List ℕ)) (part : List ℕ) → AreCut lines → has_lf part ≡ false → 1 ≤ length part → lines_of (ended_lines lines ++ part) ≡ lines ++ part ∷ []

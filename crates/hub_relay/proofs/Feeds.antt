@@ -1,5 +1,5 @@
 -- The first LF of bytes.
-use Rattle.std.proofs.Common.{◌≡◌, ℕ, ◌+◌, ◌-◌, ◌<◌, ◌≤◌, suc, Bool, true, false, ◌||◌, cond, List, [], ◌∷◌, ◌++◌, ◌==◌, length, length-drop, take, drop, take-append-drop, Option, None, Some, MatchOption, position, inl, inr, refl, sym, ap, ◌∙◌, subst, arith, add-one, append-nil}
+use Rattle.std.proofs.Common.{◌≡◌, ℕ, ◌+◌, ◌-◌, ◌<◌, ◌≤◌, suc, Bool, true, false, ◌||◌, cond, List, [], ◌∷◌, ◌++◌, ◌==◌, length, length-drop, take, drop, take-append-drop, Option, None, Some, position, inl, inr, refl, sym, ap, ◌∙◌, subst, arith, add-one, append_assoc}
 use Rattle.std.specs.List.{position_from}
 use Rattle.std.specs.Io.KnownBytes.{Appends}
 use Rattle.std.proofs.lemmas.List.{length-take-le, take-take}
@@ -8,6 +8,7 @@ use Rattle.hub_front.specs.Serving.{AppendsPart}
 use Rattle.std.proofs.lemmas.Bool.{cases_Bool, eqb-true}
 use Rattle.std.proofs.lemmas.Iterator.Adapters.{position_from-zero}
 use Rattle.hub_relay.specs.Passing.{has_lf, IsLine}
+use Rattle.hub_relay.proofs.EndedLines.{has_lf-line}
 
 -- the LF at a place is the first one
 pub record IsFirst (bytes : List ℕ) (place : ℕ) : Type 0 where
@@ -50,6 +51,17 @@ pub first : (bs : List ℕ) (place : ℕ) → Some place ≡ position (λ b. b =
 first bs place e =
     let (k, at, f) = first_from bs 0 place (sym (e ∙ position_from-zero (λ b. b == 10) bs)) in
     subst (IsFirst bs) (let same : k ≡ place = omega arith in same) f
+
+pub some : (bs : List ℕ) (place : ℕ) → Some place ≡ position (λ b. b == 10) bs → has_lf bs ≡ true
+some bs place e =
+    let f : IsFirst bs place = first bs place e in
+    let rest = drop (suc place) bs in
+    let whole : bs ≡ take place bs ++ 10 ∷ rest = sym (take-append-drop (suc place) bs) ∙ ap (λ l. l ++ rest) f.here ∙ append_assoc (take place bs) (10 ∷ []) rest in
+    ap has_lf whole ∙ has_lf-line (take place bs) rest
+
+pub not_empty : (bs : List ℕ) → false ≡ (length bs == 0) → 1 ≤ length bs
+not_empty [] e = cc
+not_empty (b ∷ bs) e = omega arith
 
 pub none : (bs : List ℕ) → None ≡ position (λ b. b == 10) bs → has_lf bs ≡ false
 none bs e = none_from bs 0 (sym (e ∙ position_from-zero (λ b. b == 10) bs))

@@ -1,5 +1,5 @@
 -- Bytes that move through a buffer.
-use Rattle.std.proofs.Common.{◌≡◌, ℕ, ◌+◌, ◌-◌, ◌*◌, ◌<◌, ◌≤◌, List, [], ◌∷◌, ◌++◌, length, take, drop, Option, refl, sym, ap, ◌∙◌, arith, append-nil, append_assoc, length-append, length-take, length-drop}
+use Rattle.std.proofs.Common.{◌≡◌, ℕ, ◌+◌, ◌-◌, ◌<◌, ◌≤◌, List, [], ◌++◌, length, take, drop, Option, refl, sym, ap, ◌∙◌, subst, arith, append-nil, append_assoc, length-append, length-drop}
 use Rattle.std.proofs.lemmas.List.{length-take-le, drop-take, drop-drop}
 use Rattle.std.specs.Io.KnownBytes.{Keeps, Consumes}
 use Rattle.std.proofs.KnownBytes.{Consumes-nil, Consumes-trans, Consumes-kept}
@@ -19,6 +19,41 @@ stays has makes p left slack = record {
   most = omega arith;
   least = omega arith;
 }
+
+pub stays_so : (has : Option (List ℕ)) (makes : Option ℕ) (p q : List ℕ) (left slack : ℕ) → q ≡ p → Moves has has makes makes p q left left slack []
+stays_so has makes p q left slack e = subst (λ l. Moves has has makes makes p l left left slack []) (sym e) (stays has makes p left slack)
+
+-- a read of some bytes, or of none
+pub reads_some : (had has : Option (List ℕ)) (made makes : Option ℕ) (left left' n : ℕ) (bytes : List ℕ) → n ≤ length bytes → length bytes ≤ 65536 → Consumes had has (take n bytes) → left' + 1 ≡ left → Grows made makes 1
+    → Moves had has made makes [] (take n bytes) left left' (1 - n) []
+reads_some had has made makes left left' n bytes within few consumed spent told = record {
+  bytes = take n bytes;
+  reads = 1;
+  consumed = consumed;
+  kept = refl;
+  spent = spent;
+  told = told;
+  most = omega (arith, length-take-le n bytes within);
+  least = omega (arith, length-take-le n bytes within);
+}
+
+-- what was read comes behind what is pending
+pub reads_behind : {had has : Option (List ℕ)} {made makes : Option ℕ} {got : List ℕ} {left left' slack : ℕ} (before after : List ℕ) (slack' : ℕ) → Moves had has made makes [] got left left' slack [] → after ≡ before ++ got → slack ≤ slack'
+    → Moves had has made makes before after left left' slack' []
+reads_behind before after slack' m e le = record {
+  bytes = m.bytes;
+  reads = m.reads;
+  consumed = m.consumed;
+  kept = ap (λ l. before ++ l) m.kept ∙ sym e;
+  spent = m.spent;
+  told = m.told;
+  most = m.most;
+  least = omega (arith, m.least, le);
+}
+
+-- a read that gave nothing
+pub reads_nothing : {had has : Option (List ℕ)} {made makes : Option ℕ} {left left' slack : ℕ} (before after : List ℕ) → Moves had has made makes [] [] left left' slack [] → after ≡ before → Moves had has made makes before after left left' slack []
+reads_nothing before after m e = reads_behind before after _ m (e ∙ sym (append-nil before)) (omega arith)
 
 -- a read that failed
 pub reads_none : (had has : Option (List ℕ)) (made makes : Option ℕ) (before : List ℕ) (left left' : ℕ) → before ≡ [] → Keeps had has → left' + 1 ≡ left → Grows made makes 1

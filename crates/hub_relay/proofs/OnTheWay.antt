@@ -1,12 +1,12 @@
 -- A line on its way through a buffer.
-use Rattle.std.proofs.Common.{◌≡◌, ℕ, ◌+◌, ◌<◌, ◌≤◌, Bool, true, false, ◌||◌, List, [], ◌∷◌, ◌++◌, ◌==◌, length, Option, MatchBool, if◌then◌else◌, refl, sym, ap, ◌∙◌, subst, arith, append-nil, append_assoc, length-append}
+use Rattle.std.proofs.Common.{◌≡◌, ℕ, ◌+◌, ◌≤◌, Bool, true, false, ◌||◌, List, [], ◌∷◌, ◌++◌, ◌==◌, length, Option, MatchBool, if◌then◌else◌, refl, sym, ap, ◌∙◌, subst, arith, append_assoc, length-append}
 use Rattle.std.specs.Io.KnownBytes.{Appends, IsAtEnd}
 use Rattle.std.proofs.KnownBytes.{Appends-nil, Appends-trans}
 use Rattle.std.proofs.lemmas.List.Folds.{list_any-append}
 use Rattle.hub_front.specs.declared.fault.FrontError.{FrontError}
 use Rattle.hub_front.specs.declared.fault.FrontError.TheVariants.{Write}
 use Rattle.hub_relay.specs.declared.buffer.Passed.{Passed}
-use Rattle.hub_relay.specs.declared.buffer.Passed.TheVariants.{Line, Part, Nothing}
+use Rattle.hub_relay.specs.declared.buffer.Passed.TheVariants.{Part, Nothing}
 use Rattle.hub_relay.specs.Passing.{has_lf, IsLine, Moves, IsOnItsWay, slack_of, slack_at, EndsAs, FailsAs}
 use Rattle.hub_relay.proofs.Moving.{stays, moves_piece, moves_reads, moves_more}
 

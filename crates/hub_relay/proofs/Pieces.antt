@@ -1,5 +1,5 @@
 -- The pieces of what is pending, as they are written. seen are the buffer's bytes as the code reads them.
-use Rattle.std.proofs.Common.{◌≡◌, ℕ, ◌+◌, ◌-◌, ◌<◌, ◌≤◌, false, List, [], ◌∷◌, ◌++◌, ◌==◌, length, length-drop, take, drop, take-append-drop, Option, None, Some, position, refl, sym, ap, ◌∙◌, subst, arith, add-one, append-nil}
+use Rattle.std.proofs.Common.{◌≡◌, ℕ, ◌+◌, ◌-◌, ◌≤◌, false, List, [], ◌++◌, ◌==◌, length, length-drop, take, drop, take-append-drop, Option, None, Some, position, sym, ap, ◌∙◌, subst, arith, append-nil}
 use Rattle.std.specs.Io.KnownBytes.{Appends}
 use Rattle.std.proofs.lemmas.List.{length-take-le, take_all}
 use Rattle.hub_front.specs.Serving.{AppendsPart}
@@ -7,7 +7,7 @@ use Rattle.hub_relay.specs.Passing.{has_lf, IsLine}
 use Rattle.hub_relay.proofs.Feeds.{IsFirst, first, none, line_at, breaks_off, has_lf-take}
 use Rattle.hub_relay.proofs.Moving.{between_later, between_none}
 
-abbrev between : List ℕ → (start end : ℕ) → List ℕ
+abbrev pub between : List ℕ → (start end : ℕ) → List ℕ
 between items start end = take (end - start) (drop start items)
 
 -- what an error says of a piece: a front of it was written

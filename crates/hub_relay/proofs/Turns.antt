@@ -1,16 +1,18 @@
 -- The turns of a relay.
-use Rattle.std.proofs.Common.{◌≡◌, ℕ, ◌+◌, ◌*◌, ◌<◌, ◌≤◌, suc, false, List, [], ◌∷◌, ◌++◌, length, take, Option, Result, Err, inl, inr, refl, sym, ap, ◌∙◌, subst, arith, append-nil, append_assoc, length-append}
+use Rattle.std.proofs.Common.{◌≡◌, ℕ, ◌+◌, ◌<◌, ◌≤◌, false, List, [], ◌∷◌, ◌++◌, length, take, Option, Result, Err, inl, inr, refl, sym, ap, ◌∙◌, subst, arith, append-nil, append_assoc, length-append}
 use Rattle.std.proofs.Math.Seq.{take-append_seam}
 use Rattle.std.specs.Io.KnownBytes.{Appends, Consumes, IsAtEnd}
 use Rattle.std.proofs.KnownBytes.{Consumes-nil, Consumes-trans, Appends-nil, Appends-trans}
-use Rattle.hub_front.specs.Lines.{complete_of, lines_of}
+use Rattle.hub_front.specs.Lines.{complete_of, rest_of, lines_of}
 use Rattle.hub_front.specs.Telling.{Grows}
 use Rattle.hub_front.proofs.Told.{Grows-none, Grows-add}
 use Rattle.hub_relay.specs.declared.fault.RelayError.{RelayError}
 use Rattle.hub_relay.specs.declared.fault.RelayError.TheVariants.{Input, Output, Send, Receive, Ended, Turns, Memory}
-use Rattle.hub_relay.specs.Relaying.{ended_lines, line_count, Finished, Stopped, StopsAt, AreAnswered, AwaitsReply, ReadsWithin}
+use Rattle.hub_relay.specs.Relaying.{ended_lines, line_count, writable, Finished, Stopped, StopsAt, AreAnswered, AwaitsReply, ReadsWithin}
 use Rattle.hub_relay.specs.Passing.{has_lf, IsLine, Moves}
 use Rattle.hub_relay.specs.UnderWay.{slack_for, FailsToSend, FailsToReceive, AreCut, HasPassed, HasSent, IsUnderWay}
+use Rattle.hub_relay.proofs.OnTheWay.{has_lf-append}
+use Rattle.hub_relay.proofs.Writable.{writable-ended, writable_at, writable_short}
 use Rattle.hub_relay.proofs.EndedLines.{front, part_short, ended-append, ended_more, cut_more, complete-ended, lines-ended, lines-ended_part, count-ended, count-ended_part}
 
 -- ---- one direction
@@ -161,13 +163,17 @@ answered_part : (lines replies : List (List ℕ)) (passed pending : List ℕ) �
     → AreAnswered (ended_lines lines ++ passed) (ended_lines replies ++ pending) (ended_lines replies)
 answered_part lines replies passed pending c d cut same = are_answered (ended_lines lines ++ passed) replies pending d (count-ended_part lines passed c cut ∙ same)
 
-awaits : (lines replies : List (List ℕ)) (passed rest : List ℕ) → AreCut lines → AreCut replies → has_lf passed ≡ false → length lines ≡ length replies + 1 → rest ≡ []
+awaits : (lines replies : List (List ℕ)) (passed rest due : List ℕ) → AreCut lines → AreCut replies → has_lf passed ≡ false → has_lf rest ≡ false → length lines ≡ length replies + 1 → due ≡ [] → writable (passed ++ rest) ≡ passed ++ due
     → AwaitsReply (ended_lines lines) ((ended_lines replies ++ passed) ++ rest) (ended_lines replies ++ passed)
-awaits lines replies passed rest c d cut one none =
-    let same : ended_lines replies ++ passed ≡ (ended_lines replies ++ passed) ++ rest = nothing_left (ended_lines replies ++ passed) rest none in
+awaits lines replies passed rest due c d cut cut' one none e =
+    let heard = (ended_lines replies ++ passed) ++ rest in
+    let all : heard ≡ ended_lines replies ++ (passed ++ rest) = append_assoc (ended_lines replies) passed rest in
+    let is : ended_lines replies ++ passed ≡ writable heard = nothing_left (ended_lines replies ++ passed) due none ∙ sym (writable_at replies passed rest due d e) in
+    let no_lf : has_lf (passed ++ rest) ≡ false = has_lf-append passed rest cut ∙ cut' in
     record {
-      passed = same;
-      missing = omega (arith, count-ended lines c, one, count-ended_part replies passed d cut, ap line_count same);
+      passed = is;
+      withheld = λ (short : length (rest_of heard) < 65536). is ∙ writable_short heard short;
+      missing = omega (arith, count-ended lines c, one, count-ended_part replies (passed ++ rest) d no_lf, ap line_count all);
     }
 
 -- Sending the next line failed. a and b are the two directions before it.
@@ -198,28 +204,31 @@ module _ {had mid has held between had' has' held' holds' : Option (List ℕ)} {
         unwritten = pending';
         replies = record { consumed = b.consumed; appended = b.appended };
         written_front = refl;
+        due = writable pending';
+        writable_front = writable-ended b.lines pending' b.cut;
         stopped = send_stops_at e m f spent;
       }
 
 -- Receiving a reply failed. s are the lines that were sent, and b are the replies before it.
 module _ {had has held holds had' mid' has' held' between' : Option (List ℕ)} {made makes made' much' makes' : Option ℕ} {more : List (List ℕ)} {before rest passed : List ℕ} {count reads reads' left left' : ℕ}
-    (s : HasSent had has held holds made makes more (count + 1) reads) (b : HasPassed had' mid' held' between' made' much' before count reads') (cut : has_lf passed ≡ false) where
-  receive_stops_at : (e : RelayError) → Moves mid' has' much' makes' before rest left left' (slack_for e) passed → FailsToReceive e rest has' left' → reads + reads' + left ≡ 10000000
-      → StopsAt s.input (ended_lines s.lines) ((ended_lines b.lines ++ passed) ++ rest) (ended_lines b.lines ++ passed) has' e
+    (s : HasSent had has held holds made makes more (count + 1) reads) (b : HasPassed had' mid' held' between' made' much' before count reads') (cut : has_lf passed ≡ false)
+    (due : List ℕ) (e : writable (passed ++ rest) ≡ passed ++ due) where
+  receive_stops_at : (fault : RelayError) → Moves mid' has' much' makes' before rest left left' (slack_for fault) passed → FailsToReceive fault due rest has' left' → reads + reads' + left ≡ 10000000
+      → StopsAt s.input (ended_lines s.lines) ((ended_lines b.lines ++ passed) ++ rest) (ended_lines b.lines ++ passed) has' fault
   receive_stops_at Input m f spent = absurd f
   receive_stops_at Output m f spent = (
-    omega (arith, f, length-append (ended_lines b.lines ++ passed) rest),
+    omega (arith, f, ap length (writable_at b.lines passed rest due b.cut e), length-append (ended_lines b.lines ++ passed) due),
     omega (arith, count-ended s.lines s.cut, s.counted, b.counted, count-ended_part b.lines passed b.cut cut),
   )
   receive_stops_at Send m f spent = absurd f
-  receive_stops_at Receive m f spent = awaits s.lines b.lines passed rest s.cut b.cut cut (omega (arith, s.counted, b.counted)) f
-  receive_stops_at Ended m f spent = (awaits s.lines b.lines passed rest s.cut b.cut cut (omega (arith, s.counted, b.counted)) f.0, f.1)
-  receive_stops_at Turns m f spent = (omega (arith, s.least, least_all b m, m.spent, f.1), inr (awaits s.lines b.lines passed rest s.cut b.cut cut (omega (arith, s.counted, b.counted)) f.0))
+  receive_stops_at Receive m f spent = awaits s.lines b.lines passed rest due s.cut b.cut cut f.1 (omega (arith, s.counted, b.counted)) f.0 e
+  receive_stops_at Ended m f spent = (awaits s.lines b.lines passed rest due s.cut b.cut cut f.1 (omega (arith, s.counted, b.counted)) f.0 e, f.2)
+  receive_stops_at Turns m f spent = (omega (arith, s.least, least_all b m, m.spent, f.2), inr (awaits s.lines b.lines passed rest due s.cut b.cut cut f.1 (omega (arith, s.counted, b.counted)) f.0 e))
   receive_stops_at Memory m f spent = absurd f
 
-  pub receive_stops : {holds' : Option (List ℕ)} (e : RelayError) → Moves mid' has' much' makes' before rest left left' (slack_for e) passed → FailsToReceive e rest has' left' → reads + reads' + left ≡ 10000000
-      → Appends between' holds' passed → Stopped had has held holds had' has' held' holds' e
-  receive_stops {holds'} e m f spent appended = record {
+  pub receive_stops : {holds' : Option (List ℕ)} (fault : RelayError) → Moves mid' has' much' makes' before rest left left' (slack_for fault) passed → FailsToReceive fault due rest has' left' → reads + reads' + left ≡ 10000000
+      → Appends between' holds' passed → Stopped had has held holds had' has' held' holds' fault
+  receive_stops {holds'} fault m f spent appended = record {
     input = s.input;
     sent = ended_lines s.lines;
     unsent = ended_lines more;
@@ -230,7 +239,9 @@ module _ {had has held holds had' mid' has' held' between' : Option (List ℕ)} 
     unwritten = rest;
     replies = record { consumed = consumed_all b m; appended = Appends-trans held' between' holds' (ended_lines b.lines) passed b.appended appended };
     written_front = refl;
-    stopped = receive_stops_at e m f spent;
+    due = due;
+    writable_front = writable_at b.lines passed rest due b.cut e;
+    stopped = receive_stops_at fault m f spent;
   }
 
 -- ---- between two turns
@@ -272,8 +283,8 @@ within made makes made' makes' r n m left spent told told' turns = (n, m, omega 
 pub send_turns : {T : Type 0} (r : Result T RelayError) (e : RelayError) (passed rest : List ℕ) (left' : ℕ) → r ≡ Err e → FailsToSend e passed rest left' → r ≡ Err Turns → left' ≡ 0
 send_turns r e passed rest left' is f turns = let it : e ≡ Turns = cc in (subst (λ x. FailsToSend x passed rest left') it f).1
 
-pub receive_turns : {T : Type 0} (r : Result T RelayError) (e : RelayError) (rest : List ℕ) (has : Option (List ℕ)) (left' : ℕ) → r ≡ Err e → FailsToReceive e rest has left' → r ≡ Err Turns → left' ≡ 0
-receive_turns r e rest has left' is f turns = let it : e ≡ Turns = cc in (subst (λ x. FailsToReceive x rest has left') it f).1
+pub receive_turns : {T : Type 0} (r : Result T RelayError) (e : RelayError) (due rest : List ℕ) (has : Option (List ℕ)) (left' : ℕ) → r ≡ Err e → FailsToReceive e due rest has left' → r ≡ Err Turns → left' ≡ 0
+receive_turns r e due rest has left' is f turns = let it : e ≡ Turns = cc in (subst (λ x. FailsToReceive x due rest has left') it f).2
 
 -- nothing was read or written
 pub stops_at_once : (has held has' held' : Option (List ℕ)) → Stopped has has held held has' has' held' held' Memory
@@ -288,5 +299,7 @@ stops_at_once has held has' held' = record {
   unwritten = [];
   replies = record { consumed = Consumes-nil has'; appended = Appends-nil held' };
   written_front = refl;
+  due = [];
+  writable_front = refl;
   stopped = (refl, refl);
 }

@@ -1,10 +1,12 @@
 -- How the bytes of a line pass through a buffer.
-use Rattle.std.specs.Prelude.{◌≡◌, ℕ, ◌+◌, ◌*◌, ◌≤◌, Bool, true, false, List, [], ◌∷◌, ◌++◌, ◌==◌, length, Option, MatchBool}
+use Rattle.std.specs.Prelude.{◌≡◌, ◌⊎◌, ℕ, ◌<◌, ◌+◌, ◌*◌, ◌≤◌, Bool, true, false, List, [], ◌∷◌, ◌++◌, ◌==◌, length, Option, MatchBool}
 use Rattle.std.specs.List.{list_any}
 use Rattle.std.specs.Io.KnownBytes.{Appends, Consumes, IsAtEnd}
 use Rattle.hub_front.specs.Telling.{Grows}
 use Rattle.hub_front.specs.declared.fault.FrontError.{FrontError}
 use Rattle.hub_front.specs.declared.fault.FrontError.TheVariants.{Read, Write, Turns, Memory}
+use Rattle.hub_relay.specs.declared.buffer.Came.{Came}
+use Rattle.hub_relay.specs.declared.buffer.Came.TheVariants.{Lf, Bytes, End}
 use Rattle.hub_relay.specs.declared.buffer.Passed.{Passed}
 use Rattle.hub_relay.specs.declared.buffer.Passed.TheVariants.{Line, Part, Nothing}
 
@@ -67,3 +69,45 @@ FailsAs Read rest left' = rest ≡ []
 FailsAs Write rest left' = 1 ≤ length rest
 FailsAs Turns rest left' = (rest ≡ []) × (left' ≡ 0)
 FailsAs Memory rest left' = ⊥
+
+-- what a read gave
+abbrev pub ComesAs : Came → List ℕ → Type 0
+ComesAs Lf bytes = has_lf bytes ≡ true
+ComesAs Bytes bytes = (1 ≤ length bytes) × (has_lf bytes ≡ false)
+ComesAs End bytes = bytes ≡ []
+
+-- the reads that may have given nothing
+abbrev pub slack_when : Came → ℕ
+slack_when Lf = 0
+slack_when Bytes = 0
+slack_when End = 1
+
+-- where the stream ended, nothing is left of it
+abbrev pub EndsWhen : Came → (has : Option (List ℕ)) → Type 0
+EndsWhen Lf has = Unit {0}
+EndsWhen Bytes has = Unit {0}
+EndsWhen End has = IsAtEnd has
+
+-- what is pending of a reply may be written: there is an LF, or it fills the buffer
+abbrev pub IsReady : List ℕ → Type 0
+IsReady pending = (has_lf pending ≡ true) ⊎ (length pending ≡ 65536)
+
+-- what is pending of a reply is withheld
+abbrev pub IsShort : List ℕ → Type 0
+IsShort pending = (has_lf pending ≡ false) × (length pending < 65536)
+
+-- A reply on its way: the buffers that it filled passed and were written, and no LF was in them.
+pub record IsInPieces (had has held holds : Option (List ℕ)) (made makes : Option ℕ) (before after : List ℕ) (left left' : ℕ) : Type 0 where
+  pub passed : List ℕ
+  pub moved : Moves had has made makes before after left left' 0 passed
+  pub written : Appends held holds passed
+  pub cut : has_lf passed ≡ false
+  pub buffers : ℕ
+  pub full : length passed ≡ buffers * 65536
+
+-- how a reply fails to pass: rest was read and not written, and due of it might have been
+abbrev pub FailsInPieces : FrontError → (due rest : List ℕ) → (left' : ℕ) → Type 0
+FailsInPieces Read due rest left' = (due ≡ []) × (has_lf rest ≡ false)
+FailsInPieces Write due rest left' = 1 ≤ length due
+FailsInPieces Turns due rest left' = (due ≡ []) × (has_lf rest ≡ false) × (left' ≡ 0)
+FailsInPieces Memory due rest left' = ⊥

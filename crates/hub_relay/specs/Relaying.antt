@@ -1,5 +1,5 @@
 -- What a relay sends and writes.
-use Rattle.std.specs.Prelude.{◌≡◌, ◌⊎◌, ℕ, suc, ◌+◌, ◌<◌, ◌≤◌, List, [], ◌∷◌, ◌++◌, length, take, flat_map, Option, Result, Err}
+use Rattle.std.specs.Prelude.{◌≡◌, ◌⊎◌, ℕ, suc, ◌+◌, ◌*◌, ◌/◌, ◌<◌, ◌≤◌, List, [], ◌∷◌, ◌++◌, length, take, flat_map, Option, Result, Err}
 use Rattle.std.specs.Io.KnownBytes.{Appends, Consumes, IsAtEnd}
 use Rattle.hub_front.specs.Lines.{complete_of, rest_of, lines_of}
 use Rattle.hub_front.specs.Telling.{Grows}
@@ -13,6 +13,14 @@ ended_lines lines = flat_map (λ line. line ++ 10 ∷ []) lines
 -- how many lines end in bytes
 abbrev pub line_count : List ℕ → ℕ
 line_count bytes = length (complete_of bytes)
+
+-- the bytes of an unfinished reply that filled whole buffers of 64 KiB: none if it is shorter than one
+abbrev pub full_buffers : List ℕ → List ℕ
+full_buffers part = take (length part / 65536 * 65536) part
+
+-- what of the peer's bytes may be written: each whole reply with its LF, and the full buffers of an unfinished one
+abbrev pub writable : List ℕ → List ℕ
+writable heard = ended_lines (complete_of heard) ++ full_buffers (rest_of heard)
 
 -- Bytes were read, and bytes were written. had and has are what the reader had left before and has left after, held and
 -- holds what the writer held before and holds after.
@@ -36,9 +44,11 @@ pub record AreAnswered (sent heard written : List ℕ) : Type 0 where
   pub enough : line_count sent ≤ line_count heard
   pub replies : written ≡ ended_lines (take (line_count sent) (complete_of heard))
 
--- the last line was sent to its end, all that the peer said was written, and the end of the last reply is missing
+-- The last line was sent to its end, and the LF of its reply is missing. All that may be written was written: if the
+-- unfinished reply is shorter than a buffer, the replies before it and nothing of it.
 pub record AwaitsReply (sent heard written : List ℕ) : Type 0 where
-  pub passed : written ≡ heard
+  pub passed : written ≡ writable heard
+  pub withheld : length (rest_of heard) < 65536 → written ≡ ended_lines (complete_of heard)
   pub missing : line_count sent ≡ suc (line_count heard)
 
 -- What a relay did before it stopped, where input and heard are what was read of the input and of the peer, sent and
@@ -48,12 +58,13 @@ StopsAt input sent heard written has' Input = (sent ≡ input) × AreAnswered se
 StopsAt input sent heard written has' Send = (length sent < length (ended_lines (lines_of input))) × AreAnswered sent heard written
 StopsAt input sent heard written has' Receive = AwaitsReply sent heard written
 StopsAt input sent heard written has' Ended = AwaitsReply sent heard written × IsAtEnd has'
-StopsAt input sent heard written has' Output = (length written < length heard) × (line_count sent ≡ suc (line_count written))
+StopsAt input sent heard written has' Output = (length written < length (writable heard)) × (line_count sent ≡ suc (line_count written))
 StopsAt input sent heard written has' Turns =
     (10000000 ≤ length input + length heard + 1) × (((sent ≡ input) × AreAnswered sent heard written) ⊎ AwaitsReply sent heard written)
 StopsAt input sent heard written has' Memory = (input ≡ []) × (heard ≡ [])
 
--- A relay that stopped: a front of the input's lines was sent, and a front of what the peer said was written.
+-- A relay that stopped: a front of the input's lines was sent, and a front of what the peer said was written, and of
+-- what may be written of it. due is what may be written and wasn't.
 pub record Stopped (had has held holds had' has' held' holds' : Option (List ℕ)) (e : RelayError) : Type 0 where
   pub input : List ℕ
   pub sent : List ℕ
@@ -65,6 +76,8 @@ pub record Stopped (had has held holds had' has' held' holds' : Option (List ℕ
   pub unwritten : List ℕ
   pub replies : Passes had' has' held' holds' heard written
   pub written_front : heard ≡ written ++ unwritten
+  pub due : List ℕ
+  pub writable_front : writable heard ≡ written ++ due
   pub stopped : StopsAt input sent heard written has' e
 
 -- At most 10,000,000 reads were made, of both readers together, and at Turns just as many. made and makes are the

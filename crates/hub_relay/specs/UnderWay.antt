@@ -36,15 +36,15 @@ FailsToSend Ended passed rest left' = ⊥
 FailsToSend Turns passed rest left' = (rest ≡ []) × (left' ≡ 0)
 FailsToSend Memory passed rest left' = ⊥
 
--- how receiving a reply fails: rest was read and not written
-abbrev pub FailsToReceive : RelayError → (rest : List ℕ) → (has : Option (List ℕ)) → (left' : ℕ) → Type 0
-FailsToReceive Input rest has left' = ⊥
-FailsToReceive Output rest has left' = 1 ≤ length rest
-FailsToReceive Send rest has left' = ⊥
-FailsToReceive Receive rest has left' = rest ≡ []
-FailsToReceive Ended rest has left' = (rest ≡ []) × IsAtEnd has
-FailsToReceive Turns rest has left' = (rest ≡ []) × (left' ≡ 0)
-FailsToReceive Memory rest has left' = ⊥
+-- how receiving a reply fails: rest was read and not written, and due of it might have been
+abbrev pub FailsToReceive : RelayError → (due rest : List ℕ) → (has : Option (List ℕ)) → (left' : ℕ) → Type 0
+FailsToReceive Input due rest has left' = ⊥
+FailsToReceive Output due rest has left' = 1 ≤ length due
+FailsToReceive Send due rest has left' = ⊥
+FailsToReceive Receive due rest has left' = (due ≡ []) × (has_lf rest ≡ false)
+FailsToReceive Ended due rest has left' = (due ≡ []) × (has_lf rest ≡ false) × IsAtEnd has
+FailsToReceive Turns due rest has left' = (due ≡ []) × (has_lf rest ≡ false) × (left' ≡ 0)
+FailsToReceive Memory due rest has left' = ⊥
 
 -- no LF is in any of the lines
 abbrev pub AreCut : List (List ℕ) → Type 0

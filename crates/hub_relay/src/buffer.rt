@@ -1,6 +1,10 @@
 //! The way of lines through a buffer, from a reader to a writer.
-ghost use Rattle.std.specs.Prelude.{◌≡◌, ◌≢◌, ◌+◌, ◌<◌, ◌≤◌, ℕ, List, [], ◌++◌, ◌==◌, length, position, true, false, OnErr, IfOk, IfErr, IsTrue, MatchBool, vec_len};
+ghost use Rattle.std.specs.Prelude.{◌≡◌, ◌≢◌, ◌+◌, ◌-◌, ◌<◌, ◌≤◌, ℕ, List, [], ◌++◌, ◌==◌, length, take, position, true, false, OnErr, IfOk, IfErr, IsTrue, MatchBool, vec_len};
 ghost use Rattle.std.specs.Io.KnownBytes.{Appends, IsAtEnd};
+ghost use Rattle.hub_front.specs.Telling.{Grows};
+ghost use Rattle.hub_front.specs.Serving.{read_faults, write_faults};
+ghost use Rattle.hub_relay.specs.Passing.{has_lf, IsLine, Moves, slack_of, slack_at, slack_when, EndsAs, EndsWhen, ComesAs, FailsAs, FailsInPieces, IsReady, IsShort};
+ghost use Rattle.hub_relay.specs.Relaying.{writable};
 
 use hub_front::{FrontError, Sink, Source, write_whole};
 use std::alloc::{AllocError, Global};
@@ -18,6 +22,17 @@ pub(crate) enum Passed {
     Part,
     /// The stream ended before the first byte of a line.
     Nothing,
+}
+
+// What a read gave.
+#[derive(Clone, Copy, Debug, PartialEq, Eq)]
+enum Came {
+    // Bytes with an LF among them.
+    Lf,
+    // Bytes without LF.
+    Bytes,
+    // Nothing: the stream has ended.
+    End,
 }
 
 /// Bytes that were read and not passed on yet: those from start to end.
@@ -45,11 +60,31 @@ fn new_chunk(alloc: Global, size: usize) -> Result<Vec<u8>, AllocError>
     vec![in alloc; 0u8; size]
 }
 
+// Reads once, unless no read is left.
+fn read_once<R: Source>(bytes: &mut [u8], reader: &mut R, left: &mut u64) -> Result<usize, FrontError>
+    requires some { 1 ≤ length bytes.old }
+    requires few { length bytes.old ≤ 65536 }
+    ensures ok { IfOk result (λ n. (n ≤ length bytes.new) × (left.new < left.old)
+        × Moves (R.remaining reader.old) (R.remaining reader.new) (R.reads reader.old) (R.reads reader.new)
+        [] (take n bytes.new) left.old left.new (1 - n) []
+        × (n ≡ 0 → IsAtEnd (R.remaining reader.new))) }
+    ensures err { IfErr result (λ e.
+        Moves (R.remaining reader.old) (R.remaining reader.new) (R.reads reader.old) (R.reads reader.new)
+        [] [] left.old left.new (slack_at e) [] × FailsAs e [] left.new) }
+    ensures told { Grows (R.faults reader.old) (R.faults reader.new) (read_faults result) }
+{
+    if *left == 0 {
+        return Err(FrontError::Turns);
+    }
+    *left -= 1;
+    match reader.pull(bytes) {
+        Err(_) => Err(FrontError::Read),
+        Ok(n) => Ok(n),
+    }
+}
+
 impl Buffer {
-    ghost use Rattle.hub_front.specs.Telling.{Grows};
-    ghost use Rattle.hub_front.specs.Serving.{read_faults, write_faults};
     ghost use Rattle.hub_relay.specs.Pending.{pending};
-    ghost use Rattle.hub_relay.specs.Passing.{has_lf, IsLine, Moves, slack_of, slack_at, EndsAs, FailsAs};
 
     pub(crate) fn new(alloc: Global) -> Result<Buffer, AllocError>
         ensures { IfOk result (λ buffer. pending buffer ≡ []) }
@@ -94,6 +129,98 @@ impl Buffer {
         }
     }
 
+    /// Passes a reply on, up to its LF and with it, and says whether that came before the stream's end. Nothing passes
+    /// before the LF has come, but for the bytes of a longer reply that fill the buffer. What was read beyond it stays.
+    pub(crate) fn pass_reply<R: Source, W: Sink>(
+        &mut self,
+        reader: &mut R,
+        writer: &mut W,
+        left: &mut u64,
+    ) -> Result<bool, FrontError>
+        ensures ok { IfOk result (λ whole. (passed : List ℕ) × Appends (W.contents writer.old) (W.contents writer.new) passed
+            × MatchBool whole
+            (Moves (R.remaining reader.old) (R.remaining reader.new) (R.reads reader.old) (R.reads reader.new)
+            (pending self.old) (pending self.new) left.old left.new 0 passed × IsLine passed)
+            (Moves (R.remaining reader.old) (R.remaining reader.new) (R.reads reader.old) (R.reads reader.new)
+            (pending self.old) (pending self.new) left.old left.new 1 passed × (has_lf passed ≡ false)
+            × (writable (passed ++ pending self.new) ≡ passed) × (has_lf (pending self.new) ≡ false)
+            × IsAtEnd (R.remaining reader.new))) }
+        ensures err { IfErr result (λ e. (passed rest due : List ℕ)
+            × Moves (R.remaining reader.old) (R.remaining reader.new) (R.reads reader.old) (R.reads reader.new)
+            (pending self.old) rest left.old left.new (slack_at e) passed × (has_lf passed ≡ false)
+            × (writable (passed ++ rest) ≡ passed ++ due) × FailsInPieces e due rest left.new
+            × Appends (W.contents writer.old) (W.contents writer.new) passed) }
+        ensures read_faults { Grows (R.faults reader.old) (R.faults reader.new) (read_faults result) }
+        ensures write_faults { Grows (W.faults writer.old) (W.faults writer.new) (write_faults result) }
+    {
+        'pieces: loop {
+            if !self.gather(reader, left)? {
+                return Ok(false);
+            }
+            if self.pass_piece(writer)? {
+                return Ok(true);
+            }
+        }
+    }
+
+    // Reads on until an LF is pending or the buffer is full, and says whether that came before the stream's end.
+    fn gather<R: Source>(&mut self, reader: &mut R, left: &mut u64) -> Result<bool, FrontError>
+        ensures ok { IfOk result (λ ready. MatchBool ready
+            (Moves (R.remaining reader.old) (R.remaining reader.new) (R.reads reader.old) (R.reads reader.new)
+            (pending self.old) (pending self.new) left.old left.new 0 [] × IsReady (pending self.new))
+            (Moves (R.remaining reader.old) (R.remaining reader.new) (R.reads reader.old) (R.reads reader.new)
+            (pending self.old) (pending self.new) left.old left.new 1 [] × IsShort (pending self.new)
+            × IsAtEnd (R.remaining reader.new))) }
+        ensures err { IfErr result (λ e.
+            Moves (R.remaining reader.old) (R.remaining reader.new) (R.reads reader.old) (R.reads reader.new)
+            (pending self.old) (pending self.new) left.old left.new (slack_at e) [] × FailsAs e [] left.new
+            × IsShort (pending self.new)) }
+        ensures told { Grows (R.faults reader.old) (R.faults reader.new) (read_faults result) }
+    {
+        if line_feed(&self.bytes[self.start..self.end]).is_some() {
+            return Ok(true);
+        }
+        self.move_to_front();
+        'reads: while self.end < SIZE {
+            match self.read_on(reader, left)? {
+                Came::End => return Ok(false),
+                Came::Lf => return Ok(true),
+                Came::Bytes => {}
+            }
+        }
+        Ok(true)
+    }
+
+    fn move_to_front(&mut self)
+        ensures kept { pending self.new ≡ pending self.old }
+        ensures front { self.new.start ≡ 0 }
+    {
+        let (start, end) = (self.start, self.end);
+        self.bytes.copy_within(start..end, 0);
+        self.start = 0;
+        self.end = end - start;
+    }
+
+    // Reads once, behind what is pending.
+    fn read_on<R: Source>(&mut self, reader: &mut R, left: &mut u64) -> Result<Came, FrontError>
+        requires room { self.old.end < 65536 }
+        ensures ok { IfOk result (λ came.
+            (moved : Moves (R.remaining reader.old) (R.remaining reader.new) (R.reads reader.old) (R.reads reader.new)
+            (pending self.old) (pending self.new) left.old left.new (slack_when came) [])
+            × ComesAs came moved.bytes × EndsWhen came (R.remaining reader.new) × (left.new < left.old)) }
+        ensures err { IfErr result (λ e.
+            Moves (R.remaining reader.old) (R.remaining reader.new) (R.reads reader.old) (R.reads reader.new)
+            (pending self.old) (pending self.new) left.old left.new (slack_at e) [] × FailsAs e [] left.new) }
+        ensures front { self.new.start ≡ self.old.start }
+        ensures kept { OnErr result (pending self.new ≡ pending self.old) }
+        ensures told { Grows (R.faults reader.old) (R.faults reader.new) (read_faults result) }
+    {
+        let end = self.end;
+        let n = read_once(&mut self.bytes[end..], reader, left)?;
+        self.end = end + n;
+        Ok(Came::of(&self.bytes[end..end + n]))
+    }
+
     // Reads once where nothing is pending, and says whether there is a byte to pass on: there is none where the stream
     // has ended.
     fn fill<R: Source>(&mut self, reader: &mut R, left: &mut u64) -> Result<bool, FrontError>
@@ -112,18 +239,10 @@ impl Buffer {
         if self.start < self.end {
             return Ok(true);
         }
-        if *left == 0 {
-            return Err(FrontError::Turns);
-        }
-        *left -= 1;
-        match reader.pull(&mut self.bytes) {
-            Err(_) => Err(FrontError::Read),
-            Ok(n) => {
-                self.start = 0;
-                self.end = n;
-                Ok(n > 0)
-            }
-        }
+        let n = read_once(&mut self.bytes, reader, left)?;
+        self.start = 0;
+        self.end = n;
+        Ok(n > 0)
     }
 
     // Passes the pending bytes on, up to the first LF and with it, and says whether there was one.
@@ -149,6 +268,20 @@ impl Buffer {
                 self.start = self.end;
                 Ok(false)
             }
+        }
+    }
+}
+
+impl Came {
+    fn of(bytes: &[u8]) -> Came
+        ensures { ComesAs result bytes.now }
+    {
+        if bytes.is_empty() {
+            return Came::End;
+        }
+        match line_feed(bytes) {
+            Some(_) => Came::Lf,
+            None => Came::Bytes,
         }
     }
 }

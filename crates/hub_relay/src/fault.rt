@@ -20,13 +20,15 @@ pub enum RelayError {
     /// A write to the peer failed, or took no byte.
     #[error("send failed")]
     Send,
-    /// A read of the peer's stream failed.
+    /// A read of the peer's stream failed. If a reply had begun to come, it wasn't written, as at `Ended`.
     #[error("receive failed")]
     Receive,
-    /// The peer's stream ended before the LF of a reply.
+    /// The peer's stream ended before the LF of a reply. What had come of that reply wasn't written, but for the buffers
+    /// of 64 KiB that it filled.
     #[error("connection ended")]
     Ended,
-    /// 10,000,000 reads were made, of the input and the peer's stream together, and more were due.
+    /// 10,000,000 reads were made, of the input and the peer's stream together, and more were due. If a reply had begun
+    /// to come, it wasn't written, as at `Ended`.
     #[error("too many reads")]
     Turns,
     /// There was no memory for the two buffers.

@@ -1,9 +1,9 @@
 //! The turns of a relay.
-ghost use Rattle.std.specs.Prelude.{◌≡◌, ◌≢◌, ℕ, List, [], length, false, Err, OnOk, IfOk, IfErr};
+ghost use Rattle.std.specs.Prelude.{◌≡◌, ◌≢◌, ℕ, List, [], ◌++◌, length, false, Err, OnOk, IfOk, IfErr};
 ghost use Rattle.std.specs.Io.KnownBytes.{Appends};
 ghost use Rattle.hub_front.specs.Telling.{Grows};
 ghost use Rattle.hub_relay.specs.Faults.{input_faults, output_faults, send_faults, receive_faults};
-ghost use Rattle.hub_relay.specs.Relaying.{Finished, Stopped, ReadsWithin};
+ghost use Rattle.hub_relay.specs.Relaying.{writable, Finished, Stopped, ReadsWithin};
 ghost use Rattle.hub_relay.specs.Pending.{pending};
 ghost use Rattle.hub_relay.specs.Passing.{has_lf, IsLine, Moves, slack_of, EndsAs};
 ghost use Rattle.hub_relay.specs.UnderWay.{sent_of, slack_for, FailsToSend, FailsToReceive};
@@ -46,7 +46,7 @@ fn send_line<R: Source, SW: Sink>(
     }
 }
 
-// Writes the peer's next line.
+// Writes the peer's next line, once its LF has come.
 fn receive_reply<SR: Source, W: Sink>(
     replies: &mut Buffer,
     receiver: &mut SR,
@@ -57,17 +57,18 @@ fn receive_reply<SR: Source, W: Sink>(
         × Moves (SR.remaining receiver.old) (SR.remaining receiver.new) (SR.reads receiver.old) (SR.reads receiver.new)
         (pending replies.old) (pending replies.new) left.old left.new 0 passed
         × IsLine passed × Appends (W.contents output.old) (W.contents output.new) passed) }
-    ensures err { IfErr result (λ e. (passed rest : List ℕ)
+    ensures err { IfErr result (λ e. (passed rest due : List ℕ)
         × Moves (SR.remaining receiver.old) (SR.remaining receiver.new) (SR.reads receiver.old) (SR.reads receiver.new)
-        (pending replies.old) rest left.old left.new (slack_for e) passed
-        × FailsToReceive e rest (SR.remaining receiver.new) left.new × (has_lf passed ≡ false)
+        (pending replies.old) rest left.old left.new (slack_for e) passed × (has_lf passed ≡ false)
+        × (writable (passed ++ rest) ≡ passed ++ due)
+        × FailsToReceive e due rest (SR.remaining receiver.new) left.new
         × Appends (W.contents output.old) (W.contents output.new) passed) }
     ensures receive_faults { Grows (SR.faults receiver.old) (SR.faults receiver.new) (receive_faults result) }
     ensures output_faults { Grows (W.faults output.old) (W.faults output.new) (output_faults result) }
 {
-    match replies.pass_line(receiver, output, left) {
-        Ok(Passed::Line) => Ok(()),
-        Ok(_) => Err(RelayError::Ended),
+    match replies.pass_reply(receiver, output, left) {
+        Ok(true) => Ok(()),
+        Ok(false) => Err(RelayError::Ended),
         Err(fault) => Err(of_receiving(fault)),
     }
 }
@@ -113,8 +114,9 @@ fn relay_lines<R: Source, W: Sink, SR: Source, SW: Sink>(
 }
 
 /// Sends each line of the input to the peer, writes one reply line for each, and answers how many lines they were. A
-/// reply is read only once its line was sent whole, and the next line is sent only once the reply was written. A last
-/// line without LF gets one. After an error the streams are where they stopped. It may wait for its peer as long as the
+/// reply is read only once its line was sent whole, and the next line is sent only once the reply was written. Nothing
+/// of a reply is written before its LF has come, but for the full buffers of one that is longer than 64 KiB. A last line
+/// without LF gets one. After an error the streams are where they stopped. It may wait for its peer as long as the
 /// streams that it is given do.
 pub fn relay<H: Wait, R: Source, W: Sink, SR: Source, SW: Sink>(
     _rt: &H,
@@ -129,6 +131,9 @@ pub fn relay<H: Wait, R: Source, W: Sink, SR: Source, SW: Sink>(
     ensures finished { IfOk result (Finished
         (R.remaining input.old) (R.remaining input.new) (SW.contents sender.old) (SW.contents sender.new)
         (SR.remaining receiver.old) (SR.remaining receiver.new) (W.contents output.old) (W.contents output.new)) }
+
+    // At an error, a front of the lines was sent and whole replies were written. Of a reply whose LF is missing, only
+    // the buffers that it filled were: of one with fewer than 65,536 bytes nothing, at Ended, Receive and Turns alike.
     ensures stopped { IfErr result (Stopped
         (R.remaining input.old) (R.remaining input.new) (SW.contents sender.old) (SW.contents sender.new)
         (SR.remaining receiver.old) (SR.remaining receiver.new) (W.contents output.old) (W.contents output.new)) }

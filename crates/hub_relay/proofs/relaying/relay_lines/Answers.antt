@@ -1,4 +1,4 @@
-use Rattle.std.proofs.Common.{◌≡◌, ℕ, ◌+◌, Err, arith, rules, subst}
+use Rattle.std.proofs.Common.{◌≡◌, ◌+◌, Err, arith, rules}
 use Rattle.hub_front.proofs.Told.{Grows-none, Grows-add, Grows-trans}
 use Rattle.hub_front.proofs.Outcomes.{IfErr-known}
 use Rattle.hub_relay.proofs.Turns.{begins, send_stops, receive_stops, sent_lines, sent_part, sent_all, passes_line, finish, goes_on, within, send_turns, receive_turns}
@@ -48,9 +48,9 @@ returns-in_err-receive_reply-in-Line-clause-stopped g c =
     let is : c.from_residual-in_err-receive_reply-in-Line.result ≡ Err e = search rules in
     let u = c.turns.invariant.under_way in
     let sent = rw c.in-Line.is at c.in_ok-send_line.ensures.ok in
-    let (passed, rest, m, f, cut, a) = c.in_err-receive_reply-in-Line.ensures.err in
+    let (passed, rest, due, m, cut, d, f, a) = c.in_err-receive_reply-in-Line.ensures.err in
     IfErr-known _ c.from_residual-in_err-receive_reply-in-Line.result e is
-    (receive_stops (sent_lines (passes_line u.asked sent.1 sent.2 sent.3)) u.answered cut e m f (omega (arith, u.spent, sent.1.spent)) a)
+    (receive_stops (sent_lines (passes_line u.asked sent.1 sent.2 sent.3)) u.answered cut due d e m f (omega (arith, u.spent, sent.1.spent)) a)
 
 pub returns-in_err-receive_reply-in-Line-clause-reads : goal.returns-in_err-receive_reply-in-Line-clause-reads
 returns-in_err-receive_reply-in-Line-clause-reads g c =
@@ -59,9 +59,9 @@ returns-in_err-receive_reply-in-Line-clause-reads g c =
     let is : c.from_residual-in_err-receive_reply-in-Line.result ≡ Err e = search rules in
     let u = c.turns.invariant.under_way in
     let (line, m, ended, sent) = c.in_ok-send_line.ensures.ok in
-    let (passed, rest, n, f, cut, a) = c.in_err-receive_reply-in-Line.ensures.err in
+    let (passed, rest, due, n, cut, d, f, a) = c.in_err-receive_reply-in-Line.ensures.err in
     within _ _ _ _ r (u.reads + m.reads) (u.reads' + n.reads) c.receive_reply.new.left (omega (arith, u.spent, m.spent, n.spent)) (Grows-add _ _ _ _ _ u.asked.told m.told) (Grows-add _ _ _ _ _ u.answered.told n.told)
-    (receive_turns r e rest _ _ is f)
+    (receive_turns r e due rest _ _ is f)
 
 pub returns-in_err-receive_reply-in-Part-clause-stopped : goal.returns-in_err-receive_reply-in-Part-clause-stopped
 returns-in_err-receive_reply-in-Part-clause-stopped g c =
@@ -69,9 +69,9 @@ returns-in_err-receive_reply-in-Part-clause-stopped g c =
     let is : c.from_residual-in_err-receive_reply-in-Part.result ≡ Err e = search rules in
     let u = c.turns.invariant.under_way in
     let sent = rw c.in-Part.is at c.in_ok-send_line.ensures.ok in
-    let (passed, rest, m, f, cut, a) = c.in_err-receive_reply-in-Part.ensures.err in
+    let (passed, rest, due, m, cut, d, f, a) = c.in_err-receive_reply-in-Part.ensures.err in
     IfErr-known _ c.from_residual-in_err-receive_reply-in-Part.result e is
-    (receive_stops (sent_part u.asked sent.1 sent.2.0 sent.2.1 sent.2.2 sent.3) u.answered cut e m f (omega (arith, u.spent, sent.1.spent)) a)
+    (receive_stops (sent_part u.asked sent.1 sent.2.0 sent.2.1 sent.2.2 sent.3) u.answered cut due d e m f (omega (arith, u.spent, sent.1.spent)) a)
 
 pub returns-in_err-receive_reply-in-Part-clause-reads : goal.returns-in_err-receive_reply-in-Part-clause-reads
 returns-in_err-receive_reply-in-Part-clause-reads g c =
@@ -80,9 +80,9 @@ returns-in_err-receive_reply-in-Part-clause-reads g c =
     let is : c.from_residual-in_err-receive_reply-in-Part.result ≡ Err e = search rules in
     let u = c.turns.invariant.under_way in
     let (line, m, ended, sent) = c.in_ok-send_line.ensures.ok in
-    let (passed, rest, n, f, cut, a) = c.in_err-receive_reply-in-Part.ensures.err in
+    let (passed, rest, due, n, cut, d, f, a) = c.in_err-receive_reply-in-Part.ensures.err in
     within _ _ _ _ r (u.reads + m.reads) (u.reads' + n.reads) c.receive_reply-in-Part.new.left (omega (arith, u.spent, m.spent, n.spent)) (Grows-add _ _ _ _ _ u.asked.told m.told) (Grows-add _ _ _ _ _ u.answered.told n.told)
-    (receive_turns r e rest _ _ is f)
+    (receive_turns r e due rest _ _ is f)
 
 pub returns-in-Part-clause-finished : goal.returns-in-Part-clause-finished
 returns-in-Part-clause-finished g c =

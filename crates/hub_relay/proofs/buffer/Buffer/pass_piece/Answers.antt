@@ -1,4 +1,4 @@
-use Rattle.std.proofs.Common.{◌≡◌, ◌≤◌, length, arith}
+use Rattle.std.proofs.Common.{◌≤◌, length, arith}
 use Rattle.hub_front.proofs.Outcomes.{OnErr-known}
 use Rattle.hub_relay.proofs.Pieces.{line_written, line_broken, rest_written, rest_broken}
 use Rattle.hub_relay.proofs.buffer.Buffer.pass_piece.Goals as goal
