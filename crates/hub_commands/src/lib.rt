@@ -1,10 +1,10 @@
 //! What the subcommands `serve` and `call` do, and the faults that end the program.
 #![tactic(auto)]
 
-mod call;
+mod calling;
 mod fault;
-mod serve;
+mod serving;
 
-pub use call::call;
+pub use calling::call;
 pub use fault::Fault;
-pub use serve::{serve, tell_faults};
+pub use serving::{serve, tell_faults};
