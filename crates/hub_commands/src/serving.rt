@@ -1,39 +1,63 @@
 //! The subcommand `serve`: sessions over a Unix socket.
+ghost use Rattle.std.specs.Prelude.{◌≡◌, None};
+ghost use Rattle.hub_sessions.specs.declared.gate.Next.TheVariants.{Over};
+
 use crate::fault::Fault;
 use hub_sessions::{Gate, Next, Report, serve_all};
 use hub_shared::Hub;
 use hub_wait::Backoff;
 use std::alloc::Global;
 use std::fs::Files;
-use std::io::Write;
+use std::io;
+use std::io::{ErrorKind, Write};
 use std::net::Net;
 use std::os::unix::net::{UnixListener, UnixStream};
 use std::rt::Clock;
 use std::sync::{Arc, Wait};
 use std::thread::Threads;
 
-/// A gate that accepts connections. Each is a session.
+/// A gate that accepts connections, each a session, as long as it has its listener.
 #[derive(Drop)]
 struct Door {
-    listener: UnixListener,
+    listener: Option<UnixListener>,
 }
 
-impl Door {
-    fn accept(&self) -> Option<(UnixStream, UnixStream)> {
-        let (receive, _peer) = self.listener.accept().ok()?;
-        let send = receive.try_clone().ok()?;
-        Some((receive, send))
-    }
+/// Accepts a connection, for receiving and for sending.
+fn accept(listener: &UnixListener) -> io::Result<(UnixStream, UnixStream)> {
+    let (receive, _peer) = listener.accept()?;
+    let send = receive.try_clone()?;
+    Ok((receive, send))
+}
+
+/// Whether a fault of accepting is of one connection only: its client left before it was accepted, or a signal came.
+fn passes(fault: &io::Error) -> bool {
+    matches!(
+        fault.kind(),
+        ErrorKind::ConnectionAborted | ErrorKind::Interrupted
+    )
 }
 
 impl Gate<UnixStream, UnixStream> for Door {
-    ghost gives = { λ old next new. Unit {0} };
+    ghost gives = { λ old next _. next ≡ Over → old.listener ≡ None };
 
-    fn next<H: Wait>(&mut self, _rt: &H) -> Next<UnixStream, UnixStream> {
-        match self.accept() {
-            Some((receive, send)) => Next::Session(receive, send),
-            None => Next::Failed,
+    ghost closes = { λ _ new. new.listener ≡ None };
+
+    fn next<H: Wait>(&mut self, rt: &H) -> Next<UnixStream, UnixStream> {
+        let Some(listener) = &self.listener else {
+            return Next::Over;
+        };
+        for _ in rt.forever() {
+            match accept(listener) {
+                Ok((receive, send)) => return Next::Session(receive, send),
+                Err(fault) if passes(&fault) => {}
+                Err(_) => return Next::Failed,
+            }
         }
+        unreachable!()
+    }
+
+    fn close(&mut self) {
+        self.listener = None;
     }
 }
 
@@ -45,8 +69,9 @@ fn listen<H: Files + Net>(rt: &H, socket: &str) -> Result<UnixListener, Fault> {
     UnixListener::bind(rt, socket).map_err(|_| Fault::Listen)
 }
 
-/// Accepts so many connections at the socket, and serves them all at the same time, over one hub. Where it answers, all
-/// have ended. The socket's file is left.
+/// Accepts so many connections at the socket, and serves them all at the same time, over one hub. With the last accept,
+/// or when one fails, it closes the socket: from then on a client can't connect. If it answers, all sessions have ended.
+/// The socket's file is left.
 pub fn serve<H>(rt: &H, alloc: Global, socket: &str, sessions: u64) -> Result<Report, Fault>
 where
     H: Files + Net + Clock + Threads + Wait + Copy + Send + 'static,
@@ -55,7 +80,7 @@ where
         return Err(Fault::Memory);
     };
     let mut door = Door {
-        listener: listen(rt, socket)?,
+        listener: Some(listen(rt, socket)?),
     };
     let pause = Backoff::new(*rt);
     Ok(serve_all(rt, alloc, hub, &mut door, sessions, pause)?)

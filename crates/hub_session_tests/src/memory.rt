@@ -1,7 +1,7 @@
 //! Sessions over memory.
 ghost use Rattle.std.specs.Prelude.{None};
 
-use crate::gates::Listed;
+use crate::gates::{Listed, Telling};
 use hub_front::{FrontError, Sink, Source};
 use hub_sessions::serve_all;
 use hub_shared::Hub;
@@ -35,13 +35,14 @@ fn the_gate_fails_is_over_or_is_asked_enough(rt: HostRuntime) -> Result<(), Fail
         (2, 0, true, 0, false, 0),
     ] {
         let hub = Arc::new(rt.alloc(), Hub::new(rt.alloc())?)?;
-        let mut gate = Listed::new(silent(rt.alloc(), given)?, fails);
+        let mut gate = Listed::new(rt.alloc(), silent(rt.alloc(), given)?, fails);
         let pause = Backoff::new(rt);
         let report = serve_all(&rt, rt.alloc(), hub, &mut gate, sessions, pause)?;
         assert_eq!(rt; report.results.len(), served, "{given} of {sessions}");
         assert!(rt; report.results.iter().all(|ended| *ended == Ok(0)));
         assert_eq!(rt; report.gate_failed, gate_failed, "{given} of {sessions}");
         assert_eq!(rt; gate.asked, asked, "{given} of {sessions}");
+        assert_eq!(rt; gate.closed.as_slice(), [asked].as_slice(), "{given} of {sessions}");
     }
     Ok(())
 }
@@ -101,7 +102,7 @@ fn results_stand_in_the_order_of_the_gate(rt: HostRuntime) -> Result<(), Fail> {
         sessions.push((input, Vec::new(rt.alloc())))?;
     }
     let hub = Arc::new(rt.alloc(), Hub::new(rt.alloc())?)?;
-    let mut gate = Listed::new(sessions, false);
+    let mut gate = Listed::new(rt.alloc(), sessions, false);
     let report = serve_all(&rt, rt.alloc(), hub, &mut gate, 4, Backoff::new(rt))?;
     let results = [Ok(3), Ok(2), Ok(1), Ok(0)];
     assert_eq!(rt; report.results.as_slice(), results.as_slice());
@@ -115,7 +116,7 @@ fn a_fault_stands_at_its_session(rt: HostRuntime) -> Result<(), Fail> {
         sessions.push((Failing { rest }, Nowhere))?;
     }
     let hub = Arc::new(rt.alloc(), Hub::new(rt.alloc())?)?;
-    let mut gate = Listed::new(sessions, true);
+    let mut gate = Listed::new(rt.alloc(), sessions, true);
     let report = serve_all(&rt, rt.alloc(), hub, &mut gate, 3, Backoff::new(rt))?;
     let results = [Err(FrontError::Read), Err(FrontError::Read)];
     assert_eq!(rt; report.results.as_slice(), results.as_slice());
@@ -181,11 +182,39 @@ fn all_sessions_run_at_the_same_time(rt: HostRuntime) -> Result<(), Fail> {
             sessions.push((b"status web\n".as_slice(), writer))?;
         }
         let hub = Arc::new(rt.alloc(), Hub::new(rt.alloc())?)?;
-        let mut gate = Listed::new(sessions, false);
+        let mut gate = Listed::new(rt.alloc(), sessions, false);
         let pause = Backoff::new(rt);
         let report = serve_all(&rt, rt.alloc(), hub, &mut gate, all, pause)?;
         assert_eq!(rt; report.results.len() as u64, all);
         assert!(rt; report.results.iter().all(|ended| *ended == Ok(1)));
+    }
+    Ok(())
+}
+
+// The gate counts as one writer more: each session waits until it is closed.
+#[test]
+fn the_gate_is_closed_before_a_session_ends(rt: HostRuntime) -> Result<(), Fail> {
+    for (sessions, fails, gate_failed) in [(2, false, false), (2, true, false), (3, false, false), (3, true, true)] {
+        let given = Arc::new(rt.alloc(), AtomicU64::new(0))?;
+        let mut meetings: Vec<(&'static [u8], Meeting)> = Vec::new(rt.alloc());
+        for _ in 0..2 {
+            let writer = Meeting {
+                given: Arc::try_clone(&given)?,
+                all: 3,
+                has_met: false,
+            };
+            meetings.push((b"status web\n".as_slice(), writer))?;
+        }
+        let hub = Arc::new(rt.alloc(), Hub::new(rt.alloc())?)?;
+        let mut gate = Telling {
+            list: Listed::new(rt.alloc(), meetings, fails),
+            told: given,
+        };
+        let pause = Backoff::new(rt);
+        let report = serve_all(&rt, rt.alloc(), hub, &mut gate, sessions, pause)?;
+        assert_eq!(rt; report.results.as_slice(), [Ok(1), Ok(1)].as_slice());
+        assert_eq!(rt; report.gate_failed, gate_failed);
+        assert_eq!(rt; gate.list.closed.as_slice(), [sessions].as_slice());
     }
     Ok(())
 }

@@ -28,6 +28,7 @@ pub fn open(
         clients.push(Client::new(alloc, UnixStream::connect(rt, path)?)?)?;
     }
     let _ = fs::remove_file(rt, path);
+    let listener = Some(listener);
     Ok((Door { listener }, clients))
 }
 

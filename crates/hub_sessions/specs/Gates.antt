@@ -9,6 +9,10 @@ use Rattle.hub_sessions.specs.declared.report.ServeError.TheVariants.{Spawn}
 abbrev pub Giving : Type 0 → Type 0 → Type 0 → Type 1
 Giving G R W = G → Next R W → G → Type 0
 
+-- how a gate closes: the gate before, the gate after
+abbrev pub Closing : Type 0 → Type 1
+Closing G = G → G → Type 0
+
 -- the gate gave these sessions, one after another
 abbrev pub Gave : {G R W : Type 0} → Giving G R W → G → List (R × W) → G → Type 0
 Gave gives old [] new = new ≡ old
@@ -36,3 +40,9 @@ pub record StopsEarly {G R W : Type 0} (gives : Giving G R W) (most : ℕ) (old 
   pub few : length given ≤ most
   pub ends : (new ≡ gate) ⊎ (gives gate Failed new ⊎ gives gate Over new)
   pub spawn : error ≡ Spawn → (0 < length given) × (new ≡ gate)
+
+-- this held of the gate when it was closed, and after that it was called no more
+pub record ThenCloses {G : Type 0} (closes : Closing G) (before : G → Type 0) (new : G) : Type 0 where
+  pub last : G
+  pub asked : before last
+  pub closed : closes last new

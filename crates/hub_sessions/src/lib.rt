@@ -13,4 +13,4 @@ mod together;
 
 pub use gate::{Gate, Next};
 pub use report::{Report, ServeError};
-pub use together::serve_all;
+pub use together::{STACK_SIZE, serve_all};

@@ -2,7 +2,7 @@
 ghost use Rattle.std.specs.Prelude.{◌≡◌, ◌≤◌, [], IfSome, IfOk, IfErr, OnOk, vec_len};
 ghost use Rattle.std.specs.Arc.{arc_value};
 ghost use Rattle.hub_sessions.specs.Desks.{Begins};
-ghost use Rattle.hub_sessions.specs.Gates.{IsAsked, StopsEarly};
+ghost use Rattle.hub_sessions.specs.Gates.{IsAsked, StopsEarly, ThenCloses};
 ghost use Rattle.hub_sessions.specs.Promised.{AreOver, sessions_of};
 ghost use Rattle.hub_sessions.specs.Reports.{AreResults, IsReport};
 ghost use Rattle.hub_sessions.specs.Sessions.{IsResult};
@@ -17,8 +17,11 @@ use hub_wait::Pause;
 use std::alloc::{AllocError, Global};
 use std::snapshot::Snapshot;
 use std::sync::{Arc, Wait};
-use std::thread;
-use std::thread::{PromisedHandle, Threads};
+use std::thread::{Builder, PromisedHandle, Threads, join_promised};
+
+/// How many bytes of stack a session's thread gets: 2 MiB. The deepest session that was found, a pattern of 199 groups
+/// that don't end, takes 256 KiB.
+pub const STACK_SIZE: usize = 2 << 20;
 
 type Running<R, W, P> = PromisedHandle<Result<u64, FrontError>, Session<R, W, P>>;
 
@@ -71,10 +74,12 @@ where
         writer: Snapshot::of(&writer),
         pause: Snapshot::of(&pause),
     };
-    thread::spawn_with(rt, session, move || {
-        serve_one(own, alloc, hub, reader, writer, pause)
-    })
-    .ok()
+    Builder::new()
+        .stack_size(STACK_SIZE)
+        .spawn_with(rt, session, move || {
+            serve_one(own, alloc, hub, reader, writer, pause)
+        })
+        .ok()
 }
 
 // Starts the sessions that the gate gives, each as it comes, and answers whether the gate failed.
@@ -117,6 +122,34 @@ where
     Ok(false)
 }
 
+// The same, and closes the gate as soon as it is asked no more. No session is waited for before that.
+fn start_and_close<H, R, W, G, P>(
+    rt: &H,
+    alloc: Global,
+    hub: &Arc<Hub, Global>,
+    gate: &mut G,
+    sessions: u64,
+    pause: P,
+    running: &mut Vec<Running<R, W, P>>,
+) -> Result<bool, ServeError>
+where
+    H: Threads + Wait + Copy + Send + 'static,
+    R: Source + Send + Drop + 'static,
+    W: Sink + Send + Drop + 'static,
+    G: Gate<R, W>,
+    P: Pause + Copy + Send + 'static,
+    requires { running.old.items ≡ [] }
+    ensures ok { IfOk result (λ failed. ThenCloses G.closes
+        (λ last. IsAsked G.gives sessions gate.old (sessions_of running.new.items) failed last) gate.new) }
+    ensures over { OnOk result (AreOver (arc_value hub.now) pause running.new.items) }
+    ensures err { IfErr result (λ error. ThenCloses G.closes
+        (λ last. StopsEarly G.gives sessions gate.old last error) gate.new) }
+{
+    let started = start_all(rt, alloc, hub, gate, sessions, pause, running);
+    gate.close();
+    started
+}
+
 // Waits until each session has ended, and gives what they ended with, in order.
 fn join_all<H, R, W, P>(
     rt: &H,
@@ -134,7 +167,7 @@ where
         (record { contents = W.contents; faults = W.faults })
         (sessions_of running.items) results.items) }
 {
-    match thread::join_promised(rt, running) {
+    match join_promised(rt, running) {
         Ok(results) => Ok(results),
         Err(refused) => {
             for session in refused.value {
@@ -162,19 +195,20 @@ where
     W: Sink + Send + Drop + 'static,
     G: Gate<R, W>,
     P: Pause + Copy + Send + 'static,
-    // The gate is asked no more after it failed or was over. Each session that it gave has a result, in its order, that
+    // The gate is asked no more after it failed or was over, and closed once after the last asking. Each session that it gave has a result, in its order, that
     // is one of serving just that session's reader and writer.
     ensures report { IfOk result (λ report. IsReport
         (Begins (arc_value hub) pause)
         ⟦<SharedDesk<P> as Desk>⟧.asks ⟦<SharedDesk<P> as Desk>⟧.ends
         (record { remaining = R.remaining; reads = R.reads; faults = R.faults })
         (record { contents = W.contents; faults = W.faults })
-        G.gives sessions gate.old gate.new report.results.items report.gate_failed) }
+        G.gives G.closes sessions gate.old gate.new report.results.items report.gate_failed) }
     ensures most { IfOk result (λ report. vec_len report.results ≤ sessions) }
-    ensures err { IfErr result (StopsEarly G.gives sessions gate.old gate.new) }
+    ensures err { IfErr result (λ error. ThenCloses G.closes
+        (λ last. StopsEarly G.gives sessions gate.old last error) gate.new) }
 {
     let mut running = Vec::new(alloc);
-    let started = start_all(rt, alloc, &hub, gate, sessions, pause, &mut running);
+    let started = start_and_close(rt, alloc, &hub, gate, sessions, pause, &mut running);
     let results = join_all(rt, running);
     let gate_failed = started?;
     let Ok(results) = results else {

@@ -5,11 +5,15 @@ use Rattle.hub_sessions.proofs.Asked.{asked_in_vain, given_few}
 use Rattle.hub_sessions.proofs.together.serve_all.Goals as goal
 
 pub returns-in_default-clause-err : goal.returns-in_default-clause-err
-returns-in_default-clause-err g c = asked_in_vain _ _ _ _ _ _ c.in_ok-gate_failed.ensures.ok
+returns-in_default-clause-err g c = let ok = c.in_ok-gate_failed.ensures.ok in record {
+  last = ok.last;
+  asked = asked_in_vain _ _ _ _ _ _ ok.asked;
+  closed = ok.closed;
+}
 
 pub returns-clause-most : goal.returns-clause-most
 returns-clause-most g c =
-    let few = given_few _ _ _ _ _ _ c.in_ok-gate_failed.ensures.ok in
+    let few = given_few _ _ _ _ _ _ c.in_ok-gate_failed.ensures.ok.asked in
     let each = AllZip-long _ _ _ (c.in-Ok.ensures (arc_value c.args.hub) c.args.pause c.in_ok-gate_failed.ensures.over) in
     omega arith
 
