@@ -66,7 +66,7 @@ due front piece rest buffers cut full cut' some ready =
     elim (cases_Bool (has_lf rest)) [
       | inl lf ↦ due_line (front ++ piece) rest none lf
       | inr other ↦ elim ready [
-          | inl lf ↦ let both : has_lf (piece ++ rest) ≡ false = has_lf-append piece rest cut' ∙ other in cc
-          | inr size ↦ due_full (front ++ piece) rest (buffers + 1) none other (omega (arith, size, length-append (front ++ piece) rest, length-append front piece, length-append piece rest)) some
-        ]
+        | inl lf ↦ let both : has_lf (piece ++ rest) ≡ false = has_lf-append piece rest cut' ∙ other in cc
+        | inr size ↦ due_full (front ++ piece) rest (buffers + 1) none other (omega (arith, size, length-append (front ++ piece) rest, length-append front piece, length-append piece rest)) some
+      ]
     ]

@@ -61,7 +61,11 @@ fn new_chunk(alloc: Global, size: usize) -> Result<Vec<u8>, AllocError>
 }
 
 // Reads once, unless no read is left.
-fn read_once<R: Source>(bytes: &mut [u8], reader: &mut R, left: &mut u64) -> Result<usize, FrontError>
+fn read_once<R: Source>(
+    bytes: &mut [u8],
+    reader: &mut R,
+    left: &mut u64,
+) -> Result<usize, FrontError>
     requires some { 1 ≤ length bytes.old }
     requires few { length bytes.old ≤ 65536 }
     ensures ok { IfOk result (λ n. (n ≤ length bytes.new) × (left.new < left.old)

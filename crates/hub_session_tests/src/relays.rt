@@ -35,13 +35,13 @@ fn one_reply_for_each_line_however_it_is_cut(rt: HostRuntime) -> Result<(), Fail
             "ok",
             Err(RelayError::Ended),
             "status web\n",
-            "ok",
+            "",
         ),
         ("a\nb\n", "x\ny\nz\n", Ok(2), "a\nb\n", "x\ny\n"),
         ("a\nb", "xyz\n\n", Ok(2), "a\nb\n", "xyz\n\n"),
         ("\n\n", "x\ny\n", Ok(2), "\n\n", "x\ny\n"),
         ("a\n\n", "x\n", Err(RelayError::Ended), "a\n\n", "x\n"),
-        ("a\r\nb", "x\ny", Err(RelayError::Ended), "a\r\nb\n", "x\ny"),
+        ("a\r\nb", "x\ny", Err(RelayError::Ended), "a\r\nb\n", "x\n"),
         ("a\nb", "", Err(RelayError::Ended), "a\n", ""),
     ] {
         let mut to_peer = Narrow::new(64, 0);
@@ -116,10 +116,10 @@ fn an_input_that_fails(rt: HostRuntime) -> Result<(), Fail> {
 fn a_peer_whose_stream_fails(rt: HostRuntime) -> Result<(), Fail> {
     for (fails_at, fault, sent, written) in [
         (1, Err(RelayError::Receive), "ab\n", ""),
-        (2, Err(RelayError::Receive), "ab\n", "x"),
+        (2, Err(RelayError::Receive), "ab\n", ""),
         (3, Err(RelayError::Receive), "ab\nc\n", "x\n"),
-        (4, Err(RelayError::Receive), "ab\nc\n", "x\ny"),
-        (5, Err(RelayError::Receive), "ab\nc\n", "x\nyz"),
+        (4, Err(RelayError::Receive), "ab\nc\n", "x\n"),
+        (5, Err(RelayError::Receive), "ab\nc\n", "x\n"),
         (6, Ok(2), "ab\nc\n", "x\nyz\n"),
     ] {
         let mut to_peer = Narrow::new(64, 0);
@@ -135,6 +135,51 @@ fn a_peer_whose_stream_fails(rt: HostRuntime) -> Result<(), Fail> {
             &mut to_peer,
         );
         assert_eq!(rt; relayed, fault, "at {fails_at}");
+        assert_eq!(rt; to_peer.held(), sent.as_bytes(), "at {fails_at}");
+        assert_eq!(rt; output.held(), written.as_bytes(), "at {fails_at}");
+    }
+    Ok(())
+}
+
+// The peer's stream ends after each number of its bytes, or fails there. The first reply has 6 bytes, the second 9.
+#[test]
+fn replies_that_are_cut_at_each_byte(rt: HostRuntime) -> Result<(), Fail> {
+    let peer = b"yes 1\nyes 12 7\n".as_slice();
+    for (cut, fails_at) in (0..15).zip(1..16) {
+        let (sent, written) = if cut < 6 {
+            ("a\n", "")
+        } else {
+            ("a\nb\n", "yes 1\n")
+        };
+        let mut to_peer = Narrow::new(64, 0);
+        let mut output = Narrow::new(64, 0);
+        let mut lines = b"a\nb\n".as_slice();
+        let mut replies = peer.get(..cut).unwrap_or(peer);
+        let relayed = run(
+            &rt,
+            rt.alloc(),
+            &mut lines,
+            &mut output,
+            &mut replies,
+            &mut to_peer,
+        );
+        assert_eq!(rt; relayed, Err(RelayError::Ended), "after {cut}");
+        assert_eq!(rt; to_peer.held(), sent.as_bytes(), "after {cut}");
+        assert_eq!(rt; output.held(), written.as_bytes(), "after {cut}");
+
+        let mut to_peer = Narrow::new(64, 0);
+        let mut output = Narrow::new(64, 0);
+        let mut lines = b"a\nb\n".as_slice();
+        let mut replies = Dripping::new(peer, fails_at);
+        let relayed = run(
+            &rt,
+            rt.alloc(),
+            &mut lines,
+            &mut output,
+            &mut replies,
+            &mut to_peer,
+        );
+        assert_eq!(rt; relayed, Err(RelayError::Receive), "at {fails_at}");
         assert_eq!(rt; to_peer.held(), sent.as_bytes(), "at {fails_at}");
         assert_eq!(rt; output.held(), written.as_bytes(), "at {fails_at}");
     }
@@ -250,6 +295,9 @@ fn a_reply_without_end(rt: HostRuntime) -> Result<(), Fail> {
     assert_eq!(rt; lines.reads, 11);
     assert_eq!(rt; replies.reads, 9_999_989);
     assert_eq!(rt; to_peer.held(), b"status web\n".as_slice());
+    // 152 buffers of 65,536 bytes filled, each in 1,024 writes of 64 bytes. The 38,517 bytes after them weren't written.
+    assert_eq!(rt; output.writes, 155_648);
+    assert_eq!(rt; output.held(), [b'a'; 64].as_slice());
     Ok(())
 }
 
