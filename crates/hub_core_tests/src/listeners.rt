@@ -224,3 +224,27 @@ fn texts_that_are_no_pattern(rt: HostRuntime) -> Result<(), Fail> {
     }
     Ok(())
 }
+
+/// Texts, and whether each is a pattern that takes at most 280 KiB.
+#[test]
+fn patterns_up_to_the_limit_of_size(rt: HostRuntime) -> Result<(), Fail> {
+    for (text, fits) in [
+        (".{100}", true),
+        ("[a-z]{64}", true),
+        ("\\w{20}", true),
+        ("\\w{21}", false),
+        ("\\w{100}Z", false),
+        ("((\\pL{9}){9}){5}", false),
+        ("(x+x+)+y", true),
+        ("((a?){300}){300}z", false),
+    ] {
+        match listener_for(rt.alloc(), text, Mode::Once) {
+            Ok(_) => assert!(rt; fits, "{text} is a pattern"),
+            Err(error) => {
+                assert_eq!(rt; error, ListenError::Pattern, "at {text}");
+                assert!(rt; !fits, "{text} is no pattern");
+            }
+        }
+    }
+    Ok(())
+}
