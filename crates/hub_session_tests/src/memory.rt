@@ -42,7 +42,11 @@ fn the_gate_fails_is_over_or_is_asked_enough(rt: HostRuntime) -> Result<(), Fail
         assert!(rt; report.results.iter().all(|ended| *ended == Ok(0)));
         assert_eq!(rt; report.gate_failed, gate_failed, "{given} of {sessions}");
         assert_eq!(rt; gate.asked, asked, "{given} of {sessions}");
-        assert_eq!(rt; gate.closed.as_slice(), [asked].as_slice(), "{given} of {sessions}");
+        assert_eq!(rt;
+            gate.closed.as_slice(),
+            [asked].as_slice(),
+            "{given} of {sessions}"
+        );
     }
     Ok(())
 }
@@ -194,7 +198,12 @@ fn all_sessions_run_at_the_same_time(rt: HostRuntime) -> Result<(), Fail> {
 // The gate counts as one writer more: each session waits until it is closed.
 #[test]
 fn the_gate_is_closed_before_a_session_ends(rt: HostRuntime) -> Result<(), Fail> {
-    for (sessions, fails, gate_failed) in [(2, false, false), (2, true, false), (3, false, false), (3, true, true)] {
+    for (sessions, fails, gate_failed) in [
+        (2, false, false),
+        (2, true, false),
+        (3, false, false),
+        (3, true, true),
+    ] {
         let given = Arc::new(rt.alloc(), AtomicU64::new(0))?;
         let mut meetings: Vec<(&'static [u8], Meeting)> = Vec::new(rt.alloc());
         for _ in 0..2 {
