@@ -5,7 +5,8 @@ use Rattle.hub_shared.specs.Desks.{IsNewDesk}
 use Rattle.hub_shared.specs.declared.hub.Hub.{Hub}
 use Rattle.hub_shared.specs.declared.shared_desk.SharedDesk.{SharedDesk}
 
--- a new desk over the hub, with the pause for its waits
+-- A new desk with the pause for its waits. `over` compares what contracts see of two hubs, which is nothing: what a hub holds is
+-- behind its lock.
 pub record Begins {P : Type 0} (hub : Hub) (pause : P) (desk : SharedDesk P) : Type 0 where
   pub new : IsNewDesk desk.fifodirs desk.handles
   pub over : arc_value desk.hub ≡ hub
