@@ -221,12 +221,7 @@ pub fn run<H: AllocGlobal + Abort + Wait, D: Desk>(rt: &H, desk: &mut D, rows: &
 }
 
 /// Asks for a handle, which has this number.
-pub fn expect_number<H: Abort + Wait, D: Desk>(
-    rt: &H,
-    desk: &mut D,
-    request: &Request,
-    number: u64,
-)
+pub fn expect_number<H: Abort + Wait, D: Desk>(rt: &H, desk: &mut D, request: &Request, number: u64)
     requires { IsInRange request.now }
 {
     let reply = answered(rt, desk, request);

@@ -147,7 +147,12 @@ impl<P: Pause + Copy> Desk for SharedDesk<P> {
                 .fifodirs
                 .open_posts(rt, &self.hub, *want, names.items())
             {
-                Ok(posts) => posts.settle(rt, *span, *turns, Watched::new(self.pause, self.client.as_ref())),
+                Ok(posts) => posts.settle(
+                    rt,
+                    *span,
+                    *turns,
+                    Watched::new(self.pause, self.client.as_ref()),
+                ),
                 Err(refusal) => Reply::No(refusal),
             },
         }

@@ -55,6 +55,9 @@ impl<P: Pause> Pause for Watched<'_, P> {
 fn is_gone(mut client: &UnixStream) -> bool {
     match client.write(&[]) {
         Ok(_) => false,
-        Err(error) => matches!(error.kind(), ErrorKind::BrokenPipe | ErrorKind::ConnectionReset),
+        Err(error) => matches!(
+            error.kind(),
+            ErrorKind::BrokenPipe | ErrorKind::ConnectionReset
+        ),
     }
 }
