@@ -1,12 +1,10 @@
 -- What a gate was asked for.
-use Rattle.std.proofs.Common.{◌≡◌, ℕ, ◌+◌, List, [], ◌∷◌, ◌++◌, length, Result, refl, sym, ap, subst, ◌∙◌, arith, Bool, true, false, ◌≤◌, ◌<◌, inl, inr, ◌⊎◌}
-use Rattle.std.specs.declared.thread.PromisedHandle.{PromisedHandle}
-use Rattle.hub_front.specs.declared.fault.FrontError.{FrontError}
+use Rattle.std.proofs.Common.{◌≡◌, ℕ, ◌+◌, List, [], ◌∷◌, ◌++◌, length, refl, sym, ap, subst, ◌∙◌, arith, Bool, true, false, ◌≤◌, ◌<◌, inl, inr, ◌⊎◌}
 use Rattle.hub_sessions.specs.declared.gate.Next.TheVariants as next
 use Rattle.hub_sessions.specs.declared.promise.Session.{Session}
 use Rattle.hub_sessions.specs.declared.report.ServeError.TheVariants.{Spawn, Memory}
 use Rattle.hub_sessions.specs.Gates.{Giving, Gave, Ends, IsAsked, StopsEarly}
-use Rattle.hub_sessions.specs.Promised.{AreOver, sessions_of}
+use Rattle.hub_sessions.specs.Promised.{AreOver, streams_of}
 use Rattle.std.specs.Arc.{arc_value}
 use Rattle.hub_shared.specs.declared.hub.Hub.{Hub}
 use Rattle.std.proofs.lemmas.List.Elements.{All-push}
@@ -22,25 +20,23 @@ length-snoc : {A : Type 0} (xs : List A) (x : A) → length (xs ++ x ∷ []) ≡
 length-snoc [] x = refl
 length-snoc (y ∷ xs) x = let rest = length-snoc xs x in omega arith
 
-pub sessions_of-snoc : {R W P : Type 0} (handles : List (PromisedHandle (Result ℕ FrontError) (Session R W P)))
-    (handle : PromisedHandle (Result ℕ FrontError) (Session R W P))
-    → sessions_of (handles ++ handle ∷ []) ≡ sessions_of handles ++ (handle.promise.reader.value, handle.promise.writer.value) ∷ []
-sessions_of-snoc [] handle = refl
-sessions_of-snoc (first ∷ handles) handle =
-    ap (λ sessions. (first.promise.reader.value, first.promise.writer.value) ∷ sessions) (sessions_of-snoc handles handle)
+streams_of-snoc : {R W P : Type 0} (sessions : List (Session R W P)) (session : Session R W P)
+    → streams_of (sessions ++ session ∷ []) ≡ streams_of sessions ++ (session.reader.value, session.writer.value) ∷ []
+streams_of-snoc [] session = refl
+streams_of-snoc (first ∷ sessions) session =
+    ap (λ streams. (first.reader.value, first.writer.value) ∷ streams) (streams_of-snoc sessions session)
 
-pub gave_another : {G R W P : Type 0} (gives : Giving G R W) (old gate new : G)
-    (handles handles' : List (PromisedHandle (Result ℕ FrontError) (Session R W P))) (handle : PromisedHandle (Result ℕ FrontError) (Session R W P))
-    (reader : R) (writer : W) → handles' ≡ handles ++ handle ∷ [] → handle.promise.reader.value ≡ reader → handle.promise.writer.value ≡ writer
-    → Gave gives old (sessions_of handles) gate → gives gate (next.Session reader writer) new
-    → Gave gives old (sessions_of handles') new × (length (sessions_of handles') ≡ length (sessions_of handles) + 1)
-gave_another {R = R} {W = W} gives old gate new handles handles' handle reader writer pushed same_reader same_writer gave one =
-    let session : R × W = (handle.promise.reader.value, handle.promise.writer.value) in
-    let more : sessions_of handles' ≡ sessions_of handles ++ session ∷ [] = ap sessions_of pushed ∙ sessions_of-snoc handles handle in
-    let gives_it : gives gate (next.Session session.0 session.1) new =
-    subst (λ r. gives gate (next.Session r session.1) new) (sym same_reader) (subst (λ w. gives gate (next.Session reader w) new) (sym same_writer) one) in (
-      subst (λ given. Gave gives old given new) (sym more) (gave_one_more gives old (sessions_of handles) gate new session gave gives_it),
-      ap length more ∙ length-snoc (sessions_of handles) session,
+pub gave_another : {G R W P : Type 0} (gives : Giving G R W) (old gate new : G) (sessions sessions' : List (Session R W P)) (session : Session R W P)
+    (reader : R) (writer : W) → sessions' ≡ sessions ++ session ∷ [] → session.reader.value ≡ reader → session.writer.value ≡ writer
+    → Gave gives old (streams_of sessions) gate → gives gate (next.Session reader writer) new
+    → Gave gives old (streams_of sessions') new × (length (streams_of sessions') ≡ length (streams_of sessions) + 1)
+gave_another {R = R} {W = W} gives old gate new sessions sessions' session reader writer pushed same_reader same_writer gave one =
+    let streams : R × W = (session.reader.value, session.writer.value) in
+    let more : streams_of sessions' ≡ streams_of sessions ++ streams ∷ [] = ap streams_of pushed ∙ streams_of-snoc sessions session in
+    let gives_it : gives gate (next.Session streams.0 streams.1) new =
+    subst (λ r. gives gate (next.Session r streams.1) new) (sym same_reader) (subst (λ w. gives gate (next.Session reader w) new) (sym same_writer) one) in (
+      subst (λ given. Gave gives old given new) (sym more) (gave_one_more gives old (streams_of sessions) gate new streams gave gives_it),
+      ap length more ∙ length-snoc (streams_of sessions) streams,
     )
 
 -- the thread of the last session couldn't be started
@@ -79,9 +75,9 @@ asked_in_vain gives most old given failed new asked = record {
 }
 
 -- one more over the same hub
-pub over_one_more : {R W P : Type 0} (hub : Hub) (pause : P) (handles handles' : List (PromisedHandle (Result ℕ FrontError) (Session R W P)))
-    (handle : PromisedHandle (Result ℕ FrontError) (Session R W P)) → handles' ≡ handles ++ handle ∷ [] → AreOver hub pause handles
-    → arc_value handle.promise.hub.value ≡ hub → handle.promise.pause.value ≡ pause → AreOver hub pause handles'
-over_one_more hub pause handles handles' handle pushed over here waits =
+pub over_one_more : {R W P : Type 0} (hub : Hub) (pause : P) (sessions sessions' : List (Session R W P)) (session : Session R W P)
+    → sessions' ≡ sessions ++ session ∷ [] → AreOver hub pause sessions
+    → arc_value session.hub.value ≡ hub → session.pause.value ≡ pause → AreOver hub pause sessions'
+over_one_more hub pause sessions sessions' session pushed over here waits =
     subst (AreOver hub pause) (sym pushed)
-    (All-push (λ h. (arc_value h.promise.hub.value ≡ hub) × (h.promise.pause.value ≡ pause)) handles handle over (here, waits))
+    (All-push (λ s. (arc_value s.hub.value ≡ hub) × (s.pause.value ≡ pause)) sessions session over (here, waits))

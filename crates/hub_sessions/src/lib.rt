@@ -9,6 +9,7 @@
 mod gate;
 mod promise;
 mod report;
+mod started;
 mod together;
 
 pub use gate::{Gate, Next};

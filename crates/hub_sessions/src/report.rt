@@ -2,6 +2,7 @@
 ghost use Rattle.std.specs.Prelude.{◌≡◌, ◌↔◌, IsTrue, All, IsOk, false};
 
 use hub_front::FrontError;
+use std::alloc::AllocError;
 use thiserror::Error;
 
 /// What the sessions came to.
@@ -31,4 +32,15 @@ pub enum ServeError {
     /// There was no memory to keep one session more, or to keep what they ended with.
     #[error("out of memory")]
     Memory,
+}
+
+impl From<AllocError> for ServeError {
+    ghost use Rattle.std.specs.Prelude.{◌≡◌};
+    ghost use Rattle.hub_sessions.specs.declared.report.ServeError.TheVariants.{Memory};
+
+    ghost from_gives = { λ _ error. error ≡ Memory };
+
+    fn from(_: AllocError) -> ServeError {
+        ServeError::Memory
+    }
 }

@@ -3,27 +3,29 @@ ghost use Rattle.std.specs.Prelude.{◌≡◌, ◌≤◌, [], IfSome, IfOk, IfEr
 ghost use Rattle.std.specs.Arc.{arc_value};
 ghost use Rattle.hub_sessions.specs.Desks.{Begins};
 ghost use Rattle.hub_sessions.specs.Gates.{IsAsked, StopsEarly, ThenCloses};
-ghost use Rattle.hub_sessions.specs.Promised.{AreOver, sessions_of};
+ghost use Rattle.hub_sessions.specs.Promised.{AreOver, streams_of};
 ghost use Rattle.hub_sessions.specs.Reports.{AreResults, IsReport};
 ghost use Rattle.hub_sessions.specs.Sessions.{IsResult};
 
 use crate::gate::{Gate, Next};
 use crate::promise::Session;
 use crate::report::{Report, ServeError};
+use crate::started::{Started, join_all, join_over, results_of};
 use hub_front::{FrontError, Sink, Source, serve};
 use hub_requests::Desk;
 use hub_shared::{Hub, SharedDesk};
 use hub_wait::Pause;
 use std::alloc::{AllocError, Global};
 use std::snapshot::Snapshot;
+use std::sync::atomic::{AtomicBool, Ordering};
 use std::sync::{Arc, Wait};
-use std::thread::{Builder, PromisedHandle, Threads, join_promised};
+use std::thread::{Builder, Threads};
 
 /// How many bytes of stack a session's thread gets: 2 MiB. The deepest session that was found, a pattern of 199 groups
 /// that don't end, takes 256 KiB.
 pub const STACK_SIZE: usize = 2 << 20;
 
-type Running<R, W, P> = PromisedHandle<Result<u64, FrontError>, Session<R, W, P>>;
+type Running<R, W, P> = Started<Result<u64, FrontError>, Session<R, W, P>>;
 
 // Serves one session by a desk of its own. Its reader and its writer are let go here.
 fn serve_one<H: Wait + Drop, R: Source + Drop, W: Sink + Drop, P: Pause + Copy>(
@@ -48,11 +50,12 @@ fn serve_one<H: Wait + Drop, R: Source + Drop, W: Sink + Drop, P: Pause + Copy>(
     serve(&rt, alloc, &mut desk, &mut reader, &mut writer)
 }
 
-// Starts the thread of one session.
+// Starts the thread of one session, which sets `is_over` as the last thing.
 fn start<H, R, W, P>(
     rt: &H,
     alloc: Global,
     hub: Arc<Hub, Global>,
+    is_over: Arc<AtomicBool, Global>,
     reader: R,
     writer: W,
     pause: P,
@@ -62,27 +65,33 @@ where
     R: Source + Send + Drop + 'static,
     W: Sink + Send + Drop + 'static,
     P: Pause + Copy + Send + 'static,
-    ensures reader { IfSome result (λ handle. handle.promise.reader.value ≡ reader) }
-    ensures writer { IfSome result (λ handle. handle.promise.writer.value ≡ writer) }
-    ensures hub { IfSome result (λ handle. handle.promise.hub.value ≡ hub) }
-    ensures pause { IfSome result (λ handle. handle.promise.pause.value ≡ pause) }
+    ensures reader { IfSome result (λ started. started.reader.value ≡ reader) }
+    ensures writer { IfSome result (λ started. started.writer.value ≡ writer) }
+    ensures hub { IfSome result (λ started. started.hub.value ≡ hub) }
+    ensures pause { IfSome result (λ started. started.pause.value ≡ pause) }
 {
     let own = *rt;
+    let told = Arc::try_clone(&is_over).ok()?;
     let session = Session {
         hub: Snapshot::of(&hub),
         reader: Snapshot::of(&reader),
         writer: Snapshot::of(&writer),
         pause: Snapshot::of(&pause),
     };
-    Builder::new()
+    let began = Snapshot::of(&session);
+    let thread = Builder::new()
         .stack_size(STACK_SIZE)
         .spawn_with(rt, session, move || {
-            serve_one(own, alloc, hub, reader, writer, pause)
+            let result = serve_one(own, alloc, hub, reader, writer, pause);
+            told.store(true, Ordering::Release);
+            result
         })
-        .ok()
+        .ok()?;
+    Some(Started::new(began, thread, is_over))
 }
 
-// Starts the sessions that the gate gives, each as it comes, and answers whether the gate failed.
+// Starts the sessions that the gate gives, each as it comes, and answers whether the gate failed. Before it asks for one,
+// it joins those that are over.
 fn start_all<H, R, W, G, P>(
     rt: &H,
     alloc: Global,
@@ -90,7 +99,7 @@ fn start_all<H, R, W, G, P>(
     gate: &mut G,
     sessions: u64,
     pause: P,
-    running: &mut Vec<Running<R, W, P>>,
+    started: &mut Vec<Running<R, W, P>>,
 ) -> Result<bool, ServeError>
 where
     H: Threads + Wait + Copy + Send + 'static,
@@ -98,22 +107,28 @@ where
     W: Sink + Send + Drop + 'static,
     G: Gate<R, W>,
     P: Pause + Copy + Send + 'static,
-    requires { running.old.items ≡ [] }
+    requires { started.old.items ≡ [] }
     ensures ok { IfOk result (λ failed. IsAsked
-        G.gives sessions gate.old (sessions_of running.new.items) failed gate.new) }
-    ensures over { OnOk result (AreOver (arc_value hub.now) pause running.new.items) }
+        G.gives sessions gate.old (streams_of started.new.items) failed gate.new) }
+    ensures over { OnOk result (AreOver (arc_value hub.now) pause started.new.items) }
     ensures err { IfErr result (StopsEarly G.gives sessions gate.old gate.new) }
 {
     'sessions: for _session in 0..sessions {
-        let (Ok(()), Ok(own)) = (running.reserve(1), Arc::try_clone(hub)) else {
+        join_over(rt, started);
+        let room = started.reserve(1);
+        let (Ok(()), Ok(own), Ok(is_over)) = (
+            room,
+            Arc::try_clone(hub),
+            Arc::new(alloc, AtomicBool::new(false)),
+        ) else {
             return Err(ServeError::Memory);
         };
         match gate.next(rt) {
             Next::Session(reader, writer) => {
-                let Some(session) = start(rt, alloc, own, reader, writer, pause) else {
+                let Some(session) = start(rt, alloc, own, is_over, reader, writer, pause) else {
                     return Err(ServeError::Spawn);
                 };
-                running.push_reserved(session);
+                started.push_reserved(session);
             }
             Next::Failed => return Ok(true),
             Next::Over => return Ok(false),
@@ -130,7 +145,7 @@ fn start_and_close<H, R, W, G, P>(
     gate: &mut G,
     sessions: u64,
     pause: P,
-    running: &mut Vec<Running<R, W, P>>,
+    started: &mut Vec<Running<R, W, P>>,
 ) -> Result<bool, ServeError>
 where
     H: Threads + Wait + Copy + Send + 'static,
@@ -138,44 +153,38 @@ where
     W: Sink + Send + Drop + 'static,
     G: Gate<R, W>,
     P: Pause + Copy + Send + 'static,
-    requires { running.old.items ≡ [] }
+    requires { started.old.items ≡ [] }
     ensures ok { IfOk result (λ failed. ThenCloses G.closes
-        (λ last. IsAsked G.gives sessions gate.old (sessions_of running.new.items) failed last) gate.new) }
-    ensures over { OnOk result (AreOver (arc_value hub.now) pause running.new.items) }
+        (λ last. IsAsked G.gives sessions gate.old (streams_of started.new.items) failed last) gate.new) }
+    ensures over { OnOk result (AreOver (arc_value hub.now) pause started.new.items) }
     ensures err { IfErr result (λ error. ThenCloses G.closes
         (λ last. StopsEarly G.gives sessions gate.old last error) gate.new) }
 {
-    let started = start_all(rt, alloc, hub, gate, sessions, pause, running);
+    let asked = start_all(rt, alloc, hub, gate, sessions, pause, started);
     gate.close();
-    started
+    asked
 }
 
 // Waits until each session has ended, and gives what they ended with, in order.
-fn join_all<H, R, W, P>(
+fn end_all<H, R, W, P>(
     rt: &H,
-    running: Vec<Running<R, W, P>>,
+    alloc: Global,
+    mut started: Vec<Running<R, W, P>>,
 ) -> Result<Vec<Result<u64, FrontError>>, AllocError>
 where
     H: Threads,
     R: Source + Drop,
     W: Sink + Drop,
     P: Pause + Copy,
-    ensures { (hub : _) (pause : _) → AreOver hub pause running.items → IfOk result (λ results. AreResults
+    ensures { (hub : _) (pause : _) → AreOver hub pause started.items → IfOk result (λ results. AreResults
         (Begins hub pause)
         ⟦<SharedDesk<P> as Desk>⟧.asks ⟦<SharedDesk<P> as Desk>⟧.ends
         (record { remaining = R.remaining; reads = R.reads; faults = R.faults })
         (record { contents = W.contents; faults = W.faults })
-        (sessions_of running.items) results.items) }
+        (streams_of started.items) results.items) }
 {
-    match join_promised(rt, running) {
-        Ok(results) => Ok(results),
-        Err(refused) => {
-            for session in refused.value {
-                let _ = session.join(rt);
-            }
-            Err(AllocError)
-        }
-    }
+    join_all(rt, &mut started);
+    results_of(rt, alloc, started)
 }
 
 /// Asks the gate for at most so many sessions, and serves each on a thread of its own by a desk of its own over the
@@ -207,15 +216,12 @@ where
     ensures err { IfErr result (λ error. ThenCloses G.closes
         (λ last. StopsEarly G.gives sessions gate.old last error) gate.new) }
 {
-    let mut running = Vec::new(alloc);
-    let started = start_and_close(rt, alloc, &hub, gate, sessions, pause, &mut running);
-    let results = join_all(rt, running);
-    let gate_failed = started?;
-    let Ok(results) = results else {
-        return Err(ServeError::Memory);
-    };
+    let mut started = Vec::new(alloc);
+    let asked = start_and_close(rt, alloc, &hub, gate, sessions, pause, &mut started);
+    let results = end_all(rt, alloc, started);
+    let gate_failed = asked?;
     Ok(Report {
-        results,
+        results: results?,
         gate_failed,
     })
 }
