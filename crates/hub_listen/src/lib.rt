@@ -12,12 +12,15 @@
 //! has changed. In mode [`Mode::Once`] a listener is spent after its hit.
 #![tactic(auto)]
 
+mod alive;
 mod compile;
 mod each;
 mod feed;
 pub mod laws;
 mod listener;
+mod pattern;
 mod search;
+mod states;
 
 pub use compile::MOST_BYTES;
 pub use each::{Each, feed_each};
