@@ -6,7 +6,6 @@ use crate::feed::{Feed, FeedError};
 use crate::pattern::Pattern;
 use crate::search::first_hit;
 use hub_letters::{Letter, Mode};
-use regex_syntax::ErrorKind;
 use std::alloc::{AllocError, Global};
 use std::marker::Model;
 use std::mem;
@@ -47,24 +46,6 @@ impl From<regex::Error> for ListenError {
     fn from(refused: regex::Error) -> ListenError {
         match refused {
             regex::Error::OutOfMemory => ListenError::Memory,
-            _ => ListenError::Pattern,
-        }
-    }
-}
-
-impl From<regex_syntax::Error> for ListenError {
-    fn from(refused: regex_syntax::Error) -> ListenError {
-        match refused.kind {
-            ErrorKind::OutOfMemory => ListenError::Memory,
-            _ => ListenError::Pattern,
-        }
-    }
-}
-
-impl From<regex_compile::Error> for ListenError {
-    fn from(refused: regex_compile::Error) -> ListenError {
-        match refused {
-            regex_compile::Error::OutOfMemory => ListenError::Memory,
             _ => ListenError::Pattern,
         }
     }

@@ -7,8 +7,40 @@ ghost use Rattle.hub_listen.specs.Searches.{SearchesFor};
 use crate::compile::{MOST_BYTES, compile};
 use crate::listener::ListenError;
 use regex_nfa::Nfa;
-use regex_syntax::{Config, Parsed};
+use regex_syntax::{Config, ErrorKind, Parsed};
 use std::alloc::Global;
+
+impl From<regex_syntax::Error> for ListenError {
+    ghost use Rattle.std.specs.Prelude.{◌≡◌, ◌≢◌};
+    ghost use Rattle.regex_syntax.specs.declared.error.ErrorKind.TheVariants.{OutOfMemory};
+    ghost use Rattle.hub_listen.specs.declared.listener.ListenError.TheVariants.{Pattern as no_pattern, Memory};
+
+    ghost from_gives = { λ refused error.
+        (refused.kind ≡ OutOfMemory → error ≡ Memory) × (refused.kind ≢ OutOfMemory → error ≡ no_pattern) };
+
+    fn from(refused: regex_syntax::Error) -> ListenError {
+        match refused.kind {
+            ErrorKind::OutOfMemory => ListenError::Memory,
+            _ => ListenError::Pattern,
+        }
+    }
+}
+
+impl From<regex_compile::Error> for ListenError {
+    ghost use Rattle.std.specs.Prelude.{◌≡◌, ◌≢◌};
+    ghost use Rattle.regex_compile.specs.declared.error.Error.TheVariants.{OutOfMemory};
+    ghost use Rattle.hub_listen.specs.declared.listener.ListenError.TheVariants.{Pattern as no_pattern, Memory};
+
+    ghost from_gives = { λ refused error.
+        (refused ≡ OutOfMemory → error ≡ Memory) × (refused ≢ OutOfMemory → error ≡ no_pattern) };
+
+    fn from(refused: regex_compile::Error) -> ListenError {
+        match refused {
+            regex_compile::Error::OutOfMemory => ListenError::Memory,
+            _ => ListenError::Pattern,
+        }
+    }
+}
 
 /// The text of a pattern, and the NFA that searches for it.
 #[derive(Drop)]
