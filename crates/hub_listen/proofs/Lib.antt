@@ -1,4 +1,10 @@
 pub mod Patterns
+pub mod Listed
+pub mod Growing
+pub mod Looks
+pub mod Reached
+pub mod Closed
+pub mod Found
 pub mod Fronts
 pub mod Cuts
 pub mod Lengths

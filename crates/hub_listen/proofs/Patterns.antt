@@ -1,11 +1,9 @@
--- What a search by `regex` says of the text of its pattern.
-use Rattle.std.proofs.Common.{◌≡◌, ℕ, ◌<◌, ◌≤◌, Bool, false, List, length, Option, None, Some, All, IsSomeAnd, IsSome, is_some, rules, sym, ap, subst, ◌∙◌, arith}
+-- What the tree that is read from a text finds.
+use Rattle.std.proofs.Common.{◌≡◌, ℕ, ◌<◌, ◌≤◌, false, List, length, Option, None, Some, All, IsSomeAnd, IsSome, is_some, rules, sym, ap, subst, ◌∙◌, arith}
 use Rattle.std.specs.Option.{option_map_or}
 use Rattle.std.specs.Str.{IsAscii}
 use Rattle.std.proofs.lemmas.Str.Ascii.{All-from_ascii}
 use Rattle.regex.specs.Patterns.{Re, find_str, default_config, Config, Reads, SameCaptures}
-use Rattle.regex.specs.Strings.{regex_pattern, regex_source, regex_config, IsReadFromSource}
-use Rattle.regex.specs.declared.string.regex.Regex.{Regex}
 use Rattle.regex_hir.specs.declared.hir.Hir.{Hir}
 use Rattle.regex_hir.specs.Meaning.{meaning}
 use Rattle.regex_syntax.specs.Brackets.{Nested}
@@ -25,24 +23,12 @@ by_reading a most names hay bytes (Some r) h =
     sym (is_some-option_map spans (find_str a hay 0)) ∙ ap is_some (find_str_alike a r.0.value h.1 hay bytes 0)
     ∙ is_some-option_map spans (find_str r.0.value hay 0)
 
-reads-finds : (config : Config) (source : List ℕ) (hir : Hir) (names : Names) → Reads config source hir names → config ≡ default_config
+pub reads-finds : (config : Config) (source : List ℕ) (hir : Hir) (names : Names) → Reads config source hir names → config ≡ default_config
     → (hay : List ℕ) → IsAscii hay → is_some (find_str (meaning hir) hay 0) ≡ finds source hay
 unfolding finds Reads
 reads-finds config source hir names reads same hay ascii =
     let reads' : Reads default_config source hir names = subst (λ c. Reads c source hir names) same reads in
     by_reading (meaning hir) _ names hay (bytes_of hay (All-from_ascii hay ascii)) _ reads'
-
--- a regex, made with the default options, finds in an ASCII text what the text of its pattern does
-pub regex-finds : (r : Regex) → IsReadFromSource r → regex_config r ≡ default_config → (hay : List ℕ) → IsAscii hay
-    → is_some (find_str (regex_pattern r) hay 0) ≡ finds (regex_source r) hay
-regex-finds r reads same hay ascii = reads-finds _ _ _ _ reads same hay ascii
-
--- what a search in the text answered, of the text as it is spelled elsewhere
-pub search-finds : (r : Regex) → IsReadFromSource r → regex_config r ≡ default_config → (p : Re) → p ≡ regex_pattern r → (hay text : List ℕ)
-    → hay ≡ text → IsAscii text → (b : Bool) → b ≡ is_some (find_str p hay 0) → (spelled : List ℕ) → text ≡ spelled → finds (regex_source r) spelled ≡ b
-search-finds r reads same p is hay text shown ascii b found spelled e =
-    ap (finds (regex_source r)) (sym e) ∙ sym (regex-finds r reads same text ascii)
-    ∙ ap (λ h. is_some (find_str (regex_pattern r) h 0)) (sym shown) ∙ ap (λ q. is_some (find_str q hay 0)) (sym is) ∙ sym found
 
 -- ---- which texts are patterns
 
@@ -50,11 +36,7 @@ IsSome-from_IsSomeAnd : (o : Option (Nested Re × Names)) (P : Nested Re × Name
 IsSome-from_IsSomeAnd None P h = absurd h
 IsSome-from_IsSomeAnd (Some r) P h = search rules
 
-reads-pattern : (config : Config) (source : List ℕ) (hir : Hir) (names : Names) → Reads config source hir names → config ≡ default_config → IsPattern source
+pub reads-pattern : (config : Config) (source : List ℕ) (hir : Hir) (names : Names) → Reads config source hir names → config ≡ default_config → IsPattern source
 unfolding Reads
 reads-pattern config source hir names reads same =
     IsSome-from_IsSomeAnd _ _ (subst (λ c. Reads c source hir names) same reads)
-
--- the text of a regex is a pattern
-pub regex_source-IsPattern : (r : Regex) → IsReadFromSource r → regex_config r ≡ default_config → (text : List ℕ) → regex_source r ≡ text → IsPattern text
-regex_source-IsPattern r reads same text e = subst IsPattern e (reads-pattern _ _ _ _ reads same)

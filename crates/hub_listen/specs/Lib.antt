@@ -1,5 +1,9 @@
 pub mod Hit
 pub mod Size
+pub mod States
+pub mod Listed
+pub mod Searches
+pub mod Alive
 pub mod Listening
 pub mod Kept
 pub mod Pieces

@@ -7,17 +7,23 @@
 //!
 //! A [`Listener`] gathers letters since its last hit, and searches what it has gathered after each letter, as a text of
 //! its own: `^` is where the gathering began, `$` the end of the newest letter, and a pattern that finds a
-//! match at any place of every text, such as `a*`, hits at each letter. It gathers at most 4096 letters. A piece that doesn't fit, and has no hit before that, is
-//! refused whole. All of its room is made at the start; after that only a search may find no memory, and then nothing
-//! has changed. In mode [`Mode::Once`] a listener is spent after its hit.
+//! match at any place of every text, such as `a*`, hits at each letter. It gathers at most 4096 letters. A piece that
+//! doesn't fit, and has no hit before that, is refused whole. All of its room is made at the start, so a piece takes no
+//! memory. In mode [`Mode::Once`] a listener is spent after its hit.
+//!
+//! No letter costs more than three passes over the pattern's NFA, whatever was gathered: the listener keeps the states in
+//! which its searches are alive, and a letter takes them on.
 #![tactic(auto)]
 
+mod alive;
 mod compile;
 mod each;
 mod feed;
 pub mod laws;
 mod listener;
+mod pattern;
 mod search;
+mod states;
 
 pub use compile::MOST_BYTES;
 pub use each::{Each, feed_each};

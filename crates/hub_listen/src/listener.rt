@@ -1,11 +1,11 @@
 //! Listeners.
 ghost use Rattle.std.specs.Prelude.{◌≡◌, ◌≤◌, length, IfOk, OnOk};
 
-use crate::compile::compile;
+use crate::alive::Alive;
 use crate::feed::{Feed, FeedError};
+use crate::pattern::Pattern;
 use crate::search::first_hit;
 use hub_letters::{Letter, Mode};
-use regex::Regex;
 use std::alloc::{AllocError, Global};
 use std::marker::Model;
 use std::mem;
@@ -54,12 +54,12 @@ impl From<regex::Error> for ListenError {
 /// A pattern, and the letters that were heard since its last hit.
 #[derive(Drop)]
 pub struct Listener {
-    /// Where each search takes its memory.
-    alloc: Global,
-    regex: Regex,
+    pattern: Pattern,
     mode: Mode,
     /// The bytes of `letters`, to be searched.
     text: String,
+    /// Where the searches of `text` are.
+    alive: Alive,
     /// The letters since the last hit.
     letters: Vec<Letter>,
     /// The letters of the last hit.
@@ -89,15 +89,16 @@ impl Listener {
         ensures read { OnOk result (IsPattern pattern.now) }
         ensures small { OnOk result (IsSmall pattern.now) }
     {
-        let regex = compile(alloc, pattern)?;
+        let pattern = Pattern::new(alloc, pattern)?;
+        let alive = Alive::new(alloc, &pattern.nfa)?;
         let text = String::with_capacity(alloc, ROOM)?;
         let letters = Vec::with_capacity(alloc, ROOM)?;
         let hit = Vec::with_capacity(alloc, ROOM)?;
         Ok(Listener {
-            alloc,
-            regex,
+            pattern,
             mode,
             text,
+            alive,
             letters,
             hit,
         })
@@ -137,17 +138,21 @@ impl Listener {
             return Ok(Feed::Spent);
         }
         let before = self.letters.len();
-        match first_hit(self.alloc, &self.regex, &mut self.text, piece)? {
+        self.alive
+            .keep_if(piece.len() > ROOM - before, &self.pattern.nfa);
+        match first_hit(&self.pattern, &mut self.alive, &mut self.text, piece) {
             Some(count) => {
                 self.letters.extend_from_slice(&piece[..count]).unwrap();
                 mem::swap(&mut self.letters, &mut self.hit);
                 self.letters.clear();
                 self.text.clear();
+                self.alive.restart(&self.pattern.nfa);
                 Ok(Feed::Hit(count))
             }
             None => {
                 if piece.len() > ROOM - before {
                     self.text.truncate(before);
+                    self.alive.go_back(&self.pattern.nfa);
                     return Err(FeedError::Overlong);
                 }
                 self.letters.extend_from_slice(piece).unwrap();

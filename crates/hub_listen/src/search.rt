@@ -1,15 +1,14 @@
 //! The search for the first hit.
-ghost use Rattle.std.specs.Prelude.{◌≡◌, ◌+◌, ◌≤◌, ◌<◌, ◌-◌, ◌++◌, ◌∷◌, [], length, take, IfSome, IfNone, IfOk, OnErr, string_bytes, string_len};
+ghost use Rattle.std.specs.Prelude.{◌≡◌, ◌+◌, ◌≤◌, ◌<◌, ◌-◌, ◌++◌, ◌∷◌, [], false, length, take, IfSome, IfNone, string_bytes, string_len, vec_len};
 ghost use Rattle.std.specs.String.{string_capacity};
 ghost use Rattle.std.specs.Str.{IsAscii};
-ghost use Rattle.regex.specs.Strings.{regex_source, regex_config, IsReadFromSource};
-ghost use Rattle.regex.specs.Patterns.{default_config};
-ghost use Rattle.hub_listen.specs.Hit.{IsHit, HasNoHit};
+ghost use Rattle.hub_listen.specs.Hit.{finds, IsHit, HasNoHit};
+ghost use Rattle.hub_listen.specs.Alive.{AreAlive, HasRoom};
 
+use crate::alive::Alive;
 use crate::listener::ROOM;
+use crate::pattern::Pattern;
 use hub_letters::Letter;
-use regex::Regex;
-use std::alloc::{AllocError, Global};
 
 /// Appends a letter where there is room.
 fn append(text: &mut String, letter: Letter)
@@ -22,39 +21,40 @@ fn append(text: &mut String, letter: Letter)
 }
 
 /// Appends the letters of the piece to the text, for as long as there is room and up to a hit, and answers after how
-/// many there was one.
+/// many there was one. `alive` is where the searches of the text are, in which there was no match.
 pub(crate) fn first_hit(
-    alloc: Global,
-    regex: &Regex,
+    pattern: &Pattern,
+    alive: &mut Alive,
     text: &mut String,
     piece: &[Letter],
-) -> Result<Option<usize>, AllocError>
-    requires read { IsReadFromSource regex.now }
-    requires config { regex_config regex.now ≡ default_config }
+) -> Option<usize>
     requires short { string_len text.old ≤ 4096 }
     requires room { 4096 ≤ string_capacity text.old }
     requires ascii { IsAscii (string_bytes text.old) }
-    ensures hit { IfOk result (λ found. IfSome found
-        (IsHit (regex_source regex.now) (string_bytes text.old) piece.now)) }
-    ensures none { IfOk result (λ found. IfNone found
-        (HasNoHit (regex_source regex.now) (string_bytes text.old) piece.now)) }
-    ensures grown_to_hit { IfOk result (λ found. IfSome found (λ k. string_bytes text.new
-        ≡ string_bytes text.old ++ take k piece.now)) }
-    ensures grown { IfOk result (λ found. IfNone found (string_bytes text.new
-        ≡ string_bytes text.old ++ take (4096 - string_len text.old) piece.now)) }
-    ensures err { OnErr result (string_bytes text.new ≡ string_bytes text.old) }
+    requires states { HasRoom alive.old (vec_len pattern.now.nfa.states) }
+    requires alive { AreAlive pattern.now.nfa (string_bytes text.old) (string_len text.old) alive.old.states.items }
+    requires quiet { 1 ≤ string_len text.old → finds (string_bytes pattern.now.text) (string_bytes text.old) ≡ false }
+    ensures hit { IfSome result (IsHit (string_bytes pattern.now.text) (string_bytes text.old) piece.now) }
+    ensures none { IfNone result (HasNoHit (string_bytes pattern.now.text) (string_bytes text.old) piece.now) }
+    ensures grown { IfNone result (string_bytes text.new
+        ≡ string_bytes text.old ++ take (4096 - string_len text.old) piece.now) }
+    ensures alive { IfNone result
+        (AreAlive pattern.now.nfa (string_bytes text.new) (string_len text.new) alive.new.states.items) }
+    ensures quiet { IfNone result (1 ≤ string_len text.new →
+        finds (string_bytes pattern.now.text) (string_bytes text.new) ≡ false) }
+    ensures states { HasRoom alive.new (vec_len pattern.now.nfa.states) }
+    ensures kept { alive.new.kept ≡ alive.old.kept }
     ensures room { 4096 ≤ string_capacity text.new }
     ensures ascii { IsAscii (string_bytes text.new) }
 {
-    let mut matcher = regex.matcher(alloc)?;
     for i in 0..piece.len() {
         if text.len() >= ROOM {
-            return Ok(None);
+            return None;
         }
         append(text, piece[i]);
-        if matcher.is_match(text.as_str()) {
-            return Ok(Some(i + 1));
+        if alive.hear_last(&pattern.nfa, text.as_str().as_bytes()) {
+            return Some(i + 1);
         }
     }
-    Ok(None)
+    None
 }

@@ -1,51 +1,48 @@
-use Rattle.std.proofs.Common.{◌≡◌, ◌-◌, ◌++◌, take, string_bytes, string_len, sym, ap, subst, ◌∙◌, arith}
+use Rattle.std.proofs.Common.{◌≡◌, false, ◌++◌, ◌∙◌, take, length, string_bytes, sym, subst, arith}
 use Rattle.std.specs.Str.{IsAscii}
 use Rattle.std.proofs.lemmas.Str.Ascii.{IsAscii-push}
 use Rattle.hub_listen.specs.Hit.{finds}
+use Rattle.hub_listen.specs.Alive.{AreAlive}
 use Rattle.hub_listen.proofs.Fronts.{grown_more, fails_more, length_grown}
-use Rattle.hub_listen.proofs.Patterns.{search-finds}
+use Rattle.hub_listen.proofs.Found.{AreAlive-pushed, heard_match, heard_nothing}
 use Rattle.hub_listen.proofs.search.first_hit.Goals as goal
 
-pub returns-then-len-ge-ROOM-clause-none : goal.returns-then-len-ge-ROOM-clause-none
-returns-then-len-ge-ROOM-clause-none c =
-    let full = length_grown _ _ c.args.piece.now c.loop-i.i c.loop-i-test.true c.loop-i.invariant.grown in
-    λ j some within short. c.loop-i.invariant.none j some (omega arith)
+pub hear_last-requires-clause-alive : goal.hear_last-requires-clause-alive
+hear_last-requires-clause-alive c =
+    AreAlive-pushed _ _ _ _ _ c.loop-i.invariant.ascii (c.as_bytes.ensures.value ∙ c.as_str.ensures.value ∙ c.append.ensures.bytes) c.loop-i.invariant.alive
 
-pub returns-then-len-ge-ROOM-clause-grown : goal.returns-then-len-ge-ROOM-clause-grown
-returns-then-len-ge-ROOM-clause-grown c =
-    let full = length_grown _ _ c.args.piece.now c.loop-i.i c.loop-i-test.true c.loop-i.invariant.grown in
-    let e : c.loop-i.i ≡ 4096 - string_len c.args.text.now = omega arith in
-    c.loop-i.invariant.grown ∙ ap (λ n. string_bytes c.args.text.now ++ take n c.args.piece.now) e
-
-pub returns-then-is_match-clause-hit : goal.returns-then-is_match-clause-hit
-returns-then-is_match-clause-hit c =
+pub returns-then-hear_last-clause-hit : goal.returns-then-hear_last-clause-hit
+returns-then-hear_last-clause-hit c =
     let full = length_grown _ _ c.args.piece.now c.loop-i.i c.loop-i-test.true c.loop-i.invariant.grown in
     let grown = grown_more _ _ _ c.args.piece.now c.loop-i.i _ c.loop-i-test.true c.loop-i.invariant.grown c.index-piece-i.is c.append.ensures.bytes in
     let ascii : IsAscii (string_bytes c.append.new.text) = subst IsAscii (sym c.append.ensures.bytes) (IsAscii-push _ _ c.loop-i.invariant.ascii c.append.ensures.ascii) in record {
       some = omega arith;
       within = omega arith;
       short = omega arith;
-      found = search-finds c.args.regex.now c.requires.read c.requires.config _ c.loop-i.invariant.pattern _ _ c.as_str.ensures.value ascii _ c.is_match.ensures.found _ grown ∙ c.if-is_match.true;
+      found = heard_match c.args.pattern.now.nfa _ c.args.pattern.now.searches _ _ (c.as_bytes.ensures.value ∙ c.as_str.ensures.value ∙ grown)
+          (subst IsAscii grown ascii) (c.hear_last.ensures.found c.if-hear_last.true);
       least = λ j some lt. c.loop-i.invariant.none j some (omega arith);
     }
 
-pub returns-then-is_match-clause-grown_to_hit : goal.returns-then-is_match-clause-grown_to_hit
-returns-then-is_match-clause-grown_to_hit c =
-    grown_more _ _ _ c.args.piece.now c.loop-i.i _ c.loop-i-test.true c.loop-i.invariant.grown c.index-piece-i.is c.append.ensures.bytes
-
-pub returns-then-is_match-clause-ascii : goal.returns-then-is_match-clause-ascii
-returns-then-is_match-clause-ascii c = subst IsAscii (sym c.append.ensures.bytes) (IsAscii-push _ _ c.loop-i.invariant.ascii c.append.ensures.ascii)
+pub returns-then-hear_last-clause-ascii : goal.returns-then-hear_last-clause-ascii
+returns-then-hear_last-clause-ascii c = subst IsAscii (sym c.append.ensures.bytes) (IsAscii-push _ _ c.loop-i.invariant.ascii c.append.ensures.ascii)
 
 pub loop-i-preserved : goal.loop-i-preserved
 loop-i-preserved c =
     let full = length_grown _ _ c.args.piece.now c.loop-i.i c.loop-i-test.true c.loop-i.invariant.grown in
     let grown = grown_more _ _ _ c.args.piece.now c.loop-i.i _ c.loop-i-test.true c.loop-i.invariant.grown c.index-piece-i.is c.append.ensures.bytes in
-    let ascii : IsAscii (string_bytes c.append.new.text) = subst IsAscii (sym c.append.ensures.bytes) (IsAscii-push _ _ c.loop-i.invariant.ascii c.append.ensures.ascii) in record {
+    let shown = c.as_bytes.ensures.value ∙ c.as_str.ensures.value in
+    let none = heard_nothing c.args.pattern.now.nfa (string_bytes c.args.pattern.now.text) c.args.pattern.now.searches _ c.as_bytes.result.now
+    (string_bytes c.append.new.text) _ c.loop-i.invariant.ascii c.append.ensures.ascii c.loop-i.invariant.quiet (shown ∙ c.append.ensures.bytes)
+    (c.hear_last.ensures.none_before c.if-hear_last.false) (c.hear_last.ensures.none_behind c.if-hear_last.false) c.append.ensures.bytes in record {
       grown = grown;
       short = omega arith;
-      ascii = ascii;
+      ascii = subst IsAscii (sym c.append.ensures.bytes) (IsAscii-push _ _ c.loop-i.invariant.ascii c.append.ensures.ascii);
       room = omega arith;
-      pattern = c.is_match.ensures.same ∙ c.loop-i.invariant.pattern;
-      none = fails_more (λ j. finds _ (string_bytes c.args.text.now ++ take j c.args.piece.now)) c.loop-i.i c.loop-i.invariant.none
-          (search-finds c.args.regex.now c.requires.read c.requires.config _ c.loop-i.invariant.pattern _ _ c.as_str.ensures.value ascii _ c.is_match.ensures.found _ grown ∙ c.if-is_match.false);
+      states = c.hear_last.ensures.room;
+      kept = c.hear_last.ensures.kept ∙ c.loop-i.invariant.kept;
+      alive = subst (λ t. AreAlive c.args.pattern.now.nfa t (length t) c.hear_last.new.self.states.items) shown (c.hear_last.ensures.alive c.if-hear_last.false);
+      quiet = λ some. none;
+      none = fails_more (λ j. finds (string_bytes c.args.pattern.now.text) (string_bytes c.args.text.now ++ take j c.args.piece.now)) c.loop-i.i
+          c.loop-i.invariant.none (subst (λ t. finds (string_bytes c.args.pattern.now.text) t ≡ false) grown none);
     }

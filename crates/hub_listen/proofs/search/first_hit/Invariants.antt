@@ -1,8 +1,8 @@
-use Rattle.std.proofs.Common.{◌≡◌, ℕ, ◌+◌, ◌≤◌, ◌++◌, false, length, take, string_bytes}
+use Rattle.std.proofs.Common.{◌≡◌, ℕ, ◌+◌, ◌≤◌, ◌++◌, false, length, take, string_bytes, vec_len}
 use Rattle.std.specs.String.{string_capacity}
 use Rattle.std.specs.Str.{IsAscii}
-use Rattle.regex.specs.Strings.{regex_source, regex_pattern, matcher_pattern}
 use Rattle.hub_listen.specs.Hit.{finds}
+use Rattle.hub_listen.specs.Alive.{AreAlive, HasRoom}
 use Rattle.hub_listen.proofs.search.first_hit.Given as goal
 
 abbrev pub invariant-loop-i : goal.invariant-loop-i
@@ -11,6 +11,9 @@ invariant-loop-i l = record {
   short : length (string_bytes l.initial.text) + l.i ≤ 4096;
   ascii : IsAscii (string_bytes l.text);
   room : 4096 ≤ string_capacity l.text;
-  pattern : matcher_pattern l.matcher ≡ regex_pattern l.regex;
-  none : (j : ℕ) → 1 ≤ j → j ≤ l.i → finds (regex_source l.regex) (string_bytes l.initial.text ++ take j l.piece) ≡ false;
+  states : HasRoom l.alive (vec_len l.pattern.nfa.states);
+  kept : l.alive.kept ≡ l.initial.alive.kept;
+  alive : AreAlive l.pattern.nfa (string_bytes l.text) (length (string_bytes l.text)) l.alive.states.items;
+  quiet : 1 ≤ length (string_bytes l.text) → finds (string_bytes l.pattern.text) (string_bytes l.text) ≡ false;
+  none : (j : ℕ) → 1 ≤ j → j ≤ l.i → finds (string_bytes l.pattern.text) (string_bytes l.initial.text ++ take j l.piece) ≡ false;
 }

@@ -1,0 +1,17 @@
+-- What the fields of a list of states keep.
+use Rattle.std.specs.Prelude.{◌≡◌, ◌<◌, ◌≤◌, length, vec_capacity, All}
+use Rattle.regex_vm.specs.Bits.{members}
+use Rattle.regex_dfa.specs.Walks.{Tracks}
+use Rattle.hub_listen.specs.States.{StateList}
+use Rattle.hub_listen.specs.declared.states.States.TheInside.{Inside}
+
+abbrev pub list_of : Inside → StateList
+list_of a = record { count = length a.set; items = a.list.items }
+
+-- The set has the states of the list, each is in the list once, and there is room for all.
+pub record IsListed (a : Inside) : Type 0 where
+  pub tracks : Tracks a.set a.list.items
+  pub within : All (λ q. q < length a.set) a.list.items
+  pub counted : members a.set ≡ length a.list.items
+  pub few : length a.list.items ≤ length a.set
+  pub room : length a.set ≤ vec_capacity a.list
