@@ -14,7 +14,8 @@ use Rattle.hub_fifodir.specs.declared.fifodir.Fifodir.{Fifodir}
 use Rattle.hub_fifodir.specs.Passes.{kind_of}
 use Rattle.hub_wait.specs.declared.post.Post.{Post}
 use Rattle.hub_wait.specs.Posts.{HasOpened}
-use Rattle.hub_shared.specs.declared.hub.Found.{Found}
+use Rattle.hub_shared.specs.declared.hub.Hub.{Hub}
+use Rattle.hub_shared.specs.declared.hub.Made.{Made}
 use Rattle.hub_shared.specs.declared.shared_desk.fifodirs.Fifodirs.{Fifodirs}
 use Rattle.hub_shared.specs.Fifodirs.{IsKeptAs, KeepsAll}
 use Rattle.hub_shared.specs.Waits.{IsKnown, IsOfKind, AreSeen, IsPostRefused, IsWaitRefused, IsPostAt, ArePosts}
@@ -25,23 +26,23 @@ Any-weaker P Q f xs (k, x, within, at, p) = (k, x, within, at, f x p)
 Any-then : {X : Type 0} (P : X → Type 0) (xs : List X) (y : X) → Any P xs → Any P (xs ++ y ∷ [])
 Any-then P xs y (k, x, within, at, p) = (k, x, grind (arith, common_steps), grind (arith, common_steps), p)
 
-known_still : (old new : Fifodirs) → KeepsAll old new → (name : List ℕ) → IsKnown old name → IsKnown new name
-known_still old new keeps name (j, at) = (j, keeps.each name j at)
+known_still : (hub : Hub) (old new : Fifodirs) → KeepsAll hub old new → (name : List ℕ) → IsKnown old name → IsKnown new name
+known_still hub old new keeps name (j, at) = (j, keeps.each name j at)
 
-of_kind_still : (old new : Fifodirs) → KeepsAll old new → (kind : Kind) (name : List ℕ) → IsOfKind old kind name → IsOfKind new kind name
-of_kind_still old new keeps kind name f = record { joined = f.joined; kept_is = keeps.each name f.joined f.kept_is; of_kind = f.of_kind }
+of_kind_still : (hub : Hub) (old new : Fifodirs) → KeepsAll hub old new → (kind : Kind) (name : List ℕ) → IsOfKind old kind name → IsOfKind new kind name
+of_kind_still hub old new keeps kind name f = record { joined = f.joined; kept_is = keeps.each name f.joined f.kept_is; of_kind = f.of_kind }
 
 known_of_kind : (fs : Fifodirs) (kind : Kind) (name : List ℕ) → IsOfKind fs kind name → IsKnown fs name
 known_of_kind fs kind name f = (f.joined, f.kept_is)
 
 -- what was seen of names holds still
-pub seen_still : (old new : Fifodirs) → KeepsAll old new → (names : List (List ℕ)) (plain : Bool) → AreSeen old names plain → AreSeen new names plain
-seen_still old new keeps names true (known, some) =
-    (All-weaker (IsKnown old) (IsKnown new) (known_still old new keeps) names known, Any-weaker (IsOfKind old Plain) (IsOfKind new Plain) (of_kind_still old new keeps Plain) names some)
-seen_still old new keeps names false each = All-weaker (IsOfKind old Service) (IsOfKind new Service) (of_kind_still old new keeps Service) names each
+pub seen_still : (hub : Hub) (old new : Fifodirs) → KeepsAll hub old new → (names : List (List ℕ)) (plain : Bool) → AreSeen old names plain → AreSeen new names plain
+seen_still hub old new keeps names true (known, some) =
+    (All-weaker (IsKnown old) (IsKnown new) (known_still hub old new keeps) names known, Any-weaker (IsOfKind old Plain) (IsOfKind new Plain) (of_kind_still hub old new keeps Plain) names some)
+seen_still hub old new keeps names false each = All-weaker (IsOfKind old Service) (IsOfKind new Service) (of_kind_still hub old new keeps Service) names each
 
 -- what was found by a name just now
-pub of_kind_found : (fs : Fifodirs) (name : List ℕ) (found : Found) (dir : Fifodir) (kind : Kind) → IsKeptAs fs name found → dir ≡ arc_value found.dir → kind ≡ kind_of dir → IsOfKind fs kind name
+pub of_kind_found : (fs : Fifodirs) (name : List ℕ) (found : Made) (dir : Fifodir) (kind : Kind) → IsKeptAs fs name found → dir ≡ arc_value found.dir → kind ≡ kind_of dir → IsOfKind fs kind name
 of_kind_found fs name found dir kind at is of = record { joined = at.joined; kept_is = at.kept_is; of_kind = sym (of ∙ ap kind_of (is ∙ at.dir)) }
 
 -- one name more, of a plain fifodir
@@ -81,11 +82,11 @@ AllZip-weaker R S f [] (y ∷ ys) each = absurd each
 AllZip-weaker R S f (x ∷ xs) [] each = absurd each
 AllZip-weaker R S f (x ∷ xs) (y ∷ ys) each = (f x y each.0, AllZip-weaker R S f xs ys each.1)
 
-post_still : (old new : Fifodirs) → KeepsAll old new → (want : Want) (name : List ℕ) (post : Post) → IsPostAt old want name post → IsPostAt new want name post
-post_still old new keeps want name post p = record { joined = p.joined; kept_is = keeps.each name p.joined p.kept_is; opened = p.opened }
+post_still : (hub : Hub) (old new : Fifodirs) → KeepsAll hub old new → (want : Want) (name : List ℕ) (post : Post) → IsPostAt old want name post → IsPostAt new want name post
+post_still hub old new keeps want name post p = record { joined = p.joined; kept_is = keeps.each name p.joined p.kept_is; opened = p.opened }
 
 -- a post at what was found by a name just now
-pub post_found : (fs : Fifodirs) (want : Want) (name : List ℕ) (found : Found) (post : Post) → IsKeptAs fs name found → HasOpened (arc_value found.dir) want found.notifies post → IsPostAt fs want name post
+pub post_found : (fs : Fifodirs) (want : Want) (name : List ℕ) (found : Made) (post : Post) → IsKeptAs fs name found → HasOpened (arc_value found.dir) want found.notifies post → IsPostAt fs want name post
 post_found fs want name found post at opened = record {
   joined = at.joined;
   kept_is = at.kept_is;
@@ -93,7 +94,7 @@ post_found fs want name found post at opened = record {
 }
 
 -- one post more
-pub posts_more : (old new : Fifodirs) (want : Want) (names : List (List ℕ)) (posts : List Post) (name : List ℕ) (post : Post)
-    → KeepsAll old new → ArePosts old want names posts → IsPostAt new want name post → ArePosts new want (names ++ name ∷ []) (posts ++ post ∷ [])
-posts_more old new want names posts name post keeps each p =
-    AllZip-push (IsPostAt new want) names posts name post (AllZip-weaker (IsPostAt old want) (IsPostAt new want) (post_still old new keeps want) names posts each) p
+pub posts_more : (hub : Hub) (old new : Fifodirs) (want : Want) (names : List (List ℕ)) (posts : List Post) (name : List ℕ) (post : Post)
+    → KeepsAll hub old new → ArePosts old want names posts → IsPostAt new want name post → ArePosts new want (names ++ name ∷ []) (posts ++ post ∷ [])
+posts_more hub old new want names posts name post keeps each p =
+    AllZip-push (IsPostAt new want) names posts name post (AllZip-weaker (IsPostAt old want) (IsPostAt new want) (post_still hub old new keeps want) names posts each) p

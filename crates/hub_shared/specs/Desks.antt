@@ -1,10 +1,12 @@
 -- What a session is answered, and what it leaves.
 use Rattle.std.specs.Prelude.{◌≡◌, ℕ, List, [], Some, ◌⊎◌}
+use Rattle.std.specs.Arc.{arc_value}
 use Rattle.hub_requests.specs.declared.reply.Refusal.TheVariants as no
 use Rattle.hub_requests.specs.declared.reply.Reply.{Reply}
 use Rattle.hub_requests.specs.declared.reply.Reply.TheVariants.{Done, No}
 use Rattle.hub_requests.specs.declared.request.Request.{Request}
 use Rattle.hub_requests.specs.declared.request.Request.TheVariants.{Dir, Svc, Sub, Pub, Take, Cancel, Close, Status, Listen, Poll, Wait}
+use Rattle.hub_shared.specs.declared.hub.Hub.{Hub}
 use Rattle.hub_shared.specs.declared.shared_desk.fifodirs.Fifodirs.{Fifodirs}
 use Rattle.hub_letters.specs.declared.mode.Mode.{Mode}
 use Rattle.hub_handles.specs.declared.handles.Handles.{Handles}
@@ -42,18 +44,18 @@ ListensTo fs name mode pattern old reply new = ((j : Joined) × (kept fs name �
 
 -- What a request leads to. Of what the hub has, which other sessions change, nothing can be said but by what the
 -- session's own passes see.
-abbrev pub Answers : Fifodirs → Handles → Request → Reply → Fifodirs → Handles → Type 0
-Answers fs hs (Dir name waiting total) reply gs ks = IsMadeReply reply × (gs ≡ fs) × (ks ≡ hs)
-Answers fs hs (Svc name waiting total notifies) reply gs ks = IsMadeReply reply × (gs ≡ fs) × (ks ≡ hs)
-Answers fs hs (Sub name) reply gs ks = KeepsAll fs gs × SubscribesTo gs name hs reply ks
-Answers fs hs (Pub name letters) reply gs ks = AsksByName (says_published letters) fs name reply gs × (ks ≡ hs)
-Answers fs hs (Take id max) reply gs ks = (gs ≡ fs) × TakesAt hs id max reply ks
-Answers fs hs (Cancel id) reply gs ks = (gs ≡ fs) × Cancels hs id reply ks
-Answers fs hs (Close name) reply gs ks = AsksByName says_closed fs name reply gs × (ks ≡ hs)
-Answers fs hs (Status name) reply gs ks = AsksByName says_status fs name reply gs × (ks ≡ hs)
-Answers fs hs (Listen name mode pattern) reply gs ks = KeepsAll fs gs × ListensTo gs name mode pattern hs reply ks
-Answers fs hs (Poll id) reply gs ks = (gs ≡ fs) × PollsAt hs id reply ks
-Answers fs hs (Wait span want turns names) reply gs ks = KeepsAll fs gs × (WaitsFor gs span want names reply ⊎ IsWaitRefusal gs names reply) × (ks ≡ hs)
+abbrev pub Answers : Hub → Fifodirs → Handles → Request → Reply → Fifodirs → Handles → Type 0
+Answers hub fs hs (Dir name waiting total) reply gs ks = IsMadeReply reply × (gs ≡ fs) × (ks ≡ hs)
+Answers hub fs hs (Svc name waiting total notifies) reply gs ks = IsMadeReply reply × (gs ≡ fs) × (ks ≡ hs)
+Answers hub fs hs (Sub name) reply gs ks = KeepsAll hub fs gs × SubscribesTo gs name hs reply ks
+Answers hub fs hs (Pub name letters) reply gs ks = AsksByName hub (says_published letters) fs name reply gs × (ks ≡ hs)
+Answers hub fs hs (Take id max) reply gs ks = (gs ≡ fs) × TakesAt hs id max reply ks
+Answers hub fs hs (Cancel id) reply gs ks = (gs ≡ fs) × Cancels hs id reply ks
+Answers hub fs hs (Close name) reply gs ks = AsksByName hub says_closed fs name reply gs × (ks ≡ hs)
+Answers hub fs hs (Status name) reply gs ks = AsksByName hub says_status fs name reply gs × (ks ≡ hs)
+Answers hub fs hs (Listen name mode pattern) reply gs ks = KeepsAll hub fs gs × ListensTo gs name mode pattern hs reply ks
+Answers hub fs hs (Poll id) reply gs ks = (gs ≡ fs) × PollsAt hs id reply ks
+Answers hub fs hs (Wait span want turns names) reply gs ks = KeepsAll hub fs gs × (WaitsFor gs span want names reply ⊎ IsWaitRefusal gs names reply) × (ks ≡ hs)
 
 -- all is given back: no handle and no publisher is kept, and no number is given again
 pub record Ends (old : Handles) (fs : Fifodirs) (hs : Handles) : Type 0 where
@@ -69,7 +71,7 @@ pub record Asks {P : Type 0} (old : SharedDesk P) (request : Request) (reply : R
   pub hub : new.hub ≡ old.hub
   pub pause : new.pause ≡ old.pause
   pub client : new.client ≡ old.client
-  pub answers : Answers old.fifodirs old.handles request reply new.fifodirs new.handles
+  pub answers : Answers (arc_value old.hub) old.fifodirs old.handles request reply new.fifodirs new.handles
 
 pub record IsEnded {P : Type 0} (old new : SharedDesk P) : Type 0 where
   pub hub : new.hub ≡ old.hub

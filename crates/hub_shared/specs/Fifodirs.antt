@@ -8,9 +8,11 @@ use Rattle.hub_requests.specs.declared.reply.Refusal.TheVariants as no
 use Rattle.hub_requests.specs.declared.reply.Reply.{Reply}
 use Rattle.hub_requests.specs.declared.reply.Reply.TheVariants.{No}
 use Rattle.hub_fifodir.specs.declared.publisher.Publisher.{Publisher}
-use Rattle.hub_shared.specs.declared.hub.Found.{Found}
+use Rattle.hub_shared.specs.declared.hub.Hub.{Hub}
+use Rattle.hub_shared.specs.declared.hub.Made.{Made}
 use Rattle.hub_shared.specs.declared.shared_desk.fifodirs.Fifodirs.{Fifodirs}
 use Rattle.hub_shared.specs.declared.shared_desk.joined.Joined.{Joined}
+use Rattle.hub_shared.specs.Hubs.{IsFoundIn}
 use Rattle.hub_shared.specs.Speaking.{Asked}
 
 -- what is kept under the name
@@ -22,21 +24,26 @@ pub record Keeps (old : Fifodirs) (name : List ℕ) (j : Joined) (new : Fifodirs
   pub here : kept new name ≡ Some j
   pub others : (other : List ℕ) → bytes_eq name other ≡ false → kept new other ≡ kept old other
 
--- what is kept under the name, or what was found by it just now, which has no publisher yet
-abbrev pub IsFound : Fifodirs → List ℕ → Joined → Type 0
-IsFound fs name j = (kept fs name ≡ Some j) ⊎ ((kept fs name ≡ None) × (j.publisher ≡ None))
+-- it was found in the hub by this name just now, and has no publisher yet
+pub record IsNewIn (hub : Hub) (name : List ℕ) (j : Joined) : Type 0 where
+  pub silent : j.publisher ≡ None
+  pub found : IsFoundIn hub name j.found
+
+-- what is kept under the name, or what was found in the hub by it just now
+abbrev pub IsFound : Hub → Fifodirs → List ℕ → Joined → Type 0
+IsFound hub fs name j = (kept fs name ≡ Some j) ⊎ ((kept fs name ≡ None) × IsNewIn hub name j)
 
 -- the name has a fifodir now
-pub record Joins (old : Fifodirs) (name : List ℕ) (new : Fifodirs) : Type 0 where
+pub record Joins (hub : Hub) (old : Fifodirs) (name : List ℕ) (new : Fifodirs) : Type 0 where
   pub joined : Joined
-  pub found : IsFound old name joined
+  pub found : IsFound hub old name joined
   pub keeps : Keeps old name joined new
 
 abbrev pub IsAsBefore : Fifodirs → Fifodirs → Type 0
 IsAsBefore old new = new.by_name.entries ≡ old.by_name.entries
 
 -- a copy of what is kept under the name
-pub record IsKeptAs (fs : Fifodirs) (name : List ℕ) (found : Found) : Type 0 where
+pub record IsKeptAs (fs : Fifodirs) (name : List ℕ) (found : Made) : Type 0 where
   pub joined : Joined
   pub kept_is : kept fs name ≡ Some joined
   pub dir : arc_value found.dir ≡ arc_value joined.found.dir
@@ -53,10 +60,10 @@ abbrev pub IsMissing : Fifodirs → List ℕ → Refusal → Type 0
 IsMissing fs name refusal = ((refusal ≡ no.Name) × (kept fs name ≡ None)) ⊎ (refusal ≡ no.Memory)
 
 -- asked of the publisher under the name
-pub record AsksKept (says : Publisher → Reply → Publisher → Type 0) (old : Fifodirs) (name : List ℕ) (reply : Reply) (new : Fifodirs) : Type 0 where
+pub record AsksKept (hub : Hub) (says : Publisher → Reply → Publisher → Type 0) (old : Fifodirs) (name : List ℕ) (reply : Reply) (new : Fifodirs) : Type 0 where
   pub before : Joined
   pub after : Joined
-  pub found : IsFound old name before
+  pub found : IsFound hub old name before
   pub asked : Asked says before reply after
   pub keeps : Keeps old name after new
 
@@ -65,11 +72,11 @@ pub record IsUnfound (old : Fifodirs) (name : List ℕ) (reply : Reply) (new : F
   pub said : reply ≡ No refusal
   pub finding : IsFinding old name new refusal
 
-abbrev pub AsksByName : (Publisher → Reply → Publisher → Type 0) → Fifodirs → List ℕ → Reply → Fifodirs → Type 0
-AsksByName says old name reply new = AsksKept says old name reply new ⊎ IsUnfound old name reply new
+abbrev pub AsksByName : Hub → (Publisher → Reply → Publisher → Type 0) → Fifodirs → List ℕ → Reply → Fifodirs → Type 0
+AsksByName hub says old name reply new = AsksKept hub says old name reply new ⊎ IsUnfound old name reply new
 
 -- whatever was kept is kept still
-pub record KeepsAll (old new : Fifodirs) : Type 0 where
+pub record KeepsAll (hub : Hub) (old new : Fifodirs) : Type 0 where
   pub each : (name : List ℕ) (j : Joined) → kept old name ≡ Some j → kept new name ≡ Some j
-  -- and what is new has no publisher
-  pub silent : (name : List ℕ) (j : Joined) → kept new name ≡ Some j → kept old name ≡ None → j.publisher ≡ None
+  -- and what is new was found in the hub by its name
+  pub fresh : (name : List ℕ) (j : Joined) → kept new name ≡ Some j → kept old name ≡ None → IsNewIn hub name j

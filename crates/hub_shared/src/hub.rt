@@ -1,14 +1,15 @@
 //! The fifodirs that sessions share, by name.
-ghost use Rattle.std.specs.Prelude.{◌≡◌, ◌≤◌, ℕ, List, true, false, is_some, option_map, IfOk, OnOk, OnErr, Err};
+ghost use Rattle.std.specs.Prelude.{◌≡◌, ◌≤◌, ℕ, List, true, false, is_some, option_map, IfOk, IfSome, OnOk, OnErr, Err};
+ghost use Rattle.std.specs.Arc.{arc_value};
 ghost use Rattle.std.specs.Str.{bytes_eq};
 ghost use Rattle.indexmap.specs.IndexMap.{get, index_map_len};
-ghost use Rattle.hub_shared.specs.Hubs.{HasMade, shown};
 
 use hub_fifodir::Fifodir;
 use hub_record::{Kind, Limits};
 use hub_requests::Name;
 use indexmap::IndexMap;
 use std::alloc::{AllocError, Global};
+use std::snapshot::Snapshot;
 use std::sync::{Arc, RwLock, Wait};
 use thiserror::Error;
 
@@ -39,21 +40,69 @@ impl From<AllocError> for HubError {
     }
 }
 
-/// A fifodir that was found by its name.
+/// A fifodir that has a name.
 #[derive(Drop)]
-pub struct Found {
+pub struct Made {
     pub dir: Arc<Fifodir, Global>,
     /// Whether its service reports readiness.
     pub notifies: bool,
 }
 
-impl Found {
+impl Made {
+    ghost use Rattle.hub_shared.specs.Hubs.{shown};
+
     /// The same fifodir, to be kept once more.
-    pub(crate) fn copy(&self) -> Result<Found, AllocError>
-        ensures { IfOk result (λ found. shown found ≡ shown self.now) }
+    fn copy(&self) -> Result<Made, AllocError>
+        ensures { IfOk result (λ made. shown made ≡ shown self.now) }
     {
         let dir = Arc::try_clone(&self.dir)?;
-        Ok(Found {
+        Ok(Made {
+            dir,
+            notifies: self.notifies,
+        })
+    }
+}
+
+/// A fifodir that was found, with what it was found by. Only [`Hub::find`] makes one.
+#[derive(Drop)]
+pub struct Found {
+    pub dir: Arc<Fifodir, Global>,
+    /// Whether its service reports readiness.
+    pub notifies: bool,
+    /// The hub, as contracts see it.
+    hub: Snapshot<Hub>,
+    /// The name that the hub had it under.
+    name: Snapshot<Name>,
+    /// The fifodir that the hub gave.
+    given: Snapshot<Arc<Fifodir, Global>>,
+    ghost is_given: { arc_value dir ≡ arc_value given.value },
+}
+
+impl Found {
+    ghost use Rattle.hub_shared.specs.Hubs.{IsFoundIn};
+
+    /// What the hub has under the name.
+    fn of(hub: &Hub, name: &Name, made: Made) -> Found
+        ensures { IsFoundIn hub.now name.now result }
+    {
+        let Made { dir, notifies } = made;
+        let given = Snapshot::of(&dir);
+        Found {
+            dir,
+            notifies,
+            hub: Snapshot::of(hub),
+            name: Snapshot::of(name),
+            given,
+        }
+    }
+
+    /// The same fifodir, to be kept once more.
+    pub(crate) fn copy(&self) -> Result<Made, AllocError>
+        ensures dir { IfOk result (λ made. arc_value made.dir ≡ arc_value self.now.dir) }
+        ensures notifies { IfOk result (λ made. made.notifies ≡ self.now.notifies) }
+    {
+        let dir = Arc::try_clone(&self.dir)?;
+        Ok(Made {
             dir,
             notifies: self.notifies,
         })
@@ -64,11 +113,13 @@ impl Found {
 #[derive(Drop)]
 struct Named {
     alloc: Global,
-    fifodirs: IndexMap<Name, Found>,
+    fifodirs: IndexMap<Name, Made>,
     ghost few: { index_map_len fifodirs ≤ 256 },
 }
 
 impl Named {
+    ghost use Rattle.hub_shared.specs.Hubs.{HasMade, shown};
+
     fn make(
         &mut self,
         name: &Name,
@@ -95,17 +146,17 @@ impl Named {
         let Ok(dir) = Arc::new(self.alloc, fifodir) else {
             return Err(HubError::Memory);
         };
-        match self.fifodirs.insert(key, Found { dir, notifies }) {
+        match self.fifodirs.insert(key, Made { dir, notifies }) {
             Ok(_) => Ok(()),
             Err(_) => Err(HubError::Memory),
         }
     }
 
-    fn find(&self, name: &Name) -> Result<Option<Found>, AllocError>
-        ensures { IfOk result (λ found. option_map shown found ≡ option_map shown (get bytes_eq self.now.fifodirs name.now)) }
+    fn find(&self, name: &Name) -> Result<Option<Made>, AllocError>
+        ensures { IfOk result (λ made. option_map shown made ≡ option_map shown (get bytes_eq self.now.fifodirs name.now)) }
     {
         match self.fifodirs.get(name) {
-            Some(found) => Ok(Some(found.copy()?)),
+            Some(made) => Ok(Some(made.copy()?)),
             None => Ok(None),
         }
     }
@@ -115,9 +166,13 @@ impl Named {
 #[derive(Drop)]
 pub struct Hub {
     named: RwLock<Named>,
+    /// What contracts tell two hubs apart by: no clause says which value a hub has here.
+    mark: Snapshot<u64>,
 }
 
 impl Hub {
+    ghost use Rattle.hub_shared.specs.Hubs.{IsFoundIn};
+
     /// A hub without a name.
     pub fn new(alloc: Global) -> Result<Hub, AllocError> {
         let named = Named {
@@ -126,6 +181,7 @@ impl Hub {
         };
         Ok(Hub {
             named: RwLock::new(named),
+            mark: Snapshot::of(&0),
         })
     }
 
@@ -154,7 +210,13 @@ impl Hub {
     }
 
     /// The fifodir of this name, if it has one. It stays as long as the hub does.
-    pub fn find<H: Wait>(&self, rt: &H, name: &Name) -> Result<Option<Found>, AllocError> {
-        self.named.read(rt).find(name)
+    pub fn find<H: Wait>(&self, rt: &H, name: &Name) -> Result<Option<Found>, AllocError>
+        ensures { IfOk result (λ found. IfSome found (IsFoundIn self.now name.now)) }
+    {
+        let made = self.named.read(rt).find(name)?;
+        match made {
+            Some(made) => Ok(Some(Found::of(self, name, made))),
+            None => Ok(None),
+        }
     }
 }

@@ -3,8 +3,9 @@ ghost use Rattle.std.specs.Prelude.{◌≡◌, ◌≤◌, [], length, IfErr, OnE
 ghost use Rattle.hub_requests.specs.Texts.{text_of};
 ghost use Rattle.hub_handles.specs.Refusals.{IsBrief};
 
+use crate::Hub;
+use crate::hub::Made;
 use crate::shared_desk::joined::Joined;
-use crate::{Found, Hub};
 use hub_record::Letters;
 use hub_requests::{Name, Refusal, Reply};
 use indexmap::IndexMap;
@@ -34,7 +35,7 @@ impl Fifodirs {
 
     /// Finds the fifodir of this name, once.
     fn join<H: Wait>(&mut self, rt: &H, hub: &Hub, name: &Name) -> Result<(), Refusal>
-        ensures ok { OnOk result (Joins self.old name.now self.new) }
+        ensures ok { OnOk result (Joins hub.now self.old name.now self.new) }
         ensures err { IfErr result (IsFinding self.old name.now self.new) }
     {
         if self.by_name.contains_key(name) {
@@ -56,9 +57,9 @@ impl Fifodirs {
     }
 
     /// The fifodir of this name, to be kept beside a pass.
-    pub fn find<H: Wait>(&mut self, rt: &H, hub: &Hub, name: &Name) -> Result<Found, Refusal>
+    pub fn find<H: Wait>(&mut self, rt: &H, hub: &Hub, name: &Name) -> Result<Made, Refusal>
         ensures ok { IfOk result (λ found. IsKeptAs self.new name.now found) }
-        ensures kept { KeepsAll self.old self.new }
+        ensures kept { KeepsAll hub.now self.old self.new }
         ensures missing { IfErr result (IsMissing self.new name.now) }
         ensures brief { IfErr result IsBrief }
     {
@@ -73,7 +74,7 @@ impl Fifodirs {
     }
 
     pub fn publish<H: Wait>(&mut self, rt: &H, hub: &Hub, name: &Name, letters: &Letters) -> Reply
-        ensures step { AsksByName (says_published letters.now) self.old name.now result self.new }
+        ensures step { AsksByName hub.now (says_published letters.now) self.old name.now result self.new }
         ensures short { length (text_of result) ≤ 4101 }
     {
         if let Err(refusal) = self.join(rt, hub, name) {
@@ -86,7 +87,7 @@ impl Fifodirs {
     }
 
     pub fn close<H: Wait>(&mut self, rt: &H, hub: &Hub, name: &Name) -> Reply
-        ensures step { AsksByName says_closed self.old name.now result self.new }
+        ensures step { AsksByName hub.now says_closed self.old name.now result self.new }
         ensures short { length (text_of result) ≤ 4101 }
     {
         if let Err(refusal) = self.join(rt, hub, name) {
@@ -99,7 +100,7 @@ impl Fifodirs {
     }
 
     pub fn status<H: Wait>(&mut self, rt: &H, hub: &Hub, name: &Name) -> Reply
-        ensures step { AsksByName says_status self.old name.now result self.new }
+        ensures step { AsksByName hub.now says_status self.old name.now result self.new }
         ensures short { length (text_of result) ≤ 4101 }
     {
         if let Err(refusal) = self.join(rt, hub, name) {

@@ -39,7 +39,7 @@ impl Fifodirs {
         ensures services { OnOk result (AreSeen self.new names.now false) }
         ensures opened { IfOk result (λ opened. ArePosts self.new want names.now opened.posts.items) }
         ensures refused { IfErr result (IsWaitRefused self.new names.now) }
-        ensures kept { KeepsAll self.old self.new }
+        ensures kept { KeepsAll hub.now self.old self.new }
         ensures brief { IfErr result IsBrief }
     {
         if self.has_plain(rt, hub, names)? {
@@ -64,7 +64,7 @@ impl Fifodirs {
     fn has_plain<H: Wait>(&mut self, rt: &H, hub: &Hub, names: &[Name]) -> Result<bool, Refusal>
         ensures seen { IfOk result (AreSeen self.new names.now) }
         ensures missing { IfErr result (IsUnseen self.new names.now) }
-        ensures kept { KeepsAll self.old self.new }
+        ensures kept { KeepsAll hub.now self.old self.new }
         ensures brief { IfErr result IsBrief }
     {
         let mut plain = false;
@@ -90,7 +90,7 @@ impl Fifodirs {
         requires empty { vec_len posts.old ≡ 0 }
         requires fits { length names.now ≤ vec_capacity posts.old }
         requires services { AreSeen self.old names.now false }
-        ensures kept { KeepsAll self.old self.new }
+        ensures kept { KeepsAll hub.now self.old self.new }
         ensures refused { IfErr result IsPostRefused }
         ensures brief { IfErr result IsBrief }
         ensures opened { OnOk result (ArePosts self.new want names.now posts.new.items) }

@@ -15,8 +15,8 @@ loop-name-preserved g c =
     let new = c.find.new.self in
     let found = c.in_ok-found.ensures in
     let more : take (i + 1) names ≡ take i names ++ name ∷ [] = take_more names i name c.loop-name-test.true ∙ ap (λ (n : List ℕ). take i names ++ n ∷ []) (sym c.name-item.is) in
-    let kept = KeepsAll-trans c.args.self.now c.loop-name.self new c.loop-name.invariant.kept found.kept in
-    let before = seen_still c.loop-name.self new found.kept (take i names) c.loop-name.plain c.loop-name.invariant.seen in
+    let kept = KeepsAll-trans c.args.hub.now c.args.self.now c.loop-name.self new c.loop-name.invariant.kept found.kept in
+    let before = seen_still c.args.hub.now c.loop-name.self new found.kept (take i names) c.loop-name.plain c.loop-name.invariant.seen in
     elim c.match-kind.branch [
       | in-Plain w ↦ record {
         kept = kept;

@@ -5,6 +5,6 @@ use Rattle.hub_shared.proofs.shared_desk.fifodirs.Fifodirs.has_plain.Given as go
 
 abbrev pub invariant-loop-name : goal.invariant-loop-name
 invariant-loop-name g l = record {
-  kept : KeepsAll l.initial.self l.self;
+  kept : KeepsAll l.hub l.initial.self l.self;
   seen : AreSeen l.self (take l.name-index l.names) l.plain;
 }

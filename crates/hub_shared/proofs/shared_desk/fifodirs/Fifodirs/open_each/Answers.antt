@@ -17,10 +17,10 @@ loop-name-preserved g c =
     let want = c.args.want in
     let post = c.in_ok-post.post in
     let more : take (i + 1) names ≡ take i names ++ name ∷ [] = take_more names i name c.loop-name-test.true ∙ ap (λ (n : List ℕ). take i names ++ n ∷ []) (sym c.name-item.is) in
-    let opened = posts_more c.loop-name.self new want (take i names) c.loop-name.posts.items name post found.kept c.loop-name.invariant.opened
+    let opened = posts_more c.args.hub.now c.loop-name.self new want (take i names) c.loop-name.posts.items name post found.kept c.loop-name.invariant.opened
     (post_found new want name c.in_ok-found.found post found.ok c.in_ok-post.ensures) in
     record {
-      kept = KeepsAll-trans c.args.self.now c.loop-name.self new c.loop-name.invariant.kept found.kept;
+      kept = KeepsAll-trans c.args.hub.now c.args.self.now c.loop-name.self new c.loop-name.invariant.kept found.kept;
       opened = subst (λ (ps : List Post). ArePosts new want (take (i + 1) names) ps) (sym {A = List Post} c.push_reserved.ensures.items)
           (subst (λ (ns : List (List ℕ)). ArePosts new want ns (c.loop-name.posts.items ++ post ∷ [])) (sym more) opened);
       count = grind (arith, common_steps);

@@ -5,7 +5,7 @@ use Rattle.hub_shared.proofs.shared_desk.fifodirs.Fifodirs.open_each.Given as go
 
 abbrev pub invariant-loop-name : goal.invariant-loop-name
 invariant-loop-name g l = record {
-  kept : KeepsAll l.initial.self l.self;
+  kept : KeepsAll l.hub l.initial.self l.self;
   opened : ArePosts l.self l.want (take l.name-index l.names) l.posts.items;
   count : vec_len l.posts ≡ l.name-index;
   room : length l.names ≤ vec_capacity l.posts;
