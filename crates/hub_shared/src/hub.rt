@@ -166,8 +166,8 @@ impl Named {
 #[derive(Drop)]
 pub struct Hub {
     named: RwLock<Named>,
-    /// What contracts tell two hubs apart by: no clause says which value a hub has here.
-    mark: Snapshot<u64>,
+    /// No clause says what this is, so no contract can show that two hubs are one. Nothing reads it at run time.
+    mark: u64,
 }
 
 impl Hub {
@@ -181,7 +181,7 @@ impl Hub {
         };
         Ok(Hub {
             named: RwLock::new(named),
-            mark: Snapshot::of(&0),
+            mark: 0,
         })
     }
 
