@@ -19,7 +19,7 @@ pub enum FeedError {
     /// There is no hit, and what was gathered has more than 4096 letters together with the piece.
     #[error("more letters than a listener gathers")]
     Overlong,
-    /// The search found no memory to begin with.
+    /// There was no memory to search. Since all room is made with the listener, this doesn't come today.
     #[error("out of memory")]
     Memory,
 }
