@@ -4,7 +4,7 @@
 use clap::error::ErrorKind;
 use hub_arguments::{Plan, read_words, status_of};
 use hub_commands::{Fault, call, serve, tell_faults};
-use hub_front::{FrontError, Sink, Source};
+use hub_io::{FrontError, Sink, Source};
 use hub_script::script;
 use std::alloc::{AllocGlobal, Global};
 use std::io::Write;

@@ -1,7 +1,7 @@
 //! The subcommand `call`: a client of a server.
 use crate::fault::Fault;
-use hub_front::{Sink, Source};
-use hub_relay::relay;
+use hub_client::relay;
+use hub_io::{Sink, Source};
 use std::alloc::Global;
 use std::net::Net;
 use std::os::unix::net::UnixStream;

@@ -1,7 +1,7 @@
 //! What goes wrong while the program runs.
-use hub_front::FrontError;
-use hub_relay::RelayError;
-use hub_sessions::ServeError;
+use hub_client::RelayError;
+use hub_io::FrontError;
+use hub_server::ServeError;
 use std::alloc::{AllocError, Global};
 use std::io;
 use std::io::Write;

@@ -1,9 +1,9 @@
 //! The subcommand `serve`: sessions over a Unix socket.
 ghost use Rattle.std.specs.Prelude.{◌≡◌, None};
-ghost use Rattle.hub_sessions.specs.declared.gate.Next.TheVariants.{Over};
+ghost use Rattle.hub_server.specs.declared.gate.Next.TheVariants.{Over};
 
 use crate::fault::Fault;
-use hub_sessions::{Gate, Next, Report, serve_all};
+use hub_server::{Gate, Next, Report, serve_all};
 use hub_shared::Hub;
 use hub_wait::Backoff;
 use std::alloc::Global;

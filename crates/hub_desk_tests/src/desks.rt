@@ -1,6 +1,6 @@
 //! The two desks, and a table over each of them.
 use crate::rows::{Row, run};
-use hub_desk::LocalDesk;
+use hub_local::LocalDesk;
 use hub_requests::Desk;
 use hub_shared::{Hub, SharedDesk};
 use hub_wait::{Go, Pause};

@@ -3,8 +3,8 @@ ghost use Rattle.hub_requests.specs.Ranges.{IsInRange};
 
 use crate::desks::{alone, new_hub, new_local, run_anew, session};
 use crate::rows::{Ask, Row, answered, expect, expect_number, expect_numbers, named, request, run};
-use hub_desk::LocalDesk;
 use hub_letters::Mode;
+use hub_local::LocalDesk;
 use hub_requests::{Desk, Name, Request};
 use std::alloc::{AllocError, AllocGlobal, Global};
 use std::process::Abort;

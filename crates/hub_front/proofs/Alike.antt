@@ -7,13 +7,13 @@ use Rattle.hub_requests.specs.declared.reply.Reply.{Reply}
 use Rattle.hub_requests.specs.declared.reply.Reply.TheVariants.{No}
 use Rattle.hub_requests.specs.declared.reply.Refusal.TheVariants.{Memory}
 use Rattle.hub_requests.specs.Texts.{text_of}
-use Rattle.hub_lines.specs.declared.parsing.Bad.{Bad}
-use Rattle.hub_lines.specs.declared.parsing.Bad.TheVariants as bad
-use Rattle.hub_lines.specs.Refusing.{refusal_of}
+use Rattle.hub_protocol.specs.declared.parsing.Bad.{Bad}
+use Rattle.hub_protocol.specs.declared.parsing.Bad.TheVariants as bad
+use Rattle.hub_protocol.specs.Refusing.{refusal_of}
 use Rattle.hub_front.specs.Serving.{Asking, Answers, AnswersRead, Run, Finished}
-use Rattle.hub_front.specs.Lines.{lines_of}
+use Rattle.hub_io.specs.Lines.{lines_of}
 use Rattle.hub_front.specs.Places.{NoneIsMemory, IsFunction}
-use Rattle.hub_lines.proofs.OneReading.{one_reading}
+use Rattle.hub_protocol.proofs.OneReading.{one_reading}
 
 abbrev IsGiven : Reply → Type 0
 IsGiven reply = reply ≢ No Memory

@@ -5,10 +5,10 @@ use Rattle.std.proofs.lemmas.List.{take-append-le, map-append, take_all, length-
 use Rattle.std.proofs.lemmas.Bool.{lt-ltb, le-ltb}
 use Rattle.hub_requests.specs.declared.reply.Reply.{Reply}
 use Rattle.hub_requests.specs.declared.request.Request.{Request}
-use Rattle.hub_lines.specs.declared.parsing.Bad.{Bad}
-use Rattle.hub_lines.specs.declared.parsing.Bad.TheVariants.{Long, Text, Word, Form, Range, Memory}
-use Rattle.hub_lines.specs.Reading.{IsReading}
-use Rattle.hub_front.specs.Lines.{onto_first, complete_of, rest_of, last_line, lines_of}
+use Rattle.hub_protocol.specs.declared.parsing.Bad.{Bad}
+use Rattle.hub_protocol.specs.declared.parsing.Bad.TheVariants.{Long, Text, Word, Form, Range, Memory}
+use Rattle.hub_protocol.specs.Reading.{IsReading}
+use Rattle.hub_io.specs.Lines.{onto_first, complete_of, rest_of, last_line, lines_of}
 use Rattle.hub_front.specs.Pieces.{keep, done, left, pieces_of}
 use Rattle.hub_front.specs.Serving.{Asking, Answers, Run, Served, BreaksOff}
 

@@ -1,8 +1,0 @@
-pub mod Outcomes
-pub mod Told
-pub mod Runs
-pub mod Cuts
-pub mod Kept
-pub mod UnderWay
-pub mod Placed
-pub mod Alike

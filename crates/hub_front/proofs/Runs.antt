@@ -5,7 +5,8 @@ use Rattle.std.proofs.KnownBytes.{Appends-nil, Appends-trans}
 use Rattle.std.proofs.lemmas.Grind.{flat_map-append}
 use Rattle.hub_requests.specs.declared.reply.Reply.{Reply}
 use Rattle.hub_requests.specs.Texts.{text_of}
-use Rattle.hub_front.specs.Serving.{Asking, Answers, Run, Served, AppendsPart, BreaksOff}
+use Rattle.hub_io.specs.Faults.{AppendsPart}
+use Rattle.hub_front.specs.Serving.{Asking, Answers, Run, Served, BreaksOff}
 
 -- one run after another
 pub run_then : {D : Type 0} (asks : Asking D) (old mid new : D) (l1 l2 : List (List ℕ)) (r1 r2 : List Reply)

@@ -2,7 +2,7 @@
 use Rattle.std.proofs.Common.{◌≡◌, ℕ, ◌+◌, ◌≤◌, List, [], ◌++◌, length, inl, Option, refl, sym, ap, ◌∙◌, length-append, zero-add, arith}
 use Rattle.std.specs.Io.KnownBytes.{Keeps, Consumes}
 use Rattle.std.proofs.KnownBytes.{Consumes-trans, Consumes-kept}
-use Rattle.hub_front.specs.Lines.{complete_of, last_line, lines_of}
+use Rattle.hub_io.specs.Lines.{complete_of, last_line, lines_of}
 use Rattle.hub_front.specs.Pieces.{done, left, pieces_of, IsUnderWay}
 use Rattle.hub_front.specs.Serving.{Asking, Served, BreaksOff, AreDue}
 use Rattle.hub_front.proofs.Cuts.{done_on, served_on, left_on, count_on}

@@ -1,7 +1,7 @@
 -- Lines as a session meets them: from each it keeps the first 513 bytes.
 use Rattle.std.specs.Prelude.{◌≡◌, ℕ, ◌≤◌, List, [], ◌∷◌, ◌++◌, ◌==◌, length, nat_lt, if◌then◌else◌, Option}
 use Rattle.std.specs.Io.KnownBytes.{Consumes}
-use Rattle.hub_front.specs.Lines.{last_line}
+use Rattle.hub_io.specs.Lines.{last_line}
 use Rattle.hub_front.specs.Serving.{Asking, Served}
 
 -- what is kept of a line after one more byte

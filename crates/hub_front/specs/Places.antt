@@ -5,10 +5,10 @@ use Rattle.hub_requests.specs.declared.request.Request.{Request}
 use Rattle.hub_requests.specs.declared.reply.Reply.{Reply}
 use Rattle.hub_requests.specs.declared.reply.Reply.TheVariants.{No}
 use Rattle.hub_requests.specs.declared.reply.Refusal.TheVariants.{Memory}
-use Rattle.hub_lines.specs.declared.parsing.Bad.{Bad}
-use Rattle.hub_lines.specs.declared.parsing.Bad.TheVariants as bad
-use Rattle.hub_lines.specs.Reading.{IsReading}
-use Rattle.hub_lines.specs.Refusing.{refusal_of}
+use Rattle.hub_protocol.specs.declared.parsing.Bad.{Bad}
+use Rattle.hub_protocol.specs.declared.parsing.Bad.TheVariants as bad
+use Rattle.hub_protocol.specs.Reading.{IsReading}
+use Rattle.hub_protocol.specs.Refusing.{refusal_of}
 use Rattle.hub_front.specs.Serving.{Asking}
 
 -- the requests among what lines are read as, in order

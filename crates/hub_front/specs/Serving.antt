@@ -1,18 +1,19 @@
 -- What a session answers and writes.
-use Rattle.std.specs.Prelude.{◌≡◌, ◌⊎◌, ℕ, ◌<◌, ◌≤◌, List, [], ◌∷◌, ◌++◌, length, take, flat_map, Option, Result, Ok, Err}
+use Rattle.std.specs.Prelude.{◌≡◌, ◌⊎◌, ℕ, ◌≤◌, List, [], ◌∷◌, ◌++◌, length, flat_map, Option, Result, Ok, Err}
 use Rattle.std.specs.Io.KnownBytes.{Appends, Consumes, IsAtEnd}
 use Rattle.hub_requests.specs.declared.request.Request.{Request}
 use Rattle.hub_requests.specs.declared.reply.Reply.{Reply}
 use Rattle.hub_requests.specs.declared.reply.Reply.TheVariants.{No}
 use Rattle.hub_requests.specs.Texts.{text_of}
-use Rattle.hub_lines.specs.declared.parsing.Bad.{Bad}
-use Rattle.hub_front.specs.declared.fault.FrontError.{FrontError}
-use Rattle.hub_front.specs.declared.fault.FrontError.TheVariants as fault
-use Rattle.hub_front.specs.declared.fault.FrontError.TheVariants.{Read, Write, Turns}
-use Rattle.hub_lines.specs.Reading.{IsReading}
-use Rattle.hub_lines.specs.Refusing.{refusal_of}
-use Rattle.hub_front.specs.Lines.{complete_of, lines_of}
-use Rattle.hub_front.specs.Telling.{Grows}
+use Rattle.hub_protocol.specs.declared.parsing.Bad.{Bad}
+use Rattle.hub_io.specs.declared.fault.FrontError.{FrontError}
+use Rattle.hub_io.specs.declared.fault.FrontError.TheVariants as fault
+use Rattle.hub_io.specs.declared.fault.FrontError.TheVariants.{Read, Write, Turns}
+use Rattle.hub_protocol.specs.Reading.{IsReading}
+use Rattle.hub_protocol.specs.Refusing.{refusal_of}
+use Rattle.hub_io.specs.Lines.{complete_of, lines_of}
+use Rattle.hub_io.specs.Faults.{AppendsPart}
+use Rattle.hub_io.specs.Telling.{Grows}
 
 -- how a desk answers: the desk before, the request, the reply, the desk after
 abbrev pub Asking : Type 0 → Type 1
@@ -44,12 +45,6 @@ pub record Served {D : Type 0} (asks : Asking D) (old : D) (lines : List (List �
   pub replies : List Reply
   pub run : Run asks old lines replies new
   pub written : Appends held holds (flat_map text_of replies)
-
--- a front of the bytes was written, and not all of them
-pub record AppendsPart (held holds : Option (List ℕ)) (bytes : List ℕ) : Type 0 where
-  pub count : ℕ
-  pub part : count < length bytes
-  pub written : Appends held holds (take count bytes)
 
 -- Some of the lines were served, and the one after them was answered, but its reply wasn't written whole.
 pub record BreaksOff {D : Type 0} (asks : Asking D) (old : D) (lines : List (List ℕ))
@@ -103,19 +98,3 @@ pub record Stopped {D : Type 0} (asks : Asking D) (ends : D → D → Type 0) (o
 -- At most 10,000,000 reads were made, and at Turns just as many. made and makes are the counts before and after.
 abbrev pub ReadsWithin : {T : Type 0} → (made makes : Option ℕ) → Result T FrontError → Type 0
 ReadsWithin made makes result = (n : ℕ) × (n ≤ 10000000) × Grows made makes n × (result ≡ Err Turns → n ≡ 10000000)
-
--- the faults of the reader that a session met: it stops at the first
-abbrev pub read_faults : {T : Type 0} → Result T FrontError → ℕ
-read_faults (Ok x) = 0
-read_faults (Err Read) = 1
-read_faults (Err Write) = 0
-read_faults (Err Turns) = 0
-read_faults (Err fault.Memory) = 0
-
--- the faults of the writer that a session met
-abbrev pub write_faults : {T : Type 0} → Result T FrontError → ℕ
-write_faults (Ok x) = 0
-write_faults (Err Read) = 0
-write_faults (Err Write) = 1
-write_faults (Err Turns) = 0
-write_faults (Err fault.Memory) = 0

@@ -5,17 +5,11 @@
 //! at, so that replies come in the order of the lines however the bytes were cut on their way.
 #![tactic(auto)]
 
-mod again;
-mod fault;
 mod places;
 mod serving;
 mod session;
-mod sink;
-mod source;
 
-pub use fault::FrontError;
+pub use hub_io::{FrontError, Sink, Source};
+pub use hub_protocol::{parse, write_reply};
 pub use places::{refusals_stand_in_place, same_input_same_output, same_lines_same_replies};
 pub use serving::serve;
-pub use session::write_whole;
-pub use sink::Sink;
-pub use source::Source;

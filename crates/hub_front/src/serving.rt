@@ -1,29 +1,17 @@
 //! A session from its first read to its end.
 ghost use Rattle.std.specs.Prelude.{◌≡◌, ◌≢◌, ◌+◌, ◌*◌, ◌≤◌, List, ℕ, [], length, Err, OnOk, IfOk, IfErr, vec_len};
 ghost use Rattle.std.specs.Io.KnownBytes.{Consumes, IsAtEnd};
-ghost use Rattle.hub_front.specs.Lines.{lines_of};
-ghost use Rattle.hub_front.specs.Telling.{Grows};
-ghost use Rattle.hub_front.specs.Serving.{Finished, Stopped, StopsAt, Served, ReadsWithin, read_faults, write_faults};
+ghost use Rattle.hub_io.specs.Lines.{lines_of};
+ghost use Rattle.hub_io.specs.Telling.{Grows};
+ghost use Rattle.hub_io.specs.Faults.{read_faults, write_faults};
+ghost use Rattle.hub_front.specs.Serving.{Finished, Stopped, StopsAt, Served, ReadsWithin};
 ghost use Rattle.hub_front.specs.Pieces.{IsUnderWay};
 
-use crate::fault::FrontError;
 use crate::session::Session;
-use crate::sink::Sink;
-use crate::source::Source;
+use hub_io::{CHUNK, FrontError, MAX_READS, Sink, Source, new_chunk};
 use hub_requests::Desk;
 use std::alloc::{AllocError, Global};
 use std::sync::Wait;
-
-const MAX_READS: u64 = 10_000_000;
-
-const CHUNK: usize = 65_536;
-
-// Room for one read. (A size that is a parameter keeps the proof from writing the zeros out.)
-fn new_chunk(alloc: Global, size: usize) -> Result<Vec<u8>, AllocError>
-    ensures { IfOk result (λ chunk. vec_len chunk ≡ size) }
-{
-    vec![in alloc; 0u8; size]
-}
 
 // Serves the lines that end in an LF, until the input ends.
 fn serve_reads<H: Wait, D: Desk, R: Source, W: Sink>(

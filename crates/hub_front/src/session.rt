@@ -2,14 +2,14 @@
 ghost use Rattle.std.specs.Prelude.{◌≡◌, ◌+◌, ◌<◌, ◌≤◌, ◌^◌, List, [], ◌∷◌, length, OnOk, OnErr, IfOk, IfErr, vec_len, vec_capacity};
 ghost use Rattle.std.specs.Io.KnownBytes.{Appends};
 ghost use Rattle.hub_requests.specs.Texts.{text_of};
-ghost use Rattle.hub_front.specs.Lines.{last_line};
-ghost use Rattle.hub_front.specs.Telling.{Grows};
-ghost use Rattle.hub_front.specs.Serving.{Answers, Served, AppendsPart, BreaksOff, write_faults};
+ghost use Rattle.hub_io.specs.Lines.{last_line};
+ghost use Rattle.hub_io.specs.Telling.{Grows};
+ghost use Rattle.hub_io.specs.Faults.{AppendsPart, write_faults};
+ghost use Rattle.hub_front.specs.Serving.{Answers, Served, BreaksOff};
 ghost use Rattle.hub_front.specs.Pieces.{done, left};
 
-use crate::fault::FrontError;
-use crate::sink::Sink;
-use hub_lines::{parse, write_reply};
+use hub_io::{FrontError, Sink, write_whole};
+use hub_protocol::{parse, write_reply};
 use hub_requests::{Desk, Refusal, Reply};
 use std::alloc::{AllocError, Global};
 use std::sync::Wait;
@@ -158,21 +158,4 @@ fn reply_to<H: Wait, D: Desk>(rt: &H, alloc: Global, desk: &mut D, line: &[u8]) 
         Ok(request) => desk.ask(rt, &request),
         Err(bad) => Reply::No(Refusal::from(bad)),
     }
-}
-
-/// Writes all of the bytes, and stops where the writer fails or takes none.
-pub fn write_whole<W: Sink>(writer: &mut W, bytes: &[u8]) -> Result<(), FrontError>
-    ensures ok { OnOk result (Appends (W.contents writer.old) (W.contents writer.new) bytes.now) }
-    ensures err { OnErr result (AppendsPart (W.contents writer.old) (W.contents writer.new) bytes.now) }
-    ensures fault { IfErr result (λ e. e ≡ FrontError.Write) }
-    ensures told { Grows (W.faults writer.old) (W.faults writer.new) (write_faults result) }
-{
-    let mut written = 0;
-    'parts: while written < bytes.len() {
-        match writer.push(&bytes[written..]) {
-            Ok(0) | Err(_) => return Err(FrontError::Write),
-            Ok(n) => written += n,
-        }
-    }
-    Ok(())
 }

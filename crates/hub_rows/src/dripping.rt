@@ -1,7 +1,7 @@
 //! A reader that gives one byte at each read.
 ghost use Rattle.std.specs.Prelude.{None};
 
-use hub_front::Source;
+use ftrighub::Source;
 use std::io;
 use std::io::Read;
 

@@ -8,9 +8,7 @@ mod sharing;
 
 use anyhow::{Result, anyhow};
 use dripping::Dripping;
-use hub_desk::LocalDesk;
-use hub_front::{Source, serve};
-use hub_requests::Desk;
+use ftrighub::{Desk, LocalDesk, Source, serve};
 use std::alloc::{AllocGlobal, Global};
 use std::process::ExitCode;
 use std::rt::Runtime;

@@ -1,6 +1,5 @@
 //! A desk over a hub of its own.
-use hub_shared::{Hub, SharedDesk};
-use hub_wait::{Go, Pause};
+use ftrighub::{Go, Hub, Pause, SharedDesk};
 use std::alloc::{AllocError, Global};
 use std::sync::{Arc, Wait};
 use std::thread;

@@ -3,21 +3,21 @@ use Rattle.std.proofs.Common.{◌≡◌, ◌≢◌, ℕ, suc, Bool, List, [], �
 use Rattle.std.specs.Prelude.{All, IfOk, flat_map}
 use Rattle.std.proofs.lemmas.List.Elements.{All-head, All-tail}
 use Rattle.std.specs.List.{AllZip}
-use Rattle.hub_desk.specs.Answers.{answers}
-use Rattle.hub_desk.specs.Desks.{new_desk}
-use Rattle.hub_desk.specs.Standing.{Local, Stands, Asked, Ended, Runs, over, asked, IsModels}
+use Rattle.hub_local.specs.Answers.{answers}
+use Rattle.hub_local.specs.Desks.{new_desk}
+use Rattle.hub_local.specs.Standing.{Local, Stands, Asked, Ended, Runs, over, asked, IsModels}
 use Rattle.hub_requests.specs.Texts.{text_of}
 use Rattle.hub_requests.specs.declared.reply.Reply.{Reply}
 use Rattle.hub_requests.specs.declared.request.Request.{Request}
-use Rattle.hub_front.specs.Lines.{lines_of}
+use Rattle.hub_io.specs.Lines.{lines_of}
 use Rattle.hub_front.specs.Places.{AreInPlace, NoneIsMemory, in_place, requests_of}
 use Rattle.hub_front.specs.Places as places
-use Rattle.hub_lines.specs.Reading.{IsReading}
+use Rattle.hub_protocol.specs.Reading.{IsReading}
 use Rattle.hub_front.specs.Serving.{Finished, Run}
-use Rattle.hub_lines.specs.declared.parsing.Bad.{Bad}
-use Rattle.hub_lines.specs.declared.parsing.Bad.TheVariants.{Memory}
-use Rattle.hub_desk.proofs.Running.{runs_answer}
-use Rattle.hub_lines.proofs.OneReading.{one_reading}
+use Rattle.hub_protocol.specs.declared.parsing.Bad.{Bad}
+use Rattle.hub_protocol.specs.declared.parsing.Bad.TheVariants.{Memory}
+use Rattle.hub_local.proofs.Running.{runs_answer}
+use Rattle.hub_protocol.proofs.OneReading.{one_reading}
 use Rattle.hub_front.proofs.Placed.{run_in_place}
 use Rattle.hub_script.specs.Output.{AreReplies, IsOutput, Serves}
 

@@ -3,16 +3,16 @@
 use Rattle.std.specs.Prelude.{◌≡◌, ◌≢◌, ℕ, Bool, List, All, length, flat_map, Option, Result, Err}
 use Rattle.std.specs.List.{AllZip}
 use Rattle.std.specs.Io.KnownBytes.{Appends, Consumes, IsAtEnd}
-use Rattle.hub_desk.specs.Answers.{answers, patterns_in, AreReads}
-use Rattle.hub_desk.specs.Desks.{new_desk}
+use Rattle.hub_local.specs.Answers.{answers, patterns_in, AreReads}
+use Rattle.hub_local.specs.Desks.{new_desk}
 use Rattle.hub_requests.specs.Texts.{text_of}
 use Rattle.hub_requests.specs.declared.reply.Reply.{Reply}
 use Rattle.hub_requests.specs.declared.request.Request.{Request}
-use Rattle.hub_front.specs.Lines.{lines_of}
+use Rattle.hub_io.specs.Lines.{lines_of}
 use Rattle.hub_front.specs.Places.{NoneIsMemory, in_place, requests_of}
-use Rattle.hub_lines.specs.Reading.{IsReading}
-use Rattle.hub_lines.specs.declared.parsing.Bad.{Bad}
-use Rattle.hub_lines.specs.declared.parsing.Bad.TheVariants.{Memory}
+use Rattle.hub_protocol.specs.Reading.{IsReading}
+use Rattle.hub_protocol.specs.declared.parsing.Bad.{Bad}
+use Rattle.hub_protocol.specs.declared.parsing.Bad.TheVariants.{Memory}
 
 -- the replies to these lines, with memory enough, where `patterns` says of each pattern in them whether it is read
 pub record AreReplies (patterns : List Bool) (lines : List (List ℕ)) (replies : List Reply) : Type 0 where

@@ -1,11 +1,13 @@
 //! One session, over a desk of its own.
 ghost use Rattle.std.specs.Prelude.{◌≡◌, ℕ, Bool, List, Err, IfOk};
-ghost use Rattle.hub_front.specs.Serving.{ReadsWithin, read_faults, write_faults};
-ghost use Rattle.hub_front.specs.Telling.{Grows};
+ghost use Rattle.hub_io.specs.Faults.{read_faults, write_faults};
+ghost use Rattle.hub_front.specs.Serving.{ReadsWithin};
+ghost use Rattle.hub_io.specs.Telling.{Grows};
 ghost use Rattle.hub_script.specs.Output.{IsOutput, Serves};
 
-use hub_desk::LocalDesk;
-use hub_front::{FrontError, Sink, Source, serve};
+use hub_front::serve;
+use hub_io::{FrontError, Sink, Source};
+use hub_local::LocalDesk;
 use std::alloc::Global;
 use std::sync::Wait;
 

@@ -2,7 +2,8 @@
 ghost use Rattle.std.specs.Prelude.{None};
 
 use crate::memory::Failing;
-use hub_front::{FrontError, Sink, Source, serve};
+use hub_front::serve;
+use hub_io::{FrontError, Sink, Source};
 use hub_shared::{Hub, SharedDesk};
 use hub_wait::Backoff;
 use std::alloc::{AllocError, Global};

@@ -1,7 +1,7 @@
 //! A desk, readers and writers for the tests.
 ghost use Rattle.std.specs.Prelude.{◌≡◌, ◌<◌, ◌≤◌, if◌then◌else◌, Some, None};
 
-use hub_front::{Sink, Source};
+use hub_io::{Sink, Source};
 use hub_requests::{Desk, Reply, Request};
 use std::io;
 use std::io::{ErrorKind, Read, Write};

@@ -1,7 +1,7 @@
+use hub_client::RelayError;
 use hub_commands::{Fault, tell_faults};
-use hub_front::FrontError;
-use hub_relay::RelayError;
-use hub_sessions::{Report, ServeError};
+use hub_io::FrontError;
+use hub_server::{Report, ServeError};
 use std::test::Fail;
 
 #[test]

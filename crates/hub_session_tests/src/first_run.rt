@@ -1,8 +1,9 @@
 //! The first run of the manual over a local desk, where one read or one write fails.
 
 use crate::fakes::{Dripping, Narrow};
-use hub_desk::LocalDesk;
-use hub_front::{FrontError, Sink, Source, serve};
+use hub_front::serve;
+use hub_io::{FrontError, Sink, Source};
+use hub_local::LocalDesk;
 use std::alloc::{AllocError, Global};
 use std::sync::Wait;
 use std::test::Fail;

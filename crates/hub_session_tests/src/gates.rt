@@ -1,5 +1,5 @@
 //! Gates for the tests.
-use hub_sessions::{Gate, Next};
+use hub_server::{Gate, Next};
 use std::alloc::Global;
 use std::os::unix::net::{UnixListener, UnixStream};
 use std::sync::atomic::{AtomicU64, Ordering};

@@ -1,7 +1,7 @@
 //! Lines and what they are read as.
 
 use crate::told::told;
-use hub_lines::{Bad, parse};
+use hub_protocol::{Bad, parse};
 use hub_requests::Request;
 use std::alloc::Global;
 

@@ -2,7 +2,7 @@
 
 use crate::fakes::Dripping;
 use crate::relays::run;
-use hub_relay::RelayError;
+use hub_client::RelayError;
 use std::test::Fail;
 
 // A line of 1,000,000 bytes and a reply of 1,500,000.

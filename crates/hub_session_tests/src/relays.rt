@@ -1,8 +1,8 @@
 //! Relays over memory, with readers that drip and streams that fail.
 
 use crate::fakes::{Dripping, Endless, Narrow, Stuck};
-use hub_front::{Sink, Source};
-use hub_relay::{RelayError, relay};
+use hub_client::{RelayError, relay};
+use hub_io::{Sink, Source};
 use std::alloc::Global;
 use std::sync::Wait;
 use std::test::Fail;

@@ -1,5 +1,5 @@
 use crate::fakes::{Dripping, Narrow};
-use hub_front::FrontError;
+use hub_io::FrontError;
 use hub_script::script;
 use std::test::Fail;
 

@@ -1,7 +1,8 @@
 //! Sessions over memory, with readers that drip and writers that fail.
 
 use crate::fakes::{Dripping, Endless, Narrow, PlainDesk, Stuck};
-use hub_front::{FrontError, serve};
+use hub_front::serve;
+use hub_io::FrontError;
 use std::test::Fail;
 
 #[test]

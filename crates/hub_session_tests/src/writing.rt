@@ -1,7 +1,7 @@
 //! The text of each reply.
 
 use hub_letters::{Flags, Letter};
-use hub_lines::write_reply;
+use hub_protocol::write_reply;
 use hub_record::{Letters, Status};
 use hub_requests::{Numbers, Refusal, Reply};
 use std::alloc::{AllocError, Global};

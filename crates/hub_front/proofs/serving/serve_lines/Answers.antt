@@ -1,8 +1,8 @@
 use Rattle.std.proofs.Common.{◌≡◌, Err, refl, sym, ap, ◌∙◌, inr, subst, rules}
-use Rattle.hub_front.specs.declared.fault.FrontError.TheVariants.{Turns, Memory}
-use Rattle.hub_front.specs.Lines.{lines_of}
+use Rattle.hub_io.specs.declared.fault.FrontError.TheVariants.{Turns, Memory}
+use Rattle.hub_io.specs.Lines.{lines_of}
 use Rattle.hub_front.specs.Serving.{StopsAt}
-use Rattle.hub_front.proofs.Outcomes.{only_write, IfOk-from, IfErr-from}
+use Rattle.hub_io.proofs.Outcomes.{only_write, IfOk-from, IfErr-from}
 use Rattle.hub_front.proofs.UnderWay.{served_last, breaks_last, count_last}
 use Rattle.hub_front.proofs.serving.serve_lines.Goals as goal
 

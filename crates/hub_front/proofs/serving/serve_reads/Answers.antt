@@ -1,10 +1,10 @@
 use Rattle.std.proofs.Common.{◌+◌, ◌≡◌, ◌≤◌, Err, length, take, rules, arith}
-use Rattle.hub_front.specs.declared.fault.FrontError.TheVariants.{Write}
+use Rattle.hub_io.specs.declared.fault.FrontError.TheVariants.{Write}
 use Rattle.hub_front.specs.Pieces.{done}
 use Rattle.hub_front.proofs.Cuts.{done_few}
 use Rattle.hub_front.proofs.Kept.{served_complete}
-use Rattle.hub_front.proofs.Outcomes.{IfErr-known}
-use Rattle.hub_front.proofs.Told.{Grows-add, Grows-trans}
+use Rattle.hub_io.proofs.Outcomes.{IfErr-known}
+use Rattle.hub_io.proofs.Told.{Grows-add, Grows-trans}
 use Rattle.hub_front.proofs.UnderWay.{goes_on, stops, breaks}
 use Rattle.hub_front.proofs.serving.serve_reads.Goals as goal
 

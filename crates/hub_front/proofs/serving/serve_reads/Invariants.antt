@@ -1,5 +1,5 @@
 use Rattle.std.proofs.Common.{◌≡◌, ◌≤◌, ◌*◌, length}
-use Rattle.hub_front.specs.Telling.{Grows}
+use Rattle.hub_io.specs.Telling.{Grows}
 use Rattle.hub_front.specs.Pieces.{IsUnderWay}
 use Rattle.hub_front.proofs.serving.serve_reads.Given as goal
 

@@ -1,8 +1,8 @@
 use Rattle.std.proofs.Common.{◌≡◌, rules, subst}
 use Rattle.std.specs.Io.KnownBytes.{Appends}
 use Rattle.hub_requests.specs.Texts.{text_of}
-use Rattle.hub_front.specs.Serving.{AppendsPart}
-use Rattle.hub_front.proofs.Outcomes.{OnErr-known}
+use Rattle.hub_io.specs.Faults.{AppendsPart}
+use Rattle.hub_io.proofs.Outcomes.{OnErr-known}
 use Rattle.hub_front.proofs.Runs.{answers_same, served_one, breaks_at_once}
 use Rattle.hub_front.proofs.session.Session.answer_line.Goals as goal
 

@@ -2,9 +2,9 @@ use Rattle.std.proofs.Common.{◌≡◌, ℕ, ◌≤◌, ◌<◌, ◌+◌, List,
 use Rattle.std.proofs.lemmas.List.{take_more, length-take-le}
 use Rattle.hub_front.specs.Pieces.{done, left}
 use Rattle.hub_front.proofs.Cuts.{done_few, served_on, left_on, count_on, breaks_on}
-use Rattle.hub_front.proofs.Outcomes.{OnErr-known}
+use Rattle.hub_io.proofs.Outcomes.{OnErr-known}
 use Rattle.hub_front.proofs.Runs.{served_same, breaks_same}
-use Rattle.hub_front.proofs.Told.{Grows-trans}
+use Rattle.hub_io.proofs.Told.{Grows-trans}
 use Rattle.hub_front.proofs.session.Session.take_bytes.Goals as goal
 
 pub take_byte-requires : goal.take_byte-requires

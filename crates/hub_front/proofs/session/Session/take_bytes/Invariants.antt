@@ -1,6 +1,6 @@
 use Rattle.std.proofs.Common.{◌≡◌, ◌+◌, length, take}
 use Rattle.hub_front.specs.Pieces.{done, left}
-use Rattle.hub_front.specs.Telling.{Grows}
+use Rattle.hub_io.specs.Telling.{Grows}
 use Rattle.hub_front.specs.Serving.{Served}
 use Rattle.hub_front.proofs.session.Session.take_bytes.Given as goal
 

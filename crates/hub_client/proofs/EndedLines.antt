@@ -1,0 +1,166 @@
+-- Lines with their LFs, and how bytes are cut into them.
+use Rattle.std.proofs.Common.{◌≡◌, ℕ, ◌<◌, ◌≤◌, Bool, true, false, ◌||◌, cond, List, [], ◌∷◌, ◌++◌, ◌==◌, length, inl, inr, refl, sym, ap, ◌∙◌, subst, arith, append-nil, append_assoc, length-append}
+use Rattle.std.proofs.lemmas.Bool.{cases_Bool, eqb-true}
+use Rattle.std.proofs.lemmas.List.Folds.{list_any-append}
+use Rattle.std.proofs.lemmas.Grind.{flat_map-append}
+use Rattle.hub_io.specs.Lines.{onto_first, complete_of, rest_of, last_line, lines_of}
+use Rattle.hub_client.specs.Passing.{has_lf}
+use Rattle.hub_client.specs.Relaying.{ended_lines, line_count}
+use Rattle.hub_client.specs.UnderWay.{AreCut}
+
+or_left : (a b : Bool) → (a || b) ≡ false → a ≡ false
+or_left true b e = cc
+or_left false b e = refl
+
+or_right : (a b : Bool) → (a || b) ≡ false → b ≡ false
+or_right true b e = cc
+or_right false b e = e
+
+or_true : (a : Bool) → (a || true) ≡ true
+or_true true = refl
+or_true false = refl
+
+-- ---- one line
+
+complete-line : (line rest : List ℕ) → has_lf line ≡ false → complete_of (line ++ 10 ∷ rest) ≡ line ∷ complete_of rest
+complete-line [] rest cut = refl
+complete-line (b ∷ bs) rest cut =
+    ap (λ t. cond t ([] ∷ complete_of (bs ++ 10 ∷ rest)) (onto_first (b ∷ []) (complete_of (bs ++ 10 ∷ rest)))) (or_left (b == 10) (has_lf bs) cut)
+    ∙ ap (onto_first (b ∷ [])) (complete-line bs rest (or_right (b == 10) (has_lf bs) cut))
+
+pub complete-none : (part : List ℕ) → has_lf part ≡ false → complete_of part ≡ []
+complete-none [] cut = refl
+complete-none (b ∷ bs) cut =
+    ap (λ t. cond t ([] ∷ complete_of bs) (onto_first (b ∷ []) (complete_of bs))) (or_left (b == 10) (has_lf bs) cut)
+    ∙ ap (onto_first (b ∷ [])) (complete-none bs (or_right (b == 10) (has_lf bs) cut))
+
+pub has_lf-line : (line rest : List ℕ) → has_lf (line ++ 10 ∷ rest) ≡ true
+has_lf-line line rest = list_any-append (λ b. b == 10) line (10 ∷ rest) ∙ or_true (has_lf line)
+
+rest-line : (line rest : List ℕ) → rest_of (line ++ 10 ∷ rest) ≡ rest_of rest
+rest-line [] rest = refl
+rest-line (b ∷ bs) rest =
+    ap (λ t. cond t (rest_of (bs ++ 10 ∷ rest)) (b ∷ (bs ++ 10 ∷ rest))) (has_lf-line (b ∷ bs) rest) ∙ rest-line bs rest
+
+pub rest-none : (part : List ℕ) → has_lf part ≡ false → rest_of part ≡ part
+rest-none [] cut = refl
+rest-none (b ∷ bs) cut = ap (λ t. cond t (rest_of bs) (b ∷ bs)) cut
+
+lines-line : (line rest : List ℕ) → has_lf line ≡ false → lines_of (line ++ 10 ∷ rest) ≡ line ∷ lines_of rest
+lines-line line rest cut =
+    ap (λ ls. ls ++ last_line (rest_of (line ++ 10 ∷ rest))) (complete-line line rest cut)
+    ∙ ap (λ r. (line ∷ complete_of rest) ++ last_line r) (rest-line line rest)
+
+lines-part : (part : List ℕ) → has_lf part ≡ false → lines_of part ≡ last_line part
+lines-part part cut = ap (λ ls. ls ++ last_line (rest_of part)) (complete-none part cut) ∙ ap last_line (rest-none part cut)
+
+last-some : (part : List ℕ) → 1 ≤ length part → last_line part ≡ part ∷ []
+last-some [] h = absurd (omega arith)
+last-some (b ∷ bs) h = refl
+
+-- ---- many lines
+
+pub ended-append : (front back : List (List ℕ)) → ended_lines (front ++ back) ≡ ended_lines front ++ ended_lines back
+ended-append front back = flat_map-append (λ line. line ++ 10 ∷ []) front back
+
+pub ended_one : (line : List ℕ) → ended_lines (line ∷ []) ≡ line ++ 10 ∷ []
+ended_one line = append-nil (line ++ 10 ∷ [])
+
+-- one more line
+pub ended_more : (lines : List (List ℕ)) (line : List ℕ) → ended_lines (lines ++ line ∷ []) ≡ ended_lines lines ++ (line ++ 10 ∷ [])
+ended_more lines line = ended-append lines (line ∷ []) ∙ ap (λ l. ended_lines lines ++ l) (ended_one line)
+
+pub ended_first : (line : List ℕ) (lines : List (List ℕ)) (rest : List ℕ) → ended_lines (line ∷ lines) ++ rest ≡ line ++ 10 ∷ (ended_lines lines ++ rest)
+ended_first line lines rest = append_assoc (line ++ 10 ∷ []) (ended_lines lines) rest ∙ append_assoc line (10 ∷ []) (ended_lines lines ++ rest)
+
+pub cut_more : (lines : List (List ℕ)) (line : List ℕ) → AreCut lines → has_lf line ≡ false → AreCut (lines ++ line ∷ [])
+cut_more [] line c cut = (cut, tt)
+cut_more (l ∷ ls) line c cut = (c.0, cut_more ls line c.1 cut)
+
+pub complete-ended : (lines : List (List ℕ)) (rest : List ℕ) → AreCut lines → complete_of (ended_lines lines ++ rest) ≡ lines ++ complete_of rest
+complete-ended [] rest c = refl
+complete-ended (l ∷ ls) rest c =
+    ap complete_of (ended_first l ls rest) ∙ complete-line l (ended_lines ls ++ rest) c.0 ∙ ap (λ x. l ∷ x) (complete-ended ls rest c.1)
+
+pub lines-ended : (lines : List (List ℕ)) (rest : List ℕ) → AreCut lines → lines_of (ended_lines lines ++ rest) ≡ lines ++ lines_of rest
+lines-ended [] rest c = refl
+lines-ended (l ∷ ls) rest c =
+    ap lines_of (ended_first l ls rest) ∙ lines-line l (ended_lines ls ++ rest) c.0 ∙ ap (λ x. l ∷ x) (lines-ended ls rest c.1)
+
+pub rest-ended : (lines : List (List ℕ)) (rest : List ℕ) → AreCut lines → rest_of (ended_lines lines ++ rest) ≡ rest_of rest
+rest-ended [] rest c = refl
+rest-ended (l ∷ ls) rest c = ap rest_of (ended_first l ls rest) ∙ rest-line l (ended_lines ls ++ rest) ∙ rest-ended ls rest c.1
+
+-- up to the first LF
+pub first_line : (bytes : List ℕ) → has_lf bytes ≡ true → (line after : List ℕ) × (has_lf line ≡ false) × (bytes ≡ line ++ 10 ∷ after)
+first_line [] e = cc
+first_line (b ∷ bs) e = elim (cases_Bool (b == 10)) [
+  | inl lf ↦ ([], bs, refl, ap (λ x. x ∷ bs) (eqb-true b 10 lf))
+  | inr other ↦
+      let (line, after, cut, is) = first_line bs (sym (ap (λ t. t || has_lf bs) other) ∙ e) in
+      (b ∷ line, after, ap (λ t. t || has_lf line) other ∙ cut, ap (λ l. b ∷ l) is)
+]
+
+-- lines, and a part of one
+pub lines-ended_part : (lines : List (List ℕ)) (part : List ℕ) → AreCut lines → has_lf part ≡ false → 1 ≤ length part → lines_of (ended_lines lines ++ part) ≡ lines ++ part ∷ []
+lines-ended_part lines part c cut some = lines-ended lines part c ∙ ap (λ x. lines ++ x) (lines-part part cut ∙ last-some part some)
+
+pub count-ended : (lines : List (List ℕ)) → AreCut lines → line_count (ended_lines lines) ≡ length lines
+count-ended lines c = ap line_count (sym (append-nil (ended_lines lines))) ∙ ap length (complete-ended lines [] c ∙ append-nil lines)
+
+pub count-ended_part : (lines : List (List ℕ)) (part : List ℕ) → AreCut lines → has_lf part ≡ false → line_count (ended_lines lines ++ part) ≡ length lines
+count-ended_part lines part c cut = ap length (complete-ended lines part c ∙ ap (λ x. lines ++ x) (complete-none part cut) ∙ append-nil lines)
+
+-- ---- all bytes are lines and a part
+
+record Parts (bytes : List ℕ) : Type 0 where
+  lines : List (List ℕ)
+  part : List ℕ
+  are_cut : AreCut lines
+  cut : has_lf part ≡ false
+  whole : bytes ≡ ended_lines lines ++ part
+
+parts_more : (b : ℕ) (bs : List ℕ) → (b == 10) ≡ false → (lines : List (List ℕ)) (part : List ℕ) → AreCut lines → has_lf part ≡ false → bs ≡ ended_lines lines ++ part → Parts (b ∷ bs)
+parts_more b bs other [] part c cut e = record { lines = []; part = b ∷ part; are_cut = tt; cut = ap (λ t. t || has_lf part) other ∙ cut; whole = ap (λ l. b ∷ l) e }
+parts_more b bs other (l ∷ ls) part c cut e = record { lines = (b ∷ l) ∷ ls; part = part; are_cut = (ap (λ t. t || has_lf l) other ∙ c.0, c.1); cut = cut; whole = ap (λ l. b ∷ l) e }
+
+parts : (bytes : List ℕ) → Parts bytes
+parts [] = record { lines = []; part = []; are_cut = tt; cut = refl; whole = refl }
+parts (b ∷ bs) =
+    let p : Parts bs = parts bs in
+    elim (cases_Bool (b == 10)) [
+      | inl lf ↦ record {
+        lines = [] ∷ p.lines;
+        part = p.part;
+        are_cut = (refl, p.are_cut);
+        cut = p.cut;
+        whole = ap (λ x. x ∷ bs) (eqb-true b 10 lf) ∙ ap (λ l. 10 ∷ l) p.whole;
+      }
+      | inr other ↦ parts_more b bs other p.lines p.part p.are_cut p.cut p.whole
+    ]
+
+-- a last part gets an LF where it isn't empty
+ended_last : (part : List ℕ) → (ending : List ℕ) × (ended_lines (last_line part) ≡ part ++ ending)
+ended_last [] = ([], refl)
+ended_last (b ∷ bs) = (10 ∷ [], ended_one (b ∷ bs))
+
+-- bytes are the front of their lines
+pub front : (bytes : List ℕ) → (ending : List ℕ) × (ended_lines (lines_of bytes) ≡ bytes ++ ending)
+front bytes =
+    let p : Parts bytes = parts bytes in
+    let (ending, last) = ended_last p.part in
+    let cut : lines_of bytes ≡ p.lines ++ last_line p.part = ap lines_of p.whole ∙ lines-ended p.lines p.part p.are_cut ∙ ap (λ x. p.lines ++ x) (lines-part p.part p.cut) in (
+      ending,
+      ap ended_lines cut ∙ ended-append p.lines (last_line p.part) ∙ ap (λ l. ended_lines p.lines ++ l) last ∙ sym (append_assoc (ended_lines p.lines) p.part ending) ∙ ap (λ l. l ++ ending) (sym p.whole),
+    )
+
+-- a part without LF, and more, is shorter than the lines that it is of
+pub part_short : (part rest : List ℕ) → has_lf part ≡ false → 1 ≤ length (part ++ rest) → length part < length (ended_lines (lines_of (part ++ rest)))
+part_short part [] cut some =
+    let same : part ++ [] ≡ part = append-nil part in
+    let some_byte : 1 ≤ length part = subst (λ l. 1 ≤ length l) same some in
+    let one : ended_lines (lines_of (part ++ [])) ≡ part ++ 10 ∷ [] = ap (λ l. ended_lines (lines_of l)) same ∙ ap ended_lines (lines-part part cut ∙ last-some part some_byte) ∙ ended_one part in
+    omega (arith, ap length one, length-append part (10 ∷ []))
+part_short part (r ∷ rs) cut some =
+    let (ending, e) = front (part ++ r ∷ rs) in
+    omega (arith, ap length e, length-append (part ++ r ∷ rs) ending, length-append part (r ∷ rs))

@@ -1,0 +1,305 @@
+-- The turns of a relay.
+use Rattle.std.proofs.Common.{◌≡◌, ℕ, ◌+◌, ◌<◌, ◌≤◌, false, List, [], ◌∷◌, ◌++◌, length, take, Option, Result, Err, inl, inr, refl, sym, ap, ◌∙◌, subst, arith, append-nil, append_assoc, length-append}
+use Rattle.std.proofs.Math.Seq.{take-append_seam}
+use Rattle.std.specs.Io.KnownBytes.{Appends, Consumes, IsAtEnd}
+use Rattle.std.proofs.KnownBytes.{Consumes-nil, Consumes-trans, Appends-nil, Appends-trans}
+use Rattle.hub_io.specs.Lines.{complete_of, rest_of, lines_of}
+use Rattle.hub_io.specs.Telling.{Grows}
+use Rattle.hub_io.proofs.Told.{Grows-none, Grows-add}
+use Rattle.hub_client.specs.declared.fault.RelayError.{RelayError}
+use Rattle.hub_client.specs.declared.fault.RelayError.TheVariants.{Input, Output, Send, Receive, Ended, Turns, Memory}
+use Rattle.hub_client.specs.Relaying.{ended_lines, line_count, writable, Finished, Stopped, StopsAt, AreAnswered, AwaitsReply, ReadsWithin}
+use Rattle.hub_client.specs.Passing.{has_lf, IsLine, Moves}
+use Rattle.hub_client.specs.UnderWay.{slack_for, FailsToSend, FailsToReceive, AreCut, HasPassed, HasSent, IsUnderWay}
+use Rattle.hub_client.proofs.OnTheWay.{has_lf-append}
+use Rattle.hub_client.proofs.Writable.{writable-ended, writable_at, writable_short}
+use Rattle.hub_client.proofs.EndedLines.{front, part_short, ended-append, ended_more, cut_more, complete-ended, lines-ended, lines-ended_part, count-ended, count-ended_part}
+
+-- ---- one direction
+
+-- nothing has passed
+has_passed_none : (has held : Option (List ℕ)) (makes : Option ℕ) (pending : List ℕ) → pending ≡ [] → HasPassed has has held held makes makes pending 0 0
+has_passed_none has held makes pending empty = record {
+  lines = [];
+  cut = tt;
+  counted = refl;
+  consumed = subst (Consumes has has) (sym empty) (Consumes-nil has);
+  appended = Appends-nil held;
+  told = Grows-none makes;
+  least = omega arith;
+}
+
+module _ {had mid has held between : Option (List ℕ)} {made much makes : Option ℕ} {before after passed : List ℕ} {count reads left left' slack : ℕ}
+    (p : HasPassed had mid held between made much before count reads) (m : Moves mid has much makes before after left left' slack passed) where
+  -- all that was read, as it was read and as it passed
+  whole : (ended_lines p.lines ++ before) ++ m.bytes ≡ (ended_lines p.lines ++ passed) ++ after
+  whole =
+      append_assoc (ended_lines p.lines) before m.bytes ∙ ap (λ l. ended_lines p.lines ++ l) m.kept ∙ sym (append_assoc (ended_lines p.lines) passed after)
+
+  consumed_all : Consumes had has ((ended_lines p.lines ++ passed) ++ after)
+  consumed_all = subst (Consumes had has) whole (Consumes-trans had mid has (ended_lines p.lines ++ before) m.bytes p.consumed m.consumed)
+
+  told_all : Grows made makes (reads + m.reads)
+  told_all = Grows-add made much makes reads m.reads p.told m.told
+
+  least_all : reads + m.reads ≤ length ((ended_lines p.lines ++ passed) ++ after) + slack
+  least_all = omega (arith, p.least, m.least, ap length whole, length-append (ended_lines p.lines ++ before) m.bytes)
+
+-- one more line passed
+pub passes_line : {had mid has held between holds : Option (List ℕ)} {made much makes : Option ℕ} {before after passed : List ℕ} {count reads left left' : ℕ}
+    → (p : HasPassed had mid held between made much before count reads) (m : Moves mid has much makes before after left left' 0 passed)
+    → IsLine passed → Appends between holds passed → HasPassed had has held holds made makes after (count + 1) (reads + m.reads)
+passes_line {had} {mid} {has} {held} {between} {holds} {after = after} {passed = passed} {count} {reads} p m line a =
+    let more : ended_lines p.lines ++ passed ≡ ended_lines (p.lines ++ line.line ∷ []) = ap (λ l. ended_lines p.lines ++ l) line.ends ∙ sym (ended_more p.lines line.line) in
+    record {
+      lines = p.lines ++ line.line ∷ [];
+      cut = cut_more p.lines line.line p.cut line.cut;
+      counted = omega (arith, p.counted, length-append p.lines (line.line ∷ []));
+      consumed = subst (λ l. Consumes had has (l ++ after)) more (consumed_all p m);
+      appended = subst (Appends held holds) more (Appends-trans held between holds (ended_lines p.lines) passed p.appended a);
+      told = told_all p m;
+      least = subst (λ l. reads + m.reads ≤ length (l ++ after)) more (omega (arith, least_all p m));
+    }
+
+-- ---- the lines before a reply
+
+pub sent_lines : {had has held holds : Option (List ℕ)} {made makes : Option ℕ} {pending : List ℕ} {count reads : ℕ}
+    → HasPassed had has held holds made makes pending count reads → HasSent had has held holds made makes (lines_of pending) count reads
+sent_lines {pending = pending} p = record {
+  input = ended_lines p.lines ++ pending;
+  lines = p.lines;
+  cut = p.cut;
+  counted = p.counted;
+  consumed = p.consumed;
+  appended = p.appended;
+  split = lines-ended p.lines pending p.cut;
+  told = p.told;
+  least = omega (arith, p.least);
+}
+
+-- a last line had no LF, and was sent with one
+pub sent_part : {had mid has held between holds : Option (List ℕ)} {made much makes : Option ℕ} {before after passed : List ℕ} {count reads left left' : ℕ}
+    → (p : HasPassed had mid held between made much before count reads) (m : Moves mid has much makes before after left left' 1 passed)
+    → 1 ≤ length passed → has_lf passed ≡ false → after ≡ [] → Appends between holds (passed ++ 10 ∷ [])
+    → HasSent had has held holds made makes [] (count + 1) (reads + m.reads)
+sent_part {had} {mid} {has} {held} {between} {holds} {after = after} {passed = passed} {count} {reads} p m some cut empty a =
+    let all : (ended_lines p.lines ++ passed) ++ after ≡ ended_lines p.lines ++ passed = ap (λ l. (ended_lines p.lines ++ passed) ++ l) empty ∙ append-nil (ended_lines p.lines ++ passed) in
+    record {
+      input = ended_lines p.lines ++ passed;
+      lines = p.lines ++ passed ∷ [];
+      cut = cut_more p.lines passed p.cut cut;
+      counted = omega (arith, p.counted, length-append p.lines (passed ∷ []));
+      consumed = subst (Consumes had has) all (consumed_all p m);
+      appended = subst (Appends held holds) (sym (ended_more p.lines passed)) (Appends-trans held between holds (ended_lines p.lines) (passed ++ 10 ∷ []) p.appended a);
+      split = lines-ended_part p.lines passed p.cut cut some ∙ sym (append-nil (p.lines ++ passed ∷ []));
+      told = told_all p m;
+      least = subst (λ l. reads + m.reads ≤ length l + 1) all (least_all p m);
+    }
+
+-- the input ended
+pub sent_all : {had mid has held between holds : Option (List ℕ)} {made much makes : Option ℕ} {before after passed : List ℕ} {count reads left left' : ℕ}
+    → (p : HasPassed had mid held between made much before count reads) (m : Moves mid has much makes before after left left' 1 passed)
+    → passed ≡ [] → after ≡ [] → Appends between holds passed → HasSent had has held holds made makes [] count (reads + m.reads)
+sent_all {had} {mid} {has} {held} {between} {holds} {after = after} {passed = passed} {count} {reads} p m none empty a =
+    let same : ended_lines p.lines ++ passed ≡ ended_lines p.lines = ap (λ l. ended_lines p.lines ++ l) none ∙ append-nil (ended_lines p.lines) in
+    let all : (ended_lines p.lines ++ passed) ++ after ≡ ended_lines p.lines ++ [] = ap (λ l. l ++ after) same ∙ ap (λ l. ended_lines p.lines ++ l) empty in
+    record {
+      input = ended_lines p.lines ++ [];
+      lines = p.lines;
+      cut = p.cut;
+      counted = p.counted;
+      consumed = subst (Consumes had has) all (consumed_all p m);
+      appended = subst (Appends held holds) same (Appends-trans held between holds (ended_lines p.lines) passed p.appended a);
+      split = lines-ended p.lines [] p.cut;
+      told = told_all p m;
+      least = subst (λ l. reads + m.reads ≤ length l + 1) all (least_all p m);
+    }
+
+-- ---- replies
+
+first_replies : (replies more : List (List ℕ)) (count : ℕ) → length replies ≡ count → take count (replies ++ more) ≡ replies
+first_replies replies more count e = ap (λ n. take n (replies ++ more)) (sym e) ∙ take-append_seam replies more
+
+are_answered : (sent : List ℕ) (replies : List (List ℕ)) (pending : List ℕ) → AreCut replies → line_count sent ≡ length replies
+    → AreAnswered sent (ended_lines replies ++ pending) (ended_lines replies)
+are_answered sent replies pending cut same =
+    let all : complete_of (ended_lines replies ++ pending) ≡ replies ++ complete_of pending = complete-ended replies pending cut in
+    record {
+      enough = omega (arith, same, ap length all, length-append replies (complete_of pending));
+      replies = ap ended_lines (sym (ap (take (line_count sent)) all ∙ first_replies replies (complete_of pending) (line_count sent) (sym same)));
+    }
+
+-- each line was sent and answered, and the input has ended
+pub finish : {had has held holds had' has' held' holds' : Option (List ℕ)} {made makes made' makes' : Option ℕ} {pending : List ℕ} {count reads reads' : ℕ}
+    → HasSent had has held holds made makes [] count reads → HasPassed had' has' held' holds' made' makes' pending count reads' → IsAtEnd has
+    → Finished had has held holds had' has' held' holds' count
+finish {held = held} {holds} {held' = held'} {holds'} {pending = pending} {count} s p end =
+    let lines : lines_of s.input ≡ s.lines = s.split ∙ append-nil s.lines in
+    let all : complete_of (ended_lines p.lines ++ pending) ≡ p.lines ++ complete_of pending = complete-ended p.lines pending p.cut in
+    let replies : take count (complete_of (ended_lines p.lines ++ pending)) ≡ p.lines = ap (take count) all ∙ first_replies p.lines (complete_of pending) count p.counted in
+    record {
+      input = s.input;
+      heard = ended_lines p.lines ++ pending;
+      sent = record { consumed = s.consumed; appended = subst (Appends held holds) (ap ended_lines (sym lines)) s.appended };
+      whole = end;
+      counted = sym s.counted ∙ ap length (sym lines);
+      answered = omega (arith, p.counted, ap length all, length-append p.lines (complete_of pending));
+      written = record { consumed = p.consumed; appended = subst (Appends held' holds') (ap ended_lines (sym replies)) p.appended };
+    }
+
+-- ---- faults
+
+send_short : (lines : List (List ℕ)) (passed rest : List ℕ) → AreCut lines → has_lf passed ≡ false → 1 ≤ length (passed ++ rest)
+    → length (ended_lines lines ++ passed) < length (ended_lines (lines_of ((ended_lines lines ++ passed) ++ rest)))
+send_short lines passed rest c cut some =
+    let all : ended_lines (lines_of ((ended_lines lines ++ passed) ++ rest)) ≡ ended_lines lines ++ ended_lines (lines_of (passed ++ rest)) =
+    ap (λ l. ended_lines (lines_of l)) (append_assoc (ended_lines lines) passed rest) ∙ ap ended_lines (lines-ended lines (passed ++ rest) c) ∙ ended-append lines (lines_of (passed ++ rest)) in
+    omega (arith, part_short passed rest cut some, ap length all, length-append (ended_lines lines) passed, length-append (ended_lines lines) (ended_lines (lines_of (passed ++ rest))))
+
+nothing_left : (bytes rest : List ℕ) → rest ≡ [] → bytes ≡ bytes ++ rest
+nothing_left bytes rest none = sym (append-nil bytes) ∙ ap (λ l. bytes ++ l) (sym none)
+
+answered_part : (lines replies : List (List ℕ)) (passed pending : List ℕ) → AreCut lines → AreCut replies → has_lf passed ≡ false → length lines ≡ length replies
+    → AreAnswered (ended_lines lines ++ passed) (ended_lines replies ++ pending) (ended_lines replies)
+answered_part lines replies passed pending c d cut same = are_answered (ended_lines lines ++ passed) replies pending d (count-ended_part lines passed c cut ∙ same)
+
+awaits : (lines replies : List (List ℕ)) (passed rest due : List ℕ) → AreCut lines → AreCut replies → has_lf passed ≡ false → has_lf rest ≡ false → length lines ≡ length replies + 1 → due ≡ [] → writable (passed ++ rest) ≡ passed ++ due
+    → AwaitsReply (ended_lines lines) ((ended_lines replies ++ passed) ++ rest) (ended_lines replies ++ passed)
+awaits lines replies passed rest due c d cut cut' one none e =
+    let heard = (ended_lines replies ++ passed) ++ rest in
+    let all : heard ≡ ended_lines replies ++ (passed ++ rest) = append_assoc (ended_lines replies) passed rest in
+    let is : ended_lines replies ++ passed ≡ writable heard = nothing_left (ended_lines replies ++ passed) due none ∙ sym (writable_at replies passed rest due d e) in
+    let no_lf : has_lf (passed ++ rest) ≡ false = has_lf-append passed rest cut ∙ cut' in
+    record {
+      passed = is;
+      withheld = λ (short : length (rest_of heard) < 65536). is ∙ writable_short heard short;
+      missing = omega (arith, count-ended lines c, one, count-ended_part replies (passed ++ rest) d no_lf, ap line_count all);
+    }
+
+-- Sending the next line failed. a and b are the two directions before it.
+module _ {had mid has held between had' has' held' holds' : Option (List ℕ)} {made much makes made' makes' : Option ℕ} {before rest passed pending' : List ℕ} {count reads reads' left left' : ℕ}
+    (a : HasPassed had mid held between made much before count reads) (b : HasPassed had' has' held' holds' made' makes' pending' count reads') (cut : has_lf passed ≡ false) where
+  send_stops_at : (e : RelayError) → Moves mid has much makes before rest left left' (slack_for e) passed → FailsToSend e passed rest left' → reads + reads' + left ≡ 10000000
+      → StopsAt ((ended_lines a.lines ++ passed) ++ rest) (ended_lines a.lines ++ passed) (ended_lines b.lines ++ pending') (ended_lines b.lines) has' e
+  send_stops_at Input m f spent = (nothing_left (ended_lines a.lines ++ passed) rest f, answered_part a.lines b.lines passed pending' a.cut b.cut cut (a.counted ∙ sym b.counted))
+  send_stops_at Output m f spent = absurd f
+  send_stops_at Send m f spent = (send_short a.lines passed rest a.cut cut f, answered_part a.lines b.lines passed pending' a.cut b.cut cut (a.counted ∙ sym b.counted))
+  send_stops_at Receive m f spent = absurd f
+  send_stops_at Ended m f spent = absurd f
+  send_stops_at Turns m f spent = (omega (arith, least_all a m, b.least, m.spent, f.1), inl (nothing_left (ended_lines a.lines ++ passed) rest f.0, answered_part a.lines b.lines passed pending' a.cut b.cut cut (a.counted ∙ sym b.counted)))
+  send_stops_at Memory m f spent = absurd f
+
+  pub send_stops : {holds : Option (List ℕ)} (e : RelayError) → Moves mid has much makes before rest left left' (slack_for e) passed → FailsToSend e passed rest left' → reads + reads' + left ≡ 10000000
+      → Appends between holds passed → Stopped had has held holds had' has' held' holds' e
+  send_stops {holds} e m f spent appended =
+      let (ending, lines) = front ((ended_lines a.lines ++ passed) ++ rest) in
+      record {
+        input = (ended_lines a.lines ++ passed) ++ rest;
+        sent = ended_lines a.lines ++ passed;
+        unsent = rest ++ ending;
+        lines = record { consumed = consumed_all a m; appended = Appends-trans held between holds (ended_lines a.lines) passed a.appended appended };
+        sent_front = lines ∙ append_assoc (ended_lines a.lines ++ passed) rest ending;
+        heard = ended_lines b.lines ++ pending';
+        written = ended_lines b.lines;
+        unwritten = pending';
+        replies = record { consumed = b.consumed; appended = b.appended };
+        written_front = refl;
+        due = writable pending';
+        writable_front = writable-ended b.lines pending' b.cut;
+        stopped = send_stops_at e m f spent;
+      }
+
+-- Receiving a reply failed. s are the lines that were sent, and b are the replies before it.
+module _ {had has held holds had' mid' has' held' between' : Option (List ℕ)} {made makes made' much' makes' : Option ℕ} {more : List (List ℕ)} {before rest passed : List ℕ} {count reads reads' left left' : ℕ}
+    (s : HasSent had has held holds made makes more (count + 1) reads) (b : HasPassed had' mid' held' between' made' much' before count reads') (cut : has_lf passed ≡ false)
+    (due : List ℕ) (e : writable (passed ++ rest) ≡ passed ++ due) where
+  receive_stops_at : (fault : RelayError) → Moves mid' has' much' makes' before rest left left' (slack_for fault) passed → FailsToReceive fault due rest has' left' → reads + reads' + left ≡ 10000000
+      → StopsAt s.input (ended_lines s.lines) ((ended_lines b.lines ++ passed) ++ rest) (ended_lines b.lines ++ passed) has' fault
+  receive_stops_at Input m f spent = absurd f
+  receive_stops_at Output m f spent = (
+    omega (arith, f, ap length (writable_at b.lines passed rest due b.cut e), length-append (ended_lines b.lines ++ passed) due),
+    omega (arith, count-ended s.lines s.cut, s.counted, b.counted, count-ended_part b.lines passed b.cut cut),
+  )
+  receive_stops_at Send m f spent = absurd f
+  receive_stops_at Receive m f spent = awaits s.lines b.lines passed rest due s.cut b.cut cut f.1 (omega (arith, s.counted, b.counted)) f.0 e
+  receive_stops_at Ended m f spent = (awaits s.lines b.lines passed rest due s.cut b.cut cut f.1 (omega (arith, s.counted, b.counted)) f.0 e, f.2)
+  receive_stops_at Turns m f spent = (omega (arith, s.least, least_all b m, m.spent, f.2), inr (awaits s.lines b.lines passed rest due s.cut b.cut cut f.1 (omega (arith, s.counted, b.counted)) f.0 e))
+  receive_stops_at Memory m f spent = absurd f
+
+  pub receive_stops : {holds' : Option (List ℕ)} (fault : RelayError) → Moves mid' has' much' makes' before rest left left' (slack_for fault) passed → FailsToReceive fault due rest has' left' → reads + reads' + left ≡ 10000000
+      → Appends between' holds' passed → Stopped had has held holds had' has' held' holds' fault
+  receive_stops {holds'} fault m f spent appended = record {
+    input = s.input;
+    sent = ended_lines s.lines;
+    unsent = ended_lines more;
+    lines = record { consumed = s.consumed; appended = s.appended };
+    sent_front = ap ended_lines s.split ∙ ended-append s.lines more;
+    heard = (ended_lines b.lines ++ passed) ++ rest;
+    written = ended_lines b.lines ++ passed;
+    unwritten = rest;
+    replies = record { consumed = consumed_all b m; appended = Appends-trans held' between' holds' (ended_lines b.lines) passed b.appended appended };
+    written_front = refl;
+    due = due;
+    writable_front = writable_at b.lines passed rest due b.cut e;
+    stopped = receive_stops_at fault m f spent;
+  }
+
+-- ---- between two turns
+
+pub begins : (has held has' held' : Option (List ℕ)) (makes makes' : Option ℕ) (pending pending' : List ℕ) → pending ≡ [] → pending' ≡ []
+    → IsUnderWay has has held held has' has' held' held' makes makes makes' makes' pending pending' 0 10000000
+begins has held has' held' makes makes' pending pending' empty empty' = record {
+  reads = 0;
+  reads' = 0;
+  asked = has_passed_none has held makes pending empty;
+  answered = has_passed_none has' held' makes' pending' empty';
+  spent = omega arith;
+  few = omega (arith, ap length empty);
+}
+
+line_some : (passed : List ℕ) → IsLine passed → 1 ≤ length passed
+line_some passed line = omega (arith, ap length line.ends, length-append line.line (10 ∷ []))
+
+-- a line was sent and its reply written
+pub goes_on : {had mid has held between holds had' mid' has' held' between' holds' : Option (List ℕ)} {made much makes made' much' makes' : Option ℕ} {before after passed before' after' passed' : List ℕ} {count left some left' : ℕ}
+    → IsUnderWay had mid held between had' mid' held' between' made much made' much' before before' count left
+    → Moves mid has much makes before after left some 0 passed → IsLine passed → Appends between holds passed
+    → Moves mid' has' much' makes' before' after' some left' 0 passed' → IsLine passed' → Appends between' holds' passed'
+    → IsUnderWay had has held holds had' has' held' holds' made makes made' makes' after after' (count + 1) left'
+goes_on {before = before} {after} {passed} u m line appended m' line' appended' = record {
+  reads = u.reads + m.reads;
+  reads' = u.reads' + m'.reads;
+  asked = passes_line u.asked m line appended;
+  answered = passes_line u.answered m' line' appended';
+  spent = omega (arith, u.spent, m.spent, m'.spent);
+  few = omega (arith, u.few, m.spent, m'.spent, m.most, ap length m.kept, length-append before m.bytes, length-append passed after, line_some passed line);
+}
+
+pub within : {T : Type 0} (made makes made' makes' : Option ℕ) (r : Result T RelayError) (n m left : ℕ) → n + m + left ≡ 10000000 → Grows made makes n → Grows made' makes' m → (r ≡ Err Turns → left ≡ 0)
+    → ReadsWithin made makes made' makes' r
+within made makes made' makes' r n m left spent told told' turns = (n, m, omega arith, told, told', λ e. let none : left ≡ 0 = turns e in omega arith)
+
+-- no read was left where that is the error
+pub send_turns : {T : Type 0} (r : Result T RelayError) (e : RelayError) (passed rest : List ℕ) (left' : ℕ) → r ≡ Err e → FailsToSend e passed rest left' → r ≡ Err Turns → left' ≡ 0
+send_turns r e passed rest left' is f turns = let it : e ≡ Turns = cc in (subst (λ x. FailsToSend x passed rest left') it f).1
+
+pub receive_turns : {T : Type 0} (r : Result T RelayError) (e : RelayError) (due rest : List ℕ) (has : Option (List ℕ)) (left' : ℕ) → r ≡ Err e → FailsToReceive e due rest has left' → r ≡ Err Turns → left' ≡ 0
+receive_turns r e due rest has left' is f turns = let it : e ≡ Turns = cc in (subst (λ x. FailsToReceive x due rest has left') it f).2
+
+-- nothing was read or written
+pub stops_at_once : (has held has' held' : Option (List ℕ)) → Stopped has has held held has' has' held' held' Memory
+stops_at_once has held has' held' = record {
+  input = [];
+  sent = [];
+  unsent = [];
+  lines = record { consumed = Consumes-nil has; appended = Appends-nil held };
+  sent_front = refl;
+  heard = [];
+  written = [];
+  unwritten = [];
+  replies = record { consumed = Consumes-nil has'; appended = Appends-nil held' };
+  written_front = refl;
+  due = [];
+  writable_front = refl;
+  stopped = (refl, refl);
+}

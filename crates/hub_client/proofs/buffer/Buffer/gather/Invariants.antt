@@ -1,0 +1,18 @@
+use Rattle.std.proofs.Common.{◌≡◌, false, []}
+use Rattle.hub_io.specs.Telling.{Grows}
+use Rattle.hub_client.specs.Pending.{pending}
+use Rattle.hub_client.specs.Passing.{has_lf, Moves}
+use Rattle.hub_client.proofs.buffer.Buffer.gather.Given as goal
+
+-- what is pending is at the buffer's front and has no LF, and no fault was told
+abbrev pub invariant-reads : goal.invariant-reads
+invariant-reads g l = record {
+  moved : Moves (g.R.Read.remaining l.fn.reader) (g.R.Read.remaining l.reader) (g.R.Source.reads l.fn.reader) (g.R.Source.reads l.reader)
+      (pending l.fn.self) (pending l.self) l.fn.left l.left 0 [];
+  front : l.self.start ≡ 0;
+  cut : has_lf (pending l.self) ≡ false;
+  no_fault : Grows (g.R.Source.faults l.fn.reader) (g.R.Source.faults l.reader) 0;
+}
+
+abbrev pub decreases-reads : goal.decreases-reads
+decreases-reads g l = l.left

@@ -1,0 +1,156 @@
+//! The turns of a relay.
+ghost use Rattle.std.specs.Prelude.{◌≡◌, ◌≢◌, ℕ, List, [], ◌++◌, length, false, Err, OnOk, IfOk, IfErr};
+ghost use Rattle.std.specs.Io.KnownBytes.{Appends};
+ghost use Rattle.hub_io.specs.Telling.{Grows};
+ghost use Rattle.hub_client.specs.Faults.{input_faults, output_faults, send_faults, receive_faults};
+ghost use Rattle.hub_client.specs.Relaying.{writable, Finished, Stopped, ReadsWithin};
+ghost use Rattle.hub_client.specs.Pending.{pending};
+ghost use Rattle.hub_client.specs.Passing.{has_lf, IsLine, Moves, slack_of, EndsAs};
+ghost use Rattle.hub_client.specs.UnderWay.{sent_of, slack_for, FailsToSend, FailsToReceive};
+
+use crate::buffer::{Buffer, Passed};
+use crate::fault::{RelayError, of_receiving, of_sending};
+use hub_io::{MAX_READS, Sink, Source, write_whole};
+use std::alloc::Global;
+use std::sync::Wait;
+
+// Sends the next line of the input, and adds an LF where it has none.
+fn send_line<R: Source, SW: Sink>(
+    lines: &mut Buffer,
+    input: &mut R,
+    sender: &mut SW,
+    left: &mut u64,
+) -> Result<Passed, RelayError>
+    ensures ok { IfOk result (λ end. (passed : List ℕ)
+        × Moves (R.remaining input.old) (R.remaining input.new) (R.reads input.old) (R.reads input.new)
+        (pending lines.old) (pending lines.new) left.old left.new (slack_of end) passed
+        × EndsAs end passed (pending lines.new) (R.remaining input.new)
+        × Appends (SW.contents sender.old) (SW.contents sender.new) (sent_of end passed)) }
+    ensures err { IfErr result (λ e. (passed rest : List ℕ)
+        × Moves (R.remaining input.old) (R.remaining input.new) (R.reads input.old) (R.reads input.new)
+        (pending lines.old) rest left.old left.new (slack_for e) passed
+        × FailsToSend e passed rest left.new × (has_lf passed ≡ false)
+        × Appends (SW.contents sender.old) (SW.contents sender.new) passed) }
+    ensures input_faults { Grows (R.faults input.old) (R.faults input.new) (input_faults result) }
+    ensures send_faults { Grows (SW.faults sender.old) (SW.faults sender.new) (send_faults result) }
+{
+    match lines.pass_line(input, sender, left) {
+        Ok(Passed::Part) => match write_whole(sender, b"\n") {
+            Ok(()) => Ok(Passed::Part),
+            Err(_) => Err(RelayError::Send),
+        },
+        Ok(passed) => Ok(passed),
+        Err(fault) => Err(of_sending(fault)),
+    }
+}
+
+// Writes the peer's next line, once its LF has come.
+fn receive_reply<SR: Source, W: Sink>(
+    replies: &mut Buffer,
+    receiver: &mut SR,
+    output: &mut W,
+    left: &mut u64,
+) -> Result<(), RelayError>
+    ensures ok { OnOk result ((passed : List ℕ)
+        × Moves (SR.remaining receiver.old) (SR.remaining receiver.new) (SR.reads receiver.old) (SR.reads receiver.new)
+        (pending replies.old) (pending replies.new) left.old left.new 0 passed
+        × IsLine passed × Appends (W.contents output.old) (W.contents output.new) passed) }
+    ensures err { IfErr result (λ e. (passed rest due : List ℕ)
+        × Moves (SR.remaining receiver.old) (SR.remaining receiver.new) (SR.reads receiver.old) (SR.reads receiver.new)
+        (pending replies.old) rest left.old left.new (slack_for e) passed × (has_lf passed ≡ false)
+        × (writable (passed ++ rest) ≡ passed ++ due)
+        × FailsToReceive e due rest (SR.remaining receiver.new) left.new
+        × Appends (W.contents output.old) (W.contents output.new) passed) }
+    ensures receive_faults { Grows (SR.faults receiver.old) (SR.faults receiver.new) (receive_faults result) }
+    ensures output_faults { Grows (W.faults output.old) (W.faults output.new) (output_faults result) }
+{
+    match replies.pass_reply(receiver, output, left) {
+        Ok(true) => Ok(()),
+        Ok(false) => Err(RelayError::Ended),
+        Err(fault) => Err(of_receiving(fault)),
+    }
+}
+
+// Sends the lines and writes the replies, one for one.
+fn relay_lines<R: Source, W: Sink, SR: Source, SW: Sink>(
+    lines: &mut Buffer,
+    replies: &mut Buffer,
+    input: &mut R,
+    output: &mut W,
+    receiver: &mut SR,
+    sender: &mut SW,
+) -> Result<u64, RelayError>
+    requires lines { pending lines.old ≡ [] }
+    requires replies { pending replies.old ≡ [] }
+    ensures finished { IfOk result (Finished
+        (R.remaining input.old) (R.remaining input.new) (SW.contents sender.old) (SW.contents sender.new)
+        (SR.remaining receiver.old) (SR.remaining receiver.new) (W.contents output.old) (W.contents output.new)) }
+    ensures stopped { IfErr result (Stopped
+        (R.remaining input.old) (R.remaining input.new) (SW.contents sender.old) (SW.contents sender.new)
+        (SR.remaining receiver.old) (SR.remaining receiver.new) (W.contents output.old) (W.contents output.new)) }
+    ensures memory { result ≢ Err RelayError.Memory }
+    ensures reads { ReadsWithin (R.reads input.old) (R.reads input.new)
+        (SR.reads receiver.old) (SR.reads receiver.new) result }
+    ensures input_faults { Grows (R.faults input.old) (R.faults input.new) (input_faults result) }
+    ensures output_faults { Grows (W.faults output.old) (W.faults output.new) (output_faults result) }
+    ensures send_faults { Grows (SW.faults sender.old) (SW.faults sender.new) (send_faults result) }
+    ensures receive_faults { Grows (SR.faults receiver.old) (SR.faults receiver.new) (receive_faults result) }
+{
+    let mut left = MAX_READS;
+    let mut count = 0;
+    'turns: loop {
+        match send_line(lines, input, sender, &mut left)? {
+            Passed::Nothing => return Ok(count),
+            Passed::Line => receive_reply(replies, receiver, output, &mut left)?,
+            Passed::Part => {
+                receive_reply(replies, receiver, output, &mut left)?;
+                return Ok(count + 1);
+            }
+        }
+        count += 1;
+    }
+}
+
+/// Sends each line of the input to the peer, writes one reply line for each, and answers how many lines they were. A
+/// reply is read only once its line was sent whole, and the next line is sent only once the reply was written. Nothing
+/// of a reply is written before its LF has come, but for the full buffers of one that is longer than 64 KiB. A last line
+/// without LF gets one. After an error the streams are where they stopped. It may wait for its peer as long as the
+/// streams that it is given do.
+pub fn relay<H: Wait, R: Source, W: Sink, SR: Source, SW: Sink>(
+    _rt: &H,
+    alloc: Global,
+    input: &mut R,
+    output: &mut W,
+    receiver: &mut SR,
+    sender: &mut SW,
+) -> Result<u64, RelayError>
+    // What is sent are the lines of the input, and what is written are as many lines of the peer, however the readers
+    // cut their bytes.
+    ensures finished { IfOk result (Finished
+        (R.remaining input.old) (R.remaining input.new) (SW.contents sender.old) (SW.contents sender.new)
+        (SR.remaining receiver.old) (SR.remaining receiver.new) (W.contents output.old) (W.contents output.new)) }
+
+    // At an error, a front of the lines was sent and whole replies were written. Of a reply whose LF is missing, only
+    // the buffers that it filled were: of one with fewer than 65,536 bytes nothing, at Ended, Receive and Turns alike.
+    ensures stopped { IfErr result (Stopped
+        (R.remaining input.old) (R.remaining input.new) (SW.contents sender.old) (SW.contents sender.new)
+        (SR.remaining receiver.old) (SR.remaining receiver.new) (W.contents output.old) (W.contents output.new)) }
+
+    // Memory comes before the first read.
+    ensures memory { result ≡ Err RelayError.Memory → (input.new ≡ input.old) × (output.new ≡ output.old)
+        × (receiver.new ≡ receiver.old) × (sender.new ≡ sender.old) }
+
+    // It ends by a count of its own.
+    ensures reads { ReadsWithin (R.reads input.old) (R.reads input.new)
+        (SR.reads receiver.old) (SR.reads receiver.new) result }
+
+    // A fault is answered where it was told, and nowhere else.
+    ensures input_faults { Grows (R.faults input.old) (R.faults input.new) (input_faults result) }
+    ensures output_faults { Grows (W.faults output.old) (W.faults output.new) (output_faults result) }
+    ensures send_faults { Grows (SW.faults sender.old) (SW.faults sender.new) (send_faults result) }
+    ensures receive_faults { Grows (SR.faults receiver.old) (SR.faults receiver.new) (receive_faults result) }
+{
+    let mut lines = Buffer::new(alloc)?;
+    let mut replies = Buffer::new(alloc)?;
+    relay_lines(&mut lines, &mut replies, input, output, receiver, sender)
+}

@@ -1,6 +1,0 @@
-use Rattle.std.proofs.Common.{rules}
-use Rattle.hub_desk.specs.Desks.{new_desk}
-use Rattle.hub_desk.proofs.local_desk.LocalDesk.new.Goals as goal
-
-pub invariant_of-result : goal.invariant_of-result
-invariant_of-result c = record { desk = new_desk; stands = search rules }

@@ -1,5 +1,0 @@
-use Rattle.hub_desk.proofs.UsedIds as law
-use Rattle.hub_desk.proofs.local_desk.LocalDesk.waits_use_ids.Goals as goal
-
-pub returns : goal.returns
-returns c = law.waits_use_ids

@@ -1,0 +1,18 @@
+//! The bytes of a session: where they come from, where they go, and why they may stop.
+//!
+//! A [`Source`] is a reader and a [`Sink`] a writer whose faults a contract can count. [`write_whole`] writes a line or a
+//! reply whole, or says that it failed.
+#![tactic(auto)]
+
+mod again;
+mod fault;
+mod reading;
+mod sink;
+mod source;
+mod writing;
+
+pub use fault::FrontError;
+pub use reading::{CHUNK, MAX_READS, new_chunk};
+pub use sink::Sink;
+pub use source::Source;
+pub use writing::write_whole;

@@ -1,0 +1,55 @@
+//! Writers that tell their faults.
+ghost use Rattle.std.specs.Prelude.{◌≡◌, ℕ, ◌<◌, length, Option, None, Some, IfOk, IfErr};
+ghost use Rattle.std.specs.Io.{WritesAtMost};
+ghost use Rattle.std.specs.Io.KnownBytes.{WriteAppends};
+ghost use Rattle.std.specs.IoError.{error_kind};
+ghost use Rattle.hub_io.specs.Telling.{Grows, faults_of_write};
+
+use crate::again::write_again;
+use std::io;
+use std::io::{ErrorKind, Stdout, Write};
+use std::os::unix::net::UnixStream;
+
+/// What a session writes to: a writer whose faults a contract can count. A write that fails is a fault, and so is one
+/// that takes no byte.
+pub trait Sink: Write {
+    /// How many writes have failed or taken no byte, where that is known.
+    ghost faults: { Self → Option ℕ };
+
+    /// Writes once, as `write` does. Where the operating system writes, a write that a signal broke off is made again.
+    fn push(&mut self, bytes: &[u8]) -> io::Result<usize>
+        requires { 0 < length bytes.now }
+        ensures bound { WritesAtMost result bytes.now }
+        ensures bytes { WriteAppends (Self.contents self.old) (Self.contents self.new) result bytes.now }
+        ensures told { Grows (faults self.old) (faults self.new) (faults_of_write result) };
+}
+
+// It fails where there is no memory, and else takes all.
+impl Sink for Vec<u8> {
+    ghost faults = { λ _. None };
+
+    fn push(&mut self, bytes: &[u8]) -> io::Result<usize>
+        ensures bound { WritesAtMost result bytes.now }
+        ensures bytes { WriteAppends (Some self.old.items) (Some self.new.items) result bytes.now }
+        ensures count { IfOk result (λ n. n ≡ length bytes.now) }
+        ensures kind { IfErr result (λ e. error_kind e ≡ ErrorKind.OutOfMemory) }
+    {
+        self.write(bytes)
+    }
+}
+
+impl Sink for Stdout {
+    ghost faults = { λ _. None };
+
+    fn push(&mut self, bytes: &[u8]) -> io::Result<usize> {
+        write_again(self, bytes)
+    }
+}
+
+impl Sink for UnixStream {
+    ghost faults = { λ _. None };
+
+    fn push(&mut self, bytes: &[u8]) -> io::Result<usize> {
+        write_again(self, bytes)
+    }
+}

@@ -1,0 +1,66 @@
+//! Readers that tell their reads and their faults.
+ghost use Rattle.std.specs.Prelude.{ℕ, Option, Some, None};
+ghost use Rattle.std.specs.Io.{ReadsAtMost};
+ghost use Rattle.std.specs.Io.KnownBytes.{ReadConsumes};
+ghost use Rattle.hub_io.specs.Telling.{Grows, faults_of_read};
+
+use crate::again::read_again;
+use std::io;
+use std::io::{Read, Stdin};
+use std::os::unix::net::UnixStream;
+
+/// What a session reads: a reader whose reads, and those that failed, a contract can count.
+pub trait Source: Read {
+    /// How many reads were made, where that is known.
+    ghost reads: { Self → Option ℕ };
+
+    /// How many reads have failed, where that is known.
+    ghost faults: { Self → Option ℕ };
+
+    /// Reads once, as `read` does. Where the operating system reads, a read that a signal broke off is made again.
+    fn pull(&mut self, buf: &mut [u8]) -> io::Result<usize>
+        ensures bound { ReadsAtMost result buf.new }
+        ensures bytes { ReadConsumes (Self.remaining self.old) (Self.remaining self.new) result buf.new }
+        ensures counted { Grows (reads self.old) (reads self.new) 1 }
+        ensures told { Grows (faults self.old) (faults self.new) (faults_of_read result) };
+
+    /// The connection that is read, by a descriptor of its own, so that a session that waits can look whether its client is
+    /// still there. None if what is read is no connection, or if the system has no descriptor left.
+    fn connection(&self) -> Option<UnixStream> {
+        None
+    }
+}
+
+impl Source for &[u8] {
+    ghost reads = { λ _. None };
+
+    ghost faults = { λ _. Some 0 };
+
+    fn pull(&mut self, buf: &mut [u8]) -> io::Result<usize> {
+        self.read(buf)
+    }
+}
+
+impl Source for Stdin {
+    ghost reads = { λ _. None };
+
+    ghost faults = { λ _. None };
+
+    fn pull(&mut self, buf: &mut [u8]) -> io::Result<usize> {
+        read_again(self, buf)
+    }
+}
+
+impl Source for UnixStream {
+    ghost reads = { λ _. None };
+
+    ghost faults = { λ _. None };
+
+    fn pull(&mut self, buf: &mut [u8]) -> io::Result<usize> {
+        read_again(self, buf)
+    }
+
+    fn connection(&self) -> Option<UnixStream> {
+        self.try_clone().ok()
+    }
+}

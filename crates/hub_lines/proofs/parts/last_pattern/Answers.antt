@@ -1,8 +1,0 @@
-use Rattle.std.proofs.Common.{sym, subst}
-use Rattle.hub_lines.specs.Spelling.{IsPattern}
-use Rattle.hub_lines.proofs.Splits.{same_text}
-use Rattle.hub_lines.proofs.parts.last_pattern.Goals as goal
-
-pub returns-else-is_pattern : goal.returns-else-is_pattern
-returns-else-is_pattern c = λ pattern is e.
-    c.if-is_pattern.ensures (subst IsPattern (sym (same_text c.args.rest.now pattern e)) is)

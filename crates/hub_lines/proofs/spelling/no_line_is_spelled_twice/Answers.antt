@@ -1,5 +1,0 @@
-use Rattle.hub_lines.proofs.OneReading.{one_form, one_request}
-use Rattle.hub_lines.proofs.spelling.no_line_is_spelled_twice.Goals as goal
-
-pub returns : goal.returns
-returns c = record { forms = one_form; requests = one_request }

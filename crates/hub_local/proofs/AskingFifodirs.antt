@@ -1,0 +1,147 @@
+-- What is asked of a fifodir.
+use Rattle.std.proofs.Common.{◌≡◌, ℕ, ◌<◌, ◌≤◌, Bool, true, false, List, [], ◌∷◌, ◌++◌, length, Option, Some, None, is_some, Ok, Err, refl, sym, ap, subst, ◌∙◌, arith}
+use Rattle.std.specs.Map.{lookup}
+use Rattle.std.specs.Str.{bytes_eq}
+use Rattle.hub_record.specs.declared.Closed.{Closed}
+use Rattle.hub_record.specs.declared.PubError.{PubError}
+use Rattle.hub_record.specs.declared.PubError.TheVariants as post
+use Rattle.hub_record.specs.declared.Status.{Status}
+use Rattle.hub_record.specs.Kept.{Kept, StandsFor}
+use Rattle.hub_record.specs.declared.Kind.{Kind}
+use Rattle.hub_record.specs.declared.limits.Limits.{Limits}
+use Rattle.hub_record.specs.World.{World, empty_world, PublishReply, after_publish, close_reply, after_close}
+use Rattle.hub_local.specs.Answers.{answered_with, in_world, made, published, closed, shown, refusal_to_make}
+use Rattle.hub_local.specs.Desks.{Desk, Fifodir, refused, world_of}
+use Rattle.hub_local.specs.Replies.{publish_reply}
+use Rattle.hub_requests.specs.Refusals.{refusal_of_pub}
+use Rattle.hub_local.specs.Standing.{Local, AreKept, Stands, Answers, AskedWith, Unchanged}
+use Rattle.hub_local.specs.declared.local_desk.LocalFifodir.{LocalFifodir}
+use Rattle.hub_requests.specs.declared.request.Request.TheVariants.{Pub, Close, Status as Show}
+use Rattle.hub_requests.specs.declared.reply.Reply.{Reply}
+use Rattle.hub_requests.specs.declared.reply.Reply.TheVariants.{Done, Number, State, No}
+use Rattle.hub_requests.specs.declared.reply.Refusal.TheVariants as no
+use Rattle.std.proofs.lemmas.Bool.{le-leb, lt-leb}
+use Rattle.hub_local.proofs.Holdings.{held_still, held_with_more}
+use Rattle.hub_local.proofs.Asking.{by_carrying, by_refusing, by_lacking, still_lacking, stands_same, Replaces, world_there, stands_replaced, stands_still, named}
+use Rattle.hub_local.proofs.KeptFifodirs.{some_kept, is_some-world_of, length-kept, kept_push}
+use Rattle.hub_local.proofs.RecordReplies.{publish_reply_is}
+
+-- ---- dir and svc
+
+no_world : (local : Local) (d : Desk) (name : List ℕ) → Stands local d → is_some (lookup (bytes_eq name) local.fifodirs) ≡ false → is_some (world_of d.fifodirs name) ≡ false
+no_world local d name st absent = sym (is_some-world_of name local.fifodirs d.fifodirs st.fifodirs) ∙ absent
+
+module _ (old : Local) (name : List ℕ) (kind : Kind) (reports : Option Bool) (limits : Limits) where
+  abbrev Makes : Reply → Local → Type 0
+  Makes reply new = Answers old true (λ d. refusal_to_make d name) (λ d. made d name kind reports (Some limits)) Unchanged reply new
+
+  pub make_exists : is_some (lookup (bytes_eq name) old.fifodirs) ≡ true → Makes (No no.Exists) old
+  make_exists there = by_refusing old old true _ _ _ _ no.Exists refl (λ e. cc)
+      (λ d st. (let e = sym (is_some-world_of name old.fifodirs d.fifodirs st.fifodirs) ∙ there in simp e)) (λ d st. st)
+
+  pub make_many : is_some (lookup (bytes_eq name) old.fifodirs) ≡ false → 256 ≤ length old.fifodirs → Makes (No no.Many) old
+  make_many absent many = by_refusing old old true _ _ _ _ no.Many refl (λ e. cc)
+      (λ d st. (let same = length-kept old.fifodirs d.fifodirs st.fifodirs in
+      simp (no_world old d name st absent, le-leb 256 (length d.fifodirs) (omega arith)))) (λ d st. st)
+
+  -- none has the name, and there is room for one more
+  module _ (absent : is_some (lookup (bytes_eq name) old.fifodirs) ≡ false) (few : length old.fifodirs < 256) where
+    may_make : (d : Desk) → Stands old d → refusal_to_make d name ≡ None
+    may_make d st = let same = length-kept old.fifodirs d.fifodirs st.fifodirs in
+        simp (no_world old d name st absent, lt-leb 256 (length d.fifodirs) (omega arith))
+
+    pub make_lacks : (new : Local) → new ≡ old → Makes (No no.Memory) new
+    make_lacks new same = by_lacking old new true _ _ _ _ refl refl (λ d st. still_lacking new d (refusal_to_make d name) (may_make d st) (stands_same old new d same st))
+
+    pub make_done : (new : Local) (kept : Kept) → StandsFor kept (empty_world kind limits)
+        → new.fifodirs ≡ old.fifodirs ++ (name, record { kept = kept; reports = reports }) ∷ [] → new.holdings ≡ old.holdings → new.given ≡ old.given → Makes Done new
+    make_done new kept stands fifodirs holdings given = by_carrying old new true _ _ _ Done (λ (e : Done ≡ No no.Memory). cc) (λ d st.
+        let f : Fifodir = record { name = name; reports = reports; world = empty_world kind limits } in
+        let more = d.fifodirs ++ f ∷ [] in record {
+          answer = made d name kind reports (Some limits);
+          unrefused = may_make d st;
+          done_is = refl;
+          said = refl;
+          stands = record {
+            fifodirs = subst (λ (es : List (List ℕ × LocalFifodir)). AreKept es (d.fifodirs ++ f ∷ [])) (sym fifodirs)
+                (kept_push old.fifodirs d.fifodirs _ f st.fifodirs (record { name = refl; reports = refl; world = stands }));
+            holdings = holdings ∙ st.holdings;
+            given = given ∙ st.given;
+            is_desk = record { held = held_still d.fifodirs more (held_with_more d.fifodirs f) _ st.is_desk.held; apart = st.is_desk.apart; go_on = st.is_desk.go_on };
+          };
+        })
+
+-- ---- close
+
+module _ (old new : Local) (name : List ℕ) (r : LocalFifodir) (kept : Kept) (put : Replaces old new name r kept) (reply : Reply) where
+  pub close_done : ((w : World) → StandsFor r.kept w → Ok tt ≡ close_reply w) → ((w : World) → StandsFor r.kept w → StandsFor kept (after_close w)) → reply ≡ Done → AskedWith false old (Close name) reply new
+  close_done replies after is = by_carrying old new false _ _ _ reply (λ e. cc) (λ d st.
+      let t = world_there old new name r kept put d st in
+      let w = t.0 in record {
+        answer = answered_with Done d name (after_close w);
+        unrefused = named d name w t.1;
+        done_is = ap (in_world d (λ v. closed d name v (close_reply v))) t.1 ∙ ap (closed d name w) (sym (replies w t.2));
+        said = is;
+        stands = stands_replaced old new name r kept put d st w (after_close w) t.1 (after w t.2) (λ id k. k);
+      })
+
+  pub close_refused : (error : Closed) → ((w : World) → StandsFor r.kept w → Err error ≡ close_reply w) → kept ≡ r.kept → reply ≡ No no.Closed → AskedWith false old (Close name) reply new
+  close_refused error replies still is = by_carrying old new false _ _ _ reply (λ e. cc) (λ d st.
+      let t = world_there old new name r kept put d st in
+      let w = t.0 in record {
+        answer = refused d no.Closed;
+        unrefused = named d name w t.1;
+        done_is = ap (in_world d (λ v. closed d name v (close_reply v))) t.1 ∙ ap (closed d name w) (sym (replies w t.2));
+        said = is;
+        stands = stands_still old new name r kept put d st w t.1 (subst (λ (k : Kept). StandsFor k w) (sym still) t.2);
+      })
+
+-- ---- pub
+
+real_refusal : (error : PubError) → refusal_of_pub error ≡ no.Memory → ⊥
+real_refusal post.Closed e = cc
+real_refusal (post.Unlawful i) e = cc
+real_refusal post.Spent e = cc
+real_refusal post.Full e = cc
+
+module _ (old new : Local) (name message : List ℕ) (r : LocalFifodir) (kept : Kept) (put : Replaces old new name r kept) (reply : Reply) where
+  pub publish_done : (first : ℕ) → ((w : World) → StandsFor r.kept w → PublishReply w message (Ok first)) → ((w : World) → StandsFor r.kept w → StandsFor kept (after_publish w 1 message (Ok first)))
+      → reply ≡ Number first → AskedWith false old (Pub name message) reply new
+  publish_done first replies after is = by_carrying old new false _ _ _ reply (λ e. cc) (λ d st.
+      let t = world_there old new name r kept put d st in
+      let w = t.0 in record {
+        answer = answered_with (Number first) d name (after_publish w 1 message (Ok first));
+        unrefused = named d name w t.1;
+        done_is = ap (in_world d (λ v. published d name message v (publish_reply v message))) t.1
+            ∙ ap (published d name message w) (sym (publish_reply_is w message (Ok first) (replies w t.2)));
+        said = is;
+        stands = stands_replaced old new name r kept put d st w (after_publish w 1 message (Ok first)) t.1 (after w t.2) (λ id k. k);
+      })
+
+  pub publish_refused : (error : PubError) → ((w : World) → StandsFor r.kept w → PublishReply w message (Err error)) → kept ≡ r.kept → reply ≡ No (refusal_of_pub error) → AskedWith false old (Pub name message) reply new
+  publish_refused error replies still is = by_carrying old new false _ _ _ reply (λ e. real_refusal error (let k : refusal_of_pub error ≡ no.Memory = cc in k)) (λ d st.
+      let t = world_there old new name r kept put d st in
+      let w = t.0 in record {
+        answer = refused d (refusal_of_pub error);
+        unrefused = named d name w t.1;
+        done_is = ap (in_world d (λ v. published d name message v (publish_reply v message))) t.1
+            ∙ ap (published d name message w) (sym (publish_reply_is w message (Err error) (replies w t.2)));
+        said = is;
+        stands = stands_still old new name r kept put d st w t.1 (subst (λ (k : Kept). StandsFor k w) (sym still) t.2);
+      })
+
+-- ---- status
+
+pub status_shown : (local : Local) (name : List ℕ) (r : LocalFifodir) (shows : Status) → Some r ≡ lookup (bytes_eq name) local.fifodirs
+    → shows.number ≡ r.kept.end → shows.flags ≡ r.kept.flags → shows.closed ≡ r.kept.closed → AskedWith false local (Show name) (State shows) local
+status_shown local name r shows was number flags is_closed = by_carrying local local false _ _ _ (State shows) (λ (e : State shows ≡ No no.Memory). cc) (λ d st.
+    let t = some_kept name local.fifodirs d.fifodirs r st.fifodirs (sym was) in
+    let w = t.0 in
+    let s = t.2 in
+    let ends = number ∙ s.end in let flies = flags ∙ s.flags in let closes = is_closed ∙ s.closed in record {
+      answer = shown d w;
+      unrefused = named d name w t.1;
+      done_is = ap (in_world d (shown d)) t.1;
+      said = λ i. State (record { number = ends i; flags = flies i; closed = closes i });
+      stands = st;
+    })

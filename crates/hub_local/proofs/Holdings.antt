@@ -1,0 +1,187 @@
+-- What the standing handles hold, after each change.
+use Rattle.std.proofs.Common.{◌≡◌, ℕ, ◌+◌, ◌<◌, ◌≤◌, true, false, List, [], ◌∷◌, ◌++◌, length, map, nat_eq, Option, Some, None, is_some, refl, sym, ap, subst, ◌∙◌, inl, inr, suc, true≢false, arith}
+use Rattle.std.proofs.lemmas.Bool.{cases_Bool, eqb-true, ne_eqb}
+use Rattle.std.specs.Map.{lookup, remove_entry}
+use Rattle.std.specs.Str.{bytes_eq}
+use Rattle.std.proofs.lemmas.Slice.Eq.{bytes_eq-Decides}
+use Rattle.hub_record.specs.World.{World, Subscription, found, stopped, after_cancel, after_cancel_for}
+use Rattle.hub_local.specs.Desks.{Fifodir, Handle, world_of, with_world, standing_from, dropped, without_from, subscription_of, AreHeld, IsApart, AreApart, GoesOn, AllGoOn, end_in, without_held}
+use Rattle.hub_local.specs.declared.local_desk.Holding.{Holding}
+use Rattle.hub_local.proofs.KeptFifodirs.{world_of-push, world_of-with_world}
+use Rattle.hub_local.proofs.Worlds.{found_below, found_changed_other}
+
+-- ---- the numbers
+
+-- a number below the first is not among them
+pub none_below : (from : ℕ) (hs : List Handle) (n : ℕ) → n < from → lookup (nat_eq n) (standing_from from hs) ≡ None
+none_below from [] n l = refl
+none_below from (h ∷ rest) n l =
+    let no : nat_eq n from ≡ false = ne_eqb n from (λ (e : n ≡ from). omega arith) in
+    let ih = none_below (from + 1) rest n (omega arith) in
+    elim (cases_Bool h.stands) [ inl st ↦ simp (st, no) ih | inr st ↦ simp st ih ]
+
+-- nor is one that was not given yet
+pub none_above : (from : ℕ) (hs : List Handle) (n : ℕ) → from + length hs ≤ n → lookup (nat_eq n) (standing_from from hs) ≡ None
+none_above from [] n l = refl
+none_above from (h ∷ rest) n l =
+    let no : nat_eq n from ≡ false = ne_eqb n from (λ (e : n ≡ from). omega arith) in
+    let ih = none_above (from + 1) rest n (omega arith) in
+    elim (cases_Bool h.stands) [ inl st ↦ simp (st, no) ih | inr st ↦ simp st ih ]
+
+pub standing-push : (from : ℕ) (hs : List Handle) (h : Handle) (n : ℕ) → h.stands ≡ true → n ≡ from + length hs → standing_from from (hs ++ h ∷ []) ≡ standing_from from hs ++ (n, h.holding) ∷ []
+standing-push from [] h n st is = let same : from ≡ n = omega arith in simp st (ap (λ (z : ℕ). (z, h.holding) ∷ []) same)
+standing-push from (x ∷ rest) h n st is =
+    let ih = standing-push (from + 1) rest h n st (omega arith) in
+    elim (cases_Bool x.stands) [ inl xs ↦ simp xs (ap (λ (z : List (ℕ × Holding)). (from, x.holding) ∷ z) ih) | inr xs ↦ simp xs ih ]
+
+pub standing-without : (from : ℕ) (hs : List Handle) (n : ℕ) (h : Holding) → lookup (nat_eq n) (standing_from from hs) ≡ Some h
+    → standing_from from (without_from from hs n) ≡ remove_entry (nat_eq n) (standing_from from hs)
+standing-without from [] n h e = refl
+standing-without from (x ∷ rest) n h e =
+    elim (cases_Bool (nat_eq n from)) [
+      | inl t ↦ (let is : n ≡ from = eqb-true n from t in
+          let none = none_below (from + 1) rest n (omega arith) in
+          elim (cases_Bool x.stands) [
+            | inl st ↦ simp (t, st)
+            | inr st ↦ (let k = simp st at e in absurd (let no : ⊥ = cc in no))
+          ])
+      | inr t ↦ elim (cases_Bool x.stands) [
+        | inl st ↦ (let k = simp (st, t) at e in simp (t, st) (ap (λ (z : List (ℕ × Holding)). (from, x.holding) ∷ z) (standing-without (from + 1) rest n h k)))
+        | inr st ↦ (let k = simp st at e in simp (t, st) (standing-without (from + 1) rest n h k))
+      ]
+    ]
+
+pub length-without : (from : ℕ) (hs : List Handle) (n : ℕ) → length (without_from from hs n) ≡ length hs
+length-without from [] n = refl
+length-without from (x ∷ rest) n = elim (cases_Bool (nat_eq n from)) [ inl t ↦ simp t | inr t ↦ simp t (ap suc (length-without (from + 1) rest n)) ]
+
+pub standing-dropped : (from : ℕ) (hs : List Handle) → standing_from from (map dropped hs) ≡ []
+standing-dropped from [] = refl
+standing-dropped from (h ∷ rest) = standing-dropped (from + 1) rest
+
+pub length-dropped : (hs : List Handle) → length (map dropped hs) ≡ length hs
+length-dropped [] = refl
+length-dropped (h ∷ rest) = ap suc (length-dropped rest)
+
+-- ---- each is held
+
+pub held_at : (fs : List Fifodir) (es : List (ℕ × Holding)) (n : ℕ) (h : Holding) → AreHeld fs es → lookup (nat_eq n) es ≡ Some h → is_some (subscription_of fs h) ≡ true
+held_at fs [] n h k e = absurd (let no : ⊥ = cc in no)
+held_at fs (x ∷ es) n h k e =
+    elim (cases_Bool (nat_eq n x.0)) [
+      | inl t ↦ (let z = simp t at e in let is : x.1 ≡ h = cc in subst (λ (g : Holding). is_some (subscription_of fs g) ≡ true) is k.0)
+      | inr t ↦ held_at fs es n h k.1 (simp t at e)
+    ]
+
+pub held_still : (fs new : List Fifodir) → ((h : Holding) → is_some (subscription_of fs h) ≡ true → is_some (subscription_of new h) ≡ true)
+    → (es : List (ℕ × Holding)) → AreHeld fs es → AreHeld new es
+held_still fs new keep [] k = tt
+held_still fs new keep (x ∷ es) k = (keep x.1 k.0, held_still fs new keep es k.1)
+
+pub held_push : (fs : List Fifodir) (es : List (ℕ × Holding)) (e : ℕ × Holding) → AreHeld fs es → is_some (subscription_of fs e.1) ≡ true → AreHeld fs (es ++ e ∷ [])
+held_push fs [] e k s = (s, tt)
+held_push fs (x ∷ es) e k s = (k.0, held_push fs es e k.1 s)
+
+-- ---- none is held twice
+
+apart_from_push : (h : Holding) (es : List (ℕ × Holding)) (e : ℕ × Holding) → IsApart h es → (h.name ≡ e.1.name → h.id ≡ e.1.id → ⊥) → IsApart h (es ++ e ∷ [])
+apart_from_push h [] e k a = (a, tt)
+apart_from_push h (x ∷ es) e k a = (k.0, apart_from_push h es e k.1 a)
+
+-- one whose id is none of those that are held under its name
+pub apart_push : (fs : List Fifodir) (es : List (ℕ × Holding)) (e : ℕ × Holding) → AreApart es → AreHeld fs es
+    → ((h : Holding) → is_some (subscription_of fs h) ≡ true → h.name ≡ e.1.name → h.id ≡ e.1.id → ⊥) → AreApart (es ++ e ∷ [])
+apart_push fs [] e k s new = (tt, tt)
+apart_push fs (x ∷ es) e k s new = (apart_from_push x.1 es e k.0 (new x.1 s.0), apart_push fs es e k.1 s.1 new)
+
+apart_at : (g : Holding) (es : List (ℕ × Holding)) (n : ℕ) (h : Holding) → IsApart g es → lookup (nat_eq n) es ≡ Some h → g.name ≡ h.name → g.id ≡ h.id → ⊥
+apart_at g [] n h k e a b = cc
+apart_at g (x ∷ es) n h k e a b =
+    elim (cases_Bool (nat_eq n x.0)) [
+      | inl t ↦ (let z = simp t at e in let is : x.1 ≡ h = cc in k.0 (a ∙ ap (λ (y : Holding). y.name) (sym is)) (b ∙ ap (λ (y : Holding). y.id) (sym is)))
+      | inr t ↦ apart_at g es n h k.1 (simp t at e) a b
+    ]
+
+apart_from_removed : (h : Holding) (es : List (ℕ × Holding)) (n : ℕ) → IsApart h es → IsApart h (remove_entry (nat_eq n) es)
+apart_from_removed h [] n k = tt
+apart_from_removed h (x ∷ es) n k = elim (cases_Bool (nat_eq n x.0)) [ inl t ↦ simp t (k.1) | inr t ↦ simp t (k.0, apart_from_removed h es n k.1) ]
+
+pub apart_removed : (es : List (ℕ × Holding)) (n : ℕ) → AreApart es → AreApart (remove_entry (nat_eq n) es)
+apart_removed [] n k = tt
+apart_removed (x ∷ es) n k = elim (cases_Bool (nat_eq n x.0)) [ inl t ↦ simp t (k.1) | inr t ↦ simp t (apart_from_removed x.1 es n k.0, apart_removed es n k.1) ]
+
+-- what is apart from one that is given back is held still
+held_beside : (fs new : List Fifodir) (g : Holding)
+    → ((h : Holding) → (g.name ≡ h.name → g.id ≡ h.id → ⊥) → is_some (subscription_of fs h) ≡ true → is_some (subscription_of new h) ≡ true)
+    → (es : List (ℕ × Holding)) → IsApart g es → AreHeld fs es → AreHeld new es
+held_beside fs new g keep [] a k = tt
+held_beside fs new g keep (x ∷ es) a k = (keep x.1 a.0 k.0, held_beside fs new g keep es a.1 k.1)
+
+pub held_removed : (fs new : List Fifodir) (n : ℕ) (g : Holding)
+    → ((h : Holding) → (g.name ≡ h.name → g.id ≡ h.id → ⊥) → is_some (subscription_of fs h) ≡ true → is_some (subscription_of new h) ≡ true)
+    → (es : List (ℕ × Holding)) → AreApart es → AreHeld fs es → lookup (nat_eq n) es ≡ Some g → AreHeld new (remove_entry (nat_eq n) es)
+held_removed fs new n g keep [] a k e = tt
+held_removed fs new n g keep (x ∷ es) a k e =
+    elim (cases_Bool (nat_eq n x.0)) [
+      | inl t ↦ (let z = simp t at e in let is : x.1 ≡ g = cc in simp t (held_beside fs new g keep es (subst (λ (y : Holding). IsApart y es) is a.0) k.1))
+      | inr t ↦ (let z = simp t at e in
+          let other = apart_at x.1 es n g a.0 z in
+          simp t (keep x.1 (λ same id. other (sym same) (sym id)) k.0, held_removed fs new n g keep es a.1 k.1 z))
+    ]
+
+-- ---- each may hit
+
+pub go_on_push : (es : List (ℕ × Holding)) (e : ℕ × Holding) → AllGoOn es → GoesOn e.1.hearing → AllGoOn (es ++ e ∷ [])
+go_on_push [] e k m = (m, tt)
+go_on_push (x ∷ es) e k m = (k.0, go_on_push es e k.1 m)
+
+pub go_on_removed : (es : List (ℕ × Holding)) (n : ℕ) → AllGoOn es → AllGoOn (remove_entry (nat_eq n) es)
+go_on_removed [] n k = tt
+go_on_removed (x ∷ es) n k = elim (cases_Bool (nat_eq n x.0)) [ inl t ↦ simp t (k.1) | inr t ↦ simp t (k.0, go_on_removed es n k.1) ]
+
+-- ---- with another world under a name
+
+module _ (fs : List Fifodir) (name : List ℕ) (w new : World) (is : world_of fs name ≡ Some w) where
+  -- a subscription that stands still where it is of that world
+  pub held_in_changed : (h : Holding) → (h.name ≡ name → is_some (found w h.id) ≡ true → is_some (found new h.id) ≡ true)
+      → is_some (subscription_of fs h) ≡ true → is_some (subscription_of (with_world fs name new) h) ≡ true
+  held_in_changed h keep s =
+      elim (cases_Bool (bytes_eq h.name name)) [
+        | inl t ↦ (let same : h.name ≡ name = (bytes_eq-Decides h.name name).0 t in
+            let there : world_of fs h.name ≡ Some w = ap (world_of fs) same ∙ is in
+            let k = simp there at s in
+            simp (world_of-with_world name fs w new h.name is, t) (keep same k))
+        | inr t ↦ simp (world_of-with_world name fs w new h.name is, t) s
+      ]
+
+  -- an id that this world has not given yet
+  pub unheld_id : (h : Holding) → is_some (subscription_of fs h) ≡ true → h.name ≡ name → h.id ≡ length w.subscriptions + 1 → ⊥
+  unheld_id h s same id =
+      let there : world_of fs h.name ≡ Some w = ap (world_of fs) same ∙ is in
+      let k = simp there at s in
+      let below = found_below 1 w.subscriptions h.id k in
+      omega arith
+
+-- with one more fifodir
+pub held_with_more : (fs : List Fifodir) (f : Fifodir) (h : Holding) → is_some (subscription_of fs h) ≡ true → is_some (subscription_of (fs ++ f ∷ []) h) ≡ true
+held_with_more fs f h s = by (world_of fs h.name) refl
+  where
+    by : (o : Option World) → world_of fs h.name ≡ o → is_some (subscription_of (fs ++ f ∷ []) h) ≡ true
+    by None e = let k = simp e at s in absurd (true≢false (sym k))
+    by (Some w) e = let k = simp e at s in simp (world_of-push h.name fs f w e) k
+
+-- ---- without what a handle holds
+
+stopped_still : (w : World) (h g : Holding) → (h.id ≡ g.id → ⊥) → is_some (found w g.id) ≡ true → is_some (found (after_cancel w h.id) g.id) ≡ true
+stopped_still w h g apart s = by (found w h.id)
+  where
+    by : (o : Option Subscription) → is_some (found (after_cancel_for w h.id o) g.id) ≡ true
+    by None = s
+    by (Some x) = found_changed_other stopped 1 w.subscriptions h.id g.id (λ e. apart (sym e)) s
+
+pub held_beside_cancelled : (fs : List Fifodir) (h g : Holding) → (h.name ≡ g.name → h.id ≡ g.id → ⊥) → is_some (subscription_of fs g) ≡ true → is_some (subscription_of (without_held fs h) g) ≡ true
+held_beside_cancelled fs h g apart s = by (world_of fs h.name) refl
+  where
+    by : (o : Option World) → world_of fs h.name ≡ o → is_some (subscription_of (end_in fs h o) g) ≡ true
+    by None e = s
+    by (Some w) e = held_in_changed fs h.name w (after_cancel w h.id) e g (λ same k. stopped_still w h g (apart (sym same)) k) s

@@ -1,0 +1,221 @@
+-- Takes of the letters behind a cursor, one at a time.
+use Rattle.std.proofs.Common.{◌≡◌, ℕ, zero, suc, ◌+◌, ◌-◌, ◌<◌, ◌≤◌, true, false, List, [], ◌∷◌, ◌++◌, length, take, drop, get_or, min, nat_eq, nat_lt, Option, Some, is_some, Ok, refl, sym, ap, subst, ◌∙◌, inl, inr, true≢false, append_assoc, append-nil, ⊎_elim, arith}
+use Rattle.std.proofs.lemmas.Bool.{cases_Bool, cases_lt, ltb-true, ltb-false}
+use Rattle.std.proofs.lemmas.List.{length-drop, length-map, drop-drop, drop-map}
+use Rattle.hub_record.specs.Kept.{Kept, StandsFor}
+use Rattle.hub_record.specs.World.{World, Subscription, letters, found, found_from, changed_from, with_changed, taken, moved, moved_on, reply_for, take_reply, take_events, moved_for, after_take, after_take_for}
+use Rattle.hub_record.specs.declared.Event.{Event}
+use Rattle.hub_record.specs.declared.Taken.TheVariants as taken
+use Rattle.hub_local.specs.Polls.{waiting_for}
+use Rattle.hub_local.specs.Hearings.{behind}
+
+-- ---- lists
+
+drop-none : {X : Type 0} (xs : List X) → drop (length xs) xs ≡ []
+drop-none [] = refl
+drop-none (x ∷ xs) = drop-none xs
+
+drop-all : {X : Type 0} (xs : List X) (n : ℕ) → length xs ≤ n → drop n xs ≡ []
+drop-all [] zero le = refl
+drop-all [] (suc n) le = refl
+drop-all (x ∷ xs) zero le = absurd (let no : ⊥ = omega arith in no)
+drop-all (x ∷ xs) (suc n) le = drop-all xs n (omega arith)
+
+drop-min : {X : Type 0} (xs : List X) (m : ℕ) → drop (min m (length xs)) xs ≡ drop m xs
+drop-min xs m =
+    ⊎_elim (λ (l : m < length xs). let e : min m (length xs) ≡ m = omega arith in ap (λ (n : ℕ). drop n xs) e)
+    (λ (le : length xs ≤ m). let e : min m (length xs) ≡ length xs = omega arith in ap (λ (n : ℕ). drop n xs) e ∙ drop-none xs ∙ sym (drop-all xs m le))
+    (cases_lt m (length xs))
+
+drop-one : {X : Type 0} (xs : List X) (n : ℕ) → n < length xs → (x : X) × (drop n xs ≡ x ∷ drop (suc n) xs)
+drop-one [] zero l = absurd (let no : ⊥ = omega arith in no)
+drop-one [] (suc n) l = absurd (let no : ⊥ = omega arith in no)
+drop-one (x ∷ xs) zero l = (x, refl)
+drop-one (x ∷ xs) (suc n) l = drop-one xs n (omega arith)
+
+take-then : {X : Type 0} (xs : List X) (m n : ℕ) → take m xs ++ take n (drop m xs) ≡ take (m + n) xs
+take-then [] zero n = let e : n ≡ 0 + n = omega arith in ap (λ (k : ℕ). take k []) e
+take-then {X = X} [] (suc m) n = by n (suc m + n)
+  where
+    by : (k j : ℕ) → take {A = X} k [] ≡ take j []
+    by zero zero = refl
+    by zero (suc j) = refl
+    by (suc k) zero = refl
+    by (suc k) (suc j) = refl
+take-then (x ∷ xs) zero n = let e : n ≡ 0 + n = omega arith in ap (λ (k : ℕ). take k (x ∷ xs)) e
+take-then (x ∷ xs) (suc m) n = let e : suc m + n ≡ suc (m + n) = omega arith in
+    ap (λ (z : List _). x ∷ z) (take-then xs m n) ∙ sym (ap (λ (k : ℕ). take k (x ∷ xs)) e)
+
+length-none : {X : Type 0} (xs : List X) → length xs ≡ 0 → xs ≡ []
+length-none [] e = refl
+length-none (x ∷ xs) e = absurd (let no : ⊥ = omega arith in no)
+
+-- ---- a subscription that is changed
+
+changed_same : (f : Subscription → Subscription) (from : ℕ) (subs : List Subscription) (id : ℕ) → ((s : Subscription) → found_from from subs id ≡ Some s → f s ≡ s)
+    → is_some (found_from from subs id) ≡ true → changed_from f from subs id ≡ subs
+changed_same f from [] id same there = refl
+changed_same f from (x ∷ rest) id same there =
+    elim (cases_Bool (nat_eq id from)) [
+      | inl e ↦ elim (cases_Bool x.stands) [
+        | inl st ↦ simp e (ap (λ (z : Subscription). z ∷ rest) (same x (simp (e, st))))
+        | inr st ↦ (let k = simp (e, st) at there in absurd (true≢false (sym k)))
+      ]
+      | inr e ↦ simp e (ap (λ (z : List Subscription). x ∷ z) (changed_same f (from + 1) rest id (λ s is. same s (simp e is)) (simp e at there)))
+    ]
+
+changed_twice : (f g h : Subscription → Subscription) (from : ℕ) (subs : List Subscription) (id : ℕ) → ((s : Subscription) → found_from from subs id ≡ Some s → g (f s) ≡ h s)
+    → is_some (found_from from subs id) ≡ true → changed_from g from (changed_from f from subs id) id ≡ changed_from h from subs id
+changed_twice f g h from [] id same there = refl
+changed_twice f g h from (x ∷ rest) id same there =
+    elim (cases_Bool (nat_eq id from)) [
+      | inl e ↦ elim (cases_Bool x.stands) [
+        | inl st ↦ simp e (ap (λ (z : Subscription). z ∷ rest) (same x (simp (e, st))))
+        | inr st ↦ (let k = simp (e, st) at there in absurd (true≢false (sym k)))
+      ]
+      | inr e ↦ simp e (ap (λ (z : List Subscription). x ∷ z) (changed_twice f g h (from + 1) rest id (λ s is. same s (simp e is)) (simp e at there)))
+    ]
+
+found_at : (f : Subscription → Subscription) → ((s : Subscription) → (f s).stands ≡ s.stands) → (from : ℕ) (subs : List Subscription) (id : ℕ) (s : Subscription)
+    → found_from from subs id ≡ Some s → found_from from (changed_from f from subs id) id ≡ Some (f s)
+found_at f keep from [] id s is = absurd (let no : ⊥ = cc in no)
+found_at f keep from (x ∷ rest) id s is =
+    elim (cases_Bool (nat_eq id from)) [
+      | inl e ↦ elim (cases_Bool x.stands) [
+        | inl st ↦ (let k = simp (e, st) at is in
+            let same : x ≡ s = cc in
+            let also : (f x).stands ≡ true = keep x ∙ st in simp (e, also) (ap (λ (z : Subscription). Some (f z)) same))
+        | inr st ↦ (let k = simp (e, st) at is in absurd (let no : ⊥ = cc in no))
+      ]
+      | inr e ↦ simp e (found_at f keep (from + 1) rest id s (simp e at is))
+    ]
+
+-- ---- takes
+
+module _ (w : World) (id : ℕ) (s : Subscription) (is : found w id ≡ Some s) where
+  after_take_is : (m : ℕ) → after_take w id m ≡ with_changed w id (moved_on w m)
+  after_take_is m = ap (after_take_for w id m) is
+
+  there : is_some (found w id) ≡ true
+  there = ap is_some is
+
+  only : (x : Subscription) → found w id ≡ Some x → x ≡ s
+  only x e = let k : Some x ≡ Some s = sym e ∙ is in cc
+
+  -- the subscription then
+  pub found_then : (m : ℕ) → found (after_take w id m) id ≡ Some (moved_on w m s)
+  found_then m = ap (λ (v : World). found v id) (after_take_is m) ∙ found_at (moved_on w m) (λ y. refl) 1 w.subscriptions id s is
+
+  moved_on_none : (m : ℕ) (x : Subscription) → x ≡ s → taken w s m ≡ 0 → moved_on w m x ≡ x
+  moved_on_none m x e none =
+      let t : taken w x m ≡ 0 = ap (λ (y : Subscription). taken w y m) e ∙ none in
+      let next : x.next + taken w x m ≡ x.next = omega arith in
+      let more : x.gathered ++ moved w x m ≡ x.gathered = ap (λ (n : ℕ). x.gathered ++ take n (drop x.next w.events)) t ∙ append-nil x.gathered in
+      λ i. record x { next = next i; gathered = more i }
+
+  pub take_none : (m : ℕ) → taken w s m ≡ 0 → after_take w id m ≡ w
+  take_none m none = after_take_is m
+      ∙ ap (λ (subs : List Subscription). record w { subscriptions = subs }) (changed_same (moved_on w m) 1 w.subscriptions id (λ x e. moved_on_none m x (only x e) none) there)
+
+  moved_on_more : (m : ℕ) (x : Subscription) → x ≡ s → s.next + m < length w.events → moved_on w 1 (moved_on w m x) ≡ moved_on w (m + 1) x
+  moved_on_more m x e below =
+      let at : x.next ≡ s.next = ap (λ (y : Subscription). y.next) e in
+      let one : min m (length w.events - x.next) ≡ m = omega arith in
+      let two : min 1 (length w.events - (x.next + min m (length w.events - x.next))) ≡ 1 = omega arith in
+      let both : min (m + 1) (length w.events - x.next) ≡ m + 1 = omega arith in
+      let next : x.next + min m (length w.events - x.next) + min 1 (length w.events - (x.next + min m (length w.events - x.next))) ≡ x.next + min (m + 1) (length w.events - x.next) = omega arith in
+      let gathered : (x.gathered ++ take (min m (length w.events - x.next)) (drop x.next w.events)) ++ take (min 1 (length w.events - (x.next + min m (length w.events - x.next)))) (drop (x.next + min m (length w.events - x.next)) w.events)
+      ≡ x.gathered ++ take (min (m + 1) (length w.events - x.next)) (drop x.next w.events) =
+      (λ i. (x.gathered ++ take (one i) (drop x.next w.events)) ++ take (two i) (drop (x.next + one i) w.events))
+      ∙ append_assoc x.gathered _ _
+      ∙ ap (λ (t : List Event). x.gathered ++ (take m (drop x.next w.events) ++ take 1 t)) (sym (drop-drop m x.next w.events))
+      ∙ ap (λ (t : List Event). x.gathered ++ t) (take-then (drop x.next w.events) m 1)
+      ∙ sym (ap (λ (n : ℕ). x.gathered ++ take n (drop x.next w.events)) both) in
+      λ i. record x { next = next i; gathered = gathered i }
+
+-- one more is taken
+pub take_more_then : (w : World) (id : ℕ) (s : Subscription) → found w id ≡ Some s → (m : ℕ) → s.next + m < length w.events → after_take (after_take w id m) id 1 ≡ after_take w id (m + 1)
+take_more_then w id s is m below =
+    let v = with_changed w id (moved_on w m) in
+    let first : after_take w id m ≡ v = after_take_is w id s is m in
+    let later : found v id ≡ Some (moved_on w m s) = sym (ap (λ (u : World). found u id) first) ∙ found_then w id s is m in
+    ap (λ (u : World). after_take u id 1) first ∙ after_take_is v id (moved_on w m s) later 1
+    ∙ ap (λ (subs : List Subscription). record w { subscriptions = subs })
+    (changed_twice (moved_on w m) (moved_on w 1) (moved_on w (m + 1)) 1 w.subscriptions id (λ x e. moved_on_more w id s is m x (only w id s is x e) below) (there w id s is))
+    ∙ sym (after_take_is w id s is (m + 1))
+
+-- ---- the letters behind the cursor
+
+module _ (w : World) (id : ℕ) (s : Subscription) (is : found w id ≡ Some s) where
+  behind_is : behind w id ≡ letters (drop s.next w.events)
+  behind_is = ap (λ (o : Option Subscription). letters (waiting_for w o)) is
+
+  pub length-behind : length (behind w id) ≡ length w.events - s.next
+  length-behind = ap length behind_is ∙ length-map (drop s.next w.events) (λ (e : Event). e.letter) ∙ length-drop s.next w.events
+
+  -- the letters then
+  pub behind_then : (m : ℕ) → behind (after_take w id m) id ≡ drop m (behind w id)
+  behind_then m =
+      let v = with_changed w id (moved_on w m) in
+      let first : after_take w id m ≡ v = after_take_is w id s is m in
+      let later : found v id ≡ Some (moved_on w m s) = sym (ap (λ (u : World). found u id) first) ∙ found_then w id s is m in
+      let all = length-drop s.next w.events in
+      ap (λ (u : World). behind u id) first ∙ ap (λ (o : Option Subscription). letters (waiting_for v o)) later
+      ∙ ap letters (sym (drop-drop (min m (length w.events - s.next)) s.next w.events))
+      ∙ ap (λ (n : ℕ). letters (drop (min m n) (drop s.next w.events))) (sym all)
+      ∙ ap letters (drop-min (drop s.next w.events) m) ∙ sym (drop-map (λ (e : Event). e.letter) m (drop s.next w.events)) ∙ sym (ap (drop m) behind_is)
+
+  pub closed_then : (m : ℕ) → (after_take w id m).closed ≡ w.closed
+  closed_then m = ap (λ (u : World). u.closed) (after_take_is w id s is m)
+
+  -- ---- one take
+
+  pub got_one : (count : ℕ) → Ok (taken.Got count) ≡ take_reply w id 1 → s.next < length w.events
+  got_one count e =
+      let k : Ok (taken.Got count) ≡ reply_for w 1 (Some s) = e ∙ ap (reply_for w 1) is in
+      elim (cases_Bool (nat_lt s.next (length w.events))) [
+        | inl a ↦ ltb-true s.next (length w.events) a
+        | inr a ↦ elim (cases_Bool w.closed) [
+          | inl c ↦ (let j = simp (a, c) at k in absurd (let no : ⊥ = cc in no))
+          | inr c ↦ (let j = simp (a, c) at k in absurd (let no : ⊥ = cc in no))
+        ]
+      ]
+
+  pub got_none : Ok taken.Nothing ≡ take_reply w id 1 → (length w.events ≤ s.next) × (w.closed ≡ false)
+  got_none e =
+      let k : Ok taken.Nothing ≡ reply_for w 1 (Some s) = e ∙ ap (reply_for w 1) is in
+      elim (cases_Bool (nat_lt s.next (length w.events))) [
+        | inl a ↦ (let j = simp a at k in absurd (let no : ⊥ = cc in no))
+        | inr a ↦ elim (cases_Bool w.closed) [
+          | inl c ↦ (let j = simp (a, c) at k in absurd (let no : ⊥ = cc in no))
+          | inr c ↦ (ltb-false s.next (length w.events) a, c)
+        ]
+      ]
+
+  pub got_end : Ok taken.End ≡ take_reply w id 1 → (length w.events ≤ s.next) × (w.closed ≡ true)
+  got_end e =
+      let k : Ok taken.End ≡ reply_for w 1 (Some s) = e ∙ ap (reply_for w 1) is in
+      elim (cases_Bool (nat_lt s.next (length w.events))) [
+        | inl a ↦ (let j = simp a at k in absurd (let no : ⊥ = cc in no))
+        | inr a ↦ elim (cases_Bool w.closed) [
+          | inl c ↦ (ltb-false s.next (length w.events) a, c)
+          | inr c ↦ (let j = simp (a, c) at k in absurd (let no : ⊥ = cc in no))
+        ]
+      ]
+
+  -- none waits
+  module _ (none : length w.events ≤ s.next) (kept : Kept) (stands : StandsFor kept (after_take w id 1)) where
+    pub none_behind : behind w id ≡ []
+    none_behind = let l = length-behind in length-none (behind w id) (omega arith)
+
+    pub still_stands : StandsFor kept w
+    still_stands = let t : taken w s 1 ≡ 0 = omega arith in subst (StandsFor kept) (take_none w id s is 1 t) stands
+
+  -- one waits
+  pub one_behind : s.next < length w.events → (out room : List Event) (d : Event) → out ≡ take_events w id 1 ++ room → (rest : List ℕ) × (behind w id ≡ (get_or out 0 d).letter ∷ rest)
+  one_behind some out room d filled =
+      let one = drop-one w.events s.next some in
+      let t : taken w s 1 ≡ 1 = omega arith in
+      let took : take_events w id 1 ≡ one.0 ∷ [] = ap (moved_for w 1) is ∙ (λ i. take (t i) (one.1 i)) in
+      let first : out ≡ one.0 ∷ room = filled ∙ ap (λ (z : List Event). z ++ room) took in
+      (letters (drop (suc s.next) w.events), behind_is ∙ ap letters one.1 ∙ sym (ap (λ (z : List Event). (get_or z 0 d).letter ∷ letters (drop (suc s.next) w.events)) first))

@@ -1,0 +1,243 @@
+-- What a desk answers to requests, and what it is afterwards.
+use Rattle.std.specs.Prelude.{ℕ, ◌≡◌, ◌+◌, ◌≤◌, Bool, true, false, if◌then◌else◌, List, [], ◌∷◌, ◌++◌, length, drop, nat_le, Option, Some, None, option_to_list, is_some, Result, Ok, Err}
+use Rattle.std.specs.List.{list_all}
+use Rattle.std.proofs.Math.Decide.{dec_le}
+use Rattle.std.proofs.Math.Dec.{lit≤}
+use Rattle.hub_letters.specs.Flags.{flags_of}
+use Rattle.hub_listen.specs.Hit.{IsPattern}
+use Rattle.hub_listen.specs.Listening.{unheard}
+use Rattle.hub_letters.specs.declared.mode.Mode.{Mode}
+use Rattle.hub_letters.specs.declared.mode.Mode.TheVariants.{Repeat}
+use Rattle.hub_record.specs.World.{World, empty_world, letters, after_subscribe, after_publish, take_reply, take_events, after_take, close_reply, after_close}
+use Rattle.hub_record.specs.declared.Kind.{Kind}
+use Rattle.hub_record.specs.declared.Kind.TheVariants.{Plain, Service}
+use Rattle.hub_record.specs.declared.limits.Limits.{Limits}
+use Rattle.hub_record.specs.declared.SubError.{SubError}
+use Rattle.hub_record.specs.declared.PubError.{PubError}
+use Rattle.hub_record.specs.declared.Taken.{Taken}
+use Rattle.hub_record.specs.declared.Taken.TheVariants as taken
+use Rattle.hub_record.specs.declared.NoId.{NoId}
+use Rattle.hub_record.specs.declared.Closed.{Closed}
+use Rattle.hub_local.specs.Desks.{Desk, Answer, world_of, reports_of, with_world, standing, held, without_handle, refused}
+use Rattle.hub_local.specs.Polls.{polled, LeftByPoll}
+use Rattle.hub_local.specs.Replies.{subscribe_reply, publish_reply}
+use Rattle.hub_requests.specs.Refusals.{refusal_of_sub, refusal_of_pub}
+use Rattle.hub_local.specs.Waits.{waited, LeftByWait}
+use Rattle.hub_local.specs.declared.local_desk.Hearing.{Hearing}
+use Rattle.hub_local.specs.declared.local_desk.Holding.{Holding}
+use Rattle.hub_requests.specs.declared.request.Request.{Request}
+use Rattle.hub_requests.specs.declared.request.Request.TheVariants.{Dir, Svc, Sub, Pub, Take, Cancel, Close, Status, Listen, Poll, Wait}
+use Rattle.hub_requests.specs.declared.reply.Reply.{Reply}
+use Rattle.hub_requests.specs.declared.reply.Reply.TheVariants.{Done, Number, State, Got, Nothing, End, No}
+use Rattle.hub_requests.specs.declared.reply.Refusal.{Refusal}
+use Rattle.hub_requests.specs.declared.reply.Refusal.TheVariants as no
+
+-- ---- what the desk itself refuses, in the order of the refusals
+
+abbrev pub refusal_to_make : Desk → List ℕ → Option Refusal
+refusal_to_make d name =
+    if is_some (world_of d.fifodirs name) then Some no.Exists else
+    if nat_le 256 (length d.fifodirs) then Some no.Many else
+    None
+
+abbrev pub refusal_by_name : Desk → List ℕ → Option Refusal
+refusal_by_name d name = if is_some (world_of d.fifodirs name) then None else Some no.Name
+
+-- to give one more handle, for a subscription to the fifodir of this name
+abbrev pub refusal_to_hold : Desk → List ℕ → Option Refusal
+refusal_to_hold d name =
+    if is_some (world_of d.fifodirs name) then
+    (if nat_le 256 (length (standing d)) then Some no.Many else
+    if nat_le 1000000 (length d.handles) then Some no.Spent else
+    None)
+    else Some no.Name
+
+-- the same for a listener, where `read` says whether its pattern is read
+abbrev pub refusal_to_listen : Bool → Option Refusal → Option Refusal
+refusal_to_listen read (Some refusal) = Some refusal
+refusal_to_listen true None = None
+refusal_to_listen false None = Some no.Pattern
+
+-- only what a plain subscription's handle holds is taken from
+abbrev pub refusal_to_take : Option Holding → Option Refusal
+refusal_to_take None = Some no.Id
+refusal_to_take (Some h) = if is_some h.hearing then Some no.Id else None
+
+abbrev pub refusal_to_hear : Option Hearing → Option Refusal
+refusal_to_hear None = Some no.Id
+refusal_to_hear (Some hearing) = if nat_le 4096 (length hearing.listener.gathered) then Some no.Overlong else None
+
+-- and only what a listener's holds is polled
+abbrev pub refusal_to_poll : Option Holding → Option Refusal
+refusal_to_poll None = Some no.Id
+refusal_to_poll (Some h) = refusal_to_hear h.hearing
+
+abbrev pub refusal_to_cancel : Option Holding → Option Refusal
+refusal_to_cancel None = Some no.Id
+refusal_to_cancel (Some h) = None
+
+-- each name is looked for before any kind is looked at
+abbrev pub refusal_to_wait : Desk → List (List ℕ) → Option Refusal
+refusal_to_wait d names =
+    if list_all (λ name. is_some (world_of d.fifodirs name)) names then
+    (if list_all (λ name. is_some (reports_of d.fifodirs name)) names then None else Some no.Kind)
+    else Some no.Name
+
+-- `read` says of a `Listen` whether its pattern is read
+abbrev pub own_refusal : Desk → Bool → Request → Option Refusal
+own_refusal d read (Dir name waiting total) = refusal_to_make d name
+own_refusal d read (Svc name waiting total notifies) = refusal_to_make d name
+own_refusal d read (Sub name) = refusal_to_hold d name
+own_refusal d read (Pub name letters) = refusal_by_name d name
+own_refusal d read (Take id max) = refusal_to_take (held d id)
+own_refusal d read (Cancel id) = refusal_to_cancel (held d id)
+own_refusal d read (Close name) = refusal_by_name d name
+own_refusal d read (Status name) = refusal_by_name d name
+own_refusal d read (Listen name mode pattern) = refusal_to_listen read (refusal_to_hold d name)
+own_refusal d read (Poll id) = refusal_to_poll (held d id)
+own_refusal d read (Wait span want turns names) = refusal_to_wait d names
+
+-- ---- what it does otherwise
+
+-- with the reply, and another world under the name
+abbrev pub answered_with : Reply → Desk → List ℕ → World → Answer
+answered_with reply d name w = record { reply = reply; desk = record d { fifodirs = with_world d.fifodirs name w } }
+
+-- what is done to the world under a name
+abbrev pub in_world : Desk → (World → Answer) → Option World → Answer
+in_world d done None = refused d no.Name
+in_world d done (Some w) = done w
+
+-- what is done for what a handle holds
+abbrev pub for_holding : Desk → (Holding → Answer) → Option Holding → Answer
+for_holding d done None = refused d no.Id
+for_holding d done (Some h) = done h
+
+-- what is done for what a listener hears
+abbrev pub for_hearing : Desk → (Hearing → Answer) → Option Hearing → Answer
+for_hearing d done None = refused d no.Id
+for_hearing d done (Some hearing) = done hearing
+
+abbrev pub limits_by : (waiting total : ℕ) → Dec (1 ≤ waiting) → Dec (waiting ≤ 4096) → Dec (1 ≤ total) → Dec (total ≤ 1000000000000) → Option Limits
+limits_by waiting total (yes some_wait) (yes few_wait) (yes some) (yes within) =
+    Some (record { waiting = waiting; total = total; ids = 1000000000000; waiting_in_range = (some_wait, few_wait); total_in_range = (some, within); ids_in_range = (lit≤ tt, lit≤ tt) })
+limits_by waiting total a b c d = None
+
+-- the limits of a desk's fifodir, where they are in their ranges
+abbrev pub limits_of : ℕ → ℕ → Option Limits
+limits_of waiting total = limits_by waiting total (dec_le 1 waiting) (dec_le waiting 4096) (dec_le 1 total) (dec_le total 1000000000000)
+
+-- where the limits are not in their ranges, which no request is asked with, a number is refused
+abbrev pub made : Desk → List ℕ → Kind → Option Bool → Option Limits → Answer
+made d name kind reports None = refused d no.Range
+made d name kind reports (Some limits) = record {
+  reply = Done;
+  desk = record d { fifodirs = d.fifodirs ++ record { name = name; reports = reports; world = empty_world kind limits } ∷ [] };
+}
+
+-- with one more handle, for a plain subscription or for one whose letters are heard so
+abbrev pub subscribed : Desk → List ℕ → Option Hearing → World → Result (ℕ × ℕ) SubError → Answer
+subscribed d name hearing w (Err error) = refused d (refusal_of_sub error)
+subscribed d name hearing w (Ok given) = record {
+  reply = Number (length d.handles + 1);
+  desk = record {
+    fifodirs = with_world d.fifodirs name (after_subscribe w (Ok given));
+    handles = d.handles ++ record { holding = record { name = name; id = given.0; hearing = hearing }; stands = true } ∷ [];
+  };
+}
+
+-- one that has heard nothing
+abbrev pub new_hearing : List ℕ → Mode → Hearing
+new_hearing pattern mode = record { listener = unheard pattern Repeat; mode = mode; held = None }
+
+abbrev pub published : Desk → List ℕ → List ℕ → World → Result ℕ PubError → Answer
+published d name message w (Err error) = refused d (refusal_of_pub error)
+published d name message w (Ok first) = answered_with (Number first) d name (after_publish w 1 message (Ok first))
+
+abbrev pub take_shown : List ℕ → Result Taken NoId → Reply
+take_shown letters (Ok (taken.Got count)) = Got letters
+take_shown letters (Ok taken.Nothing) = Nothing
+take_shown letters (Ok taken.End) = End
+take_shown letters (Err error) = No no.Id
+
+abbrev pub took : Desk → ℕ → Holding → World → Answer
+took d max h w = answered_with (take_shown (letters (take_events w h.id max)) (take_reply w h.id max)) d h.name (after_take w h.id max)
+
+abbrev pub cancelled : Desk → ℕ → Holding → Answer
+cancelled d number h = record { reply = Done; desk = without_handle d number h }
+
+abbrev pub closed : Desk → List ℕ → World → Result (Unit {0}) Closed → Answer
+closed d name w (Err error) = refused d no.Closed
+closed d name w (Ok done) = answered_with Done d name (after_close w)
+
+abbrev pub shown : Desk → World → Answer
+shown d w = record { reply = State (record { number = length w.events; flags = flags_of (letters w.events); closed = w.closed }); desk = d }
+
+-- what is done with a request that the desk itself doesn't refuse
+abbrev pub carried_out : Desk → Request → Answer
+carried_out d (Dir name waiting total) = made d name Plain None (limits_of waiting total)
+carried_out d (Svc name waiting total notifies) = made d name Service (Some notifies) (limits_of waiting total)
+carried_out d (Sub name) = in_world d (λ w. subscribed d name None w (subscribe_reply w)) (world_of d.fifodirs name)
+carried_out d (Pub name message) = in_world d (λ w. published d name message w (publish_reply w message)) (world_of d.fifodirs name)
+carried_out d (Take id max) = for_holding d (λ h. in_world d (took d max h) (world_of d.fifodirs h.name)) (held d id)
+carried_out d (Cancel id) = for_holding d (cancelled d id) (held d id)
+carried_out d (Close name) = in_world d (λ w. closed d name w (close_reply w)) (world_of d.fifodirs name)
+carried_out d (Status name) = in_world d (shown d) (world_of d.fifodirs name)
+carried_out d (Listen name mode pattern) = in_world d (λ w. subscribed d name (Some (new_hearing pattern mode)) w (subscribe_reply w)) (world_of d.fifodirs name)
+carried_out d (Poll id) = for_holding d (λ h. for_hearing d (λ g. in_world d (polled d id h g) (world_of d.fifodirs h.name)) h.hearing) (held d id)
+carried_out d (Wait span want turns names) = waited d span want names
+
+-- ---- answers
+
+abbrev pub answer_by : Desk → Option Refusal → Answer → Answer
+answer_by d (Some refusal) done = refused d refusal
+answer_by d None done = done
+
+abbrev pub answer : Desk → Bool → Request → Answer
+answer d read request = answer_by d (own_refusal d read request) (carried_out d request)
+
+-- what may be left where want of memory was met: a desk that is unchanged, but for these two requests
+abbrev pub LeftBy : Request → Desk → Desk → Type 0
+LeftBy (Poll id) d new = LeftByPoll d id new
+LeftBy (Wait span want turns names) d new = LeftByWait d want names new
+LeftBy request d new = new ≡ d
+
+-- ---- runs of requests, with a yes or no for each `Listen` among them: whether its pattern is read
+
+-- the pattern that is to be read
+abbrev pub pattern_in : Request → Option (List ℕ)
+pattern_in (Listen name mode pattern) = Some pattern
+pattern_in request = None
+
+-- for a request with this pattern, or with none
+abbrev pub first_read : Option (List ℕ) → List Bool → Bool
+first_read (Some text) (read ∷ rest) = read
+first_read pattern reads = false
+
+abbrev pub later_reads : Option (List ℕ) → List Bool → List Bool
+later_reads None reads = reads
+later_reads (Some text) reads = drop 1 reads
+
+abbrev pub answer_to : Desk → List Bool → Request → Answer
+answer_to d reads request = answer d (first_read (pattern_in request) reads) request
+
+-- the replies to requests in turn, and the desk after them
+abbrev pub answers : Desk → List Bool → List Request → List Reply
+answers d reads [] = []
+answers d reads (request ∷ rest) =
+    (answer_to d reads request).reply ∷ answers (answer_to d reads request).desk (later_reads (pattern_in request) reads) rest
+
+abbrev pub desk_after : Desk → List Bool → List Request → Desk
+desk_after d reads [] = d
+desk_after d reads (request ∷ rest) = desk_after (answer_to d reads request).desk (later_reads (pattern_in request) reads) rest
+
+abbrev pub patterns_in : List Request → List (List ℕ)
+patterns_in [] = []
+patterns_in (request ∷ rest) = option_to_list (pattern_in request) ++ patterns_in rest
+
+-- one for each text, and yes only for a pattern
+abbrev pub AreReads : List Bool → List (List ℕ) → Type 0
+AreReads [] [] = Unit {0}
+AreReads (true ∷ reads) (text ∷ texts) = IsPattern text × AreReads reads texts
+AreReads (false ∷ reads) (text ∷ texts) = AreReads reads texts
+AreReads reads texts = ⊥

@@ -1,0 +1,80 @@
+-- What a poll answers: the letters that a listener has still to hear are heard one at a time up to a hit, for as long
+-- as there is room.
+use Rattle.std.specs.Prelude.{ℕ, ◌≡◌, ◌⊎◌, ◌+◌, ◌-◌, ◌<◌, ◌&&◌, if◌then◌else◌, List, [], ◌++◌, length, take, drop, nat_lt, slice_get, option_to_list, Option, Some, None}
+use Rattle.hub_listen.specs.Each.{fitting}
+use Rattle.hub_listen.specs.Hit.{HasNoHit, hit_length}
+use Rattle.hub_listen.specs.Listening.{after_hit, after_quiet}
+use Rattle.hub_letters.specs.declared.mode.Mode.{Mode}
+use Rattle.hub_letters.specs.declared.mode.Mode.TheVariants.{Once, Repeat}
+use Rattle.hub_record.specs.World.{World, Subscription, letters, found, after_take}
+use Rattle.hub_record.specs.declared.Event.{Event}
+use Rattle.hub_local.specs.Desks.{Desk, Answer, world_of, with_world, held, with_holding_from, without_handle}
+use Rattle.hub_local.specs.declared.local_desk.Hearing.{Hearing}
+use Rattle.hub_local.specs.declared.local_desk.Holding.{Holding}
+use Rattle.hub_requests.specs.declared.reply.Reply.TheVariants.{Hit, Nothing, End}
+
+-- the events behind the cursor
+abbrev pub waiting_for : World → Option Subscription → List Event
+waiting_for w None = []
+waiting_for w (Some s) = drop s.next w.events
+
+-- the letters that a listener has still to hear: the one that it holds, and then those behind the cursor
+abbrev pub to_hear : Hearing → World → ℕ → List ℕ
+to_hear g w id = option_to_list g.held ++ letters (waiting_for w (found w id))
+
+-- the world after the first n of them were taken; the one that is held was taken before
+abbrev pub taken_from : Hearing → World → ℕ → ℕ → World
+taken_from g w id n = after_take w id (n - length (option_to_list g.held))
+
+-- ---- what is heard
+
+abbrev pub heard_to_hit : Hearing → List ℕ → ℕ → Hearing
+heard_to_hit g letters k = record g { listener = after_hit g.listener letters k; held = None }
+
+abbrev pub heard_quietly : Hearing → List ℕ → Hearing
+heard_quietly g letters = record g { listener = after_quiet g.listener letters; held = None }
+
+-- with the handle's listener and its world as they are then
+abbrev pub heard_on : Desk → ℕ → Holding → Hearing → World → Desk
+heard_on d number h g w = record { fifodirs = with_world d.fifodirs h.name w; handles = with_holding_from 1 d.handles number (record h { hearing = Some g }) }
+
+-- in mode Once, a hit ends the subscription
+abbrev pub ended_by : Mode → Desk → ℕ → Holding → Desk
+ended_by Once d number h = without_handle d number h
+ended_by Repeat d number h = d
+
+-- the letters that are still to be heard, and how many of them complete a hit
+abbrev pub heard : Desk → ℕ → Holding → Hearing → World → List ℕ → Option ℕ → Answer
+heard d number h g w letters (Some k) = record {
+  reply = Hit (g.listener.gathered ++ take k letters);
+  desk = ended_by g.mode (heard_on d number h (heard_to_hit g letters k) (taken_from g w h.id k)) number h;
+}
+heard d number h g w letters None = record {
+  reply = if nat_lt (length g.listener.gathered + length letters) 4096 && w.closed then End else Nothing;
+  desk = heard_on d number h (heard_quietly g (take (fitting g.listener letters) letters)) (taken_from g w h.id (fitting g.listener letters));
+}
+
+abbrev pub polled : Desk → ℕ → Holding → Hearing → World → Answer
+polled d number h g w = heard d number h g w (to_hear g w h.id) (hit_length g.listener.pattern g.listener.gathered (to_hear g w h.id))
+
+-- ---- want of memory
+
+-- it was met at the letter after the first n, which had no hit: those are gathered, and that letter is held
+pub record IsStopped (d : Desk) (number : ℕ) (h : Holding) (g : Hearing) (w : World) (n : ℕ) (new : Desk) : Type 0 where
+  pub inside : n < fitting g.listener (to_hear g w h.id)
+  pub none : HasNoHit g.listener.pattern g.listener.gathered (take n (to_hear g w h.id))
+  pub desk : new ≡ heard_on d number h (record g { listener = after_quiet g.listener (take n (to_hear g w h.id)); held = slice_get (to_hear g w h.id) n }) (taken_from g w h.id (n + 1))
+
+pub record WasStopped (d : Desk) (number : ℕ) (new : Desk) : Type 0 where
+  pub holding : Holding
+  pub hearing : Hearing
+  pub world : World
+  pub count : ℕ
+  pub held_is : held d number ≡ Some holding
+  pub hears : holding.hearing ≡ Some hearing
+  pub there : world_of d.fifodirs holding.name ≡ Some world
+  pub stopped : IsStopped d number holding hearing world count new
+
+-- or before anything was taken
+abbrev pub LeftByPoll : Desk → ℕ → Desk → Type 0
+LeftByPoll d number new = (new ≡ d) ⊎ WasStopped d number new

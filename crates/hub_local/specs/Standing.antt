@@ -1,0 +1,128 @@
+-- What a `LocalDesk` stands for.
+use Rattle.std.specs.Prelude.{ℕ, ◌≡◌, ◌≢◌, Bool, true, false, List, [], ◌∷◌, length, All, Option, None, Some, is_some}
+use Rattle.hub_record.specs.Kept.{Kept, StandsFor}
+use Rattle.hub_record.specs.World.{World, found}
+use Rattle.hub_listen.specs.Hit.{IsPattern}
+use Rattle.hub_local.specs.Desks.{Fifodir, Desk, IsDesk, Answer, standing, ended}
+use Rattle.hub_local.specs.Answers.{own_refusal, carried_out, answer_by, LeftBy, pattern_in, patterns_in, AreReads, answers, desk_after}
+use Rattle.hub_local.specs.declared.local_desk.LocalFifodir.{LocalFifodir}
+use Rattle.hub_local.specs.declared.local_desk.Holding.{Holding}
+use Rattle.hub_requests.specs.declared.request.Request.{Request}
+use Rattle.hub_requests.specs.declared.request.Request.TheVariants.{Dir, Svc, Sub, Pub, Take, Cancel, Close, Status, Listen, Poll, Wait}
+use Rattle.hub_requests.specs.declared.reply.Reply.{Reply}
+use Rattle.hub_requests.specs.declared.reply.Reply.TheVariants.{No}
+use Rattle.hub_requests.specs.declared.reply.Refusal.{Refusal}
+use Rattle.hub_requests.specs.declared.reply.Refusal.TheVariants.{Memory}
+
+-- what a contract sees of a `LocalDesk`: the fifodirs by name in the order they were made, what the standing handles
+-- hold by number, and how many handles were given
+pub record Local : Type 0 where
+  pub fifodirs : List (List ℕ × LocalFifodir)
+  pub holdings : List (ℕ × Holding)
+  pub given : ℕ
+
+pub record IsKept (entry : List ℕ × LocalFifodir) (fifodir : Fifodir) : Type 0 where
+  pub name : entry.0 ≡ fifodir.name
+  pub reports : entry.1.reports ≡ fifodir.reports
+  pub world : StandsFor entry.1.kept fifodir.world
+
+-- one after another
+abbrev pub AreKept : List (List ℕ × LocalFifodir) → List Fifodir → Type 0
+AreKept [] [] = Unit {0}
+AreKept [] (f ∷ fs) = ⊥
+AreKept (e ∷ es) [] = ⊥
+AreKept (e ∷ es) (f ∷ fs) = IsKept e f × AreKept es fs
+
+pub record Stands (local : Local) (desk : Desk) : Type 0 where
+  pub fifodirs : AreKept local.fifodirs desk.fifodirs
+  pub holdings : local.holdings ≡ standing desk
+  pub given : local.given ≡ length desk.handles
+  pub is_desk : IsDesk desk
+
+-- every `LocalDesk` stands for some desk
+pub record StandsForSome (local : Local) : Type 0 where
+  pub desk : Desk
+  pub stands : Stands local desk
+
+-- the record stands for a world in which the subscription stands
+pub record HasSubscription (kept : Kept) (id : ℕ) : Type 0 where
+  pub world : World
+  pub stands : StandsFor kept world
+  pub subscribed : is_some (found world id) ≡ true
+
+-- ---- what asking does
+
+-- what a desk answers that refuses by `own` and else does `done`
+pub record IsAnswer (local : Local) (desk : Desk) (own : Option Refusal) (done : Answer) (reply : Reply) : Type 0 where
+  pub said : reply ≡ (answer_by desk own done).reply
+  pub stands : Stands local (answer_by desk own done).desk
+
+-- want of memory stands after what the desk itself refuses, and leaves a desk as `left` says
+pub record IsLacking (local : Local) (own : Option Refusal) (left : Desk → Type 0) : Type 0 where
+  pub unrefused : own ≡ None
+  pub desk : Desk
+  pub is_left : left desk
+  pub stands : Stands local desk
+
+-- A request that the desk refuses by `own`, and else carries out as `done` says, is answered so. `grows` says whether it
+-- needs memory, and `left` what it may leave where there is none.
+pub record Answers (old : Local) (grows : Bool) (own : Desk → Option Refusal) (done : Desk → Answer) (left : Desk → Desk → Type 0) (reply : Reply) (new : Local) : Type 0 where
+  pub answered : reply ≢ No Memory → (desk : Desk) → Stands old desk → IsAnswer new desk (own desk) (done desk) reply
+  pub grew : reply ≡ No Memory → grows ≡ true
+  pub lacking : reply ≡ No Memory → (desk : Desk) → Stands old desk → IsLacking new (own desk) (left desk)
+
+-- the requests that need memory
+abbrev pub grows : Request → Bool
+grows (Dir name waiting total) = true
+grows (Svc name waiting total notifies) = true
+grows (Sub name) = true
+grows (Pub name letters) = false
+grows (Take id max) = true
+grows (Cancel id) = false
+grows (Close name) = false
+grows (Status name) = false
+grows (Listen name mode pattern) = true
+grows (Poll id) = true
+grows (Wait span want turns names) = true
+
+-- nothing has changed
+abbrev pub Unchanged : Desk → Desk → Type 0
+Unchanged desk new = new ≡ desk
+
+-- where `read` says of a `Listen` whether its pattern is read
+abbrev pub AskedWith : Bool → Local → Request → Reply → Local → Type 0
+AskedWith read old request reply new =
+    Answers old (grows request) (λ desk. own_refusal desk read request) (λ desk. carried_out desk request) (λ desk left. LeftBy request desk left) reply new
+
+-- only a pattern is read; where memory lacked it isn't known whether the text is one
+abbrev pub IsReadAs : Bool → Option (List ℕ) → Reply → Type 0
+IsReadAs read None reply = read ≡ false
+IsReadAs read (Some text) reply = read ≡ true → reply ≢ No Memory → IsPattern text
+
+pub record Asked (old : Local) (request : Request) (reply : Reply) (new : Local) : Type 0 where
+  pub read : Bool
+  pub is_read : IsReadAs read (pattern_in request) reply
+  pub answers : AskedWith read old request reply new
+
+pub record Ended (old new : Local) : Type 0 where
+  pub stands : (desk : Desk) → Stands old desk → Stands new (ended desk)
+
+-- ---- runs
+
+-- each request is asked in turn
+pub data Runs : Local → List Request → List Reply → Local → Type 0 where
+  over : (local : Local) → Runs local [] [] local
+  asked : (old mid new : Local) (request : Request) (requests : List Request) (reply : Reply) (replies : List Reply)
+      → Asked old request reply mid → Runs mid requests replies new → Runs old (request ∷ requests) (reply ∷ replies) new
+
+-- where no reply of a run is want of memory, the replies are the model's answers, with a yes or no for each pattern, and
+-- the desk stands for the model's
+pub record IsModels (desk : Desk) (requests : List Request) (replies : List Reply) (new : Local) : Type 0 where
+  pub reads : List Bool
+  pub are_reads : AreReads reads (patterns_in requests)
+  pub said : replies ≡ answers desk reads requests
+  pub stands : Stands new (desk_after desk reads requests)
+
+abbrev pub RunsAnswer : Type 0
+RunsAnswer = (old new : Local) (requests : List Request) (replies : List Reply) (desk : Desk)
+    → Runs old requests replies new → All (λ reply. reply ≢ No Memory) replies → Stands old desk → IsModels desk requests replies new

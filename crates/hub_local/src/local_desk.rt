@@ -1,0 +1,152 @@
+//! The desk of one thread.
+ghost use Rattle.std.specs.Prelude.{◌≡◌, IfOk, Some};
+ghost use Rattle.hub_local.specs.Answers.{limits_of};
+ghost use Rattle.hub_requests.specs.Ranges.{AreLimits};
+
+use crate::local_desk::subscriptions::release_all;
+use hub_letters::Letter;
+use hub_listen::{Listener, Mode};
+use hub_record::{Kind, Limits, Record};
+use hub_requests::{Desk, Name, Reply, Request};
+use indexmap::IndexMap;
+use std::alloc::{AllocError, Global};
+use std::marker::Model;
+use std::sync::Wait;
+
+mod fifodirs;
+mod laws;
+mod listeners;
+mod subscriptions;
+mod waits;
+
+/// How many ids each fifodir has.
+const IDS: u64 = 1_000_000_000_000;
+
+/// A fifodir of the desk's own.
+#[derive(Drop)]
+struct LocalFifodir {
+    kept: Record,
+    /// Whether its service reports readiness. None for a plain fifodir.
+    reports: Option<bool>,
+}
+
+/// What a handle is for: the subscription with this id of the fifodir with this name.
+#[derive(Drop)]
+struct Holding {
+    name: Name,
+    id: u64,
+    /// Where it is a listener's.
+    hearing: Option<Hearing>,
+}
+
+/// A listener, which goes on after a hit.
+#[derive(Drop)]
+struct Hearing {
+    listener: Listener,
+    /// Whether its subscription ends with a hit.
+    mode: Mode,
+    /// The letter that was taken for it and is not yet heard, for want of memory.
+    held: Option<Letter>,
+}
+
+/// A desk for one thread, over records of its own. It publishes as publisher 1.
+#[derive(Drop)]
+pub struct LocalDesk {
+    alloc: Global,
+    /// In the order they were made.
+    fifodirs: IndexMap<Name, LocalFifodir>,
+    /// What the standing handles hold, by number.
+    holdings: IndexMap<u64, Holding>,
+    /// How many handles were given.
+    given: u64,
+}
+
+impl Model for LocalDesk {
+    ghost use Rattle.hub_local.specs.Standing.{Local, StandsForSome};
+
+    ghost Value = { Local };
+
+    ghost view = { λ d. record { fifodirs = d.fifodirs.entries; holdings = d.holdings.entries; given = d.given } };
+
+    ghost invariant = { λ d. StandsForSome (record { fifodirs = d.fifodirs.entries; holdings = d.holdings.entries; given = d.given }) };
+}
+
+impl LocalDesk {
+    ghost use Rattle.hub_local.specs.Desks.{new_desk};
+    ghost use Rattle.hub_local.specs.Standing.{Stands};
+
+    /// A desk with no fifodir and no handle.
+    pub fn new(alloc: Global) -> Result<LocalDesk, AllocError>
+        ensures { IfOk result (λ desk. Stands desk new_desk) }
+    {
+        Ok(LocalDesk {
+            alloc,
+            fifodirs: IndexMap::new(alloc),
+            holdings: IndexMap::new(alloc),
+            given: 0,
+        })
+    }
+}
+
+fn limits(waiting: u64, total: u64) -> Limits
+    requires { AreLimits waiting total }
+    ensures { limits_of waiting total ≡ Some result }
+{
+    Limits {
+        waiting,
+        total,
+        ids: IDS,
+    }
+}
+
+impl Desk for LocalDesk {
+    ghost use Rattle.hub_local.specs.Standing.{Asked, Ended};
+
+    ghost asks = { Asked };
+
+    ghost ends = { Ended };
+
+    fn ask<H: Wait>(&mut self, _rt: &H, request: &Request) -> Reply {
+        match request {
+            Request::Dir {
+                name,
+                waiting,
+                total,
+            } => self.make(name, Kind::Plain, None, limits(*waiting, *total)),
+            Request::Svc {
+                name,
+                waiting,
+                total,
+                notifies,
+            } => self.make(
+                name,
+                Kind::Service,
+                Some(*notifies),
+                limits(*waiting, *total),
+            ),
+            Request::Sub { name } => self.subscribe(name),
+            Request::Pub { name, letters } => self.publish(name, letters),
+            Request::Take { id, max } => self.take(*id, *max),
+            Request::Cancel { id } => self.cancel(*id),
+            Request::Close { name } => self.close(name),
+            Request::Status { name } => self.status(name),
+            Request::Listen {
+                name,
+                mode,
+                pattern,
+            } => self.listen(name, *mode, pattern),
+            Request::Poll { id } => self.poll(*id),
+            Request::Wait {
+                span,
+                want,
+                turns: _,
+                names,
+            } => self.wait(*span, *want, names),
+        }
+    }
+
+    fn end<H: Wait>(&mut self, _rt: &H) {
+        release_all(&mut self.fifodirs, &self.holdings);
+        self.holdings.clear();
+    }
+}

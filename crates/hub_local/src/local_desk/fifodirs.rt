@@ -1,0 +1,86 @@
+//! What is asked of a fifodir: to make one, publish to it, close it and show it.
+ghost use Rattle.std.specs.Prelude.{◌≤◌, Some, length, false, true};
+ghost use Rattle.hub_local.specs.Answers.{made, refusal_to_make};
+ghost use Rattle.hub_local.specs.Standing.{Answers, AskedWith, Unchanged};
+ghost use Rattle.hub_requests.specs.Texts.{text_of};
+ghost use Rattle.hub_requests.specs.declared.request.Request.TheVariants.{Pub, Close, Status as Show};
+
+use crate::local_desk::{LocalDesk, LocalFifodir};
+use hub_record::{Closed, Kind, Letters, Limits, Record, Status};
+use hub_requests::{Name, Refusal, Reply};
+
+const NAMES: usize = 256;
+
+/// The number that a desk's own records have of their only publisher.
+const PUBLISHER: u64 = 1;
+
+impl LocalDesk {
+    pub(super) fn make(
+        &mut self,
+        name: &Name,
+        kind: Kind,
+        reports: Option<bool>,
+        limits: Limits,
+    ) -> Reply
+        ensures step { Answers self.old true (λ desk. refusal_to_make desk name.now) (λ desk. made desk name.now kind reports (Some limits)) Unchanged result self.new }
+        ensures short { length (text_of result) ≤ 4101 }
+    {
+        if self.fifodirs.contains_key(name) {
+            return Reply::No(Refusal::Exists);
+        }
+        if self.fifodirs.len() >= NAMES {
+            return Reply::No(Refusal::Many);
+        }
+        let Ok(key) = name.copy() else {
+            return Reply::No(Refusal::Memory);
+        };
+        let Ok(kept) = Record::new(self.alloc, kind, limits) else {
+            return Reply::No(Refusal::Memory);
+        };
+        match self.fifodirs.insert(key, LocalFifodir { kept, reports }) {
+            Ok(_) => Reply::Done,
+            Err(_) => Reply::No(Refusal::Memory),
+        }
+    }
+
+    pub(super) fn publish(&mut self, name: &Name, letters: &Letters) -> Reply
+        ensures step { AskedWith false self.old (Pub name.now letters.now) result self.new }
+        ensures short { length (text_of result) ≤ 4101 }
+    {
+        let Some(fifodir) = self.fifodirs.get_mut(name) else {
+            return Reply::No(Refusal::Name);
+        };
+        match fifodir.kept.publish(PUBLISHER, letters.items()) {
+            Ok(first) => Reply::Number(first),
+            Err(error) => Reply::No(Refusal::from(error)),
+        }
+    }
+
+    pub(super) fn close(&mut self, name: &Name) -> Reply
+        ensures step { AskedWith false self.old (Close name.now) result self.new }
+        ensures short { length (text_of result) ≤ 4101 }
+    {
+        let Some(fifodir) = self.fifodirs.get_mut(name) else {
+            return Reply::No(Refusal::Name);
+        };
+        match fifodir.kept.close() {
+            Ok(()) => Reply::Done,
+            Err(Closed) => Reply::No(Refusal::Closed),
+        }
+    }
+
+    pub(super) fn status(&self, name: &Name) -> Reply
+        ensures step { AskedWith false self.now (Show name.now) result self.now }
+        ensures short { length (text_of result) ≤ 4101 }
+    {
+        let Some(fifodir) = self.fifodirs.get(name) else {
+            return Reply::No(Refusal::Name);
+        };
+        let status = Status {
+            number: fifodir.kept.end(),
+            flags: fifodir.kept.flags(),
+            closed: fifodir.kept.closed(),
+        };
+        Reply::State(status)
+    }
+}

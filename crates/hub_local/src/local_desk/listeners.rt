@@ -1,0 +1,151 @@
+//! What is asked of a listener: to begin one and to look for its next hit.
+ghost use Rattle.std.specs.Prelude.{◌≡◌, ◌≢◌, ◌≤◌, ◌<◌, Some, length, false};
+ghost use Rattle.hub_listen.specs.Listening.{is_spent};
+ghost use Rattle.hub_record.specs.Kept.{StandsFor};
+ghost use Rattle.hub_record.specs.World.{World, Subscription, found};
+ghost use Rattle.hub_local.specs.Hearings.{Hears, HearsOne, TakesOne};
+ghost use Rattle.hub_local.specs.Standing.{Asked, AskedWith, HasSubscription};
+ghost use Rattle.hub_requests.specs.Texts.{text_of};
+ghost use Rattle.hub_requests.specs.declared.request.Request.TheVariants.{Listen, Poll};
+
+use crate::local_desk::{Hearing, LocalDesk};
+use hub_letters::Letter;
+use hub_listen::{Feed, FeedError, ListenError, Listener, Mode};
+use hub_record::{Event, Letters, Record, Taken};
+use hub_requests::{Name, PatternText, Refusal, Reply};
+
+/// How many letters a listener gathers at most.
+const ROOM: usize = 4096;
+
+/// What letters led to that a listener heard.
+enum Heard {
+    Hit,
+    /// No hit in those that there were or that it had room for.
+    Nothing,
+    /// No hit, and no letter will come.
+    End,
+    /// The next letter couldn't be searched for want of memory. It is held.
+    Lacking,
+}
+
+impl LocalDesk {
+    pub(super) fn listen(&mut self, name: &Name, mode: Mode, pattern: &PatternText) -> Reply
+        ensures step { Asked self.old (Listen name.now mode pattern.now) result self.new }
+        ensures short { length (text_of result) ≤ 4101 }
+    {
+        if let Some(refusal) = self.refusal_to_hold(name) {
+            return Reply::No(refusal);
+        }
+        match Listener::new(self.alloc, pattern.items(), Mode::Repeat) {
+            Ok(listener) => self.hold(
+                name,
+                Some(Hearing {
+                    listener,
+                    mode,
+                    held: None,
+                }),
+            ),
+            Err(ListenError::Pattern) => Reply::No(Refusal::Pattern),
+            Err(ListenError::Memory) => Reply::No(Refusal::Memory),
+        }
+    }
+
+    pub(super) fn poll(&mut self, id: u64) -> Reply
+        ensures step { AskedWith false self.old (Poll id) result self.new }
+        ensures short { length (text_of result) ≤ 4101 }
+    {
+        let Some(holding) = self.holdings.get_mut(&id) else {
+            return Reply::No(Refusal::Id);
+        };
+        let Some(hearing) = &mut holding.hearing else {
+            return Reply::No(Refusal::Id);
+        };
+        if hearing.listener.text().len() >= ROOM {
+            return Reply::No(Refusal::Overlong);
+        }
+        let Ok(mut letters) = Vec::with_capacity(self.alloc, ROOM) else {
+            return Reply::No(Refusal::Memory);
+        };
+        let Some(fifodir) = self.fifodirs.get_mut(&holding.name) else {
+            unreachable!()
+        };
+        match hear(hearing, &mut fifodir.kept, holding.id) {
+            Heard::Nothing => Reply::Nothing,
+            Heard::End => Reply::End,
+            Heard::Lacking => Reply::No(Refusal::Memory),
+            Heard::Hit => {
+                letters.extend_from_slice(hearing.listener.hit()).unwrap();
+                match hearing.mode {
+                    Mode::Once => {
+                        let _ = self.cancel(id);
+                    }
+                    Mode::Repeat => {}
+                }
+                Reply::Hit(Letters::of(letters))
+            }
+        }
+    }
+}
+
+/// Hears what waits, letter by letter up to a hit, for as long as there is room.
+fn hear(hearing: &mut Hearing, kept: &mut Record, id: u64) -> Heard
+    requires stands { HasSubscription kept.old id }
+    requires unspent { is_spent hearing.old.listener ≡ false }
+    requires room { length hearing.old.listener.gathered < 4096 }
+    ensures { (w : World) (s : Subscription) → StandsFor kept.old w → found w id ≡ Some s → Hears hearing.old w id result hearing.new kept.new }
+{
+    for _ in hearing.listener.text().len()..ROOM {
+        match hear_one(hearing, kept, id) {
+            None => {}
+            Some(heard) => return heard,
+        }
+    }
+    Heard::Nothing
+}
+
+/// Hears the letter that is held, or else the next one that waits. None where it brings no hit.
+fn hear_one(hearing: &mut Hearing, kept: &mut Record, id: u64) -> Option<Heard>
+    requires stands { HasSubscription kept.old id }
+    requires unspent { is_spent hearing.old.listener ≡ false }
+    requires room { length hearing.old.listener.gathered < 4096 }
+    ensures { (w : World) (s : Subscription) → StandsFor kept.old w → found w id ≡ Some s → HearsOne hearing.old w id result hearing.new kept.new }
+{
+    let letter = match hearing.held {
+        Some(letter) => letter,
+        None => match take_one(kept, id) {
+            Ok(letter) => letter,
+            Err(heard) => return Some(heard),
+        },
+    };
+    hearing.held = Some(letter);
+    match hearing.listener.feed(&[letter]) {
+        Ok(Feed::Quiet) => {
+            hearing.held = None;
+            None
+        }
+        Ok(Feed::Hit(_)) => {
+            hearing.held = None;
+            Some(Heard::Hit)
+        }
+        Err(FeedError::Memory) => Some(Heard::Lacking),
+        Ok(Feed::Spent) | Err(FeedError::Overlong) => unreachable!(),
+    }
+}
+
+/// Takes the next event that waits, for its letter.
+fn take_one(kept: &mut Record, id: u64) -> Result<Letter, Heard>
+    requires { HasSubscription kept.old id }
+    ensures { (w : World) (s : Subscription) → StandsFor kept.old w → found w id ≡ Some s → TakesOne w id result kept.new }
+{
+    let least = Event {
+        who: 0,
+        letter: Letter::least(),
+    };
+    let mut room = [least];
+    match kept.take_into(id, &mut room) {
+        Ok(Taken::Got(_)) => Ok(room[0].letter),
+        Ok(Taken::Nothing) => Err(Heard::Nothing),
+        Ok(Taken::End) => Err(Heard::End),
+        Err(_) => unreachable!(),
+    }
+}

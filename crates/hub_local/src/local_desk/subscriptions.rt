@@ -1,0 +1,194 @@
+//! What is asked of a subscription: to begin one, take from it and end it.
+ghost use Rattle.std.specs.Prelude.{◌≡◌, ◌≤◌, List, length, None, false, true, IfOk, IfSome, OnOk, OnErr, vec_capacity, vec_len};
+ghost use Rattle.indexmap.specs.IndexMap.{values};
+ghost use Rattle.hub_record.specs.Kept.{StandsFor};
+ghost use Rattle.hub_record.specs.World.{World, letters, take_reply, take_events, after_take};
+ghost use Rattle.hub_local.specs.Answers.{in_world, refusal_to_hold, subscribed, take_shown};
+ghost use Rattle.hub_local.specs.Desks.{Desk, Fifodir, GoesOn, without_held, without_all, world_of};
+ghost use Rattle.hub_requests.specs.Ranges.{IsTake};
+ghost use Rattle.hub_local.specs.Replies.{subscribe_reply};
+ghost use Rattle.hub_local.specs.Standing.{AreKept, Answers, AskedWith, HasSubscription, Stands, Unchanged};
+ghost use Rattle.hub_requests.specs.Texts.{text_of};
+ghost use Rattle.hub_requests.specs.declared.reply.Reply.TheVariants.{No};
+ghost use Rattle.hub_requests.specs.declared.request.Request.TheVariants.{Sub, Take, Cancel};
+
+use crate::local_desk::{Hearing, Holding, LocalDesk, LocalFifodir};
+use hub_letters::Letter;
+use hub_record::{Event, Letters, Record, Taken};
+use hub_requests::{Name, Refusal, Reply};
+use indexmap::IndexMap;
+use std::alloc::{AllocError, Global};
+
+/// How many handles may stand.
+const HANDLES: usize = 256;
+
+/// How many handles may be given.
+const NUMBERS: u64 = 1_000_000;
+
+impl LocalDesk {
+    pub(super) fn subscribe(&mut self, name: &Name) -> Reply
+        ensures step { AskedWith false self.old (Sub name.now) result self.new }
+        ensures short { length (text_of result) ≤ 4101 }
+    {
+        match self.refusal_to_hold(name) {
+            Some(refusal) => Reply::No(refusal),
+            None => self.hold(name, None),
+        }
+    }
+
+    /// Why there can be no further handle for a subscription to the fifodir of this name.
+    pub(super) fn refusal_to_hold(&self, name: &Name) -> Option<Refusal>
+        ensures own { (desk : Desk) → Stands self.now desk → result ≡ refusal_to_hold desk name.now }
+        ensures short { IfSome result (λ refusal. length (text_of (No refusal)) ≤ 4101) }
+    {
+        if !self.fifodirs.contains_key(name) {
+            return Some(Refusal::Name);
+        }
+        if self.holdings.len() >= HANDLES {
+            return Some(Refusal::Many);
+        }
+        if self.given >= NUMBERS {
+            return Some(Refusal::Spent);
+        }
+        None
+    }
+
+    /// Subscribes, and gives the subscription the next handle.
+    pub(super) fn hold(&mut self, name: &Name, hearing: Option<Hearing>) -> Reply
+        requires unrefused { (desk : Desk) → Stands self.old desk → refusal_to_hold desk name.now ≡ None }
+        requires goes_on { GoesOn hearing }
+        ensures step { Answers self.old true (λ desk. refusal_to_hold desk name.now) (λ desk. in_world desk (λ w. subscribed desk name.now hearing w (subscribe_reply w)) (world_of desk.fifodirs name.now)) Unchanged result self.new }
+        ensures short { length (text_of result) ≤ 4101 }
+    {
+        let Ok(key) = name.copy() else {
+            return Reply::No(Refusal::Memory);
+        };
+        if self.holdings.reserve(1).is_err() {
+            return Reply::No(Refusal::Memory);
+        }
+        let Some(fifodir) = self.fifodirs.get_mut(name) else {
+            unreachable!()
+        };
+        match fifodir.kept.subscribe() {
+            Ok((id, _mark)) => {
+                self.given += 1;
+                let holding = Holding {
+                    name: key,
+                    id,
+                    hearing,
+                };
+                self.holdings.insert(self.given, holding).unwrap();
+                Reply::Number(self.given)
+            }
+            Err(error) => Reply::No(Refusal::from(error)),
+        }
+    }
+
+    pub(super) fn take(&mut self, id: u64, max: u64) -> Reply
+        requires { IsTake max }
+        ensures step { AskedWith false self.old (Take id max) result self.new }
+        ensures short { length (text_of result) ≤ 4101 }
+    {
+        let Some(holding) = self.holdings.get(&id) else {
+            return Reply::No(Refusal::Id);
+        };
+        if holding.hearing.is_some() {
+            return Reply::No(Refusal::Id);
+        }
+        let Some(fifodir) = self.fifodirs.get_mut(&holding.name) else {
+            unreachable!()
+        };
+        match take_waiting(self.alloc, &mut fifodir.kept, holding.id, max as usize) {
+            Ok(reply) => reply,
+            Err(_) => Reply::No(Refusal::Memory),
+        }
+    }
+
+    pub(super) fn cancel(&mut self, id: u64) -> Reply
+        ensures step { AskedWith false self.old (Cancel id) result self.new }
+        ensures short { length (text_of result) ≤ 4101 }
+    {
+        let Some(holding) = self.holdings.shift_remove(&id) else {
+            return Reply::No(Refusal::Id);
+        };
+        release(&mut self.fifodirs, &holding);
+        Reply::Done
+    }
+}
+
+/// Cancels the subscription that is held, where it stands.
+fn release(fifodirs: &mut IndexMap<Name, LocalFifodir>, holding: &Holding)
+    ensures { (model : List Fifodir) → AreKept fifodirs.old.entries model → AreKept fifodirs.new.entries (without_held model holding.now) }
+{
+    if let Some(fifodir) = fifodirs.get_mut(&holding.name) {
+        let _ = fifodir.kept.cancel(holding.id);
+    }
+}
+
+/// Cancels each subscription that is held, where it stands.
+pub(super) fn release_all(
+    fifodirs: &mut IndexMap<Name, LocalFifodir>,
+    holdings: &IndexMap<u64, Holding>,
+)
+    ensures { (model : List Fifodir) → AreKept fifodirs.old.entries model → AreKept fifodirs.new.entries (without_all model (values holdings.now)) }
+{
+    for holding in holdings.values() {
+        release(fifodirs, holding);
+    }
+}
+
+/// Takes what waits for a subscription, at most so much, through room for just that. Want of memory is met before
+/// anything is taken.
+fn take_waiting(alloc: Global, kept: &mut Record, id: u64, most: usize) -> Result<Reply, AllocError>
+    requires stands { HasSubscription kept.old id }
+    requires few { most ≤ 256 }
+    ensures reply { (w : World) → StandsFor kept.old w → IfOk result (λ reply. reply ≡ take_shown (letters (take_events w id most)) (take_reply w id most)) }
+    ensures after { (w : World) → StandsFor kept.old w → OnOk result (StandsFor kept.new (after_take w id most)) }
+    ensures short { IfOk result (λ reply. length (text_of reply) ≤ 4101) }
+    ensures err { OnErr result (kept.new ≡ kept.old) }
+{
+    let Some(waiting) = kept.waiting(id) else {
+        unreachable!()
+    };
+    let least = Event {
+        who: 0,
+        letter: Letter::least(),
+    };
+    let mut room = vec![in alloc; least; most.min(waiting as usize)]?;
+    take_letters(alloc, kept, id, &mut room)
+}
+
+/// Takes what waits for a subscription, as far as the room goes. Want of memory is met before anything is taken.
+fn take_letters(
+    alloc: Global,
+    kept: &mut Record,
+    id: u64,
+    room: &mut [Event],
+) -> Result<Reply, AllocError>
+    requires stands { HasSubscription kept.old id }
+    requires few { length room.old ≤ 256 }
+    ensures reply { (w : World) → StandsFor kept.old w → IfOk result (λ reply. reply ≡ take_shown (letters (take_events w id (length room.old))) (take_reply w id (length room.old))) }
+    ensures after { (w : World) → StandsFor kept.old w → OnOk result (StandsFor kept.new (after_take w id (length room.old))) }
+    ensures short { IfOk result (λ reply. length (text_of reply) ≤ 4101) }
+    ensures err { OnErr result (kept.new ≡ kept.old) }
+{
+    let letters = Vec::with_capacity(alloc, room.len())?;
+    match kept.take_into(id, room) {
+        Ok(Taken::Got(count)) => Ok(Reply::Got(letters_of(&room[..count], letters))),
+        Ok(Taken::Nothing) => Ok(Reply::Nothing),
+        Ok(Taken::End) => Ok(Reply::End),
+        Err(_) => unreachable!(),
+    }
+}
+
+/// The events' letters, in a list that has room for them.
+fn letters_of(events: &[Event], mut room: Vec<Letter>) -> Letters
+    requires empty { vec_len room ≡ 0 }
+    requires fits { length events.now ≤ vec_capacity room }
+    ensures { result ≡ letters events.now }
+{
+    for event in events {
+        room.push_reserved(event.letter);
+    }
+    Letters::of(room)
+}

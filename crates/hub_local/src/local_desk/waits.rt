@@ -1,0 +1,181 @@
+//! What is asked of several services at once: whether they are as wanted.
+ghost use Rattle.std.specs.Prelude.{◌≡◌, ◌≤◌, ◌<◌, ◌^◌, List, length, IfErr, IfSome, true, vec_len, vec_capacity};
+ghost use Rattle.std.specs.List.{list_all};
+ghost use Rattle.hub_local.specs.Answers.{refusal_to_wait};
+ghost use Rattle.hub_local.specs.Desks.{Fifodir};
+ghost use Rattle.hub_local.specs.Standing.{AreKept, Answers};
+ghost use Rattle.hub_requests.specs.Texts.{text_of};
+ghost use Rattle.hub_requests.specs.declared.reply.Reply.TheVariants.{No};
+ghost use Rattle.hub_local.specs.Waits.{without_subscription, without_posts, number_of, verdict_shown, waited, LeftByWait};
+ghost use Rattle.hub_local.specs.Opening.{is_there, is_service, refusal_among, OpensPost, OpensAll};
+
+use crate::local_desk::{LocalDesk, LocalFifodir};
+use hub_letters::Want;
+use hub_record::Status;
+use hub_requests::{Name, Names, Numbers, Refusal, Reply};
+use hub_wait::{Span, Tally, Verdict, Watch};
+use indexmap::IndexMap;
+
+/// What a wait opens at a service: a subscription, which stands while the wait looks, and what it knows of the service.
+#[derive(Drop)]
+struct Post {
+    id: u64,
+    watch: Watch,
+}
+
+impl LocalDesk {
+    /// Nothing can change while it waits, so it answers at once.
+    pub(super) fn wait(&mut self, span: Span, want: Want, names: &Names) -> Reply
+        requires { length names.now ≤ 32 }
+        ensures step { Answers self.old true (λ desk. refusal_to_wait desk names.now) (λ desk. waited desk span want names.now) (λ desk left. LeftByWait desk want names.now left) result self.new }
+        ensures short { length (text_of result) ≤ 4101 }
+    {
+        let names = names.items();
+        if let Some(refusal) = refusal_by_names(&self.fifodirs, names) {
+            return Reply::No(refusal);
+        }
+        let Ok(mut posts) = Vec::with_capacity(self.alloc, names.len()) else {
+            return Reply::No(Refusal::Memory);
+        };
+        let Ok(numbers) = Vec::with_capacity(self.alloc, names.len()) else {
+            return Reply::No(Refusal::Memory);
+        };
+        let opened = open_all(&mut self.fifodirs, names, want, &mut posts);
+        give_back(&mut self.fifodirs, names, &posts);
+        match opened {
+            Ok(()) => verdict_shown(span, &posts, numbers),
+            Err(refusal) => Reply::No(refusal),
+        }
+    }
+}
+
+/// The first refusal that stands before those of the posts: a name that isn't there, or else a plain fifodir.
+fn refusal_by_names(fifodirs: &IndexMap<Name, LocalFifodir>, names: &[Name]) -> Option<Refusal>
+    ensures { result ≡ refusal_among fifodirs.now.entries names.now }
+{
+    if !are_there(fifodirs, names) {
+        return Some(Refusal::Name);
+    }
+    if !are_services(fifodirs, names) {
+        return Some(Refusal::Kind);
+    }
+    None
+}
+
+fn are_there(fifodirs: &IndexMap<Name, LocalFifodir>, names: &[Name]) -> bool
+    ensures { result ≡ list_all (is_there fifodirs.now.entries) names.now }
+{
+    names.iter().all(|name| fifodirs.contains_key(name))
+}
+
+fn are_services(fifodirs: &IndexMap<Name, LocalFifodir>, names: &[Name]) -> bool
+    ensures { result ≡ list_all (is_service fifodirs.now.entries) names.now }
+{
+    names.iter().all(|name| is_service(fifodirs, name))
+}
+
+fn is_service(fifodirs: &IndexMap<Name, LocalFifodir>, name: &Name) -> bool
+    ensures { result ≡ is_service fifodirs.now.entries name.now }
+{
+    match fifodirs.get(name) {
+        Some(fifodir) => fifodir.reports.is_some(),
+        None => false,
+    }
+}
+
+/// Subscribes, and then reads what the service shows.
+fn open(
+    fifodirs: &mut IndexMap<Name, LocalFifodir>,
+    name: &Name,
+    want: Want,
+) -> Result<Post, Refusal>
+    ensures opens { (model : List Fifodir) → AreKept fifodirs.old.entries model → OpensPost want name.now model result fifodirs.new.entries }
+    ensures short { IfErr result (λ refusal. length (text_of (No refusal)) ≤ 4101) }
+{
+    let Some(fifodir) = fifodirs.get_mut(name) else {
+        return Err(Refusal::Name);
+    };
+    match fifodir.kept.subscribe() {
+        Ok((id, _mark)) => {
+            let status = Status {
+                number: fifodir.kept.end(),
+                flags: fifodir.kept.flags(),
+                closed: fifodir.kept.closed(),
+            };
+            let watch = Watch::new(want, fifodir.reports.unwrap_or(false), status);
+            Ok(Post { id, watch })
+        }
+        Err(error) => Err(Refusal::from(error)),
+    }
+}
+
+/// Opens a post for each name in turn, until one is refused.
+fn open_all(
+    fifodirs: &mut IndexMap<Name, LocalFifodir>,
+    names: &[Name],
+    want: Want,
+    posts: &mut Vec<Post>,
+) -> Result<(), Refusal>
+    requires empty { vec_len posts.old ≡ 0 }
+    requires fits { length names.now ≤ vec_capacity posts.old }
+    ensures opens { (model : List Fifodir) → AreKept fifodirs.old.entries model → OpensAll want names.now model result fifodirs.new.entries posts.new.items }
+    ensures few { vec_len posts.new ≤ length names.now }
+    ensures short { IfErr result (λ refusal. length (text_of (No refusal)) ≤ 4101) }
+{
+    for name in names {
+        let post = open(fifodirs, name, want)?;
+        posts.push_reserved(post);
+    }
+    Ok(())
+}
+
+/// Cancels the subscription of this id, where it stands.
+fn cancel_at(fifodirs: &mut IndexMap<Name, LocalFifodir>, name: &Name, id: u64)
+    ensures { (model : List Fifodir) → AreKept fifodirs.old.entries model → AreKept fifodirs.new.entries (without_subscription model name.now id) }
+{
+    if let Some(fifodir) = fifodirs.get_mut(name) {
+        let _ = fifodir.kept.cancel(id);
+    }
+}
+
+/// Gives the posts back, which were opened for the first of these names.
+fn give_back(fifodirs: &mut IndexMap<Name, LocalFifodir>, names: &[Name], posts: &[Post])
+    requires { length posts.now ≤ length names.now }
+    ensures { (model : List Fifodir) → AreKept fifodirs.old.entries model → AreKept fifodirs.new.entries (without_posts model names.now posts.now) }
+{
+    for i in 0..posts.len() {
+        cancel_at(fifodirs, &names[i], posts[i].id);
+    }
+}
+
+/// The number of the post, where it is met.
+fn number_of(post: &Post) -> Option<u64>
+    ensures number { result ≡ number_of post.now }
+    ensures small { IfSome result (λ number. number < 2 ^ 64) }
+{
+    if post.watch.met() {
+        Some(post.watch.at())
+    } else {
+        None
+    }
+}
+
+/// The verdict of the posts as they stand. The list for their numbers is empty and has room for them.
+fn verdict_shown(span: Span, posts: &[Post], mut numbers: Vec<Option<u64>>) -> Reply
+    requires empty { vec_len numbers ≡ 0 }
+    requires fits { length posts.now ≤ vec_capacity numbers }
+    requires few { length posts.now ≤ 32 }
+    ensures reply { result ≡ verdict_shown span posts.now }
+    ensures short { length (text_of result) ≤ 4101 }
+{
+    let mut tally = Tally::new(span);
+    for post in posts {
+        tally.add(&post.watch);
+        numbers.push_reserved(number_of(post));
+    }
+    match tally.answer() {
+        Some(Verdict::Yes) => Reply::Yes(Numbers::of(numbers)),
+        Some(Verdict::Never) => Reply::Never,
+        Some(Verdict::Late) | None => Reply::Late,
+    }
+}

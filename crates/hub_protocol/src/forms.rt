@@ -1,0 +1,187 @@
+//! The forms of lines: for each word, what stands behind it.
+ghost use Rattle.std.specs.Prelude.{◌≡◌};
+ghost use Rattle.hub_protocol.specs.Forms.{Finds};
+
+use crate::parts::{
+    last_letters, last_name, last_names, last_numeral, last_pattern, mode_first, name_first,
+    numeral_first, span_first, want_first,
+};
+use crate::words::Word;
+use hub_letters::{Mode, Span, Want};
+
+/// What a line of a form says, its numbers not yet held to their ranges.
+#[derive(Clone, Copy)]
+pub enum Form<'a> {
+    Dir {
+        name: &'a [u8],
+        waiting: u64,
+        total: u64,
+    },
+    Svc {
+        name: &'a [u8],
+        waiting: u64,
+        total: u64,
+        reports: u64,
+    },
+    Sub {
+        name: &'a [u8],
+    },
+    Pub {
+        name: &'a [u8],
+        letters: &'a [u8],
+    },
+    Take {
+        id: u64,
+        max: u64,
+    },
+    Cancel {
+        id: u64,
+    },
+    Close {
+        name: &'a [u8],
+    },
+    Status {
+        name: &'a [u8],
+    },
+    Listen {
+        name: &'a [u8],
+        mode: Mode,
+        pattern: &'a [u8],
+    },
+    Poll {
+        id: u64,
+    },
+    /// The names as they stand in the line, with one space between two.
+    Wait {
+        span: Span,
+        want: Want,
+        turns: u64,
+        names: &'a [u8],
+    },
+}
+
+fn dir(rest: &[u8]) -> Option<Form<'_>>
+    ensures { Finds Word.Dir rest.now result }
+{
+    let (name, rest) = name_first(rest)?;
+    let (waiting, rest) = numeral_first(rest)?;
+    let total = last_numeral(rest)?;
+    Some(Form::Dir {
+        name,
+        waiting,
+        total,
+    })
+}
+
+fn svc(rest: &[u8]) -> Option<Form<'_>>
+    ensures { Finds Word.Svc rest.now result }
+{
+    let (name, rest) = name_first(rest)?;
+    let (waiting, rest) = numeral_first(rest)?;
+    let (total, rest) = numeral_first(rest)?;
+    let reports = last_numeral(rest)?;
+    Some(Form::Svc {
+        name,
+        waiting,
+        total,
+        reports,
+    })
+}
+
+fn publication(rest: &[u8]) -> Option<Form<'_>>
+    ensures { Finds Word.Pub rest.now result }
+{
+    let (name, rest) = name_first(rest)?;
+    let letters = last_letters(rest)?;
+    Some(Form::Pub { name, letters })
+}
+
+fn take(rest: &[u8]) -> Option<Form<'_>>
+    ensures { Finds Word.Take rest.now result }
+{
+    let (id, rest) = numeral_first(rest)?;
+    let max = last_numeral(rest)?;
+    Some(Form::Take { id, max })
+}
+
+fn cancel(rest: &[u8]) -> Option<Form<'_>>
+    ensures { Finds Word.Cancel rest.now result }
+{
+    let id = last_numeral(rest)?;
+    Some(Form::Cancel { id })
+}
+
+fn sub(rest: &[u8]) -> Option<Form<'_>>
+    ensures { Finds Word.Sub rest.now result }
+{
+    let name = last_name(rest)?;
+    Some(Form::Sub { name })
+}
+
+fn close(rest: &[u8]) -> Option<Form<'_>>
+    ensures { Finds Word.Close rest.now result }
+{
+    let name = last_name(rest)?;
+    Some(Form::Close { name })
+}
+
+fn status(rest: &[u8]) -> Option<Form<'_>>
+    ensures { Finds Word.Status rest.now result }
+{
+    let name = last_name(rest)?;
+    Some(Form::Status { name })
+}
+
+fn listen(rest: &[u8]) -> Option<Form<'_>>
+    ensures { Finds Word.Listen rest.now result }
+{
+    let (name, rest) = name_first(rest)?;
+    let (mode, rest) = mode_first(rest)?;
+    let pattern = last_pattern(rest)?;
+    Some(Form::Listen {
+        name,
+        mode,
+        pattern,
+    })
+}
+
+fn poll(rest: &[u8]) -> Option<Form<'_>>
+    ensures { Finds Word.Poll rest.now result }
+{
+    let id = last_numeral(rest)?;
+    Some(Form::Poll { id })
+}
+
+fn wait(rest: &[u8]) -> Option<Form<'_>>
+    ensures { Finds Word.Wait rest.now result }
+{
+    let (span, rest) = span_first(rest)?;
+    let (want, rest) = want_first(rest)?;
+    let (turns, rest) = numeral_first(rest)?;
+    let names = last_names(rest)?;
+    Some(Form::Wait {
+        span,
+        want,
+        turns,
+        names,
+    })
+}
+
+/// The form of the word whose fields are behind it.
+pub fn form_of_word(word: Word, rest: &[u8]) -> Option<Form<'_>>
+    ensures { Finds word rest.now result }
+{
+    match word {
+        Word::Dir => dir(rest),
+        Word::Svc => svc(rest),
+        Word::Sub => sub(rest),
+        Word::Pub => publication(rest),
+        Word::Take => take(rest),
+        Word::Cancel => cancel(rest),
+        Word::Close => close(rest),
+        Word::Status => status(rest),
+        Word::Listen => listen(rest),
+        Word::Poll => poll(rest),
+        Word::Wait => wait(rest),
+    }
+}

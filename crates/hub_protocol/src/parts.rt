@@ -1,0 +1,115 @@
+//! What stands first, or last, in the rest of a line.
+ghost use Rattle.std.specs.Prelude.{◌≡◌, ◌≢◌, ◌∷◌, [], ℕ, List, MatchOption};
+ghost use Rattle.std.specs.Fmt.{decimal};
+ghost use Rattle.hub_letters.specs.declared.want.Want.{Want};
+ghost use Rattle.hub_letters.specs.declared.mode.Mode.{Mode};
+ghost use Rattle.hub_letters.specs.declared.span.Span.{Span};
+ghost use Rattle.hub_protocol.specs.Spelling.{IsName, IsNumeral, IsPattern, AreLetters, AreNames, text_of_mode, text_of_span, text_of_want};
+ghost use Rattle.hub_protocol.specs.Fields.{fields_of};
+
+use crate::fields::{are_letters, are_names, is_pattern, numeral, split_at_space};
+use crate::words::{mode_spelled, span_spelled, want_spelled};
+use hub_letters::{Mode, Span, Want};
+use hub_requests::Name;
+
+/// A name, and what stands behind it.
+pub fn name_first(rest: &[u8]) -> Option<(&[u8], &[u8])>
+    ensures { MatchOption result
+        ((name field : List ℕ) (more : List (List ℕ)) → IsName name → fields_of rest.now ≢ name ∷ field ∷ more)
+        (λ p. IsName p.0.now × (fields_of rest.now ≡ p.0.now ∷ fields_of p.1.now)) }
+{
+    let (name, rest) = split_at_space(rest)?;
+    if !Name::is_name(name) {
+        return None;
+    }
+    Some((name, rest))
+}
+
+/// A numeral's number, and what stands behind it.
+pub fn numeral_first(rest: &[u8]) -> Option<(u64, &[u8])>
+    ensures { MatchOption result
+        ((n : ℕ) (field : List ℕ) (more : List (List ℕ)) → IsNumeral n → fields_of rest.now ≢ decimal n ∷ field ∷ more)
+        (λ p. IsNumeral p.0 × (fields_of rest.now ≡ decimal p.0 ∷ fields_of p.1.now)) }
+{
+    let (number, rest) = split_at_space(rest)?;
+    Some((numeral(number)?, rest))
+}
+
+/// A mode, and what stands behind it.
+pub fn mode_first(rest: &[u8]) -> Option<(Mode, &[u8])>
+    ensures { MatchOption result
+        ((mode : Mode) (text : List ℕ) → fields_of rest.now ≢ text_of_mode mode ∷ fields_of text)
+        (λ p. fields_of rest.now ≡ text_of_mode p.0 ∷ fields_of p.1.now) }
+{
+    let (mode, rest) = split_at_space(rest)?;
+    Some((mode_spelled(mode)?, rest))
+}
+
+/// A span, and what stands behind it.
+pub fn span_first(rest: &[u8]) -> Option<(Span, &[u8])>
+    ensures { MatchOption result
+        ((span : Span) (field : List ℕ) (more : List (List ℕ)) → fields_of rest.now ≢ text_of_span span ∷ field ∷ more)
+        (λ p. fields_of rest.now ≡ text_of_span p.0 ∷ fields_of p.1.now) }
+{
+    let (span, rest) = split_at_space(rest)?;
+    Some((span_spelled(span)?, rest))
+}
+
+/// A want, and what stands behind it.
+pub fn want_first(rest: &[u8]) -> Option<(Want, &[u8])>
+    ensures { MatchOption result
+        ((want : Want) (field : List ℕ) (more : List (List ℕ)) → fields_of rest.now ≢ text_of_want want ∷ field ∷ more)
+        (λ p. fields_of rest.now ≡ text_of_want p.0 ∷ fields_of p.1.now) }
+{
+    let (want, rest) = split_at_space(rest)?;
+    Some((want_spelled(want)?, rest))
+}
+
+/// A name, with nothing behind it.
+pub fn last_name(rest: &[u8]) -> Option<&[u8]>
+    ensures { MatchOption result
+        ((name : List ℕ) → IsName name → fields_of rest.now ≢ name ∷ [])
+        (λ name. IsName name.now × (fields_of rest.now ≡ name.now ∷ [])) }
+{
+    if Name::is_name(rest) {
+        Some(rest)
+    } else {
+        None
+    }
+}
+
+/// A numeral's number, with nothing behind it.
+pub fn last_numeral(rest: &[u8]) -> Option<u64>
+    ensures { MatchOption result
+        ((n : ℕ) → IsNumeral n → fields_of rest.now ≢ decimal n ∷ [])
+        (λ n. IsNumeral n × (fields_of rest.now ≡ decimal n ∷ [])) }
+{
+    numeral(rest)
+}
+
+/// Letters, with nothing behind them.
+pub fn last_letters(rest: &[u8]) -> Option<&[u8]>
+    ensures { MatchOption result
+        ((letters : List ℕ) → AreLetters letters → fields_of rest.now ≢ letters ∷ [])
+        (λ letters. AreLetters letters.now × (fields_of rest.now ≡ letters.now ∷ [])) }
+{
+    if are_letters(rest) { Some(rest) } else { None }
+}
+
+/// A pattern: all of the text, its spaces too.
+pub fn last_pattern(rest: &[u8]) -> Option<&[u8]>
+    ensures { MatchOption result
+        ((pattern : List ℕ) → IsPattern pattern → fields_of rest.now ≢ fields_of pattern)
+        (λ pattern. IsPattern pattern.now × (fields_of rest.now ≡ fields_of pattern.now)) }
+{
+    if is_pattern(rest) { Some(rest) } else { None }
+}
+
+/// Names, with one space between two and nothing behind the last.
+pub fn last_names(rest: &[u8]) -> Option<&[u8]>
+    ensures { MatchOption result
+        ((names : List (List ℕ)) → AreNames names → fields_of rest.now ≢ names)
+        (λ names. AreNames (fields_of names.now) × (fields_of rest.now ≡ fields_of names.now)) }
+{
+    if are_names(rest) { Some(rest) } else { None }
+}

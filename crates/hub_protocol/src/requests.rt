@@ -1,0 +1,141 @@
+//! The request that a form asks for.
+ghost use Rattle.std.specs.Prelude.{◌≡◌, MatchBool, IfOk};
+ghost use Rattle.hub_requests.specs.Ranges.{AreLimits};
+ghost use Rattle.hub_protocol.specs.Spelling.{IsName, IsPattern, AreLetters, AreNames, IsForm, IsWithin, form_of};
+ghost use Rattle.hub_protocol.specs.Fields.{fields_of};
+ghost use Rattle.hub_protocol.specs.Forms.{form_shown};
+
+use crate::forms::Form;
+use hub_letters::Letter;
+use hub_record::Letters;
+use hub_requests::{Name, Names, PatternText, Request};
+use std::alloc::{AllocError, Global};
+
+fn are_limits(waiting: u64, total: u64) -> bool
+    ensures { MatchBool result (AreLimits waiting total) (AreLimits waiting total → ⊥) }
+{
+    (1..=4096).contains(&waiting) && (1..=1_000_000_000_000).contains(&total)
+}
+
+/// Whether each number is in its range.
+pub fn is_within(form: &Form<'_>) -> bool
+    ensures { MatchBool result (IsWithin (form_shown form.now)) (IsWithin (form_shown form.now) → ⊥) }
+{
+    match form {
+        Form::Dir { waiting, total, .. } => are_limits(*waiting, *total),
+        Form::Svc {
+            waiting,
+            total,
+            reports,
+            ..
+        } => are_limits(*waiting, *total) && *reports <= 1,
+        Form::Take { max, .. } => *max >= 1 && *max <= 256,
+        Form::Wait { turns, .. } => *turns <= 1_000_000,
+        _ => true,
+    }
+}
+
+fn name_of(alloc: Global, text: &[u8]) -> Result<Name, AllocError>
+    requires { IsName text.now }
+    ensures { IfOk result (λ name. name ≡ text.now) }
+{
+    let name = Name::of(alloc, text)?;
+    Ok(name.unwrap())
+}
+
+fn letters_of(alloc: Global, text: &[u8]) -> Result<Letters, AllocError>
+    requires { AreLetters text.now }
+    ensures { IfOk result (λ letters. letters ≡ text.now) }
+{
+    let mut letters = Vec::with_capacity(alloc, text.len())?;
+    for b in text {
+        letters.push(Letter::of(*b).unwrap())?;
+    }
+    Ok(Letters::of(letters))
+}
+
+fn pattern_of(alloc: Global, text: &[u8]) -> Result<PatternText, AllocError>
+    requires { IsPattern text.now }
+    ensures { IfOk result (λ pattern. pattern ≡ text.now) }
+{
+    let text = str::from_utf8(text).unwrap();
+    Ok(PatternText::of(String::from_str(alloc, text)?))
+}
+
+fn names_of(alloc: Global, text: &[u8]) -> Result<Names, AllocError>
+    requires { AreNames (fields_of text.now) }
+    ensures { IfOk result (λ names. names ≡ fields_of text.now) }
+{
+    let mut names = Vec::new(alloc);
+    for name in text.split(|b| *b == b' ') {
+        names.push(name_of(alloc, name)?)?;
+    }
+    Ok(Names::of(names))
+}
+
+/// The request that the form asks for.
+pub fn request_of(alloc: Global, form: Form<'_>) -> Result<Request, AllocError>
+    requires formed { IsForm (form_shown form) }
+    requires within { IsWithin (form_shown form) }
+    ensures { IfOk result (λ request. form_of request ≡ form_shown form.entry) }
+{
+    let request = match form {
+        Form::Dir {
+            name,
+            waiting,
+            total,
+        } => Request::Dir {
+            name: name_of(alloc, name)?,
+            waiting,
+            total,
+        },
+        Form::Svc {
+            name,
+            waiting,
+            total,
+            reports,
+        } => Request::Svc {
+            name: name_of(alloc, name)?,
+            waiting,
+            total,
+            notifies: reports == 1,
+        },
+        Form::Sub { name } => Request::Sub {
+            name: name_of(alloc, name)?,
+        },
+        Form::Pub { name, letters } => Request::Pub {
+            name: name_of(alloc, name)?,
+            letters: letters_of(alloc, letters)?,
+        },
+        Form::Take { id, max } => Request::Take { id, max },
+        Form::Cancel { id } => Request::Cancel { id },
+        Form::Close { name } => Request::Close {
+            name: name_of(alloc, name)?,
+        },
+        Form::Status { name } => Request::Status {
+            name: name_of(alloc, name)?,
+        },
+        Form::Listen {
+            name,
+            mode,
+            pattern,
+        } => Request::Listen {
+            name: name_of(alloc, name)?,
+            mode,
+            pattern: pattern_of(alloc, pattern)?,
+        },
+        Form::Poll { id } => Request::Poll { id },
+        Form::Wait {
+            span,
+            want,
+            turns,
+            names,
+        } => Request::Wait {
+            span,
+            want,
+            turns,
+            names: names_of(alloc, names)?,
+        },
+    };
+    Ok(request)
+}

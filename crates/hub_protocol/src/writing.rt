@@ -1,0 +1,128 @@
+//! The text of a reply.
+ghost use Rattle.std.specs.Prelude.{◌≡◌, ◌++◌, ◌+◌, ◌∷◌, [], ◌≤◌, length, take, OnOk, OnErr, IsOk, vec_len, vec_capacity, codes};
+ghost use Rattle.std.specs.Fmt.{decimal};
+ghost use Rattle.hub_requests.specs.declared.reply.Reply.{Reply};
+ghost use Rattle.hub_protocol.specs.Writing.{Appends};
+ghost use Rattle.hub_requests.specs.Texts.{line_of, number_or_dash, numbers_text, text_of};
+
+use hub_letters::Letter;
+use hub_record::Status;
+use hub_requests::{Refusal, Reply};
+use itoa::Buffer;
+use std::alloc::AllocError;
+
+/// Appends the text of the reply, with its LF. An `Err` changes nothing.
+pub fn write_reply(reply: &Reply, out: &mut Vec<u8>) -> Result<(), AllocError>
+    ensures ok { OnOk result (out.new.items ≡ out.old.items ++ text_of reply.now) }
+    ensures err { OnErr result (out.new.items ≡ out.old.items) }
+    ensures room { vec_len out.old + length (text_of reply.now) ≤ vec_capacity out.old → IsOk result }
+    ensures capacity { vec_capacity out.old ≤ vec_capacity out.new }
+{
+    let start = out.len();
+    let written = append_text(reply, out);
+    if written.is_err() {
+        out.truncate(start);
+    }
+    written
+}
+
+fn append_text(reply: &Reply, out: &mut Vec<u8>) -> Result<(), AllocError>
+    ensures { Appends out.old out.new result (text_of reply.now) }
+{
+    append_line(reply, out)?;
+    out.push(b'\n')?;
+    Ok(())
+}
+
+fn append_line(reply: &Reply, out: &mut Vec<u8>) -> Result<(), AllocError>
+    ensures { Appends out.old out.new result (line_of reply.now) }
+{
+    match reply {
+        Reply::Done => out.extend_from_slice(b"ok"),
+        Reply::Number(number) => append_number(b"ok ", *number, out),
+        Reply::State(status) => append_status(status, out),
+        Reply::Got(letters) => append_letters(b"got ", letters.items(), out),
+        Reply::Hit(letters) => append_letters(b"hit ", letters.items(), out),
+        Reply::Nothing => out.extend_from_slice(b"none"),
+        Reply::End => out.extend_from_slice(b"end"),
+        Reply::Yes(numbers) => append_yes(numbers.items(), out),
+        Reply::Never => out.extend_from_slice(b"never"),
+        Reply::Late => out.extend_from_slice(b"late"),
+        Reply::No(refusal) => append_refusal(*refusal, out),
+    }
+}
+
+fn append_number(before: &[u8], number: u64, out: &mut Vec<u8>) -> Result<(), AllocError>
+    ensures { Appends out.old out.new result (before.now ++ decimal number) }
+{
+    let mut digits = Buffer::new();
+    out.extend_from_slice(before)?;
+    out.extend_from_slice(digits.format(number).as_bytes())
+}
+
+fn append_status(status: &Status, out: &mut Vec<u8>) -> Result<(), AllocError>
+    ensures { Appends out.old out.new result (line_of (Reply.State status.now)) }
+{
+    append_number(b"ok ", status.number, out)?;
+    append_number(b" ", status.flags.code(), out)?;
+    out.extend_from_slice(if status.closed { b" closed" } else { b" open" })
+}
+
+fn append_letters(before: &[u8], letters: &[Letter], out: &mut Vec<u8>) -> Result<(), AllocError>
+    ensures { Appends out.old out.new result (before.now ++ letters.now) }
+{
+    out.extend_from_slice(before)?;
+    for letter in letters {
+        out.push(letter.byte())?;
+    }
+    Ok(())
+}
+
+fn append_yes(numbers: &[Option<u64>], out: &mut Vec<u8>) -> Result<(), AllocError>
+    ensures { Appends out.old out.new result (codes "yes" ++ numbers_text numbers.now) }
+{
+    out.extend_from_slice(b"yes")?;
+    append_numbers(numbers, out)
+}
+
+fn append_numbers(numbers: &[Option<u64>], out: &mut Vec<u8>) -> Result<(), AllocError>
+    ensures { Appends out.old out.new result (numbers_text numbers.now) }
+{
+    for number in numbers {
+        append_number_or_dash(*number, out)?;
+    }
+    Ok(())
+}
+
+fn append_number_or_dash(number: Option<u64>, out: &mut Vec<u8>) -> Result<(), AllocError>
+    ensures { Appends out.old out.new result (32 ∷ number_or_dash number) }
+{
+    match number {
+        Some(number) => append_number(b" ", number, out),
+        None => out.extend_from_slice(b" -"),
+    }
+}
+
+fn append_refusal(refusal: Refusal, out: &mut Vec<u8>) -> Result<(), AllocError>
+    ensures { Appends out.old out.new result (line_of (Reply.No refusal)) }
+{
+    match refusal {
+        Refusal::Long => out.extend_from_slice(b"no long"),
+        Refusal::Text => out.extend_from_slice(b"no text"),
+        Refusal::Word => out.extend_from_slice(b"no word"),
+        Refusal::Form => out.extend_from_slice(b"no form"),
+        Refusal::Range => out.extend_from_slice(b"no range"),
+        Refusal::Name => out.extend_from_slice(b"no name"),
+        Refusal::Exists => out.extend_from_slice(b"no exists"),
+        Refusal::Kind => out.extend_from_slice(b"no kind"),
+        Refusal::Id => out.extend_from_slice(b"no id"),
+        Refusal::Many => out.extend_from_slice(b"no many"),
+        Refusal::Spent => out.extend_from_slice(b"no spent"),
+        Refusal::Closed => out.extend_from_slice(b"no closed"),
+        Refusal::Unlawful(place) => append_number(b"no unlawful ", place, out),
+        Refusal::Full => out.extend_from_slice(b"no full"),
+        Refusal::Pattern => out.extend_from_slice(b"no pattern"),
+        Refusal::Overlong => out.extend_from_slice(b"no overlong"),
+        Refusal::Memory => out.extend_from_slice(b"no memory"),
+    }
+}

@@ -1,0 +1,39 @@
+-- What the result of one session says.
+use Rattle.std.specs.Prelude.{◌≡◌, ◌≢◌, ℕ, List, Option, Result, Err, IfOk, IfErr}
+use Rattle.hub_io.specs.Faults.{read_faults, write_faults}
+use Rattle.hub_front.specs.Serving.{Asking, Finished, Stopped, ReadsWithin}
+use Rattle.hub_io.specs.Telling.{Grows}
+use Rattle.hub_io.specs.declared.fault.FrontError.{FrontError}
+use Rattle.hub_io.specs.declared.fault.FrontError.TheVariants.{Memory}
+
+-- what readers tell: what they have left, how many reads were made, and how many of them failed
+pub record Reading (R : Type 0) : Type 0 where
+  pub remaining : R → Option (List ℕ)
+  pub reads : R → Option ℕ
+  pub faults : R → Option ℕ
+
+-- what writers tell: what they hold, and how many writes failed
+pub record Writing (W : Type 0) : Type 0 where
+  pub contents : W → Option (List ℕ)
+  pub faults : W → Option ℕ
+
+-- a desk that begins so served the lines of the reader as far as the result says, and was ended
+pub record IsServed {D R W : Type 0} (begins : D → Type 0) (asks : Asking D) (ends : D → D → Type 0) (r : Reading R) (w : Writing W)
+    (reader read : R) (writer written : W) (result : Result ℕ FrontError) : Type 0 where
+  pub old : D
+  pub new : D
+  pub begun : begins old
+  pub finished : IfOk result (Finished asks ends old new (w.contents writer) (w.contents written) (r.remaining reader) (r.remaining read))
+  pub stopped : IfErr result (Stopped asks ends old new (w.contents writer) (w.contents written) (r.remaining reader) (r.remaining read))
+
+-- The result of a session over this reader and this writer. At want of memory nothing was read. A fault is answered
+-- where it was told, and nowhere else.
+pub record IsResult {D R W : Type 0} (begins : D → Type 0) (asks : Asking D) (ends : D → D → Type 0) (r : Reading R) (w : Writing W)
+    (reader : R) (writer : W) (result : Result ℕ FrontError) : Type 0 where
+  pub read : R
+  pub written : W
+  pub served : result ≢ Err Memory → IsServed begins asks ends r w reader read writer written result
+  pub untouched : result ≡ Err Memory → (read ≡ reader) × (written ≡ writer)
+  pub reads : ReadsWithin (r.reads reader) (r.reads read) result
+  pub read_faults : Grows (r.faults reader) (r.faults read) (read_faults result)
+  pub write_faults : Grows (w.faults writer) (w.faults written) (write_faults result)
