@@ -12,6 +12,7 @@
 #![tactic(auto)]
 
 pub use hub_client::{RelayError, relay};
+pub use hub_commands::serve_all;
 pub use hub_desk::{
     Desk, Found, Hub, HubError, LocalDesk, Name, Names, Numbers, PatternText, Refusal, Reply,
     Request, SharedDesk,
@@ -24,7 +25,7 @@ pub use hub_listen::{Feed, FeedError, ListenError, Listener};
 pub use hub_record::{
     Closed, Event, Kind, Letters, Limits, NoId, PubError, Record, Status, SubError, Taken,
 };
-pub use hub_server::{Gate, Next, Report, ServeError, serve_all};
+pub use hub_server::{Gate, Next, Report, ServeError};
 pub use hub_wait::{
     BRIEF_TURNS, Backoff, Go, Pause, Post, Tally, Verdict, Watch, svlisten, svwait,
 };

@@ -2,8 +2,9 @@
 ghost use Rattle.std.specs.Prelude.{◌≡◌, None};
 ghost use Rattle.hub_server.specs.declared.gate.Next.TheVariants.{Over};
 
+use crate::desks::serve_all;
 use crate::fault::Fault;
-use hub_server::{Gate, Next, Report, serve_all};
+use hub_server::{Gate, Next, Report};
 use hub_shared::Hub;
 use hub_wait::Backoff;
 use std::alloc::Global;
@@ -74,7 +75,7 @@ fn listen<H: Files + Net>(rt: &H, socket: &str) -> Result<UnixListener, Fault> {
 /// The socket's file is left.
 pub fn serve<H>(rt: &H, alloc: Global, socket: &str, sessions: u64) -> Result<Report, Fault>
 where
-    H: Files + Net + Clock + Threads + Wait + Copy + Send + 'static,
+    H: Files + Net + Clock + Threads + Wait + Copy + Send + Sync + 'static,
 {
     let Ok(hub) = Arc::new(alloc, Hub::new(alloc)?) else {
         return Err(Fault::Memory);

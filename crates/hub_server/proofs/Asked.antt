@@ -6,7 +6,6 @@ use Rattle.hub_server.specs.declared.report.ServeError.TheVariants.{Spawn, Memor
 use Rattle.hub_server.specs.Gates.{Giving, Gave, Ends, IsAsked, StopsEarly}
 use Rattle.hub_server.specs.Promised.{AreOver, streams_of}
 use Rattle.std.specs.Arc.{arc_value}
-use Rattle.hub_shared.specs.declared.hub.Hub.{Hub}
 use Rattle.std.proofs.lemmas.List.Elements.{All-push}
 
 -- one session more
@@ -20,13 +19,13 @@ length-snoc : {A : Type 0} (xs : List A) (x : A) → length (xs ++ x ∷ []) ≡
 length-snoc [] x = refl
 length-snoc (y ∷ xs) x = let rest = length-snoc xs x in omega arith
 
-streams_of-snoc : {R W P : Type 0} (sessions : List (Session R W P)) (session : Session R W P)
+streams_of-snoc : {R W O : Type 0} (sessions : List (Session R W O)) (session : Session R W O)
     → streams_of (sessions ++ session ∷ []) ≡ streams_of sessions ++ (session.reader.value, session.writer.value) ∷ []
 streams_of-snoc [] session = refl
 streams_of-snoc (first ∷ sessions) session =
     ap (λ streams. (first.reader.value, first.writer.value) ∷ streams) (streams_of-snoc sessions session)
 
-pub gave_another : {G R W P : Type 0} (gives : Giving G R W) (old gate new : G) (sessions sessions' : List (Session R W P)) (session : Session R W P)
+pub gave_another : {G R W O : Type 0} (gives : Giving G R W) (old gate new : G) (sessions sessions' : List (Session R W O)) (session : Session R W O)
     (reader : R) (writer : W) → sessions' ≡ sessions ++ session ∷ [] → session.reader.value ≡ reader → session.writer.value ≡ writer
     → Gave gives old (streams_of sessions) gate → gives gate (next.Session reader writer) new
     → Gave gives old (streams_of sessions') new × (length (streams_of sessions') ≡ length (streams_of sessions) + 1)
@@ -74,10 +73,8 @@ asked_in_vain gives most old given failed new asked = record {
   spawn = λ spawn. absurd (cc spawn);
 }
 
--- one more over the same hub
-pub over_one_more : {R W P : Type 0} (hub : Hub) (pause : P) (sessions sessions' : List (Session R W P)) (session : Session R W P)
-    → sessions' ≡ sessions ++ session ∷ [] → AreOver hub pause sessions
-    → arc_value session.hub.value ≡ hub → session.pause.value ≡ pause → AreOver hub pause sessions'
-over_one_more hub pause sessions sessions' session pushed over here waits =
-    subst (AreOver hub pause) (sym pushed)
-    (All-push (λ s. (arc_value s.hub.value ≡ hub) × (s.pause.value ≡ pause)) sessions session over (here, waits))
+-- one more whose desk is from these
+pub over_one_more : {R W O : Type 0} (desks : O) (sessions sessions' : List (Session R W O)) (session : Session R W O)
+    → sessions' ≡ sessions ++ session ∷ [] → AreOver desks sessions → arc_value session.desks.value ≡ desks → AreOver desks sessions'
+over_one_more desks sessions sessions' session pushed over here =
+    subst (AreOver desks) (sym pushed) (All-push (λ s. arc_value s.desks.value ≡ desks) sessions session over here)

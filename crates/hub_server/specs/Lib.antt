@@ -1,4 +1,3 @@
-pub mod Desks
 pub mod Sessions
 pub mod Gates
 pub mod Promised

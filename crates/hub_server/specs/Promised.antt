@@ -2,7 +2,6 @@
 use Rattle.std.specs.Prelude.{◌≡◌, All, List, Option, map, IfSome, IfNone, IsSome}
 use Rattle.std.specs.Arc.{arc_value}
 use Rattle.std.specs.declared.thread.PromisedHandle.{PromisedHandle}
-use Rattle.hub_shared.specs.declared.hub.Hub.{Hub}
 use Rattle.hub_server.specs.declared.promise.Session.{Session}
 
 -- the thread has this promise until it is joined, and its result keeps it then
@@ -12,9 +11,9 @@ pub record IsKept {T P : Type 0} (kept_by : P → T → Type 0) (promise : P) (t
   pub joined : IfNone thread (IsSome result)
 
 -- the reader and the writer of each session
-abbrev pub streams_of : {R W P : Type 0} → List (Session R W P) → List (R × W)
+abbrev pub streams_of : {R W O : Type 0} → List (Session R W O) → List (R × W)
 streams_of = map (λ session. (session.reader.value, session.writer.value))
 
--- they all serve over this hub, with this pause
-abbrev pub AreOver : {R W P : Type 0} → Hub → P → List (Session R W P) → Type 0
-AreOver hub pause = All (λ session. (arc_value session.hub.value ≡ hub) × (session.pause.value ≡ pause))
+-- each has its desk from these
+abbrev pub AreOver : {R W O : Type 0} → O → List (Session R W O) → Type 0
+AreOver desks = All (λ session. arc_value session.desks.value ≡ desks)

@@ -2,8 +2,8 @@
 ghost use Rattle.std.specs.Prelude.{None};
 
 use crate::gates::{Listed, Telling};
+use hub_commands::serve_all;
 use hub_io::{FrontError, Sink, Source};
-use hub_server::serve_all;
 use hub_shared::Hub;
 use hub_wait::Backoff;
 use std::alloc::{AllocError, Global};

@@ -1,7 +1,8 @@
 //! Sessions over Unix sockets.
 use crate::clients::Client;
 use crate::gates::Door;
-use hub_server::{Report, serve_all};
+use hub_commands::serve_all;
+use hub_server::Report;
 use hub_shared::Hub;
 use hub_wait::Backoff;
 use std::alloc::Global;

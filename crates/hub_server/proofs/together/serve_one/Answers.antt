@@ -1,6 +1,3 @@
-use Rattle.std.proofs.Common.{ap, subst, sym, ◌∙◌}
-use Rattle.std.specs.Arc.{arc_value}
-use Rattle.hub_shared.specs.Desks.{IsNewDesk}
 use Rattle.hub_server.proofs.Results.{no_desk}
 use Rattle.hub_server.proofs.together.serve_one.Goals as goal
 
@@ -12,14 +9,9 @@ returns g c = record {
   read = c.serve.new.reader;
   written = c.serve.new.writer;
   served = λ other. record {
-    old = c.watch.new.self;
+    old = c.in-Ok.desk;
     new = c.serve.new.desk;
-    begun = record {
-      new = subst (λ fifodirs. IsNewDesk fifodirs c.watch.new.self.handles) (sym c.watch.ensures.fifodirs)
-          (subst (IsNewDesk c.in-Ok.desk.fifodirs) (sym c.watch.ensures.handles) c.in-Ok.ensures.new);
-      over = ap arc_value (c.watch.ensures.hub ∙ c.in-Ok.ensures.hub);
-      waits = c.watch.ensures.pause ∙ c.in-Ok.ensures.pause;
-    };
+    begun = c.in-Ok.ensures;
     finished = c.serve.ensures.finished;
     stopped = c.serve.ensures.stopped;
   };

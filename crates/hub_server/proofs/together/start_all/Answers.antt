@@ -12,6 +12,6 @@ sessions-preserved g c =
     let pushed = c.push_reserved.ensures.items ∙ ap (λ items. items ++ c.in-Some.session ∷ []) (c.reserve-room.ensures.items ∙ c.join_over.ensures) in
     let more = gave_another g.G.Gate.gives c.args.gate.now c.sessions.gate c.next.new.self _ _ c.in-Some.session _ _ pushed c.in-Some.ensures.reader c.in-Some.ensures.writer
     c.sessions.invariant.gave c.in-Session.ensures in
-    let same_hub = ap arc_value c.in-Some.ensures.hub ∙ c.in-Ok-Ok-Ok.ensures in
-    let over = over_one_more _ _ _ _ c.in-Some.session pushed c.sessions.invariant.over same_hub c.in-Some.ensures.pause in
+    let same = ap arc_value c.in-Some.ensures.desks ∙ c.in-Ok-Ok-Ok.ensures in
+    let over = over_one_more _ _ _ c.in-Some.session pushed c.sessions.invariant.over same in
     record { gave = more.0; over = over; counted = more.1 ∙ ap (λ n. n + 1) c.sessions.invariant.counted }

@@ -8,6 +8,6 @@ use Rattle.hub_server.proofs.together.start_all.Given as goal
 abbrev pub invariant-sessions : goal.invariant-sessions
 invariant-sessions g l = record {
   gave : Gave g.G.Gate.gives l.fn.gate (streams_of l.started.items) l.gate;
-  over : AreOver (arc_value l.fn.hub) l.fn.pause l.started.items;
+  over : AreOver (arc_value l.fn.desks) l.started.items;
   counted : length (streams_of l.started.items) ≡ l._session;
 }

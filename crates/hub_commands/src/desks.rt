@@ -1,0 +1,76 @@
+//! Sessions over one hub.
+ghost use Rattle.std.specs.Prelude.{◌≤◌, IfOk, IfErr, vec_len};
+ghost use Rattle.std.specs.Arc.{arc_value};
+ghost use Rattle.hub_server.specs.Gates.{StopsEarly, ThenCloses};
+ghost use Rattle.hub_server.specs.Reports.{IsReport};
+ghost use Rattle.hub_commands.specs.Desks.{Begins};
+
+use hub_io::{Sink, Source};
+use hub_requests::Desk;
+use hub_server::{Desks, Gate, Report, ServeError, serve_each};
+use hub_shared::{Hub, SharedDesk};
+use hub_wait::Pause;
+use std::alloc::{AllocError, Global};
+use std::os::unix::net::UnixStream;
+use std::sync::{Arc, Wait};
+use std::thread::Threads;
+
+// Opens a desk over the hub for each session, with a copy of the pause for its waits.
+#[derive(Drop)]
+struct HubDesks<P: Pause + Copy> {
+    hub: Arc<Hub, Global>,
+    pause: P,
+}
+
+impl<P: Pause + Copy> Desks for HubDesks<P> {
+    type Own = SharedDesk<P>;
+
+    ghost opens = { λ desks. Begins (arc_value desks.hub) desks.pause };
+
+    fn open(&self, alloc: Global, client: Option<UnixStream>) -> Result<SharedDesk<P>, AllocError> {
+        let hub = Arc::try_clone(&self.hub)?;
+        let mut desk = SharedDesk::new(alloc, hub, self.pause)?;
+        desk.watch(client);
+        Ok(desk)
+    }
+
+    fn release<H: Wait>(&self, _rt: &H, desk: SharedDesk<P>) {
+        drop(desk);
+    }
+}
+
+/// Asks the gate for at most so many sessions, and serves each on a thread of its own by a desk of its own over the hub,
+/// with a copy of the pause for its waits. All run at the same time. When it returns, all have ended. At an error their
+/// results are lost.
+pub fn serve_all<H, R, W, G, P>(
+    rt: &H,
+    alloc: Global,
+    hub: Arc<Hub, Global>,
+    gate: &mut G,
+    sessions: u64,
+    pause: P,
+) -> Result<Report, ServeError>
+where
+    H: Threads + Wait + Copy + Send + 'static,
+    R: Source + Send + Drop + 'static,
+    W: Sink + Send + Drop + 'static,
+    G: Gate<R, W>,
+    P: Pause + Copy + Send + Sync + 'static,
+    // The gate is asked no more after it failed or was over, and closed once after the last asking. Each session that it
+    // gave has a result, in its order, that is one of serving just that session's reader and writer.
+    ensures report { IfOk result (λ report. IsReport
+        (Begins (arc_value hub) pause)
+        ⟦<SharedDesk<P> as Desk>⟧.asks ⟦<SharedDesk<P> as Desk>⟧.ends
+        (record { remaining = R.remaining; reads = R.reads; faults = R.faults })
+        (record { contents = W.contents; faults = W.faults })
+        G.gives G.closes sessions gate.old gate.new report.results.items report.gate_failed) }
+    ensures most { IfOk result (λ report. vec_len report.results ≤ sessions) }
+    ensures err { IfErr result (λ error. ThenCloses G.closes
+        (λ last. StopsEarly G.gives sessions gate.old last error) gate.new) }
+{
+    let Ok(desks) = Arc::new(alloc, HubDesks { hub, pause }) else {
+        gate.close();
+        return Err(ServeError::Memory);
+    };
+    serve_each(rt, alloc, desks, gate, sessions)
+}

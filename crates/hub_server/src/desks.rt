@@ -1,0 +1,23 @@
+//! Where the desks of sessions come from.
+ghost use Rattle.std.specs.Prelude.{IfOk};
+
+use hub_requests::Desk;
+use std::alloc::{AllocError, Global};
+use std::os::unix::net::UnixStream;
+use std::sync::Wait;
+
+/// Gives each session a desk of its own. Sessions on several threads share it.
+pub trait Desks {
+    /// The desk of one session.
+    type Own: Desk;
+
+    /// `opens desks desk`: these desks may give a session this desk.
+    ghost opens: { Self → Self.Own → Type 0 };
+
+    /// The desk of a session. `client` is the connection of its client, if it has one.
+    fn open(&self, alloc: Global, client: Option<UnixStream>) -> Result<Self::Own, AllocError>
+        ensures { IfOk result (opens self.now) };
+
+    /// Releases a desk that has ended.
+    fn release<H: Wait>(&self, rt: &H, desk: Self::Own);
+}
