@@ -1,0 +1,6 @@
+pub mod Runs
+pub mod Cuts
+pub mod Kept
+pub mod UnderWay
+pub mod Placed
+pub mod Alike
