@@ -45,7 +45,7 @@ fn run<H, R: Source, W: Sink, F: Write>(
     faults: &mut F,
 ) -> Result<u8, Fault>
 where
-    H: Runtime + AllocGlobal + Net + Threads + Wait + Copy + Send + Sync + 'static,
+    H: Runtime + AllocGlobal + Net + Threads + Wait + Copy + Send + 'static,
 {
     let words = match words(rt, alloc) {
         Ok(words) => words,
@@ -77,7 +77,7 @@ fn carry_out<H, R: Source, W: Sink, F: Write>(
     faults: &mut F,
 ) -> Result<u8, Fault>
 where
-    H: Runtime + AllocGlobal + Net + Threads + Wait + Copy + Send + Sync + 'static,
+    H: Runtime + AllocGlobal + Net + Threads + Wait + Copy + Send + 'static,
 {
     match plan {
         Plan::Script => {

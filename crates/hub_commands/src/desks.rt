@@ -27,6 +27,14 @@ impl<P: Pause + Copy> Desks for HubDesks<P> {
 
     ghost opens = { λ desks. Begins (arc_value desks.hub) desks.pause };
 
+    fn share(&self) -> Result<HubDesks<P>, AllocError> {
+        let hub = Arc::try_clone(&self.hub)?;
+        Ok(HubDesks {
+            hub,
+            pause: self.pause,
+        })
+    }
+
     fn open(&self, alloc: Global, client: Option<UnixStream>) -> Result<SharedDesk<P>, AllocError> {
         let hub = Arc::try_clone(&self.hub)?;
         let mut desk = SharedDesk::new(alloc, hub, self.pause)?;
@@ -55,7 +63,7 @@ where
     R: Source + Send + Drop + 'static,
     W: Sink + Send + Drop + 'static,
     G: Gate<R, W>,
-    P: Pause + Copy + Send + Sync + 'static,
+    P: Pause + Copy + Send + 'static,
     // The gate is asked no more after it failed or was over, and closed once after the last asking. Each session that it
     // gave has a result, in its order, that is one of serving just that session's reader and writer.
     ensures report { IfOk result (λ report. IsReport
@@ -68,9 +76,6 @@ where
     ensures err { IfErr result (λ error. ThenCloses G.closes
         (λ last. StopsEarly G.gives sessions gate.old last error) gate.new) }
 {
-    let Ok(desks) = Arc::new(alloc, HubDesks { hub, pause }) else {
-        gate.close();
-        return Err(ServeError::Memory);
-    };
-    serve_each(rt, alloc, desks, gate, sessions)
+    let desks = HubDesks { hub, pause };
+    serve_each(rt, alloc, &desks, gate, sessions)
 }

@@ -75,7 +75,7 @@ fn listen<H: Files + Net>(rt: &H, socket: &str) -> Result<UnixListener, Fault> {
 /// The socket's file is left.
 pub fn serve<H>(rt: &H, alloc: Global, socket: &str, sessions: u64) -> Result<Report, Fault>
 where
-    H: Files + Net + Clock + Threads + Wait + Copy + Send + Sync + 'static,
+    H: Files + Net + Clock + Threads + Wait + Copy + Send + 'static,
 {
     let Ok(hub) = Arc::new(alloc, Hub::new(alloc)?) else {
         return Err(Fault::Memory);

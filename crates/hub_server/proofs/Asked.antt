@@ -5,7 +5,6 @@ use Rattle.hub_server.specs.declared.promise.Session.{Session}
 use Rattle.hub_server.specs.declared.report.ServeError.TheVariants.{Spawn, Memory}
 use Rattle.hub_server.specs.Gates.{Giving, Gave, Ends, IsAsked, StopsEarly}
 use Rattle.hub_server.specs.Promised.{AreOver, streams_of}
-use Rattle.std.specs.Arc.{arc_value}
 use Rattle.std.proofs.lemmas.List.Elements.{All-push}
 
 -- one session more
@@ -73,8 +72,9 @@ asked_in_vain gives most old given failed new asked = record {
   spawn = λ spawn. absurd (cc spawn);
 }
 
--- one more whose desk is from these
-pub over_one_more : {R W O : Type 0} (desks : O) (sessions sessions' : List (Session R W O)) (session : Session R W O)
-    → sessions' ≡ sessions ++ session ∷ [] → AreOver desks sessions → arc_value session.desks.value ≡ desks → AreOver desks sessions'
-over_one_more desks sessions sessions' session pushed over here =
-    subst (AreOver desks) (sym pushed) (All-push (λ s. arc_value s.desks.value ≡ desks) sessions session over here)
+-- one more whose desk is from a share of these
+pub over_one_more : {R W O D : Type 0} (opens : O → D → Type 0) (desks : O) (sessions sessions' : List (Session R W O)) (session : Session R W O)
+    → sessions' ≡ sessions ++ session ∷ [] → AreOver opens desks sessions → ((desk : D) → opens session.desks.value desk → opens desks desk)
+    → AreOver opens desks sessions'
+over_one_more {D = D} opens desks sessions sessions' session pushed over here =
+    subst (AreOver opens desks) (sym pushed) (All-push (λ s. (desk : D) → opens s.desks.value desk → opens desks desk) sessions session over here)

@@ -9,7 +9,6 @@ use Rattle.hub_server.specs.Sessions.{Reading, Writing, IsResult}
 use Rattle.hub_server.specs.declared.promise.Session.{Session}
 use Rattle.hub_server.specs.Promised.{AreOver, streams_of}
 use Rattle.hub_server.specs.Reports.{AreResults}
-use Rattle.std.specs.Arc.{arc_value}
 
 -- each result keeps the promise of the session at its place
 pub kept_in_order : {R W O : Type 0} (K : Session R W O → Result ℕ FrontError → Type 0) (Q : R × W → Result ℕ FrontError → Type 0) (T : Session R W O → Type 0)
@@ -22,18 +21,38 @@ kept_in_order K Q T keeps (s ∷ ss) [] such each = absurd each
 kept_in_order K Q T keeps (s ∷ ss) (r ∷ rs) such each =
     (keeps s r (All-head T s ss such) each.0, kept_in_order K Q T keeps ss rs (All-tail T s ss such) each.1)
 
--- the results of sessions whose desks are from these
+-- a result by a desk that begins so is one by a desk that begins as these say
+result_by : {D R W : Type 0} (begins begins' : D → Type 0) (asks : Asking D) (ends : D → D → Type 0) (r : Reading R) (w : Writing W)
+    (reader : R) (writer : W) (result : Result ℕ FrontError) → ((desk : D) → begins desk → begins' desk)
+    → IsResult begins asks ends r w reader writer result → IsResult begins' asks ends r w reader writer result
+result_by begins begins' asks ends r w reader writer result widens it = record {
+  read = it.read;
+  written = it.written;
+  served = λ other. let served = it.served other in record {
+    old = served.old;
+    new = served.new;
+    begun = widens served.old served.begun;
+    finished = served.finished;
+    stopped = served.stopped;
+  };
+  untouched = it.untouched;
+  reads = it.reads;
+  read_faults = it.read_faults;
+  write_faults = it.write_faults;
+}
+
+-- the results of sessions whose desks are from shares of these
 pub results_in_order : {O D R W : Type 0} (opens : O → D → Type 0) (asks : Asking D) (ends : D → D → Type 0) (r : Reading R) (w : Writing W)
-    (desks : O) (sessions joined : List (Session R W O)) (results : List (Result ℕ FrontError)) → joined ≡ sessions → AreOver desks sessions
-    → AllZip (λ session result. IsResult (opens (arc_value session.desks.value)) asks ends r w session.reader.value session.writer.value result) joined results
+    (desks : O) (sessions joined : List (Session R W O)) (results : List (Result ℕ FrontError)) → joined ≡ sessions → AreOver opens desks sessions
+    → AllZip (λ session result. IsResult (opens session.desks.value) asks ends r w session.reader.value session.writer.value result) joined results
     → AreResults (opens desks) asks ends r w (streams_of sessions) results
-results_in_order opens asks ends r w desks sessions joined results same over each =
-    kept_in_order (λ session result. IsResult (opens (arc_value session.desks.value)) asks ends r w session.reader.value session.writer.value result)
+results_in_order {D = D} opens asks ends r w desks sessions joined results same over each =
+    kept_in_order (λ session result. IsResult (opens session.desks.value) asks ends r w session.reader.value session.writer.value result)
     (λ streams result. IsResult (opens desks) asks ends r w streams.0 streams.1 result)
-    (λ session. arc_value session.desks.value ≡ desks)
-    (λ session result here kept. subst (λ o. IsResult (opens o) asks ends r w session.reader.value session.writer.value result) here kept)
+    (λ session. (desk : D) → opens session.desks.value desk → opens desks desk)
+    (λ session result widens kept. result_by (opens session.desks.value) (opens desks) asks ends r w session.reader.value session.writer.value result widens kept)
     sessions results over
-    (subst (λ all. AllZip (λ session result. IsResult (opens (arc_value session.desks.value)) asks ends r w session.reader.value session.writer.value result) all results) same each)
+    (subst (λ all. AllZip (λ session result. IsResult (opens session.desks.value) asks ends r w session.reader.value session.writer.value result) all results) same each)
 
 pub IfOk-weaker : {X E : Type 0} (P Q : X → Type 0) → ((x : X) → P x → Q x) → (result : Result X E) → IfOk result P → IfOk result Q
 IfOk-weaker P Q weaker (Ok x) holds = weaker x holds

@@ -1,6 +1,5 @@
 -- What the threads of the sessions promise.
 use Rattle.std.specs.Prelude.{◌≡◌, All, List, Option, map, IfSome, IfNone, IsSome}
-use Rattle.std.specs.Arc.{arc_value}
 use Rattle.std.specs.declared.thread.PromisedHandle.{PromisedHandle}
 use Rattle.hub_server.specs.declared.promise.Session.{Session}
 
@@ -14,6 +13,6 @@ pub record IsKept {T P : Type 0} (kept_by : P → T → Type 0) (promise : P) (t
 abbrev pub streams_of : {R W O : Type 0} → List (Session R W O) → List (R × W)
 streams_of = map (λ session. (session.reader.value, session.writer.value))
 
--- each has its desk from these
-abbrev pub AreOver : {R W O : Type 0} → O → List (Session R W O) → Type 0
-AreOver desks = All (λ session. arc_value session.desks.value ≡ desks)
+-- each has its desk from a share of these
+abbrev pub AreOver : {R W O D : Type 0} → (O → D → Type 0) → O → List (Session R W O) → Type 0
+AreOver {D = D} opens desks = All (λ session. (desk : D) → opens session.desks.value desk → opens desks desk)

@@ -6,13 +6,17 @@ use std::alloc::{AllocError, Global};
 use std::os::unix::net::UnixStream;
 use std::sync::Wait;
 
-/// Gives each session a desk of its own. Sessions on several threads share it.
+/// Opens a desk for each session. Each session's thread has a share of it.
 pub trait Desks {
     /// The desk of one session.
-    type Own: Desk;
+    type Own: Desk + Send;
 
     /// `opens desks desk`: these desks may give a session this desk.
     ghost opens: { Self → Self.Own → Type 0 };
+
+    /// A share for another thread, which opens such desks too.
+    fn share(&self) -> Result<Self, AllocError>
+        ensures { IfOk result (λ other. (desk : Self.Own) → opens other desk → opens self.now desk) };
 
     /// The desk of a session. `client` is the connection of its client, if it has one.
     fn open(&self, alloc: Global, client: Option<UnixStream>) -> Result<Self::Own, AllocError>

@@ -1,6 +1,5 @@
 //! Sessions at the same time.
 ghost use Rattle.std.specs.Prelude.{◌≡◌, ◌≤◌, [], IfSome, IfOk, IfErr, OnOk, vec_len};
-ghost use Rattle.std.specs.Arc.{arc_value};
 ghost use Rattle.hub_server.specs.Gates.{IsAsked, StopsEarly, ThenCloses};
 ghost use Rattle.hub_server.specs.Promised.{AreOver, streams_of};
 ghost use Rattle.hub_server.specs.Reports.{AreResults, IsReport};
@@ -29,11 +28,11 @@ type Running<R, W, O> = Started<Result<u64, FrontError>, Session<R, W, O>>;
 fn serve_one<H: Wait + Drop, R: Source + Drop, W: Sink + Drop, O: Desks + Drop>(
     rt: H,
     alloc: Global,
-    desks: Arc<O, Global>,
+    desks: O,
     mut reader: R,
     mut writer: W,
 ) -> Result<u64, FrontError>
-    ensures { IsResult (O.opens (arc_value desks)) O.Own.asks O.Own.ends
+    ensures { IsResult (O.opens desks) O.Own.asks O.Own.ends
         (record { remaining = R.remaining; reads = R.reads; faults = R.faults })
         (record { contents = W.contents; faults = W.faults })
         reader writer result }
@@ -41,16 +40,16 @@ fn serve_one<H: Wait + Drop, R: Source + Drop, W: Sink + Drop, O: Desks + Drop>(
     let Ok(mut desk) = desks.open(alloc, reader.connection()) else {
         return Err(FrontError::Memory);
     };
-    let result = serve(&rt, alloc, &mut desk, &mut reader, &mut writer);
+    let served = serve(&rt, alloc, &mut desk, &mut reader, &mut writer);
     desks.release(&rt, desk);
-    result
+    served
 }
 
 // Starts the thread of one session, which sets `is_over` as the last thing.
 fn start<H, R, W, O>(
     rt: &H,
     alloc: Global,
-    desks: Arc<O, Global>,
+    desks: O,
     is_over: Arc<AtomicBool, Global>,
     reader: R,
     writer: W,
@@ -59,7 +58,7 @@ where
     H: Threads + Wait + Copy + Send + 'static,
     R: Source + Send + Drop + 'static,
     W: Sink + Send + Drop + 'static,
-    O: Desks + Send + Sync + Drop + 'static,
+    O: Desks + Send + Drop + 'static,
     ensures reader { IfSome result (λ started. started.reader.value ≡ reader) }
     ensures writer { IfSome result (λ started. started.writer.value ≡ writer) }
     ensures desks { IfSome result (λ started. started.desks.value ≡ desks) }
@@ -88,7 +87,7 @@ where
 fn start_all<H, R, W, G, O>(
     rt: &H,
     alloc: Global,
-    desks: &Arc<O, Global>,
+    desks: &O,
     gate: &mut G,
     sessions: u64,
     started: &mut Vec<Running<R, W, O>>,
@@ -98,11 +97,11 @@ where
     R: Source + Send + Drop + 'static,
     W: Sink + Send + Drop + 'static,
     G: Gate<R, W>,
-    O: Desks + Send + Sync + Drop + 'static,
+    O: Desks + Send + Drop + 'static,
     requires { started.old.items ≡ [] }
     ensures ok { IfOk result (λ failed. IsAsked
         G.gives sessions gate.old (streams_of started.new.items) failed gate.new) }
-    ensures over { OnOk result (AreOver (arc_value desks.now) started.new.items) }
+    ensures over { OnOk result (AreOver O.opens desks.now started.new.items) }
     ensures err { IfErr result (StopsEarly G.gives sessions gate.old gate.new) }
 {
     'sessions: for _session in 0..sessions {
@@ -110,7 +109,7 @@ where
         let room = started.reserve(1);
         let (Ok(()), Ok(own), Ok(is_over)) = (
             room,
-            Arc::try_clone(desks),
+            desks.share(),
             Arc::new(alloc, AtomicBool::new(false)),
         ) else {
             return Err(ServeError::Memory);
@@ -133,7 +132,7 @@ where
 fn start_and_close<H, R, W, G, O>(
     rt: &H,
     alloc: Global,
-    desks: &Arc<O, Global>,
+    desks: &O,
     gate: &mut G,
     sessions: u64,
     started: &mut Vec<Running<R, W, O>>,
@@ -143,11 +142,11 @@ where
     R: Source + Send + Drop + 'static,
     W: Sink + Send + Drop + 'static,
     G: Gate<R, W>,
-    O: Desks + Send + Sync + Drop + 'static,
+    O: Desks + Send + Drop + 'static,
     requires { started.old.items ≡ [] }
     ensures ok { IfOk result (λ failed. ThenCloses G.closes
         (λ last. IsAsked G.gives sessions gate.old (streams_of started.new.items) failed last) gate.new) }
-    ensures over { OnOk result (AreOver (arc_value desks.now) started.new.items) }
+    ensures over { OnOk result (AreOver O.opens desks.now started.new.items) }
     ensures err { IfErr result (λ error. ThenCloses G.closes
         (λ last. StopsEarly G.gives sessions gate.old last error) gate.new) }
 {
@@ -167,7 +166,7 @@ where
     R: Source + Drop,
     W: Sink + Drop,
     O: Desks,
-    ensures { (desks : O) → AreOver desks started.items → IfOk result (λ results. AreResults
+    ensures { (desks : O) → AreOver O.opens desks started.items → IfOk result (λ results. AreResults
         (O.opens desks) O.Own.asks O.Own.ends
         (record { remaining = R.remaining; reads = R.reads; faults = R.faults })
         (record { contents = W.contents; faults = W.faults })
@@ -182,7 +181,7 @@ where
 pub fn serve_each<H, R, W, G, O>(
     rt: &H,
     alloc: Global,
-    desks: Arc<O, Global>,
+    desks: &O,
     gate: &mut G,
     sessions: u64,
 ) -> Result<Report, ServeError>
@@ -191,11 +190,11 @@ where
     R: Source + Send + Drop + 'static,
     W: Sink + Send + Drop + 'static,
     G: Gate<R, W>,
-    O: Desks + Send + Sync + Drop + 'static,
+    O: Desks + Send + Drop + 'static,
     // The gate is asked no more after it failed or was over, and closed once after the last asking. Each session that it
     // gave has a result, in its order, that is one of serving just that session's reader and writer.
     ensures report { IfOk result (λ report. IsReport
-        (O.opens (arc_value desks)) O.Own.asks O.Own.ends
+        (O.opens desks.now) O.Own.asks O.Own.ends
         (record { remaining = R.remaining; reads = R.reads; faults = R.faults })
         (record { contents = W.contents; faults = W.faults })
         G.gives G.closes sessions gate.old gate.new report.results.items report.gate_failed) }
@@ -204,7 +203,7 @@ where
         (λ last. StopsEarly G.gives sessions gate.old last error) gate.new) }
 {
     let mut started = Vec::new(alloc);
-    let asked = start_and_close(rt, alloc, &desks, gate, sessions, &mut started);
+    let asked = start_and_close(rt, alloc, desks, gate, sessions, &mut started);
     let results = end_all(rt, alloc, started);
     let gate_failed = asked?;
     Ok(Report {

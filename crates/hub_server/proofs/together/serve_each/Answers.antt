@@ -1,18 +1,17 @@
 use Rattle.std.proofs.Common.{arith}
 use Rattle.std.proofs.lemmas.Slice.Zip.{AllZip-long}
-use Rattle.std.specs.Arc.{arc_value}
 use Rattle.hub_server.proofs.Asked.{given_few}
 use Rattle.hub_server.proofs.together.serve_each.Goals as goal
 
 pub returns-clause-most : goal.returns-clause-most
 returns-clause-most g c =
     let few = given_few _ _ _ _ _ _ c.in_ok-gate_failed.ensures.ok.asked in
-    let each = AllZip-long _ _ _ (c.in_ok-results.ensures (arc_value c.args.desks) c.in_ok-gate_failed.ensures.over) in
+    let each = AllZip-long _ _ _ (c.in_ok-results.ensures c.args.desks.now c.in_ok-gate_failed.ensures.over) in
     omega arith
 
 pub returns-clause-report : goal.returns-clause-report
 returns-clause-report g c = record {
   given = _;
   asked = c.in_ok-gate_failed.ensures.ok;
-  each = c.in_ok-results.ensures (arc_value c.args.desks) c.in_ok-gate_failed.ensures.over;
+  each = c.in_ok-results.ensures c.args.desks.now c.in_ok-gate_failed.ensures.over;
 }

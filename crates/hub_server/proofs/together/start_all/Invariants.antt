@@ -1,5 +1,4 @@
 use Rattle.std.proofs.Common.{◌≡◌, length}
-use Rattle.std.specs.Arc.{arc_value}
 use Rattle.hub_server.specs.Gates.{Gave}
 use Rattle.hub_server.specs.Promised.{AreOver, streams_of}
 use Rattle.hub_server.proofs.together.start_all.Given as goal
@@ -8,6 +7,6 @@ use Rattle.hub_server.proofs.together.start_all.Given as goal
 abbrev pub invariant-sessions : goal.invariant-sessions
 invariant-sessions g l = record {
   gave : Gave g.G.Gate.gives l.fn.gate (streams_of l.started.items) l.gate;
-  over : AreOver (arc_value l.fn.desks) l.started.items;
+  over : AreOver g.O.Desks.opens l.fn.desks l.started.items;
   counted : length (streams_of l.started.items) ≡ l._session;
 }
