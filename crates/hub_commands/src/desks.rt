@@ -4,14 +4,15 @@ ghost use Rattle.std.specs.Arc.{arc_value};
 ghost use Rattle.hub_server.specs.Gates.{StopsEarly, ThenCloses};
 ghost use Rattle.hub_server.specs.Reports.{IsReport};
 ghost use Rattle.hub_commands.specs.Desks.{Begins};
+ghost use Rattle.hub_shared.specs.declared.shared_desk.SharedDesk.{SharedDesk};
 
-use hub_io::{Sink, Source};
+use hub_front::serve;
+use hub_io::{FrontError, Sink, Source};
 use hub_requests::Desk;
 use hub_server::{Desks, Gate, Report, ServeError, serve_each};
 use hub_shared::{Hub, SharedDesk};
 use hub_wait::Pause;
 use std::alloc::{AllocError, Global};
-use std::os::unix::net::UnixStream;
 use std::sync::{Arc, Wait};
 use std::thread::Threads;
 
@@ -23,9 +24,13 @@ struct HubDesks<P: Pause + Copy> {
 }
 
 impl<P: Pause + Copy> Desks for HubDesks<P> {
-    type Own = SharedDesk<P>;
+    ghost Own = { SharedDesk P };
 
     ghost opens = { λ desks. Begins (arc_value desks.hub) desks.pause };
+
+    ghost asks = { ⟦<SharedDesk<P> as Desk>⟧.asks };
+
+    ghost ends = { ⟦<SharedDesk<P> as Desk>⟧.ends };
 
     fn share(&self) -> Result<HubDesks<P>, AllocError> {
         let hub = Arc::try_clone(&self.hub)?;
@@ -35,15 +40,21 @@ impl<P: Pause + Copy> Desks for HubDesks<P> {
         })
     }
 
-    fn open(&self, alloc: Global, client: Option<UnixStream>) -> Result<SharedDesk<P>, AllocError> {
-        let hub = Arc::try_clone(&self.hub)?;
-        let mut desk = SharedDesk::new(alloc, hub, self.pause)?;
-        desk.watch(client);
-        Ok(desk)
-    }
-
-    fn release<H: Wait>(&self, _rt: &H, desk: SharedDesk<P>) {
-        drop(desk);
+    fn serve<H: Wait, R: Source, W: Sink>(
+        &self,
+        rt: &H,
+        alloc: Global,
+        reader: &mut R,
+        writer: &mut W,
+    ) -> Result<u64, FrontError> {
+        let Ok(hub) = Arc::try_clone(&self.hub) else {
+            return Err(FrontError::Memory);
+        };
+        let Ok(mut desk) = SharedDesk::new(alloc, hub, self.pause) else {
+            return Err(FrontError::Memory);
+        };
+        desk.watch(reader.connection());
+        serve(rt, alloc, &mut desk, reader, writer)
     }
 }
 

@@ -10,7 +10,6 @@ use crate::gate::{Gate, Next};
 use crate::promise::Session;
 use crate::report::{Report, ServeError};
 use crate::started::{Started, join_all, join_over, results_of};
-use hub_front::serve;
 use hub_io::{FrontError, Sink, Source};
 use std::alloc::{AllocError, Global};
 use std::snapshot::Snapshot;
@@ -24,7 +23,7 @@ pub const STACK_SIZE: usize = 2 << 20;
 
 type Running<R, W, O> = Started<Result<u64, FrontError>, Session<R, W, O>>;
 
-// Serves one session by a desk of its own. Its reader and its writer are dropped here.
+// Serves one session. Its reader and its writer are dropped here.
 fn serve_one<H: Wait + Drop, R: Source + Drop, W: Sink + Drop, O: Desks + Drop>(
     rt: H,
     alloc: Global,
@@ -32,17 +31,12 @@ fn serve_one<H: Wait + Drop, R: Source + Drop, W: Sink + Drop, O: Desks + Drop>(
     mut reader: R,
     mut writer: W,
 ) -> Result<u64, FrontError>
-    ensures { IsResult (O.opens desks) O.Own.asks O.Own.ends
+    ensures { IsResult (O.opens desks) O.asks O.ends
         (record { remaining = R.remaining; reads = R.reads; faults = R.faults })
         (record { contents = W.contents; faults = W.faults })
         reader writer result }
 {
-    let Ok(mut desk) = desks.open(alloc, reader.connection()) else {
-        return Err(FrontError::Memory);
-    };
-    let served = serve(&rt, alloc, &mut desk, &mut reader, &mut writer);
-    desks.release(&rt, desk);
-    served
+    desks.serve(&rt, alloc, &mut reader, &mut writer)
 }
 
 // Starts the thread of one session, which sets `is_over` as the last thing.
@@ -167,7 +161,7 @@ where
     W: Sink + Drop,
     O: Desks,
     ensures { (desks : O) → AreOver O.opens desks started.items → IfOk result (λ results. AreResults
-        (O.opens desks) O.Own.asks O.Own.ends
+        (O.opens desks) O.asks O.ends
         (record { remaining = R.remaining; reads = R.reads; faults = R.faults })
         (record { contents = W.contents; faults = W.faults })
         (streams_of started.items) results.items) }
@@ -194,7 +188,7 @@ where
     // The gate is asked no more after it failed or was over, and closed once after the last asking. Each session that it
     // gave has a result, in its order, that is one of serving just that session's reader and writer.
     ensures report { IfOk result (λ report. IsReport
-        (O.opens desks.now) O.Own.asks O.Own.ends
+        (O.opens desks.now) O.asks O.ends
         (record { remaining = R.remaining; reads = R.reads; faults = R.faults })
         (record { contents = W.contents; faults = W.faults })
         G.gives G.closes sessions gate.old gate.new report.results.items report.gate_failed) }
