@@ -54,7 +54,9 @@ impl<P: Pause + Copy> Desks for HubDesks<P> {
             return Err(FrontError::Memory);
         };
         desk.watch(reader.connection());
-        serve(rt, alloc, &mut desk, reader, writer)
+        let served = serve(rt, alloc, &mut desk, reader, writer);
+        desk.release(rt);
+        served
     }
 }
 
