@@ -10,7 +10,7 @@ use hub_letters::Letter;
 use hub_record::{Closed, PubError};
 use std::sync::Wait;
 
-/// Who may publish to a fifodir. It can't be copied, and `Fifodir::leave` takes it back.
+/// The pass of a publisher. It can't be copied, and `Fifodir::leave` ends it.
 #[derive(Drop)]
 pub struct Publisher {
     number: u64,
@@ -50,7 +50,7 @@ impl Fifodir {
         }
     }
 
-    /// Adds the whole message, or nothing, and answers the number of its first event.
+    /// Adds the whole message, or nothing. Returns the number of its first event.
     pub fn publish<R: Wait>(
         &self,
         rt: &R,
@@ -82,7 +82,8 @@ impl Fifodir {
         }
     }
 
-    /// Closes the fifodir for events and subscriptions.
+    /// Closes the fifodir for good: it takes no event and no subscription any more. An error says that it was closed
+    /// before.
     pub fn close<R: Wait>(&self, rt: &R, me: &mut Publisher) -> Result<(), Closed>
         requires { IsPublisherOf self.now me.old }
         ensures pass { IsPublisherOf self.now me.new × (me.new.number ≡ me.old.number) × (mine me.new ≡ mine me.old) }
@@ -107,7 +108,7 @@ impl Fifodir {
         }
     }
 
-    /// Takes the publisher back, so that there is room for another.
+    /// Ends the publisher, so that there is room for another. Its number is never given again.
     pub fn leave<R: Wait>(&self, rt: &R, me: Publisher)
         requires { IsPublisherOf self.now me }
     {

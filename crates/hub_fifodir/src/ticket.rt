@@ -9,8 +9,8 @@ use crate::steps;
 use hub_record::{Event, SubError, Taken};
 use std::sync::Wait;
 
-/// A subscription. It can't be copied, and `Fifodir::cancel` takes it back: one that is let go otherwise stands on,
-/// and what waits behind its cursor fills the fifodir.
+/// The pass of a subscription. It can't be copied, and `Fifodir::cancel` ends it. If a ticket is dropped instead, its
+/// subscription stays current, and what is pending behind its cursor fills the fifodir.
 #[derive(Drop)]
 pub struct Ticket {
     id: u64,
@@ -48,7 +48,7 @@ impl Ticket {
 impl Fifodir {
     ghost use Rattle.hub_fifodir.specs.Passes.{IsTicketOf, IsTicketSound, ticket_sight, HasSubscribed, HasTaken, filled};
 
-    /// A new ticket, which begins at the end of the record.
+    /// A new ticket. Its mark is the number of events so far.
     pub fn subscribe<R: Wait>(&self, rt: &R) -> Result<Ticket, SubError>
         ensures { IfOk result (λ t. IsTicketOf self.now t × IsTicketSound t × HasSubscribed t) }
     {
@@ -72,7 +72,7 @@ impl Fifodir {
         }
     }
 
-    /// Takes what waits behind the ticket's cursor, as far as the slice goes.
+    /// Takes what is pending behind the ticket's cursor, as far as it fits. The events fill the beginning of the slice.
     pub fn take_into<R: Wait>(&self, rt: &R, me: &mut Ticket, out: &mut [Event]) -> Taken
         requires { IsTicketOf self.now me.old }
         ensures pass { IsTicketOf self.now me.new × (me.new.id ≡ me.old.id) × (me.new.mark ≡ me.old.mark) }
@@ -101,7 +101,7 @@ impl Fifodir {
         }
     }
 
-    /// Ends a subscription.
+    /// Ends a subscription, and releases what was pending for it alone. Its id is never given again.
     pub fn cancel<R: Wait>(&self, rt: &R, me: Ticket)
         requires { IsTicketOf self.now me }
     {
