@@ -1,4 +1,4 @@
-//! The forms of lines: for each word, what stands behind it.
+//! The forms of lines: for each word, the fields after it.
 ghost use Rattle.std.specs.Prelude.{◌≡◌};
 ghost use Rattle.hub_protocol.specs.Forms.{Finds};
 
@@ -9,7 +9,7 @@ use crate::parts::{
 use crate::words::Word;
 use hub_letters::{Mode, Span, Want};
 
-/// What a line of a form says, its numbers not yet held to their ranges.
+/// What a line of a form says. Its numbers haven't been checked against their ranges yet.
 #[derive(Clone, Copy)]
 pub enum Form<'a> {
     Dir {
@@ -51,7 +51,7 @@ pub enum Form<'a> {
     Poll {
         id: u64,
     },
-    /// The names as they stand in the line, with one space between two.
+    /// The names are as in the line, with one space between two.
     Wait {
         span: Span,
         want: Want,
@@ -167,7 +167,7 @@ fn wait(rest: &[u8]) -> Option<Form<'_>>
     })
 }
 
-/// The form of the word whose fields are behind it.
+/// The form that the word has with this rest of the line. None if the rest doesn't have the fields of the word.
 pub fn form_of_word(word: Word, rest: &[u8]) -> Option<Form<'_>>
     ensures { Finds word rest.now result }
 {
