@@ -8,7 +8,7 @@ use Rattle.hub_server.specs.Promised.{AreOver, streams_of}
 use Rattle.std.specs.Arc.{arc_value}
 use Rattle.std.proofs.lemmas.List.Elements.{All-push}
 
--- one session more
+-- one more session
 pub gave_one_more : {G R W : Type 0} (gives : Giving G R W) (old : G) (given : List (R × W)) (gate new : G) (session : R × W)
     → Gave gives old given gate → gives gate (next.Session session.0 session.1) new → Gave gives old (given ++ session ∷ []) new
 gave_one_more gives old [] gate new session gave one = (new, subst (λ g. gives g (next.Session session.0 session.1) new) gave one, refl)
@@ -55,13 +55,13 @@ how_it_ended : {G R W : Type 0} (gives : Giving G R W) (most count : ℕ) (gate 
 how_it_ended gives most count gate true new ends = inr (inl ends.1)
 how_it_ended gives most count gate false new ends = elim ends [ inl full ↦ inl full.1 | inr over ↦ inr (inr over.1) ]
 
--- no more were given than are wanted
+-- at most as many sessions were given as are wanted
 pub given_few : {G R W : Type 0} (gives : Giving G R W) (most : ℕ) (old : G) (given : List (R × W)) (failed : Bool) (new : G)
     → IsAsked gives most old given failed new → length given ≤ most
 given_few gives most old given true new asked = let short = asked.ends.0 in omega arith
 given_few gives most old given false new asked = elim asked.ends [ inl full ↦ (let all = full.0 in omega arith) | inr over ↦ (let short = over.0 in omega arith) ]
 
--- what the sessions ended with couldn't be kept
+-- memory ran out for the results of the sessions
 pub asked_in_vain : {G R W : Type 0} (gives : Giving G R W) (most : ℕ) (old : G) (given : List (R × W)) (failed : Bool) (new : G)
     → IsAsked gives most old given failed new → StopsEarly gives most old new Memory
 asked_in_vain gives most old given failed new asked = record {
@@ -73,7 +73,7 @@ asked_in_vain gives most old given failed new asked = record {
   spawn = λ spawn. absurd (cc spawn);
 }
 
--- one more whose desk is from these
+-- one more session whose desk is opened by these desks
 pub over_one_more : {R W O : Type 0} (desks : O) (sessions sessions' : List (Session R W O)) (session : Session R W O)
     → sessions' ≡ sessions ++ session ∷ [] → AreOver desks sessions → arc_value session.desks.value ≡ desks → AreOver desks sessions'
 over_one_more desks sessions sessions' session pushed over here =

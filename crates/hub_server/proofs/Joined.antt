@@ -22,7 +22,7 @@ kept_in_order K Q T keeps (s ∷ ss) [] such each = absurd each
 kept_in_order K Q T keeps (s ∷ ss) (r ∷ rs) such each =
     (keeps s r (All-head T s ss such) each.0, kept_in_order K Q T keeps ss rs (All-tail T s ss such) each.1)
 
--- the results of sessions whose desks are from these
+-- the results of sessions whose desks are opened by these desks
 pub results_in_order : {O D R W : Type 0} (opens : O → D → Type 0) (asks : Asking D) (ends : D → D → Type 0) (r : Reading R) (w : Writing W)
     (desks : O) (sessions joined : List (Session R W O)) (results : List (Result ℕ FrontError)) → joined ≡ sessions → AreOver desks sessions
     → AllZip (λ session result. IsResult (opens (arc_value session.desks.value)) asks ends r w session.reader.value session.writer.value result) joined results

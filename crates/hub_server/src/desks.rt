@@ -1,4 +1,4 @@
-//! Where the desks of sessions come from.
+//! The desks of sessions.
 ghost use Rattle.std.specs.Prelude.{IfOk};
 
 use hub_requests::Desk;
@@ -6,15 +6,16 @@ use std::alloc::{AllocError, Global};
 use std::os::unix::net::UnixStream;
 use std::sync::Wait;
 
-/// Gives each session a desk of its own. Sessions on several threads share it.
+/// Opens a desk for each session. Sessions on several threads share this value.
 pub trait Desks {
-    /// The desk of one session.
+    /// The type of a session's desk.
     type Own: Desk;
 
-    /// `opens desks desk`: these desks may give a session this desk.
+    /// `opens desks desk`: `desks` may give a session this desk.
     ghost opens: { Self → Self.Own → Type 0 };
 
-    /// The desk of a session. `client` is the connection of its client, if it has one.
+    /// Opens the desk of a session. `client` is a descriptor of the client's connection, if there is one. An error says
+    /// that memory ran out; the session then ends at once.
     fn open(&self, alloc: Global, client: Option<UnixStream>) -> Result<Self::Own, AllocError>
         ensures { IfOk result (opens self.now) };
 

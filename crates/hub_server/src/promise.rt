@@ -1,4 +1,4 @@
-//! What the thread of a session promises.
+//! What the thread of a session promises about its result.
 ghost use Rattle.std.specs.Arc.{arc_value};
 ghost use Rattle.hub_server.specs.Sessions.{IsResult};
 
@@ -9,7 +9,7 @@ use std::snapshot::Snapshot;
 use std::sync::Arc;
 use std::thread::Promise;
 
-/// What a session began with.
+/// What a session was started with.
 #[derive(Drop)]
 pub(crate) struct Session<R, W, O> {
     pub(crate) desks: Snapshot<Arc<O, Global>>,
