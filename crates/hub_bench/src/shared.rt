@@ -1,4 +1,4 @@
-//! Measures a fifodir: looks without its lock beside a bare load and a lock, and publishing to listeners on threads.
+//! Measures a fifodir: looks without its lock beside a bare load and a mutex, and publishing to listeners on threads.
 ghost use Rattle.hub_fifodir.specs.Passes.{IsTicketOf};
 
 use crate::{filler, rate};
@@ -14,10 +14,10 @@ use std::thread;
 use std::thread::{JoinHandle, Threads};
 use std::time::{Duration, Instant};
 
-/// How many looks are taken of each kind.
+/// How many looks of each kind are made.
 const LOOKS: u64 = 200_000_000;
 
-/// How many letters one message has, and how many a listener takes at once.
+/// How many letters a message has, and how many a listener takes at once.
 const BURST: usize = 256;
 
 /// How many messages are published.
@@ -27,7 +27,7 @@ fn limits() -> Result<Limits> {
     Limits::of(4096, 1_000_000_000_000, 1_000).ok_or_else(|| anyhow!("no limits"))
 }
 
-/// Looks a second: at a bare word, at a fifodir's status and front, and at the same record behind a mutex.
+/// Prints the looks a second: at a bare word, at a fifodir's status and front, and at a record behind a mutex.
 pub fn looks<R: Runtime + Wait>(rt: &R, alloc: Global) -> Result<()> {
     let word = AtomicU64::new(69);
     let start = Instant::now(rt)?;
@@ -87,7 +87,7 @@ fn behind_a_mutex<R: Runtime + Wait>(rt: &R, alloc: Global, all: &mut u64) -> Re
     Ok(start.elapsed(rt)?)
 }
 
-/// Letters a second from one publisher to so many listeners, each on a thread of its own.
+/// Prints the letters a second from one publisher to this many listeners, each on a thread of its own.
 pub fn threads<R: Runtime + AllocGlobal + Wait + Threads + Sync + Send + 'static>(
     rt: &R,
     alloc: Global,
@@ -142,7 +142,7 @@ fn publish_all<R: Wait>(rt: &R, alloc: Global, fifodir: &Fifodir) -> Result<()> 
     Ok(())
 }
 
-/// How many letters a listener took until the end.
+/// Subscribes, and returns how many letters the listener took until the end.
 fn took<R: Wait>(rt: &R, fifodir: &Fifodir, subscribed: &AtomicU64) -> u64 {
     let Ok(mut ticket) = fifodir.subscribe(rt) else {
         return 0;
