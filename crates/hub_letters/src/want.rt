@@ -13,7 +13,8 @@ pub enum Want {
     Ready,
     /// It isn't up (`-d`).
     Down,
-    /// It isn't up and has settled (`-D`): its finish script has ended, or no run process was started yet.
+    /// It isn't up and has settled (`-D`): its finish script has ended (`D`), or a supervisor has started and no run
+    /// process since (`s`).
     Finished,
 }
 
@@ -31,7 +32,8 @@ impl Want {
         }
     }
 
-    /// Whether the want can't be met from now on, since the service won't be restarted. A want may be met and hopeless.
+    /// Whether the want, if it isn't met yet, can't be met any more, since the service won't be restarted. A want may
+    /// be both met and hopeless.
     pub fn hopeless(self, flags: Flags) -> bool
         ensures { result ≡ is_hopeless self flags }
     {
