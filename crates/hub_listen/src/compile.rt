@@ -8,7 +8,7 @@ use regex::{Error, Regex, RegexBuilder};
 use std::alloc::Global;
 
 /// The most bytes that the tables of a compiled pattern take, except for the 24 that `regex` adds to a limit. `\w{20}`
-/// needs 285,814. A session of 256 listeners may have that much 256 times, beside what else a pattern keeps.
+/// needs 285,814. A session of 256 listeners may have that much 256 times, and the rest of each pattern too.
 pub const MOST_BYTES: usize = 280 << 10;
 
 /// Compiles the text of a pattern with the default options, if its tables are within [`MOST_BYTES`].
