@@ -15,6 +15,7 @@ pub trait Pass {
     ghost use Rattle.hub_fifodir.specs.declared.views.Role.{Role};
     ghost use Rattle.hub_fifodir.specs.declared.views.Sight.{Sight};
 
+    // The table of its fifodir.
     ghost table: { Self → TableId };
 
     // The kind and the limits of its fifodir.

@@ -14,7 +14,9 @@ pub struct Rules {
 /// What the locked value has beside the events: cursors by id, the numbers of the current publishers, and how many ids
 /// and numbers were given.
 pub struct Book {
+    /// The next of each current id.
     pub cursors: LinkedList<(u64, u64)>,
+    /// How many ids were given.
     pub ids: u64,
     /// The numbers of the current publishers.
     pub standing: LinkedList<u64>,
@@ -27,26 +29,32 @@ pub struct Taking {
     pub id: u64,
     pub mark: u64,
     pub next: u64,
+    /// What its takes returned, in order.
     pub got: LinkedList<Event>,
+    /// Whether it was cancelled.
     pub gone: bool,
 }
 
 /// A publisher: the letters that it published, and whether it left.
 pub struct Writing {
     pub number: u64,
+    /// The letters that it published, in order.
     pub mine: LinkedList<Letter>,
+    /// Whether it left.
     pub gone: bool,
 }
 
 /// What a seat is.
 pub enum Role {
-    /// It has entered, and is no pass yet.
+    /// It has entered, and isn't a pass yet.
     Visitor,
     /// It carries what another seat has seen.
     Note,
+    /// It is a subscription's.
     Ticket(Taking),
+    /// It is a publisher's.
     Publisher(Writing),
-    /// It was joined by another seat, and is no more used.
+    /// It was a note, and another seat has joined it. It isn't used any more.
     Spent,
 }
 
@@ -56,12 +64,13 @@ pub struct Sight {
     pub closed: u64,
 }
 
-/// What one seat knows: what it has seen, what it is, the state of the locked value while it holds that value, and a
-/// note that it joined.
+/// What one seat knows.
 pub struct View {
     pub rules: Rules,
     pub sight: Sight,
     pub role: Role,
+    /// The state of the locked value, while the seat has it.
     pub held: Option<Book>,
+    /// The sight of a note that the seat has joined.
     pub met: Option<Sight>,
 }
