@@ -12,7 +12,7 @@ pub enum Verdict {
     Yes,
     /// What was wanted doesn't hold, and can't hold any more.
     Never,
-    /// There was neither answer when the wait ended.
+    /// Neither was known when the wait ended.
     Late,
 }
 
