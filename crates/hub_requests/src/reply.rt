@@ -20,11 +20,12 @@ pub enum Reply {
     Nothing,
     /// No event is pending, and none will be: the fifodir is closed.
     End,
-    /// The services are as wanted, with a number for each of them.
+    /// All of the services are as wanted, or at least one of them for `any`. Each has its number of events here, or
+    /// none if it isn't as wanted.
     Yes(Numbers),
-    /// The services aren't as wanted, and can't become so any more.
+    /// What was wanted doesn't hold, and can't hold any more.
     Never,
-    /// There was neither answer when the wait ended.
+    /// Neither was known when the wait ended.
     Late,
     /// The request was refused. Nothing has changed, except what a `wait` or a `poll` had done until then.
     No(Refusal),
@@ -51,9 +52,9 @@ pub enum Refusal {
     Kind,
     /// This session has no handle with this number, or it isn't of the sort that the request needs.
     Id,
-    /// The limit of names, handles or subscriptions that may exist at one time is reached.
+    /// The limit of names, handles, subscriptions or publishers that may exist at one time is reached.
     Many,
-    /// No number is left for a handle, an id or an event.
+    /// No number is left for a handle, a subscription, a publisher or an event.
     Spent,
     /// The fifodir is closed.
     Closed,
