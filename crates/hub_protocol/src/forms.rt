@@ -9,49 +9,59 @@ use crate::parts::{
 use crate::words::Word;
 use hub_letters::{Mode, Span, Want};
 
-/// What a line of a form says. Its numbers haven't been checked against their ranges yet.
+/// What a line of a form says. Its numbers haven't been checked against their ranges yet. Each variant shows its line.
 #[derive(Clone, Copy)]
 pub enum Form<'a> {
+    /// `dir N W T`
     Dir {
         name: &'a [u8],
         waiting: u64,
         total: u64,
     },
+    /// `svc N W T R`
     Svc {
         name: &'a [u8],
         waiting: u64,
         total: u64,
         reports: u64,
     },
+    /// `sub N`
     Sub {
         name: &'a [u8],
     },
+    /// `pub N LETTERS`
     Pub {
         name: &'a [u8],
         letters: &'a [u8],
     },
+    /// `take ID MAX`
     Take {
         id: u64,
         max: u64,
     },
+    /// `cancel ID`
     Cancel {
         id: u64,
     },
+    /// `close N`
     Close {
         name: &'a [u8],
     },
+    /// `status N`
     Status {
         name: &'a [u8],
     },
+    /// `listen N MODE PATTERN`
     Listen {
         name: &'a [u8],
         mode: Mode,
         pattern: &'a [u8],
     },
+    /// `poll ID`
     Poll {
         id: u64,
     },
-    /// The names are as in the line, with one space between two.
+    /// `wait SPAN WANT TURNS N1 .. Nk`. The names are as in the line, with one space between two.
     Wait {
         span: Span,
         want: Want,

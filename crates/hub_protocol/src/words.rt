@@ -8,7 +8,7 @@ ghost use Rattle.hub_protocol.specs.declared.words.Word.{Word};
 
 use hub_letters::{Mode, Span, Want};
 
-/// The words that lines begin with.
+/// The words that lines begin with. Each is spelled as its variant, in lower case.
 #[derive(Clone, Copy, Debug, PartialEq, Eq)]
 pub enum Word {
     Dir,
