@@ -137,8 +137,8 @@ pub(super) fn release_all(
     }
 }
 
-/// Takes what is pending for a subscription, at most `most` events, into a list of just that size. If memory runs out,
-/// nothing was taken.
+/// Takes what is pending for a subscription, at most `most` events, through a buffer with room for exactly those. If
+/// memory runs out, nothing was taken.
 fn take_waiting(alloc: Global, kept: &mut Record, id: u64, most: usize) -> Result<Reply, AllocError>
     requires stands { HasSubscription kept.old id }
     requires few { most ≤ 256 }
