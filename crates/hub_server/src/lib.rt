@@ -1,4 +1,4 @@
-//! Serves sessions, each on a thread of its own, and knows nothing of the hub that they share.
+//! Serves sessions, each on a thread of its own, whatever desks answer them.
 //!
 //! A [`Gate`] gives sessions, each with a reader and a writer, as a listening socket does. [`serve_each`] serves each
 //! session as soon as it comes, by a desk of its own that [`Desks`] opens. All sessions run at the same time, and in
