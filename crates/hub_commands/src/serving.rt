@@ -30,7 +30,7 @@ fn accept(listener: &UnixListener) -> io::Result<(UnixStream, UnixStream)> {
     Ok((receive, send))
 }
 
-/// Whether a fault of an accept is no fault of the socket: the client had left before, or a signal came.
+/// Whether a failed accept concerns one connection only: its client had left before, or a signal came.
 fn passes(fault: &io::Error) -> bool {
     matches!(
         fault.kind(),
