@@ -1,4 +1,4 @@
-//! Measures the layers of the hub beside plain forms of the same work, so that the ratios hold on any machine.
+//! Measures the layers of the hub and plain forms of the same work, so that the ratios hold on any machine.
 //!
 //! `record` measures how many letters a second pass through a record, and `fifodir` measures looks and publishing among
 //! threads. `echo` isn't a measure but a contender: a program built like the hub that only writes each line back.
