@@ -51,7 +51,7 @@ role_ported k k' log f g i0 n0 id j s (Publisher p) iu nu cs ss oi on ne h =
     record { its_seat = put_same g n0 id k.numbers p.number on h.given.1 ∙ h.its_seat; given = given_more p.number k.numbers k'.numbers nu h.given; all = h.all; known = h.known; standing = ss p.number (apart g n0 id j k.numbers p.number on h.given.1 h.its_seat ne) ∙ h.standing }
 role_ported k k' log f g i0 n0 id j s Spent iu nu cs ss oi on ne h = tt
 
--- the seat's own, after its id and its number are put
+-- what a seat shows of itself, after `put` has given it its id and its number
 own_ported : (k : Book) (log : List Event) (f g : ℕ → ℕ) (i0 n0 id : ℕ) (seen : List Event) (r : Role) → (k.ids < i0) ⊎ (f i0 ≡ id) → (k.numbers < n0) ⊎ (g n0 ≡ id)
     → InRole k log f g id seen r → InRole k log (put f i0 id) (put g n0 id) id seen r
 own_ported k log f g i0 n0 id s Visitor oi on h = tt

@@ -196,7 +196,7 @@ Gives m b w = (k : Book) × (r : Role) × (i0 : ℕ) × (n0 : ℕ) × (m.0.held 
 
 -- ---- the roles of a seat that releases the lock
 
--- the ticket with the last id given, whose mark is here
+-- the ticket with the last id given, whose mark is the end of what is seen
 abbrev pub new_taker : Locked → List Event → Role
 new_taker b seen = taker b.kept.given (length seen) (length seen) []
 
