@@ -122,7 +122,7 @@ may_publish r w message s o l t room =
     let k = ap (λ z. z.total) s.limits in
     record { is_open = sym s.closed ∙ o; lawful = l; within = omega arith; room = room }
 
--- what follows from following the message from the record's stage
+-- what it means that the stages follow the message from the record's stage
 pub follows : (r : Kept) (w : World) (message : List ℕ) (t : Stage) → StandsFor r w → ((word : List ℕ) → IsLawfulIn r.kind word → stage_in r.kind word ≡ r.stage → IsLawfulIn r.kind (word ++ message) × (t ≡ stage_in r.kind (word ++ message))) → IsLawfulIn w.kind (letters w.events ++ message) × (t ≡ stage_in w.kind (letters w.events ++ message))
 follows r w message t s h =
     subst (λ k. IsLawfulIn k (letters w.events ++ message) × (t ≡ stage_in k (letters w.events ++ message))) s.kind
