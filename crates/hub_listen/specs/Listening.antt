@@ -37,8 +37,8 @@ after_hit l piece k = record l { gathered = []; hit = l.gathered ++ take k piece
 abbrev pub after_quiet : Listening → List ℕ → Listening
 after_quiet l piece = record l { gathered = l.gathered ++ piece }
 
--- The piece took the listener from `old` to `new`, with this answer. Any answer but Spent may be replaced by out of
--- memory.
+-- The piece took the listener from `old` to `new`, with this answer. Instead of any answer but Spent, it may report
+-- that memory ran out.
 abbrev pub Feeds : Listening → List ℕ → Result Feed FeedError → Listening → Type 0
 Feeds old piece (Ok Spent) new = (is_spent old ≡ true) × (new ≡ old)
 Feeds old piece (Ok (Hit k)) new =
