@@ -27,7 +27,7 @@ pub alike_of_function : {D : Type 0} (asks : Asking D) → IsFunction asks → S
 alike_of_function asks function old old' new new' request reply reply' same given given' asked asked' =
     function old' new new' request reply reply' given given' (subst (λ d. asks d request reply new) same asked) asked'
 
--- a line whose reply isn't out of memory was read whole
+-- a line whose reply isn't `no memory` was read whole
 read_whole : {D : Type 0} (asks : Asking D) (old new : D) (read : Result Request Bad) (reply : Reply) → AnswersRead asks old read reply new → reply ≢ No Memory → read ≢ Err bad.Memory
 read_whole asks old new (Ok request) reply answered given = λ e. cc
 read_whole asks old new (Err why) reply answered given = λ e. given (answered.0 ∙ (let same : why ≡ bad.Memory = cc in ap (λ w. No (refusal_of w)) same))

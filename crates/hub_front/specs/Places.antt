@@ -32,7 +32,7 @@ Asked {D} asks old (request ∷ requests) (reply ∷ replies) new =
 Asked asks old [] (reply ∷ replies) new = ⊥
 Asked asks old (request ∷ requests) [] new = ⊥
 
--- no reply is out of memory
+-- no reply is `no memory`
 abbrev pub NoneIsMemory : List Reply → Type 0
 NoneIsMemory replies = All (λ reply. reply ≢ No Memory) replies
 
