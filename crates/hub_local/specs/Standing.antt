@@ -57,7 +57,7 @@ pub record IsAnswer (local : Local) (desk : Desk) (own : Option Refusal) (done :
   pub said : reply ≡ (answer_by desk own done).reply
   pub stands : Stands local (answer_by desk own done).desk
 
--- the desk's own refusals come before out of memory, which leaves a desk as `left` says
+-- the desk's own refusals come before `no memory`, which leaves a desk as `left` says
 pub record IsLacking (local : Local) (own : Option Refusal) (left : Desk → Type 0) : Type 0 where
   pub unrefused : own ≡ None
   pub desk : Desk
@@ -115,8 +115,8 @@ pub data Runs : Local → List Request → List Reply → Local → Type 0 where
   asked : (old mid new : Local) (request : Request) (requests : List Request) (reply : Reply) (replies : List Reply)
       → Asked old request reply mid → Runs mid requests replies new → Runs old (request ∷ requests) (reply ∷ replies) new
 
--- if no reply of a run is out of memory, the replies are the model's answers, with a yes or no for each pattern, and
--- the desk stands for the model's
+-- if no reply of a run is `no memory`, the replies are the model's answers, with a yes or no for each pattern, and the
+-- desk stands for the model's
 pub record IsModels (desk : Desk) (requests : List Request) (replies : List Reply) (new : Local) : Type 0 where
   pub reads : List Bool
   pub are_reads : AreReads reads (patterns_in requests)

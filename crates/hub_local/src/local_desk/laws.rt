@@ -6,7 +6,7 @@ ghost use Rattle.hub_local.specs.Waits.{WaitsUseIds};
 use crate::local_desk::LocalDesk;
 
 impl LocalDesk {
-    /// If no reply of a run is out of memory, the replies are the model's answers to the requests.
+    /// If no reply of a run is `no memory`, the replies are the model's answers to the requests.
     pub fn runs_answer()
         ensures { RunsAnswer }
     {}
