@@ -39,7 +39,7 @@ runs_of (request ∷ requests) [] old new asked_all = absurd asked_all
 runs_of (request ∷ requests) (reply ∷ given) old new asked_all =
     let (mid, one, rest) = asked_all in asked old mid new request requests reply given one (runs_of requests given mid new rest)
 
--- the replies of a run over a new desk, if none is out of memory
+-- the replies of a run over a new desk, if none is `no memory`
 replies_placed : (lines : List (List ℕ)) (replies : List Reply) (old new : Local) → Stands old new_desk
     → AreInPlace Asked old lines replies new → NoneIsMemory replies → (patterns : List Bool) × AreReplies patterns lines replies
 replies_placed lines replies old new stands p none =

@@ -29,7 +29,7 @@ pub record IsOutput (patterns : List Bool) (input output : List ℕ) : Type 0 wh
   pub texts : output ≡ flat_map text_of replies
 
 -- What a session over a new desk did that ended with its input: n lines were read, and the texts of as many replies
--- were written. If no reply is out of memory, they are the output of the input. had is what the reader had left before,
+-- were written. If no reply is `no memory`, they are the output of the input. had is what the reader had left before,
 -- and has what it has left after. held is what the writer had before, and holds what it has after.
 pub record Serves (held holds had has : Option (List ℕ)) (n : ℕ) : Type 0 where
   pub input : List ℕ
