@@ -44,7 +44,7 @@ pub struct Event {
     pub letter: Letter,
 }
 
-/// Whose letters a record takes.
+/// Which letters a record takes.
 #[derive(Clone, Copy, Debug, PartialEq, Eq)]
 pub enum Kind {
     /// Any letters in any order, as in a fifodir that a user makes by `s6-mkfifodir`.
