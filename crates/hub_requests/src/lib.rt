@@ -1,8 +1,8 @@
 //! The vocabulary of a hub: what clients ask for, and what they are answered.
 //!
-//! A client asks a [`Request`], and its answer is a [`Reply`]. A [`Desk`] answers the requests of one session. It keeps
-//! what the session holds: its subscriptions and listeners, each under a handle, a number that is never given twice.
-//! The end of a desk releases all that it holds; the fifodirs stay.
+//! A client sends a [`Request`], and gets a [`Reply`]. A [`Desk`] answers the requests of one session. It keeps what
+//! the session holds: its subscriptions and listeners, each under a handle, a number that is never given twice. The end
+//! of a desk releases all that it holds; the fifodirs stay.
 //!
 //! This crate has the vocabulary alone. The layers above read lines, write replies and implement the desks with it.
 #![tactic(auto)]
