@@ -10,7 +10,7 @@ use crate::letter::Letter;
 pub struct Flags {
     /// The run process runs: the last letter among `s u U d D` is `u` or `U`.
     pub up: bool,
-    /// The service is where it was going: the last letter among `s u U d D` is `s`, `U` or `D`.
+    /// The service isn't on its way up or down: the last letter among `s u U d D` is `s`, `U` or `D`.
     pub settled: bool,
     /// A supervisor runs: the last letter among `s x` is `s`.
     pub supervised: bool,
