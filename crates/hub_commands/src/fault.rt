@@ -38,7 +38,7 @@ pub enum Fault {
 
 impl Fault {
     /// Writes the fault's line in one write, so that the lines of several programs don't mix. Only if memory runs out
-    /// is it written in pieces. If the line can't be written, the fault stays as it is.
+    /// is it written in pieces. If the line can't be written, that isn't reported.
     pub fn tell<W: Write>(self, alloc: Global, out: &mut W) {
         let _: io::Result<()> = match format!(in alloc; "ftrighub: {self}\n") {
             Ok(line) => out.write_all(line.as_bytes()),
