@@ -88,7 +88,7 @@ impl Locked {
         self.kept.take_into(id, out)
     }
 
-    /// Ends a subscription. An error says that the id has none.
+    /// Ends a subscription. An error says that the id has no subscription.
     pub fn cancel(&mut self, id: u64) -> Result<(), NoId>
         ensures reply { (w : World) → Stands self.old w → result ≡ cancel_reply w id }
         ensures world { (w : World) → Stands self.old w → Stands self.new (after_cancel w id) }

@@ -14,7 +14,7 @@ pub struct Rules {
 /// What the locked value has beside the events: cursors by id, the numbers of the current publishers, and how many ids
 /// and numbers were given.
 pub struct Book {
-    /// The next of each current id.
+    /// The number of the event that each current id takes next.
     pub cursors: LinkedList<(u64, u64)>,
     /// How many ids were given.
     pub ids: u64,
