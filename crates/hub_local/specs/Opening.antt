@@ -28,7 +28,7 @@ refusal_among entries names =
 
 -- ---- posts
 
--- one more post is the model's; if memory runs out, nothing has changed
+-- one more post is the model's; a refusal changes nothing, and is the model's unless memory ran out
 abbrev pub OpensPost : Want → List ℕ → List Fifodir → Result Post Refusal → List (List ℕ × LocalFifodir) → Type 0
 OpensPost want name model (Ok post) new =
     (now : List Fifodir) × AreKept new now × ((posts : List Post) → with_post want (so_far model posts) name ≡ so_far now (posts ++ post ∷ []))
