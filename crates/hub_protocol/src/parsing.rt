@@ -23,7 +23,7 @@ pub enum Bad {
     Long,
     /// A byte of it isn't within 0x20 to 0x7E.
     Text,
-    /// The text before its first space isn't the word of a request.
+    /// The text before its first space, or the whole line if it has no space, is not the word of a request.
     Word,
     /// It doesn't have the form of its word.
     Form,
