@@ -1,4 +1,5 @@
-//! Measures a fifodir: looks without its lock beside a bare load and a lock, and publishing to listeners on threads.
+//! Measures a fifodir: looks without its lock, compared with a bare load and a mutex, and publishing to listeners on
+//! threads.
 ghost use Rattle.hub_fifodir.specs.Passes.{IsPublisherOf, IsTicketOf};
 
 use crate::{filler, rate};

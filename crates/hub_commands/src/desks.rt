@@ -60,9 +60,9 @@ impl<P: Pause + Copy> Desks for HubDesks<P> {
     }
 }
 
-/// Asks the gate for at most so many sessions, and serves each on a thread of its own by a desk of its own over the hub,
-/// with a copy of the pause for its waits. All run at the same time. When it returns, all have ended. At an error their
-/// results are lost.
+/// Asks the gate for at most this many sessions, and serves each on a thread of its own, by a desk of its own over the hub,
+/// with a copy of the pause for its waits. All run at the same time, and all have ended when it returns. At an error
+/// their results are lost.
 pub fn serve_all<H, R, W, G, P>(
     rt: &H,
     alloc: Global,
@@ -77,8 +77,9 @@ where
     W: Sink + Send + Drop + 'static,
     G: Gate<R, W>,
     P: Pause + Copy + Send + 'static,
-    // The gate is asked no more after it failed or was over, and closed once after the last asking. Each session that it
-    // gave has a result, in its order, that is one of serving just that session's reader and writer.
+    // The gate isn't asked again after it failed or was over, and is closed once after the last asking. Each session
+    // that it gave has a result, in the gate's order. The result is one of serving exactly that session's reader and
+    // writer.
     ensures report { IfOk result (λ report. IsReport
         (Begins (arc_value hub) pause)
         ⟦<SharedDesk<P> as Desk>⟧.asks ⟦<SharedDesk<P> as Desk>⟧.ends

@@ -10,7 +10,7 @@ use hub_letters::Letter;
 use hub_record::{Closed, PubError};
 use std::sync::Wait;
 
-/// Who may publish to a fifodir. A publisher that was dropped would keep its place among the 1,024. So it is neither `Copy`
+/// The pass of a publisher. A publisher that was dropped would keep its place among the 1,024. So it is neither `Copy`
 /// nor `Drop`, and only `Fifodir::leave` takes it.
 pub struct Publisher {
     number: u64,

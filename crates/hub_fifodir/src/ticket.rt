@@ -9,7 +9,7 @@ use crate::steps;
 use hub_record::{Event, SubError, Taken};
 use std::sync::Wait;
 
-/// A subscription. A ticket that was dropped would keep its cursor, and the events that are pending behind it would fill the
+/// The pass of a subscription. A ticket that was dropped would keep its cursor, and the events that are pending behind it would fill the
 /// fifodir. So a ticket is neither `Copy` nor `Drop`, and only `Fifodir::cancel` takes it.
 pub struct Ticket {
     id: u64,

@@ -1,4 +1,4 @@
-//! Programs over fifodirs: two threads publish at once, and events go on from one fifodir to another.
+//! Programs over fifodirs: two threads publish at once, and events are sent on from one fifodir to another.
 ghost use Rattle.std.specs.Prelude.{◌≡◌, ℕ, ◌++◌, [], ◌∷◌, OnOk, OnErr, IfOk, IfErr};
 ghost use Rattle.hub_record.specs.Runs.{by};
 ghost use Rattle.hub_fifodir.specs.Passes.{IsPublisherOf, IsTicketOf, HasTaken, IsRefusedAt, got, seen, mine, sent_on};
@@ -15,7 +15,7 @@ use thiserror::Error;
 
 type Sent = (Publisher, Result<u64, PubError>);
 
-// One publisher's first message, from a thread of its own.
+// Sends one publisher's message, as one thread of `send_both`.
 fn send<R: Wait>(
     rt: &R,
     fifodir: &Fifodir,
@@ -29,8 +29,9 @@ fn send<R: Wait>(
     fifodir.publish(rt, me, letters)
 }
 
-/// Sends two messages at once, each from a thread of its own, and brings the two publishers together.
-/// What both then know of the record is one list, in which each one's own letters are just those of its message.
+/// Sends two messages at once, each from a thread of its own, and brings the two publishers together. Both then know
+/// the same list of events. In it each publisher's letters are exactly those of its message, if the message was
+/// accepted.
 pub fn send_both<R: Threads + Wait + Sync>(
     rt: &R,
     fifodir: &Fifodir,
@@ -65,14 +66,14 @@ pub fn send_both<R: Threads + Wait + Sync>(
 #[derive(Clone, Copy, Debug, PartialEq, Eq, Error)]
 #[error("the event could not be sent on: {why}")]
 pub struct Unsent {
-    /// The event. The ticket doesn't take it again, so whoever wants it sent keeps it.
+    /// The event. The ticket doesn't take it again, so a caller that wants to send it later has to keep it.
     pub event: Event,
     /// Why the other fifodir refused its letter.
     pub why: PubError,
 }
 
-/// Takes one event from a fifodir, and sends its letter on to another. If the other refuses it, the event comes back in the
-/// error.
+/// Takes one event from a fifodir, and sends its letter on to another. If the other refuses the letter, the error has
+/// the event.
 pub fn send_on<R: Wait>(
     rt: &R,
     from: &Fifodir,

@@ -10,7 +10,7 @@ use crate::listener::ROOM;
 use crate::pattern::Pattern;
 use hub_letters::Letter;
 
-/// Appends a letter where there is room.
+/// Appends a letter; the caller knows that there is room.
 fn append(text: &mut String, letter: Letter)
     requires { string_len text.old < string_capacity text.old }
     ensures bytes { string_bytes text.new ≡ string_bytes text.old ++ letter ∷ [] }
@@ -20,8 +20,8 @@ fn append(text: &mut String, letter: Letter)
     text.push(char::from(letter.byte())).unwrap();
 }
 
-/// Appends the letters of the piece to the text, for as long as there is room and up to a hit, and answers after how
-/// many there was one. `alive` is where the searches of the text are, in which there was no match.
+/// Appends the letters of the piece to the text until there is a hit or no room. Returns how many letters completed the
+/// hit. `alive` has the states of the searches of the text, in which there was no match.
 pub(crate) fn first_hit(
     pattern: &Pattern,
     alive: &mut Alive,

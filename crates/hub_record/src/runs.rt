@@ -1,4 +1,4 @@
-//! Any list of calls on a record of its own, with the replies and what each id gathered.
+//! Any list of calls on a new record, with the replies and what each id gathered.
 ghost use Rattle.std.specs.Prelude.{◌≡◌, ◌≤◌, ◌+◌, ◌-◌, ◌++◌, ◌∷◌, [], List, ℕ, None, IfOk, OnOk, OnErr, length, map, nat_eq};
 ghost use Rattle.std.specs.Map.{lookup};
 ghost use Rattle.hub_record.specs.World.{World as Modelled, empty_world};
@@ -13,37 +13,46 @@ use std::alloc::{AllocError, Global};
 /// A call on a record.
 #[derive(Drop)]
 pub enum Call {
+    /// Subscribes; the next id is given.
     Subscribe,
+    /// Publishes a message as the publisher `who`.
     Publish { who: u64, letters: Letters },
-    /// Takes what waits behind the cursor of an id, and at most `max`.
+    /// Takes what is pending behind the cursor of an id, at most `max` events.
     Take { id: u64, max: usize },
+    /// Ends the subscription of an id.
     Cancel { id: u64 },
+    /// Closes the record.
     Close,
 }
 
-/// The reply to a call, by the call.
+/// The reply to a call, one variant for each kind of call.
 #[derive(Clone, Copy, Debug, PartialEq, Eq)]
 pub enum Said {
+    /// The id and its mark.
     Subscribed(Result<(u64, u64), SubError>),
+    /// The number of the first event.
     Published(Result<u64, PubError>),
+    /// How many events were taken, or why none was.
     Took(Result<Taken, NoId>),
+    /// Whether the id had a subscription.
     Cancelled(Result<(), NoId>),
+    /// Whether the record was open.
     Shut(Result<(), Closed>),
 }
 
-/// What a run leaves.
+/// The result of a run.
 #[derive(Drop)]
 pub struct World {
     /// The record after all calls.
     pub state: Record,
     /// One reply for each call.
     pub replies: Vec<Said>,
-    /// What each id that was given took, cancelled ones too, in the order of the ids.
+    /// What each given id took, cancelled ones too, in the order of the ids.
     pub gathered: IndexMap<u64, Vec<Event>>,
 }
 
 impl World {
-    /// Carries out one call. After an error the world is to be let go.
+    /// Carries out one call. After an error the world is inconsistent and must be dropped.
     fn answer(&mut self, alloc: Global, call: &Call) -> Result<Said, AllocError>
         ensures said { (w : Modelled) → StandsFor self.old.state w → IfOk result (λ said. SaidTo w call.now said) }
         ensures after { (w : Modelled) → StandsFor self.old.state w → IfOk result (λ said. StandsFor self.new.state (after_call w call.now said)) }
@@ -79,7 +88,7 @@ impl World {
     }
 }
 
-/// Adds events behind those of an id.
+/// Appends events to the list of an id.
 fn append(
     gathered: &mut IndexMap<u64, Vec<Event>>,
     id: u64,
@@ -104,7 +113,7 @@ fn begin(alloc: Global, gathered: &mut IndexMap<u64, Vec<Event>>, id: u64) -> Re
     }
 }
 
-/// Makes the calls in order on a new record. A growth that is refused ends the run.
+/// Makes the calls in order on a new record. The run ends if memory runs out.
 pub fn replay(
     alloc: Global,
     kind: Kind,

@@ -17,8 +17,8 @@ use std::sync::atomic::{AtomicBool, Ordering};
 use std::sync::{Arc, Wait};
 use std::thread::{Builder, Threads};
 
-/// How many bytes of stack a session's thread gets: 2 MiB. The deepest session that was found, a pattern of 199 groups
-/// that don't end, takes 256 KiB.
+/// The bytes of stack of a session's thread: 2 MiB. The deepest session that was found, with a pattern of 200 unclosed
+/// groups, takes 256 KiB.
 pub const STACK_SIZE: usize = 2 << 20;
 
 type Running<R, W, O> = Started<Result<u64, FrontError>, Session<R, W, O>>;
@@ -39,7 +39,7 @@ fn serve_one<H: Wait + Drop, R: Source + Drop, W: Sink + Drop, O: Desks + Drop>(
     desks.serve(&rt, alloc, &mut reader, &mut writer)
 }
 
-// Starts the thread of one session, which sets `is_over` as the last thing.
+// Starts the thread of one session. The thread sets `is_over` as its last step.
 fn start<H, R, W, O>(
     rt: &H,
     alloc: Global,
@@ -76,8 +76,8 @@ where
     Some(Started::new(began, thread, is_over))
 }
 
-// Starts the sessions that the gate gives, each as it comes, and answers whether the gate failed. Before it asks for one,
-// it joins those that are over.
+// Starts the sessions that the gate gives, each as it comes. Returns whether the gate failed. It joins the threads that
+// are over before it asks for the next session.
 fn start_all<H, R, W, G, O>(
     rt: &H,
     alloc: Global,
@@ -122,7 +122,7 @@ where
     Ok(false)
 }
 
-// The same, and closes the gate as soon as it is asked no more. No session is waited for before that.
+// Does what `start_all` does, and then closes the gate at once. It waits for no session before that.
 fn start_and_close<H, R, W, G, O>(
     rt: &H,
     alloc: Global,
@@ -149,7 +149,7 @@ where
     asked
 }
 
-// Waits until each session has ended, and gives what they ended with, in order.
+// Waits until each session has ended, and returns the results in order.
 fn end_all<H, R, W, O>(
     rt: &H,
     alloc: Global,
@@ -170,8 +170,8 @@ where
     results_of(rt, alloc, started)
 }
 
-/// Asks the gate for at most so many sessions, and serves each on a thread of its own, by a desk of its own. All run at the
-/// same time. When it returns, all have ended. At an error their results are lost.
+/// Asks the gate for at most this many sessions, and serves each on a thread of its own, by a desk of its own. All run
+/// at the same time, and all have ended when it returns. At an error their results are lost.
 pub fn serve_each<H, R, W, G, O>(
     rt: &H,
     alloc: Global,
@@ -185,8 +185,9 @@ where
     W: Sink + Send + Drop + 'static,
     G: Gate<R, W>,
     O: Desks + Send + Drop + 'static,
-    // The gate is asked no more after it failed or was over, and closed once after the last asking. Each session that it
-    // gave has a result, in its order, that is one of serving just that session's reader and writer.
+    // The gate isn't asked again after it failed or was over, and is closed once after the last asking. Each session
+    // that it gave has a result, in the gate's order. The result is one of serving exactly that session's reader and
+    // writer.
     ensures report { IfOk result (λ report. IsReport
         (O.opens desks.now) O.asks O.ends
         (record { remaining = R.remaining; reads = R.reads; faults = R.faults })

@@ -1,4 +1,4 @@
-//! What is asked of a subscription: to begin one, take from it and end it.
+//! The requests about a subscription: begin one, take from it, and end it.
 ghost use Rattle.std.specs.Prelude.{◌≡◌, ◌≤◌, List, length, None, false, true, IfOk, IfSome, OnOk, OnErr, vec_capacity, vec_len};
 ghost use Rattle.indexmap.specs.IndexMap.{values};
 ghost use Rattle.hub_record.specs.Kept.{StandsFor};
@@ -19,10 +19,10 @@ use hub_requests::{Name, Refusal, Reply};
 use indexmap::IndexMap;
 use std::alloc::{AllocError, Global};
 
-/// How many handles may stand.
+/// How many handles may be current at one time.
 const HANDLES: usize = 256;
 
-/// How many handles may be given.
+/// How many handles may be given in all.
 const NUMBERS: u64 = 1_000_000;
 
 impl LocalDesk {
@@ -36,7 +36,7 @@ impl LocalDesk {
         }
     }
 
-    /// Why there can be no further handle for a subscription to the fifodir of this name.
+    /// Why there can be no further handle for a subscription to the fifodir of this name. None if there can.
     pub(super) fn refusal_to_hold(&self, name: &Name) -> Option<Refusal>
         ensures own { (desk : Desk) → Stands self.now desk → result ≡ refusal_to_hold desk name.now }
         ensures short { IfSome result (λ refusal. length (text_of (No refusal)) ≤ 4101) }
@@ -116,7 +116,7 @@ impl LocalDesk {
     }
 }
 
-/// Cancels the subscription that is held, where it stands.
+/// Cancels the subscription of a handle, if it is current.
 fn release(fifodirs: &mut IndexMap<Name, LocalFifodir>, holding: &Holding)
     ensures { (model : List Fifodir) → AreKept fifodirs.old.entries model → AreKept fifodirs.new.entries (without_held model holding.now) }
 {
@@ -125,7 +125,7 @@ fn release(fifodirs: &mut IndexMap<Name, LocalFifodir>, holding: &Holding)
     }
 }
 
-/// Cancels each subscription that is held, where it stands.
+/// Cancels the subscription of each of these handles, if it is current.
 pub(super) fn release_all(
     fifodirs: &mut IndexMap<Name, LocalFifodir>,
     holdings: &IndexMap<u64, Holding>,
@@ -137,8 +137,8 @@ pub(super) fn release_all(
     }
 }
 
-/// Takes what waits for a subscription, at most so much, through room for just that. Want of memory is met before
-/// anything is taken.
+/// Takes what is pending for a subscription, at most `most` events, through a buffer with room for exactly those. If
+/// memory runs out, nothing was taken.
 fn take_waiting(alloc: Global, kept: &mut Record, id: u64, most: usize) -> Result<Reply, AllocError>
     requires stands { HasSubscription kept.old id }
     requires few { most ≤ 256 }
@@ -158,7 +158,7 @@ fn take_waiting(alloc: Global, kept: &mut Record, id: u64, most: usize) -> Resul
     take_letters(alloc, kept, id, &mut room)
 }
 
-/// Takes what waits for a subscription, as far as the room goes. Want of memory is met before anything is taken.
+/// Takes what is pending for a subscription, as far as it fits. If memory runs out, nothing was taken.
 fn take_letters(
     alloc: Global,
     kept: &mut Record,
@@ -181,7 +181,7 @@ fn take_letters(
     }
 }
 
-/// The events' letters, in a list that has room for them.
+/// The letters of the events, in a list that has room for them.
 fn letters_of(events: &[Event], mut room: Vec<Letter>) -> Letters
     requires empty { vec_len room ≡ 0 }
     requires fits { length events.now ≤ vec_capacity room }

@@ -1,4 +1,4 @@
-//! What is asked of several services at once: whether they are as wanted.
+//! The request about several services at once: whether they are as wanted.
 ghost use Rattle.std.specs.Prelude.{◌≡◌, ◌≤◌, ◌<◌, ◌^◌, List, length, IfErr, IfSome, true, vec_len, vec_capacity};
 ghost use Rattle.std.specs.List.{list_all};
 ghost use Rattle.hub_local.specs.Answers.{refusal_to_wait};
@@ -16,7 +16,8 @@ use hub_requests::{Name, Names, Numbers, Refusal, Reply};
 use hub_wait::{Span, Tally, Verdict, Watch};
 use indexmap::IndexMap;
 
-/// What a wait opens at a service: a subscription, which stands while the wait looks, and what it knows of the service.
+/// What a wait opens at a service: a subscription, which is current while the wait looks, and what it knows of the
+/// service.
 #[derive(Drop)]
 struct Post {
     id: u64,
@@ -24,7 +25,7 @@ struct Post {
 }
 
 impl LocalDesk {
-    /// Nothing can change while it waits, so it answers at once.
+    /// Answers at once, since nothing can change during a wait of the only session.
     pub(super) fn wait(&mut self, span: Span, want: Want, names: &Names) -> Reply
         requires { length names.now ≤ 32 }
         ensures step { Answers self.old true (λ desk. refusal_to_wait desk names.now) (λ desk. waited desk span want names.now) (λ desk left. LeftByWait desk want names.now left) result self.new }
@@ -49,7 +50,7 @@ impl LocalDesk {
     }
 }
 
-/// The first refusal that stands before those of the posts: a name that isn't there, or else a plain fifodir.
+/// The first refusal that comes before those of the posts: a name without a fifodir, or else a plain fifodir.
 fn refusal_by_names(fifodirs: &IndexMap<Name, LocalFifodir>, names: &[Name]) -> Option<Refusal>
     ensures { result ≡ refusal_among fifodirs.now.entries names.now }
 {
@@ -83,7 +84,7 @@ fn is_service(fifodirs: &IndexMap<Name, LocalFifodir>, name: &Name) -> bool
     }
 }
 
-/// Subscribes, and then reads what the service shows.
+/// Subscribes, and then reads the status of the service.
 fn open(
     fifodirs: &mut IndexMap<Name, LocalFifodir>,
     name: &Name,
@@ -129,7 +130,7 @@ fn open_all(
     Ok(())
 }
 
-/// Cancels the subscription of this id, where it stands.
+/// Cancels the subscription of this id, if it is current.
 fn cancel_at(fifodirs: &mut IndexMap<Name, LocalFifodir>, name: &Name, id: u64)
     ensures { (model : List Fifodir) → AreKept fifodirs.old.entries model → AreKept fifodirs.new.entries (without_subscription model name.now id) }
 {
@@ -138,7 +139,7 @@ fn cancel_at(fifodirs: &mut IndexMap<Name, LocalFifodir>, name: &Name, id: u64)
     }
 }
 
-/// Gives the posts back, which were opened for the first of these names.
+/// Ends the posts, which were opened for the first of these names.
 fn give_back(fifodirs: &mut IndexMap<Name, LocalFifodir>, names: &[Name], posts: &[Post])
     requires { length posts.now ≤ length names.now }
     ensures { (model : List Fifodir) → AreKept fifodirs.old.entries model → AreKept fifodirs.new.entries (without_posts model names.now posts.now) }
@@ -148,7 +149,7 @@ fn give_back(fifodirs: &mut IndexMap<Name, LocalFifodir>, names: &[Name], posts:
     }
 }
 
-/// The number of the post, where it is met.
+/// The number of events that the post knows, if it is met.
 fn number_of(post: &Post) -> Option<u64>
     ensures number { result ≡ number_of post.now }
     ensures small { IfSome result (λ number. number < 2 ^ 64) }
@@ -160,7 +161,7 @@ fn number_of(post: &Post) -> Option<u64>
     }
 }
 
-/// The verdict of the posts as they stand. The list for their numbers is empty and has room for them.
+/// The verdict of the posts as they are now. The list for their numbers is empty and has room for them.
 fn verdict_shown(span: Span, posts: &[Post], mut numbers: Vec<Option<u64>>) -> Reply
     requires empty { vec_len numbers ≡ 0 }
     requires fits { length posts.now ≤ vec_capacity numbers }
