@@ -1,5 +1,5 @@
 // crates.txt: YOURS: hub_desk
-use hub_desk::{Desk, LocalDesk, Name, Refusal, Reply, Request};
+use hub_desk::{Desk, Name, Refusal, Reply, Request};
 use std::alloc::{AllocError, Global};
 use std::sync::Wait;
 
