@@ -164,8 +164,8 @@ fn a_wait_for_no_service(rt: HostRuntime) -> Result<(), Fail> {
 fn what_an_act_leads_to_is_not_missed(rt: HostRuntime) -> Result<(), Fail> {
     for (turns, verdict, at) in [(1, Verdict::Yes, 2), (0, Verdict::Late, 1)] {
         let (fifodir, mut supervisor) = started(&rt, rt.alloc())?;
-        let mut posts = [Post::open(&rt, fifodir, Want::Up, true)?];
         let up = word(rt.alloc(), "u")?;
+        let mut posts = [Post::open(&rt, fifodir, Want::Up, true)?];
         let mut pause = Backoff::new(rt);
         let (acted, answer) = svlisten(&rt, &mut posts, Span::All, turns, &mut pause, |_posts| {
             supervisor.send(&rt, &up)
@@ -185,8 +185,8 @@ fn a_long_wait_and_room_after_it(rt: HostRuntime) -> Result<(), Fail> {
     let limits = Limits::of(2, 100, 10).ok_or("no limits")?;
     let fifodir = Arc::new(rt.alloc(), Fifodir::new(rt.alloc(), Kind::Plain, limits)?)?;
     let mut supervisor = Supervisor::of(&rt, Arc::try_clone(&fifodir)?)?;
-    let mut posts = [Post::open(&rt, fifodir, Want::Up, false)?];
     let two = word(rt.alloc(), "ab")?;
+    let mut posts = [Post::open(&rt, fifodir, Want::Up, false)?];
     assert_eq!(rt; supervisor.send(&rt, &two), Ok(0));
     assert_eq!(rt; supervisor.send(&rt, &two), Err(PubError::Full));
     let mut pause = Backoff::new(rt);

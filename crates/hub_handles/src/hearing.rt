@@ -16,8 +16,7 @@ use std::sync::Wait;
 const GATHERED: usize = 4096;
 
 /// A listener that hears a subscription. It hears in mode `Repeat` whatever its own mode is: after the one hit of mode
-/// `Once` the session ends it.
-#[derive(Drop)]
+/// `Once` the session ends it. It isn't `Drop`, and only `cancel` takes it.
 pub struct Hearing {
     subscription: Subscription,
     listener: Listener,
@@ -106,7 +105,7 @@ impl Hearing {
         }
     }
 
-    /// Gives the subscription back.
+    /// Ends the subscription.
     pub fn cancel<H: Wait>(self, rt: &H) {
         let Hearing {
             subscription,

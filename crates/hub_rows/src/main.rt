@@ -58,7 +58,10 @@ impl Row {
             &mut LocalDesk::new(alloc)?,
             &mut Dripping::of(input),
         )?;
-        self.holds_at(rt, alloc, &mut sharing::alone(alloc)?, &mut &*input)
+        let mut shared = sharing::alone(alloc)?;
+        let held = self.holds_at(rt, alloc, &mut shared, &mut &*input);
+        shared.release(rt);
+        held
     }
 
     fn holds_at<H: Wait, D: Desk, R: Source>(

@@ -48,7 +48,9 @@ fn serve_one<H: Wait + Drop, R: Source + Drop, W: Sink + Drop, P: Pause + Copy>(
         return Err(FrontError::Memory);
     };
     desk.watch(reader.connection());
-    serve(&rt, alloc, &mut desk, &mut reader, &mut writer)
+    let served = serve(&rt, alloc, &mut desk, &mut reader, &mut writer);
+    desk.release(&rt);
+    served
 }
 
 // Starts the thread of one session, which sets `is_over` as the last thing.

@@ -59,7 +59,9 @@ fn serve_over<H: Clock + Wait + Copy, R: Source, W: Sink>(
     writer: &mut W,
 ) -> Result<Result<u64, FrontError>, AllocError> {
     let mut desk = SharedDesk::new(alloc, Arc::try_clone(hub)?, Backoff::new(*rt))?;
-    Ok(serve(rt, alloc, &mut desk, reader, writer))
+    let ended = serve(rt, alloc, &mut desk, reader, writer);
+    desk.release(rt);
+    Ok(ended)
 }
 
 /// Serves a first session, and then the second over the same hub. What the first ended with, and the second's replies.

@@ -12,8 +12,8 @@ use hub_record::{Closed, Letters};
 use hub_requests::{Refusal, Reply};
 use std::sync::Wait;
 
-/// A fifodir that a session found, with the session's publisher there once it was made. It is given back by `leave`.
-#[derive(Drop)]
+/// A fifodir that a session found, with the session's publisher there once it was made. It isn't `Drop`, and only `leave`
+/// takes it.
 pub struct Joined {
     found: Found,
     publisher: Option<Publisher>,
@@ -98,7 +98,7 @@ impl Joined {
         Reply::State(status)
     }
 
-    /// Gives the publisher back.
+    /// Ends the publisher, if there is one.
     pub fn leave<H: Wait>(self, rt: &H) {
         let Joined { found, publisher } = self;
         if let Some(publisher) = publisher {
