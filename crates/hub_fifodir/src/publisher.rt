@@ -10,8 +10,8 @@ use hub_letters::Letter;
 use hub_record::{Closed, PubError};
 use std::sync::Wait;
 
-/// Who may publish to a fifodir. It can't be copied, and `Fifodir::leave` takes it back.
-#[derive(Drop)]
+/// Who may publish to a fifodir. A publisher that was dropped would keep its place among the 1,024. So it is neither `Copy`
+/// nor `Drop`, and only `Fifodir::leave` takes it.
 pub struct Publisher {
     number: u64,
     seat: Seat,

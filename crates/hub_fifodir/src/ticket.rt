@@ -9,9 +9,8 @@ use crate::steps;
 use hub_record::{Event, SubError, Taken};
 use std::sync::Wait;
 
-/// A subscription. It can't be copied, and `Fifodir::cancel` takes it back: one that is let go otherwise stands on,
-/// and what waits behind its cursor fills the fifodir.
-#[derive(Drop)]
+/// A subscription. A ticket that was dropped would keep its cursor, and the events that are pending behind it would fill the
+/// fifodir. So a ticket is neither `Copy` nor `Drop`, and only `Fifodir::cancel` takes it.
 pub struct Ticket {
     id: u64,
     /// The number of events when it subscribed.

@@ -15,14 +15,18 @@ use thiserror::Error;
 
 type Sent = (Publisher, Result<u64, PubError>);
 
-// One publisher's message, from a thread of its own.
-fn send<R: Wait>(rt: &R, fifodir: &Fifodir, mut me: Publisher, letters: &[Letter]) -> Sent
-    requires { IsPublisherOf fifodir.now me × (mine me ≡ []) }
-    ensures pass { IsPublisherOf fifodir.now result.0 × (result.0.number ≡ me.number) }
-    ensures mine { OnOk result.1 (mine result.0 ≡ letters.now) }
+// One publisher's first message, from a thread of its own.
+fn send<R: Wait>(
+    rt: &R,
+    fifodir: &Fifodir,
+    me: &mut Publisher,
+    letters: &[Letter],
+) -> Result<u64, PubError>
+    requires { IsPublisherOf fifodir.now me.old × (mine me.old ≡ []) }
+    ensures pass { IsPublisherOf fifodir.now me.new × (me.new.number ≡ me.old.number) }
+    ensures mine { OnOk result (mine me.new ≡ letters.now) }
 {
-    let answer = fifodir.publish(rt, &mut me, letters);
-    (me, answer)
+    fifodir.publish(rt, me, letters)
 }
 
 /// Sends two messages at once, each from a thread of its own, and brings the two publishers together.
@@ -30,8 +34,8 @@ fn send<R: Wait>(rt: &R, fifodir: &Fifodir, mut me: Publisher, letters: &[Letter
 pub fn send_both<R: Threads + Wait + Sync>(
     rt: &R,
     fifodir: &Fifodir,
-    one: Publisher,
-    other: Publisher,
+    mut one: Publisher,
+    mut other: Publisher,
     first: &[Letter],
     second: &[Letter],
 ) -> (Sent, Sent)
@@ -42,19 +46,19 @@ pub fn send_both<R: Threads + Wait + Sync>(
     ensures numbers { (result.0.0.number ≡ one.number) × (result.1.0.number ≡ other.number) }
     ensures same { seen result.1.0 ≡ seen result.0.0 }
 {
-    let (mut one, mut other) = thread::join(
+    let (one_sent, other_sent) = thread::join_mut(
         rt,
-        move || -> Sent
+        &mut || -> Result<u64, PubError>
             requires { IsPublisherOf fifodir.now one × (mine one ≡ []) }
-            ensures { IsPublisherOf fifodir.entry.now result.0 × (result.0.number ≡ one.number) × OnOk result.1 (mine result.0 ≡ first.entry.now) }
-        { send(rt, fifodir, one, first) },
-        move || -> Sent
+            ensures { IsPublisherOf fifodir.entry.now one.exit × (one.exit.number ≡ one.entry.number) × OnOk result (mine one.exit ≡ first.entry.now) }
+        { send(rt, fifodir, &mut one, first) },
+        &mut || -> Result<u64, PubError>
             requires { IsPublisherOf fifodir.now other × (mine other ≡ []) }
-            ensures { IsPublisherOf fifodir.entry.now result.0 × (result.0.number ≡ other.number) × OnOk result.1 (mine result.0 ≡ second.entry.now) }
-        { send(rt, fifodir, other, second) },
+            ensures { IsPublisherOf fifodir.entry.now other.exit × (other.exit.number ≡ other.entry.number) × OnOk result (mine other.exit ≡ second.entry.now) }
+        { send(rt, fifodir, &mut other, second) },
     );
-    fifodir.meet(rt, &mut one.0, &mut other.0);
-    (one, other)
+    fifodir.meet(rt, &mut one, &mut other);
+    ((one, one_sent), (other, other_sent))
 }
 
 /// An event that was taken and couldn't be sent on.

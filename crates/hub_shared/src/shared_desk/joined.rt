@@ -10,6 +10,7 @@ use crate::Found;
 use hub_fifodir::{PassError, Publisher};
 use hub_record::{Closed, Letters};
 use hub_requests::{Refusal, Reply};
+use std::mem;
 use std::sync::Wait;
 
 /// A fifodir that a session found, with the session's publisher there once it was made. It isn't `Drop`, and only `leave`
@@ -53,6 +54,17 @@ impl Joined {
         }
     }
 
+    /// Keeps the publisher that was taken out.
+    fn keep(&mut self, publisher: Publisher)
+        requires silent { self.old.publisher ≡ None }
+        requires of { IsPublisherOf (arc_value self.old.found.dir) publisher }
+        ensures found { self.new.found ≡ self.old.found }
+        ensures kept { self.new.publisher ≡ Some publisher }
+    {
+        let before = mem::replace(&mut self.publisher, Some(publisher));
+        let None = before else { unreachable!() };
+    }
+
     pub fn publish<H: Wait>(&mut self, rt: &H, letters: &Letters) -> Reply
         ensures step { Asked (says_published letters.now) self.old result self.new }
         ensures short { length (text_of result) ≤ 4101 }
@@ -62,7 +74,7 @@ impl Joined {
             Err(error) => return Reply::No(refusal_of_pass(error)),
         };
         let published = self.found.dir.publish(rt, &mut publisher, letters.items());
-        self.publisher = Some(publisher);
+        self.keep(publisher);
         match published {
             Ok(first) => Reply::Number(first),
             Err(error) => Reply::No(Refusal::from(error)),
@@ -78,7 +90,7 @@ impl Joined {
             Err(error) => return Reply::No(refusal_of_pass(error)),
         };
         let closed = self.found.dir.close(rt, &mut publisher);
-        self.publisher = Some(publisher);
+        self.keep(publisher);
         match closed {
             Ok(()) => Reply::Done,
             Err(Closed) => Reply::No(Refusal::Closed),
@@ -94,7 +106,7 @@ impl Joined {
             Err(error) => return Reply::No(refusal_of_pass(error)),
         };
         let status = self.found.dir.status(&mut publisher);
-        self.publisher = Some(publisher);
+        self.keep(publisher);
         Reply::State(status)
     }
 
