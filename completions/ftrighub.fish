@@ -1,0 +1,12 @@
+# Completions of ftrighub for fish. tests/install compares them with `--help`.
+
+complete -c ftrighub -f
+complete -c ftrighub -n __fish_use_subcommand -a script -d 'Answer the request lines of standard input on standard output'
+complete -c ftrighub -n __fish_use_subcommand -a serve -d 'Serve sessions at a Unix socket, over one hub'
+complete -c ftrighub -n __fish_use_subcommand -a call -d 'Send the lines of standard input to a server, and write its replies'
+complete -c ftrighub -n __fish_use_subcommand -a help -d 'Print this message or the help of the given subcommand(s)'
+complete -c ftrighub -n __fish_use_subcommand -s V -l version -d 'Print version'
+complete -c ftrighub -n 'not __fish_seen_subcommand_from help' -s h -l help -d 'Print help'
+complete -c ftrighub -n '__fish_seen_subcommand_from serve' -l sessions -x -d 'How many connections to accept, from 1 to 64'
+complete -c ftrighub -n '__fish_seen_subcommand_from serve call; and not __fish_seen_subcommand_from help' -F
+complete -c ftrighub -n '__fish_seen_subcommand_from help' -a 'script serve call help'
