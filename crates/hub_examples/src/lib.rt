@@ -5,6 +5,7 @@ pub mod arguments;
 pub mod client;
 pub mod commands;
 pub mod desk;
+pub mod fakes;
 pub mod fifodir;
 pub mod front;
 pub mod ftrighub;
