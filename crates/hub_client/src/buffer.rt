@@ -110,8 +110,10 @@ impl Buffer {
             (pending self.old) rest left.old left.new (slack_at e) passed
             × FailsAs e rest left.new × (has_lf passed ≡ false)
             × Appends (W.contents writer.old) (W.contents writer.new) passed) }
-        ensures read_faults { Grows (R.faults reader.old) (R.faults reader.new) (read_faults result) }
-        ensures write_faults { Grows (W.faults writer.old) (W.faults writer.new) (write_faults result) }
+        ensures read_faults { Grows (R.faults reader.old) (R.faults reader.new)
+            (read_faults result) }
+        ensures write_faults { Grows (W.faults writer.old) (W.faults writer.new)
+            (write_faults result) }
     {
         let mut some = false;
         'pieces: loop {
@@ -146,8 +148,10 @@ impl Buffer {
             (pending self.old) rest left.old left.new (slack_at e) passed × (has_lf passed ≡ false)
             × (writable (passed ++ rest) ≡ passed ++ due) × FailsInPieces e due rest left.new
             × Appends (W.contents writer.old) (W.contents writer.new) passed) }
-        ensures read_faults { Grows (R.faults reader.old) (R.faults reader.new) (read_faults result) }
-        ensures write_faults { Grows (W.faults writer.old) (W.faults writer.new) (write_faults result) }
+        ensures read_faults { Grows (R.faults reader.old) (R.faults reader.new)
+            (read_faults result) }
+        ensures write_faults { Grows (W.faults writer.old) (W.faults writer.new)
+            (write_faults result) }
     {
         'pieces: loop {
             if !self.gather(reader, left)? {

@@ -61,8 +61,10 @@ fn receive_reply<SR: Source, W: Sink>(
         × (writable (passed ++ rest) ≡ passed ++ due)
         × FailsToReceive e due rest (SR.remaining receiver.new) left.new
         × Appends (W.contents output.old) (W.contents output.new) passed) }
-    ensures receive_faults { Grows (SR.faults receiver.old) (SR.faults receiver.new) (receive_faults result) }
-    ensures output_faults { Grows (W.faults output.old) (W.faults output.new) (output_faults result) }
+    ensures receive_faults { Grows (SR.faults receiver.old) (SR.faults receiver.new)
+        (receive_faults result) }
+    ensures output_faults { Grows (W.faults output.old) (W.faults output.new)
+        (output_faults result) }
 {
     match replies.pass_reply(receiver, output, left) {
         Ok(true) => Ok(()),
@@ -92,9 +94,11 @@ fn relay_lines<R: Source, W: Sink, SR: Source, SW: Sink>(
     ensures reads { ReadsWithin (R.reads input.old) (R.reads input.new)
         (SR.reads receiver.old) (SR.reads receiver.new) result }
     ensures input_faults { Grows (R.faults input.old) (R.faults input.new) (input_faults result) }
-    ensures output_faults { Grows (W.faults output.old) (W.faults output.new) (output_faults result) }
+    ensures output_faults { Grows (W.faults output.old) (W.faults output.new)
+        (output_faults result) }
     ensures send_faults { Grows (SW.faults sender.old) (SW.faults sender.new) (send_faults result) }
-    ensures receive_faults { Grows (SR.faults receiver.old) (SR.faults receiver.new) (receive_faults result) }
+    ensures receive_faults { Grows (SR.faults receiver.old) (SR.faults receiver.new)
+        (receive_faults result) }
 {
     let mut left = MAX_READS;
     let mut count = 0;
@@ -147,9 +151,11 @@ pub fn relay<H: Wait, R: Source, W: Sink, SR: Source, SW: Sink>(
 
     // An error is reported if its fault was counted, and only then.
     ensures input_faults { Grows (R.faults input.old) (R.faults input.new) (input_faults result) }
-    ensures output_faults { Grows (W.faults output.old) (W.faults output.new) (output_faults result) }
+    ensures output_faults { Grows (W.faults output.old) (W.faults output.new)
+        (output_faults result) }
     ensures send_faults { Grows (SW.faults sender.old) (SW.faults sender.new) (send_faults result) }
-    ensures receive_faults { Grows (SR.faults receiver.old) (SR.faults receiver.new) (receive_faults result) }
+    ensures receive_faults { Grows (SR.faults receiver.old) (SR.faults receiver.new)
+        (receive_faults result) }
 {
     let mut lines = Buffer::new(alloc)?;
     let mut replies = Buffer::new(alloc)?;

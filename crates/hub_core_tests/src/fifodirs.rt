@@ -404,9 +404,11 @@ fn send_and_gather<R: Threads + Wait + Sync>(
     publishers: (&mut Publisher, &mut Publisher),
     tickets: (&mut Ticket, &mut Ticket),
 ) -> (Gathered, Gathered)
-    requires publishers { IsPublisherOf fifodir.now publishers.0.old × IsPublisherOf fifodir.now publishers.1.old }
+    requires publishers { IsPublisherOf fifodir.now publishers.0.old
+        × IsPublisherOf fifodir.now publishers.1.old }
     requires tickets { IsTicketOf fifodir.now tickets.0.old × IsTicketOf fifodir.now tickets.1.old }
-    ensures publishers { IsPublisherOf fifodir.now publishers.0.new × IsPublisherOf fifodir.now publishers.1.new }
+    ensures publishers { IsPublisherOf fifodir.now publishers.0.new
+        × IsPublisherOf fifodir.now publishers.1.new }
     ensures tickets { IsTicketOf fifodir.now tickets.0.new × IsTicketOf fifodir.now tickets.1.new }
 {
     let (one, other) = publishers;
@@ -415,11 +417,13 @@ fn send_and_gather<R: Threads + Wait + Sync>(
         rt,
         &mut ||
             requires { IsPublisherOf fifodir.now one.now × IsPublisherOf fifodir.now other.now }
-            ensures { IsPublisherOf fifodir.entry.now one.exit.now × IsPublisherOf fifodir.entry.now other.exit.now }
+            ensures { IsPublisherOf fifodir.entry.now one.exit.now
+                × IsPublisherOf fifodir.entry.now other.exit.now }
         { send_and_close(rt, fifodir, one, other) },
         &mut || -> (Gathered, Gathered)
             requires { IsTicketOf fifodir.now early.now × IsTicketOf fifodir.now late.now }
-            ensures { IsTicketOf fifodir.entry.now early.exit.now × IsTicketOf fifodir.entry.now late.exit.now }
+            ensures { IsTicketOf fifodir.entry.now early.exit.now
+                × IsTicketOf fifodir.entry.now late.exit.now }
         { gather_both(rt, alloc, fifodir, early, late) },
     );
     gathered

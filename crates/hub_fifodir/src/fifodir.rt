@@ -53,7 +53,8 @@ impl Fifodir {
     }
 
     pub(crate) fn board(&self) -> &Board
-        ensures { (result.now.table_id ≡ table_of self.now) × IsSized result.now.table_id × (result.now.key ≡ self.now.rules) }
+        ensures { (result.now.table_id ≡ table_of self.now) × IsSized result.now.table_id
+            × (result.now.key ≡ self.now.rules) }
     {
         &self.table.shared
     }
@@ -66,7 +67,8 @@ impl Fifodir {
     /// and never waits for the lock.
     pub fn status<A: Pass>(&self, me: &mut A) -> Status
         requires { IsOf self.now (A.table me.old) (A.rules me.old) }
-        ensures pass { IsOf self.now (A.table me.new) (A.rules me.new) × (A.role me.new ≡ A.role me.old) × (A.numbers me.new ≡ A.numbers me.old) }
+        ensures pass { IsOf self.now (A.table me.new) (A.rules me.new)
+            × (A.role me.new ≡ A.role me.old) × (A.numbers me.new ≡ A.numbers me.old) }
         ensures sound { IsSound (A.rules me.new) (A.sight me.new).seen }
         ensures seen { Learns (A.role me.old) (A.sight me.old) (A.sight me.new) }
         ensures status { IsStatusOf result (A.sight me.new) }
@@ -77,7 +79,8 @@ impl Fifodir {
     /// The number of events. It is one load of the front word, and never waits for the lock.
     pub fn front<A: Pass>(&self, me: &mut A) -> u64
         requires { IsOf self.now (A.table me.old) (A.rules me.old) }
-        ensures pass { IsOf self.now (A.table me.new) (A.rules me.new) × (A.role me.new ≡ A.role me.old) × (A.numbers me.new ≡ A.numbers me.old) }
+        ensures pass { IsOf self.now (A.table me.new) (A.rules me.new)
+            × (A.role me.new ≡ A.role me.old) × (A.numbers me.new ≡ A.numbers me.old) }
         ensures sound { IsSound (A.rules me.new) (A.sight me.new).seen }
         ensures seen { Learns (A.role me.old) (A.sight me.old) (A.sight me.new) }
         ensures number { result ≡ length (A.sight me.new).seen }
@@ -90,8 +93,10 @@ impl Fifodir {
     pub fn meet<R: Wait, A: Pass, B: Pass>(&self, rt: &R, one: &mut A, other: &mut B)
         requires one { IsOf self.now (A.table one.old) (A.rules one.old) }
         requires other { IsOf self.now (B.table other.old) (B.rules other.old) }
-        ensures one { IsOf self.now (A.table one.new) (A.rules one.new) × (A.role one.new ≡ A.role one.old) × (A.numbers one.new ≡ A.numbers one.old) }
-        ensures other { IsOf self.now (B.table other.new) (B.rules other.new) × (B.role other.new ≡ B.role other.old) × (B.numbers other.new ≡ B.numbers other.old) }
+        ensures one { IsOf self.now (A.table one.new) (A.rules one.new)
+            × (A.role one.new ≡ A.role one.old) × (A.numbers one.new ≡ A.numbers one.old) }
+        ensures other { IsOf self.now (B.table other.new) (B.rules other.new)
+            × (B.role other.new ≡ B.role other.old) × (B.numbers other.new ≡ B.numbers other.old) }
         ensures sound { IsSound (A.rules one.new) (A.sight one.new).seen }
         ensures one_seen { Learns (A.role one.old) (A.sight one.old) (A.sight one.new) }
         ensures other_seen { Learns (B.role other.old) (B.sight other.old) (B.sight other.new) }

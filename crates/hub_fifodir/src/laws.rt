@@ -50,7 +50,8 @@ pub fn base_is_behind()
 /// What a ticket took, followed by what is pending behind its cursor, is the record since it subscribed, each event
 /// once and in order.
 pub fn takes_each_once(_ticket: &Ticket)
-    ensures { got _ticket.now ++ drop _ticket.now.next (ticket_seen _ticket.now) ≡ drop _ticket.now.mark (ticket_seen _ticket.now) }
+    ensures { got _ticket.now ++ drop _ticket.now.next
+        (ticket_seen _ticket.now) ≡ drop _ticket.now.mark (ticket_seen _ticket.now) }
 {}
 
 /// The record has exactly those events of a publisher that it published, in their order.

@@ -25,7 +25,8 @@ pub struct Locked {
 impl Locked {
     /// An open record without events, and no publisher.
     pub fn new(alloc: Global, kind: Kind, limits: Limits) -> Result<Locked, AllocError>
-        ensures { IfOk result (λ b. Stands b (empty_world kind limits) × (b.standing.keys ≡ []) × (b.given ≡ 0)) }
+        ensures { IfOk result (λ b. Stands b (empty_world kind limits) × (b.standing.keys ≡ [])
+            × (b.given ≡ 0)) }
     {
         Ok(Locked {
             kept: Record::new(alloc, kind, limits)?,
@@ -60,7 +61,8 @@ impl Locked {
     /// Gives the next id, and its mark: the number of events so far.
     pub fn subscribe(&mut self) -> Result<(u64, u64), SubError>
         ensures reply { (w : World) → Stands self.old w → SubscribeReply w result }
-        ensures world { (w : World) → Stands self.old w → Stands self.new (after_subscribe w result) }
+        ensures world { (w : World) → Stands self.old w
+            → Stands self.new (after_subscribe w result) }
         ensures others { KeepsPublishers self.old self.new }
         ensures err { OnErr result (self.new ≡ self.old) }
     {
@@ -70,7 +72,8 @@ impl Locked {
     /// Adds the whole message, or nothing. It doesn't check whether the publisher is current.
     pub fn publish(&mut self, number: u64, letters: &[Letter]) -> Result<u64, PubError>
         ensures reply { (w : World) → Stands self.old w → PublishReply w letters.now result }
-        ensures world { (w : World) → Stands self.old w → Stands self.new (after_publish w number letters.now result) }
+        ensures world { (w : World) → Stands self.old w
+            → Stands self.new (after_publish w number letters.now result) }
         ensures others { KeepsPublishers self.old self.new }
         ensures err { OnErr result (self.new ≡ self.old) }
     {
@@ -79,9 +82,13 @@ impl Locked {
 
     /// Takes what is pending behind a cursor, as far as it fits. An error says that the id has no cursor.
     pub fn take_into(&mut self, id: u64, out: &mut [Event]) -> Result<Taken, NoId>
-        ensures reply { (w : World) → Stands self.old w → result ≡ take_reply w id (length out.old) }
-        ensures world { (w : World) → Stands self.old w → Stands self.new (after_take w id (length out.old)) }
-        ensures filled { (w : World) → Stands self.old w → out.new ≡ take_events w id (length out.old) ++ drop (length (take_events w id (length out.old))) out.old }
+        ensures reply { (w : World) → Stands self.old w
+            → result ≡ take_reply w id (length out.old) }
+        ensures world { (w : World) → Stands self.old w
+            → Stands self.new (after_take w id (length out.old)) }
+        ensures filled { (w : World) → Stands self.old w
+            → out.new ≡ take_events w id (length out.old) ++ drop
+            (length (take_events w id (length out.old))) out.old }
         ensures others { KeepsPublishers self.old self.new }
         ensures err { OnErr result (self.new ≡ self.old) }
     {
@@ -118,7 +125,8 @@ impl Locked {
 
     /// The number of events, the flags and whether the record is closed.
     pub fn status(&self) -> Status
-        ensures { (result.number ≡ self.now.kept.end) × (result.flags ≡ self.now.kept.flags) × (result.closed ≡ self.now.kept.closed) }
+        ensures { (result.number ≡ self.now.kept.end) × (result.flags ≡ self.now.kept.flags)
+            × (result.closed ≡ self.now.kept.closed) }
     {
         Status {
             number: self.kept.end(),

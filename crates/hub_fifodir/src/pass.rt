@@ -33,7 +33,8 @@ pub trait Pass {
     /// Looks at the front word, and returns it.
     fn look(&mut self, board: &Board) -> u64
         requires { (table self.old ≡ board.now.table_id) × IsSized board.now.table_id }
-        ensures kept { (table self.new ≡ table self.old) × (rules self.new ≡ rules self.old) × (role self.new ≡ role self.old) × (numbers self.new ≡ numbers self.old) }
+        ensures kept { (table self.new ≡ table self.old) × (rules self.new ≡ rules self.old)
+            × (role self.new ≡ role self.old) × (numbers self.new ≡ numbers self.old) }
         ensures sound { IsSound (rules self.new) (sight self.new).seen }
         ensures seen { Learns (role self.old) (sight self.old) (sight self.new) }
         ensures word { Front result (sight self.new) };
@@ -41,7 +42,8 @@ pub trait Pass {
     /// Splits off a note of what it has seen, for another pass to join.
     fn note(&mut self, board: &Board) -> Seat
         requires { (table self.old ≡ board.now.table_id) × IsSized board.now.table_id }
-        ensures kept { (table self.new ≡ table self.old) × (rules self.new ≡ rules self.old) × (role self.new ≡ role self.old) × (numbers self.new ≡ numbers self.old) }
+        ensures kept { (table self.new ≡ table self.old) × (rules self.new ≡ rules self.old)
+            × (role self.new ≡ role self.old) × (numbers self.new ≡ numbers self.old) }
         ensures seen { sight self.new ≡ sight self.old }
         ensures note { IsNote (table self.old) (sight self.old) result };
 
@@ -49,7 +51,8 @@ pub trait Pass {
     fn read(&mut self, board: &Board, note: Seat) -> u64
         requires board { (table self.old ≡ board.now.table_id) × IsSized board.now.table_id }
         requires note { IsNote (table self.old) (note_sight note) note }
-        ensures kept { (table self.new ≡ table self.old) × (rules self.new ≡ rules self.old) × (role self.new ≡ role self.old) × (numbers self.new ≡ numbers self.old) }
+        ensures kept { (table self.new ≡ table self.old) × (rules self.new ≡ rules self.old)
+            × (role self.new ≡ role self.old) × (numbers self.new ≡ numbers self.old) }
         ensures sound { IsSound (rules self.new) (sight self.new).seen }
         ensures seen { Learns (role self.old) (sight self.old) (sight self.new) }
         ensures noted { Grows (note_sight note) (sight self.new) }

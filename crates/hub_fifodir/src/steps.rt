@@ -87,7 +87,8 @@ pub(crate) fn rest(board: &Board, seat: &mut Seat, held: Held<'_>)
 pub(crate) fn rest_as_publisher(board: &Board, seat: &mut Seat, held: Held<'_>)
     requires table { (seat.old.table_id ≡ board.now.table_id) × IsSized board.now.table_id }
     requires held { seat.old.me.1 ≡ (0, None) ∷ [] }
-    requires gives { Gives seat.old.me held.locked (rested seat.old.me.0 (writer held.locked.given [])) }
+    requires gives { Gives seat.old.me held.locked
+        (rested seat.old.me.0 (writer held.locked.given [])) }
     ensures table { (seat.new.table_id ≡ seat.old.table_id) × (seat.new.id ≡ seat.old.id) }
     ensures view { seat.new.me ≡ (rested seat.old.me.0 (writer held.entry.locked.given []), []) }
 {
@@ -98,9 +99,14 @@ pub(crate) fn rest_as_publisher(board: &Board, seat: &mut Seat, held: Held<'_>)
 pub(crate) fn rest_as_ticket(board: &Board, seat: &mut Seat, held: Held<'_>)
     requires table { (seat.old.table_id ≡ board.now.table_id) × IsSized board.now.table_id }
     requires held { seat.old.me.1 ≡ (0, None) ∷ [] }
-    requires gives { Gives seat.old.me held.locked (rested seat.old.me.0 (new_taker held.locked seat.old.me.0.sight.seen)) }
+    requires gives { Gives seat.old.me held.locked
+        (rested seat.old.me.0 (new_taker held.locked seat.old.me.0.sight.seen)) }
     ensures table { (seat.new.table_id ≡ seat.old.table_id) × (seat.new.id ≡ seat.old.id) }
-    ensures view { seat.new.me ≡ (rested seat.old.me.0 (new_taker held.entry.locked seat.old.me.0.sight.seen), []) }
+    ensures view { seat.new.me ≡ (
+      rested seat.old.me.0
+          (new_taker held.entry.locked seat.old.me.0.sight.seen),
+      [],
+    ) }
 {
     give_back::<Brand>(board, seat, held, 0);
 }
@@ -109,9 +115,15 @@ pub(crate) fn rest_as_ticket(board: &Board, seat: &mut Seat, held: Held<'_>)
 pub(crate) fn rest_moved(board: &Board, seat: &mut Seat, held: Held<'_>, taken: u64)
     requires table { (seat.old.table_id ≡ board.now.table_id) × IsSized board.now.table_id }
     requires held { seat.old.me.1 ≡ (0, None) ∷ [] }
-    requires gives { Gives seat.old.me held.locked (rested seat.old.me.0 (moved seat.old.me.0.sight.seen (taking_of seat.old.me.0.role) taken)) }
+    requires gives { Gives seat.old.me held.locked
+        (rested seat.old.me.0 (moved seat.old.me.0.sight.seen
+        (taking_of seat.old.me.0.role) taken)) }
     ensures table { (seat.new.table_id ≡ seat.old.table_id) × (seat.new.id ≡ seat.old.id) }
-    ensures view { seat.new.me ≡ (rested seat.old.me.0 (moved seat.old.me.0.sight.seen (taking_of seat.old.me.0.role) taken), []) }
+    ensures view { seat.new.me ≡ (
+      rested seat.old.me.0
+          (moved seat.old.me.0.sight.seen (taking_of seat.old.me.0.role) taken),
+      [],
+    ) }
 {
     give_back::<Brand>(board, seat, held, taken);
 }
@@ -120,7 +132,8 @@ pub(crate) fn rest_moved(board: &Board, seat: &mut Seat, held: Held<'_>, taken: 
 pub(crate) fn rest_cancelled(board: &Board, seat: &mut Seat, held: Held<'_>)
     requires table { (seat.old.table_id ≡ board.now.table_id) × IsSized board.now.table_id }
     requires held { seat.old.me.1 ≡ (0, None) ∷ [] }
-    requires gives { Gives seat.old.me held.locked (rested seat.old.me.0 (gone_taker seat.old.me.0.role)) }
+    requires gives { Gives seat.old.me held.locked
+        (rested seat.old.me.0 (gone_taker seat.old.me.0.role)) }
     ensures table { (seat.new.table_id ≡ seat.old.table_id) × (seat.new.id ≡ seat.old.id) }
     ensures view { seat.new.me ≡ (rested seat.old.me.0 (gone_taker seat.old.me.0.role), []) }
 {
@@ -131,7 +144,8 @@ pub(crate) fn rest_cancelled(board: &Board, seat: &mut Seat, held: Held<'_>)
 pub(crate) fn rest_left(board: &Board, seat: &mut Seat, held: Held<'_>)
     requires table { (seat.old.table_id ≡ board.now.table_id) × IsSized board.now.table_id }
     requires held { seat.old.me.1 ≡ (0, None) ∷ [] }
-    requires gives { Gives seat.old.me held.locked (rested seat.old.me.0 (gone_writer seat.old.me.0.role)) }
+    requires gives { Gives seat.old.me held.locked
+        (rested seat.old.me.0 (gone_writer seat.old.me.0.role)) }
     ensures table { (seat.new.table_id ≡ seat.old.table_id) × (seat.new.id ≡ seat.old.id) }
     ensures view { seat.new.me ≡ (rested seat.old.me.0 (gone_writer seat.old.me.0.role), []) }
 {
@@ -161,9 +175,14 @@ fn store_mark<N: Next>(board: &Board, seat: &mut Seat, word: u64)
 // Shows in the front word that a message was added. An empty message changes no word.
 pub(crate) fn write_message(board: &Board, seat: &mut Seat, word: u64, message: &[Letter])
     requires table { (seat.old.table_id ≡ board.now.table_id) × IsSized board.now.table_id }
-    requires writes { WritesMessage seat.old.me word message.now (grown seat.old.me.0 (writing_of seat.old.me.0.role) message.now) }
+    requires writes { WritesMessage seat.old.me word message.now
+        (grown seat.old.me.0 (writing_of seat.old.me.0.role) message.now) }
     ensures table { (seat.new.table_id ≡ seat.old.table_id) × (seat.new.id ≡ seat.old.id) }
-    ensures view { seat.new.me ≡ (grown seat.old.me.0 (writing_of seat.old.me.0.role) message.now, seat.old.me.1) }
+    ensures view { seat.new.me ≡ (
+      grown seat.old.me.0
+          (writing_of seat.old.me.0.role) message.now,
+      seat.old.me.1,
+    ) }
 {
     if message.is_empty() {
         return;
@@ -174,9 +193,14 @@ pub(crate) fn write_message(board: &Board, seat: &mut Seat, word: u64, message: 
 // Shows in the front word that the record was closed.
 pub(crate) fn write_mark(board: &Board, seat: &mut Seat, word: u64)
     requires table { (seat.old.table_id ≡ board.now.table_id) × IsSized board.now.table_id }
-    requires writes { WritesMark seat.old.me word (closing seat.old.me.0 (writing_of seat.old.me.0.role)) }
+    requires writes { WritesMark seat.old.me word
+        (closing seat.old.me.0 (writing_of seat.old.me.0.role)) }
     ensures table { (seat.new.table_id ≡ seat.old.table_id) × (seat.new.id ≡ seat.old.id) }
-    ensures view { seat.new.me ≡ (closing seat.old.me.0 (writing_of seat.old.me.0.role), seat.old.me.1) }
+    ensures view { seat.new.me ≡ (
+      closing seat.old.me.0
+          (writing_of seat.old.me.0.role),
+      seat.old.me.1,
+    ) }
 {
     store_mark::<Brand>(board, seat, word);
 }
@@ -185,7 +209,8 @@ pub(crate) fn write_mark(board: &Board, seat: &mut Seat, word: u64)
 pub(crate) fn enter(board: &Board) -> Seat
     requires { IsSized board.now.table_id }
     ensures table { (result.table_id ≡ board.now.table_id) × (result.me.1 ≡ []) }
-    ensures view { result.me.0 ≡ visitor board.now.key result.me.0.sight.seen result.me.0.sight.closed }
+    ensures view { result.me.0 ≡ visitor board.now.key result.me.0.sight.seen
+        result.me.0.sight.closed }
 {
     board.load_new_seat::<Enter>(0).1
 }
@@ -204,7 +229,8 @@ pub(crate) fn look(board: &Board, seat: &mut Seat) -> u64
 pub(crate) fn note(board: &Board, seat: &mut Seat) -> Seat
     requires table { (seat.old.table_id ≡ board.now.table_id) × IsSized board.now.table_id }
     requires idle { IsIdle seat.old.me }
-    ensures table { (seat.new.table_id ≡ seat.old.table_id) × (seat.new.id ≡ seat.old.id) × (seat.new.me ≡ seat.old.me) }
+    ensures table { (seat.new.table_id ≡ seat.old.table_id) × (seat.new.id ≡ seat.old.id)
+        × (seat.new.me ≡ seat.old.me) }
     ensures note { IsNote seat.old.table_id seat.old.me.0.sight result }
 {
     board.split_seat::<Notes>(seat)

@@ -74,7 +74,8 @@ impl Fifodir {
     /// Takes what waits behind the ticket's cursor, as far as the slice goes.
     pub fn take_into<R: Wait>(&self, rt: &R, me: &mut Ticket, out: &mut [Event]) -> Taken
         requires { IsTicketOf self.now me.old }
-        ensures pass { IsTicketOf self.now me.new × (me.new.id ≡ me.old.id) × (me.new.mark ≡ me.old.mark) }
+        ensures pass { IsTicketOf self.now me.new × (me.new.id ≡ me.old.id)
+            × (me.new.mark ≡ me.old.mark) }
         ensures sound { IsTicketSound me.new }
         ensures seen { Grows (ticket_sight me.old) (ticket_sight me.new) }
         ensures took { HasTaken me.old (length out.old) result me.new }

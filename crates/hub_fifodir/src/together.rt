@@ -42,8 +42,10 @@ pub fn send_both<R: Threads + Wait + Sync>(
 ) -> (Sent, Sent)
     requires one { IsPublisherOf fifodir.now one × (mine one ≡ []) }
     requires other { IsPublisherOf fifodir.now other × (mine other ≡ []) }
-    ensures one { IsPublisherOf fifodir.now result.0.0 × OnOk result.0.1 (by result.0.0.number (seen result.0.0) ≡ first.now) }
-    ensures other { IsPublisherOf fifodir.now result.1.0 × OnOk result.1.1 (by result.1.0.number (seen result.1.0) ≡ second.now) }
+    ensures one { IsPublisherOf fifodir.now result.0.0
+        × OnOk result.0.1 (by result.0.0.number (seen result.0.0) ≡ first.now) }
+    ensures other { IsPublisherOf fifodir.now result.1.0
+        × OnOk result.1.1 (by result.1.0.number (seen result.1.0) ≡ second.now) }
     ensures numbers { (result.0.0.number ≡ one.number) × (result.1.0.number ≡ other.number) }
     ensures same { seen result.1.0 ≡ seen result.0.0 }
 {
@@ -51,11 +53,15 @@ pub fn send_both<R: Threads + Wait + Sync>(
         rt,
         &mut || -> Result<u64, PubError>
             requires { IsPublisherOf fifodir.now one × (mine one ≡ []) }
-            ensures { IsPublisherOf fifodir.entry.now one.exit × (one.exit.number ≡ one.entry.number) × OnOk result (mine one.exit ≡ first.entry.now) }
+            ensures { IsPublisherOf fifodir.entry.now one.exit
+                × (one.exit.number ≡ one.entry.number)
+                × OnOk result (mine one.exit ≡ first.entry.now) }
         { send(rt, fifodir, &mut one, first) },
         &mut || -> Result<u64, PubError>
             requires { IsPublisherOf fifodir.now other × (mine other ≡ []) }
-            ensures { IsPublisherOf fifodir.entry.now other.exit × (other.exit.number ≡ other.entry.number) × OnOk result (mine other.exit ≡ second.entry.now) }
+            ensures { IsPublisherOf fifodir.entry.now other.exit
+                × (other.exit.number ≡ other.entry.number)
+                × OnOk result (mine other.exit ≡ second.entry.now) }
         { send(rt, fifodir, &mut other, second) },
     );
     fifodir.meet(rt, &mut one, &mut other);
@@ -89,7 +95,8 @@ pub fn send_on<R: Wait>(
     ensures refused { IfErr result (λ unsent. HasTaken ticket.old 1 (Taken.Got 1) ticket.new
         × (got ticket.new ≡ got ticket.old ++ unsent.event ∷ []) × IsRefusedAt publisher.new (unsent.event.letter ∷ []) unsent.why) }
     ensures unsent { OnErr result (mine publisher.new ≡ mine publisher.old) }
-    ensures sent { IfOk result (λ taken. mine publisher.new ≡ mine publisher.old ++ sent_on ticket.old taken ticket.new) }
+    ensures sent { IfOk result (λ taken. mine publisher.new ≡ mine publisher.old ++ sent_on
+        ticket.old taken ticket.new) }
 {
     let mut out = [Event {
         who: 0,

@@ -17,7 +17,8 @@ pub fn pack(status: Status) -> u64
 
 /// The status of a front word.
 pub fn unpack(word: u64) -> Status
-    ensures { (number : ℕ) (closed : Bool) (flags : Flags) → word ≡ packed number closed flags → (result.number ≡ number) × (result.closed ≡ closed) × (result.flags ≡ flags) }
+    ensures { (number : ℕ) (closed : Bool) (flags : Flags) → word ≡ packed number closed flags
+        → (result.number ≡ number) × (result.closed ≡ closed) × (result.flags ≡ flags) }
 {
     Status {
         number: word / 32,

@@ -66,7 +66,8 @@ fn serve_lines<H: Wait, D: Desk, R: Source, W: Sink>(
         × Consumes (R.remaining reader.old) (R.remaining reader.new) input
         × StopsAt D.asks desk.old input (W.contents writer.old) (W.contents writer.new)
         (R.remaining reader.new) desk.new e) }
-    ensures memory { result ≡ Err FrontError.Memory → (reader.new ≡ reader.old) × (writer.new ≡ writer.old) }
+    ensures memory { result ≡ Err FrontError.Memory → (reader.new ≡ reader.old)
+        × (writer.new ≡ writer.old) }
     ensures reads { ReadsWithin (R.reads reader.old) (R.reads reader.new) result }
     ensures read_faults { Grows (R.faults reader.old) (R.faults reader.new) (read_faults result) }
     ensures write_faults { Grows (W.faults writer.old) (W.faults writer.new) (write_faults result) }
@@ -93,7 +94,8 @@ pub fn serve<H: Wait, D: Desk, R: Source, W: Sink>(
         (W.contents writer.old) (W.contents writer.new) (R.remaining reader.old) (R.remaining reader.new)) }
 
     // Memory is allocated before the first read.
-    ensures memory { result ≡ Err FrontError.Memory → (reader.new ≡ reader.old) × (writer.new ≡ writer.old) }
+    ensures memory { result ≡ Err FrontError.Memory → (reader.new ≡ reader.old)
+        × (writer.new ≡ writer.old) }
 
     // It makes at most 10,000,000 reads.
     ensures reads { ReadsWithin (R.reads reader.old) (R.reads reader.new) result }

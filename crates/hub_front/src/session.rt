@@ -61,7 +61,8 @@ impl Session {
         ensures ok { OnOk result (Served D.asks desk.old (done bytes.now self.old.line.items)
             (W.contents writer.old) (W.contents writer.new) desk.new) }
         ensures line { OnOk result (self.new.line.items ≡ left bytes.now self.old.line.items) }
-        ensures count { OnOk result (self.new.count ≡ self.old.count + length (done bytes.now self.old.line.items)) }
+        ensures count { OnOk result (self.new.count ≡ self.old.count + length
+            (done bytes.now self.old.line.items)) }
         ensures err { OnErr result (BreaksOff D.asks desk.old (done bytes.now self.old.line.items)
             (W.contents writer.old) (W.contents writer.new) desk.new) }
         ensures fault { IfErr result (λ e. e ≡ FrontError.Write) }
@@ -85,7 +86,8 @@ impl Session {
         ensures ok { OnOk result (Served D.asks desk.old (done (byte ∷ []) self.old.line.items)
             (W.contents writer.old) (W.contents writer.new) desk.new) }
         ensures line { OnOk result (self.new.line.items ≡ left (byte ∷ []) self.old.line.items) }
-        ensures count { OnOk result (self.new.count ≡ self.old.count + length (done (byte ∷ []) self.old.line.items)) }
+        ensures count { OnOk result (self.new.count ≡ self.old.count + length
+            (done (byte ∷ []) self.old.line.items)) }
         ensures err { OnErr result (BreaksOff D.asks desk.old (done (byte ∷ []) self.old.line.items)
             (W.contents writer.old) (W.contents writer.new) desk.new) }
         ensures fault { IfErr result (λ e. e ≡ FrontError.Write) }

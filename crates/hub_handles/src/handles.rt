@@ -87,7 +87,8 @@ impl Handles {
         rt: &H,
         dir: Arc<Fifodir, Global>,
     ) -> Result<u64, Refusal>
-        ensures ok { IfOk result (λ number. AddsSubscription self.old (arc_value dir) number self.new) }
+        ensures ok { IfOk result (λ number. AddsSubscription self.old
+            (arc_value dir) number self.new) }
         ensures err { OnErr result (IsStill self.old self.new) }
         ensures in_place { IfErr result (IsInPlace self.old) }
         ensures brief { IfErr result IsBrief }
@@ -128,7 +129,8 @@ impl Handles {
         mode: Mode,
         pattern: &PatternText,
     ) -> Result<u64, Refusal>
-        ensures ok { IfOk result (λ number. AddsListener self.old (arc_value dir) mode pattern.now number self.new) }
+        ensures ok { IfOk result (λ number. AddsListener self.old
+            (arc_value dir) mode pattern.now number self.new) }
         ensures err { OnErr result (IsStill self.old self.new) }
         ensures in_place { IfErr result (IsInPlace self.old) }
         ensures brief { IfErr result IsBrief }
@@ -184,7 +186,8 @@ impl Handles {
     /// Ends a listener that stands.
     fn end_listener<H: Wait>(&mut self, rt: &H, id: u64)
         ensures gone { listener_of self.new id ≡ None }
-        ensures others { (other : ℕ) → nat_eq id other ≡ false → listener_of self.new other ≡ listener_of self.old other }
+        ensures others { (other : ℕ) → nat_eq id other ≡ false
+            → listener_of self.new other ≡ listener_of self.old other }
         ensures subscriptions { self.new.subscriptions.entries ≡ self.old.subscriptions.entries }
         ensures given { self.new.given ≡ self.old.given }
     {

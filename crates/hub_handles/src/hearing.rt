@@ -78,7 +78,8 @@ impl Hearing {
     fn hear<H: Wait>(&mut self, rt: &H) -> Result<bool, Reply>
         requires { length self.old.listener.gathered < 4096 }
         ensures heard { IfOk result (λ hit. HearsOne self.old hit self.new) }
-        ensures stopped { IfErr result (λ reply. Hears self.old [] (Ok Quiet) self.new × Stops reply self.new) }
+        ensures stopped { IfErr result (λ reply. Hears self.old [] (Ok Quiet) self.new
+            × Stops reply self.new) }
         ensures short { IfErr result (λ reply. length (text_of reply) ≤ 4101) }
     {
         let letter = self.next_letter(rt)?;

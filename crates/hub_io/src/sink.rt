@@ -20,7 +20,8 @@ pub trait Sink: Write {
     fn push(&mut self, bytes: &[u8]) -> io::Result<usize>
         requires { 0 < length bytes.now }
         ensures bound { WritesAtMost result bytes.now }
-        ensures bytes { WriteAppends (Self.contents self.old) (Self.contents self.new) result bytes.now }
+        ensures bytes { WriteAppends (Self.contents self.old)
+            (Self.contents self.new) result bytes.now }
         ensures told { Grows (faults self.old) (faults self.new) (faults_of_write result) };
 }
 

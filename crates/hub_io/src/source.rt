@@ -20,7 +20,8 @@ pub trait Source: Read {
     /// Reads once, as `read` does. If the operating system reads, a read that a signal interrupted is retried.
     fn pull(&mut self, buf: &mut [u8]) -> io::Result<usize>
         ensures bound { ReadsAtMost result buf.new }
-        ensures bytes { ReadConsumes (Self.remaining self.old) (Self.remaining self.new) result buf.new }
+        ensures bytes { ReadConsumes (Self.remaining self.old)
+            (Self.remaining self.new) result buf.new }
         ensures counted { Grows (reads self.old) (reads self.new) 1 }
         ensures told { Grows (faults self.old) (faults self.new) (faults_of_read result) };
 

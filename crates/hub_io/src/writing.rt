@@ -10,7 +10,8 @@ use crate::sink::Sink;
 /// Writes all of the bytes. It stops if the writer fails or takes no byte, and a prefix of the bytes is then written.
 pub fn write_whole<W: Sink>(writer: &mut W, bytes: &[u8]) -> Result<(), FrontError>
     ensures ok { OnOk result (Appends (W.contents writer.old) (W.contents writer.new) bytes.now) }
-    ensures err { OnErr result (AppendsPart (W.contents writer.old) (W.contents writer.new) bytes.now) }
+    ensures err { OnErr result (AppendsPart (W.contents writer.old)
+        (W.contents writer.new) bytes.now) }
     ensures fault { IfErr result (λ e. e ≡ FrontError.Write) }
     ensures told { Grows (W.faults writer.old) (W.faults writer.new) (write_faults result) }
 {

@@ -43,7 +43,8 @@ impl Stage {
 
     /// The stage after the letters. An error is the least place, from 0, whose letter is unlawful.
     pub fn follow(self, letters: &[Letter]) -> Result<Stage, u64>
-        ensures { (word : List ℕ) → IsLawful word → stage_of word ≡ self → Follows word letters.now result }
+        ensures { (word : List ℕ) → IsLawful word → stage_of word ≡ self
+            → Follows word letters.now result }
     {
         let mut stage = self;
         for (i, letter) in letters.iter().enumerate() {
@@ -57,7 +58,9 @@ impl Stage {
 
     /// A law: the stages, followed from `Off`, accept exactly the lawful words, and end in the word's stage.
     pub fn accept_just_the_lawful_words()
-        ensures all { (word : List ℕ) → IsLawful word → followed Stage.Off word ≡ Some (stage_of word) }
-        ensures only { (word : List ℕ) (stage : Stage) → followed Stage.Off word ≡ Some stage → IsLawful word × (stage ≡ stage_of word) }
+        ensures all { (word : List ℕ) → IsLawful word
+            → followed Stage.Off word ≡ Some (stage_of word) }
+        ensures only { (word : List ℕ) (stage : Stage) → followed Stage.Off word ≡ Some stage
+            → IsLawful word × (stage ≡ stage_of word) }
     {}
 }

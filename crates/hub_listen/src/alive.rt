@@ -55,7 +55,8 @@ impl Alive {
         requires { HasRoom self.old (vec_len nfa.now.states) }
         ensures room { HasRoom self.new (vec_len nfa.now.states) }
         ensures states { self.new.states ≡ self.old.states }
-        ensures kept { IsTrue needed → (q : ℕ) → Has self.new.kept.items q ↔ Has self.old.states.items q }
+        ensures kept { IsTrue needed → (q : ℕ) → Has self.new.kept.items q ↔ Has
+            self.old.states.items q }
     {
         if needed {
             self.kept.copy(&self.states);
@@ -82,7 +83,8 @@ impl Alive {
         ensures found { IsTrue result → (i : ℕ) × HasMatch nfa.now text.now i }
         ensures none_before { result ≡ false → ¬ (HasMatch nfa.now text.now (length text.now - 1)) }
         ensures none_behind { result ≡ false → ¬ (HasMatch nfa.now text.now (length text.now)) }
-        ensures alive { result ≡ false → AreAlive nfa.now text.now (length text.now) self.new.states.items }
+        ensures alive { result ≡ false → AreAlive nfa.now text.now
+            (length text.now) self.new.states.items }
     {
         let last = text.len() - 1;
         self.reached.copy(&self.states);

@@ -32,10 +32,14 @@ pub(crate) fn first_hit(
     requires room { 4096 ≤ string_capacity text.old }
     requires ascii { IsAscii (string_bytes text.old) }
     requires states { HasRoom alive.old (vec_len pattern.now.nfa.states) }
-    requires alive { AreAlive pattern.now.nfa (string_bytes text.old) (string_len text.old) alive.old.states.items }
-    requires quiet { 1 ≤ string_len text.old → finds (string_bytes pattern.now.text) (string_bytes text.old) ≡ false }
-    ensures hit { IfSome result (IsHit (string_bytes pattern.now.text) (string_bytes text.old) piece.now) }
-    ensures none { IfNone result (HasNoHit (string_bytes pattern.now.text) (string_bytes text.old) piece.now) }
+    requires alive { AreAlive pattern.now.nfa (string_bytes text.old)
+        (string_len text.old) alive.old.states.items }
+    requires quiet { 1 ≤ string_len text.old → finds (string_bytes pattern.now.text)
+        (string_bytes text.old) ≡ false }
+    ensures hit { IfSome result (IsHit (string_bytes pattern.now.text)
+        (string_bytes text.old) piece.now) }
+    ensures none { IfNone result (HasNoHit (string_bytes pattern.now.text)
+        (string_bytes text.old) piece.now) }
     ensures grown { IfNone result (string_bytes text.new
         ≡ string_bytes text.old ++ take (4096 - string_len text.old) piece.now) }
     ensures alive { IfNone result

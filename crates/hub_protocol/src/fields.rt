@@ -101,7 +101,8 @@ fn spaces(text: &[u8]) -> usize
 }
 
 fn fields_are_names(text: &[u8]) -> bool
-    ensures { MatchBool result (All IsName (fields_of text.now)) (All IsName (fields_of text.now) → ⊥) }
+    ensures { MatchBool result (All IsName (fields_of text.now))
+        (All IsName (fields_of text.now) → ⊥) }
 {
     text.split(|b| *b == b' ').all(Name::is_name)
 }

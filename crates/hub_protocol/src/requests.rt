@@ -19,7 +19,8 @@ fn are_limits(waiting: u64, total: u64) -> bool
 
 /// Whether each number is in its range.
 pub fn is_within(form: &Form<'_>) -> bool
-    ensures { MatchBool result (IsWithin (form_shown form.now)) (IsWithin (form_shown form.now) → ⊥) }
+    ensures { MatchBool result (IsWithin (form_shown form.now))
+        (IsWithin (form_shown form.now) → ⊥) }
 {
     match form {
         Form::Dir { waiting, total, .. } => are_limits(*waiting, *total),

@@ -20,7 +20,8 @@ pub fn each_line_is_read_in_one_way()
 /// Each form has a line, which begins with its word. If the line isn't too long, it is read as the form's request, or
 /// as out of range.
 pub fn each_form_has_a_line()
-    ensures word { (form : Form) → IsForm form → first_word (spelling form) ≡ text_of_word (word_of form) }
+    ensures word { (form : Form) → IsForm form → first_word (spelling form) ≡ text_of_word
+        (word_of form) }
     ensures within { (request : Request) → IsForm (form_of request) → IsWithin (form_of request)
         → length (spelling (form_of request)) ≤ 512 → Spells (spelling (form_of request)) request }
     ensures beyond { (form : Form) → IsForm form → (IsWithin form → ⊥)

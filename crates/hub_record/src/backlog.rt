@@ -190,9 +190,11 @@ fn base_left(base: Base, ring: &mut HeapCircularBuffer<Event>, cursors: &IndexMa
     requires counted { base.standing ≡ standing_at base.number cursors.now.entries + 1 }
     requires least { base.number ≤ least (base.number + length ring.old.items) cursors.now.entries }
     requires small { base.number + length ring.old.items ≤ 1000000000000 }
-    ensures number { result.number ≡ least (base.number + length ring.old.items) cursors.now.entries }
+    ensures number { result.number ≡ least (base.number + length ring.old.items)
+        cursors.now.entries }
     ensures standing { result.standing ≡ standing_at result.number cursors.now.entries }
-    ensures cut { ring.new ≡ buffer (drop (result.number - base.number) ring.old.items) ring.old.capacity }
+    ensures cut { ring.new ≡ buffer (drop (result.number - base.number) ring.old.items)
+        ring.old.capacity }
 {
     if base.standing > 1 {
         return Base {

@@ -10,15 +10,23 @@ use crate::{Call, Kind, Limits, Said};
 /// After every run each subscription, cancelled or not, has gathered the events between its mark and its cursor, each
 /// event once and in order. The letters of a publisher are those of its accepted messages.
 pub fn each_event_once_and_in_order()
-    ensures since { (kind : Kind) (limits : Limits) (calls : List Call) (replies : List Said) → IsRun (empty_world kind limits) calls replies → AllFollow (world_after (empty_world kind limits) calls replies) }
-    ensures own { (kind : Kind) (limits : Limits) (calls : List Call) (replies : List Said) (p : ℕ) → IsRun (empty_world kind limits) calls replies → by p (world_after (empty_world kind limits) calls replies).events ≡ published p calls replies }
+    ensures since { (kind : Kind) (limits : Limits) (calls : List Call) (replies : List Said)
+        → IsRun (empty_world kind limits) calls replies
+        → AllFollow (world_after (empty_world kind limits) calls replies) }
+    ensures own { (kind : Kind) (limits : Limits) (calls : List Call) (replies : List Said) (p : ℕ)
+        → IsRun (empty_world kind limits) calls replies
+        → by p (world_after (empty_world kind limits) calls replies).events ≡ published p calls
+        replies }
 {}
 
 /// Unless memory runs out, a call has one reply in a world, and one world after it. So a run has one list of replies.
 pub fn one_reply()
-    ensures reply { (w : World) (call : Call) (one other : Said) → SaidTo w call one → SaidTo w call other → one ≡ other }
-    ensures after { (w : World) (call : Call) (one other : Said) → SaidTo w call one → SaidTo w call other → after_call w call one ≡ after_call w call other }
-    ensures run { (w : World) (calls : List Call) (one other : List Said) → IsRun w calls one → IsRun w calls other → one ≡ other }
+    ensures reply { (w : World) (call : Call) (one other : Said) → SaidTo w call one
+        → SaidTo w call other → one ≡ other }
+    ensures after { (w : World) (call : Call) (one other : Said) → SaidTo w call one
+        → SaidTo w call other → after_call w call one ≡ after_call w call other }
+    ensures run { (w : World) (calls : List Call) (one other : List Said) → IsRun w calls one
+        → IsRun w calls other → one ≡ other }
 {}
 
 /// A record never keeps more events than may be pending, and keeps none if no subscription is current.

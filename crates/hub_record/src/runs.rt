@@ -54,9 +54,14 @@ pub struct World {
 impl World {
     /// Carries out one call. After an error the world is inconsistent and must be dropped.
     fn answer(&mut self, alloc: Global, call: &Call) -> Result<Said, AllocError>
-        ensures said { (w : Modelled) → StandsFor self.old.state w → IfOk result (λ said. SaidTo w call.now said) }
-        ensures after { (w : Modelled) → StandsFor self.old.state w → IfOk result (λ said. StandsFor self.new.state (after_call w call.now said)) }
-        ensures gathered { (w : Modelled) → StandsFor self.old.state w → lists_of self.old.gathered.entries ≡ gathered_from 1 w.subscriptions → IfOk result (λ said. lists_of self.new.gathered.entries ≡ gathered_from 1 (after_call w call.now said).subscriptions) }
+        ensures said { (w : Modelled) → StandsFor self.old.state w
+            → IfOk result (λ said. SaidTo w call.now said) }
+        ensures after { (w : Modelled) → StandsFor self.old.state w
+            → IfOk result (λ said. StandsFor self.new.state (after_call w call.now said)) }
+        ensures gathered { (w : Modelled) → StandsFor self.old.state w
+            → lists_of self.old.gathered.entries ≡ gathered_from 1 w.subscriptions
+            → IfOk result (λ said. lists_of self.new.gathered.entries ≡ gathered_from 1
+            (after_call w call.now said).subscriptions) }
         ensures replies { self.new.replies ≡ self.old.replies }
     {
         match call {
@@ -94,7 +99,8 @@ fn append(
     id: u64,
     more: &[Event],
 ) -> Result<(), AllocError>
-    ensures { OnOk result (lists_of gathered.new.entries ≡ appended id more.now (lists_of gathered.old.entries)) }
+    ensures { OnOk result (lists_of gathered.new.entries ≡ appended id more.now
+        (lists_of gathered.old.entries)) }
 {
     let Some(list) = gathered.get_mut(&id) else {
         return Ok(());
@@ -105,7 +111,8 @@ fn append(
 
 /// Adds an empty list for a new id.
 fn begin(alloc: Global, gathered: &mut IndexMap<u64, Vec<Event>>, id: u64) -> Result<(), AllocError>
-    ensures { OnOk result (lookup (nat_eq id) (lists_of gathered.old.entries) ≡ None → lists_of gathered.new.entries ≡ lists_of gathered.old.entries ++ (id, []) ∷ []) }
+    ensures { OnOk result (lookup (nat_eq id) (lists_of gathered.old.entries) ≡ None
+        → lists_of gathered.new.entries ≡ lists_of gathered.old.entries ++ (id, []) ∷ []) }
 {
     match gathered.insert(id, Vec::new(alloc)) {
         Ok(_) => return Ok(()),
@@ -121,10 +128,15 @@ pub fn replay(
     calls: &[Call],
 ) -> Result<World, AllocError>
     ensures replies { IfOk result (λ r. IsRun (empty_world kind limits) calls.now r.replies.items) }
-    ensures state { IfOk result (λ r. StandsFor r.state (world_after (empty_world kind limits) calls.now r.replies.items)) }
-    ensures gathered { IfOk result (λ r. lists_of r.gathered.entries ≡ gathered_from 1 (world_after (empty_world kind limits) calls.now r.replies.items).subscriptions) }
-    ensures since { IfOk result (λ r. AllFollow (world_after (empty_world kind limits) calls.now r.replies.items)) }
-    ensures own { IfOk result (λ r. (p : ℕ) → by p (world_after (empty_world kind limits) calls.now r.replies.items).events ≡ published p calls.now r.replies.items) }
+    ensures state { IfOk result (λ r. StandsFor r.state
+        (world_after (empty_world kind limits) calls.now r.replies.items)) }
+    ensures gathered { IfOk result (λ r. lists_of r.gathered.entries ≡ gathered_from 1
+        (world_after (empty_world kind limits) calls.now r.replies.items).subscriptions) }
+    ensures since { IfOk result (λ r. AllFollow
+        (world_after (empty_world kind limits) calls.now r.replies.items)) }
+    ensures own { IfOk result (λ r. (p : ℕ) → by p
+        (world_after (empty_world kind limits) calls.now r.replies.items).events ≡ published p
+        calls.now r.replies.items) }
 {
     let mut world = World {
         state: Record::new(alloc, kind, limits)?,

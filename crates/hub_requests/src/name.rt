@@ -26,7 +26,8 @@ impl Model for Name {
 impl Name {
     /// The name with this text. None if the text isn't a name. An error says that memory ran out.
     pub fn of(alloc: Global, text: &[u8]) -> Result<Option<Name>, AllocError>
-        ensures ok { IfOk result (λ named. MatchOption named (is_name text.now ≡ false) (λ name. (is_name text.now ≡ true) × (name ≡ text.now))) }
+        ensures ok { IfOk result (λ named. MatchOption named (is_name text.now ≡ false)
+            (λ name. (is_name text.now ≡ true) × (name ≡ text.now))) }
         ensures err { OnErr result (is_name text.now ≡ true) }
     {
         if !Name::is_name(text) {

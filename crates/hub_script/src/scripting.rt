@@ -24,7 +24,8 @@ pub fn script<H: Wait, R: Source, W: Sink>(
         (W.contents writer.old) (W.contents writer.new) (R.remaining reader.old) (R.remaining reader.new) n) }
 
     // Memory is allocated before the first read.
-    ensures memory { result ≡ Err FrontError.Memory → (reader.new ≡ reader.old) × (writer.new ≡ writer.old) }
+    ensures memory { result ≡ Err FrontError.Memory → (reader.new ≡ reader.old)
+        × (writer.new ≡ writer.old) }
 
     // It makes at most 10,000,000 reads. An error is reported if its fault was counted, and only then.
     ensures reads { ReadsWithin (R.reads reader.old) (R.reads reader.new) result }
@@ -39,5 +40,6 @@ pub fn script<H: Wait, R: Source, W: Sink>(
 
 /// A law: an input has one output, if it is given for each text of its `listen` lines whether it is a pattern.
 pub fn input_has_one_output()
-    ensures { (patterns : List Bool) (input a b : List ℕ) → IsOutput patterns input a → IsOutput patterns input b → a ≡ b }
+    ensures { (patterns : List Bool) (input a b : List ℕ) → IsOutput patterns input a
+        → IsOutput patterns input b → a ≡ b }
 {}

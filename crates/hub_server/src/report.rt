@@ -17,7 +17,8 @@ pub struct Report {
 impl Report {
     /// Whether there was no fault: every session ended with its input, and the gate didn't fail.
     pub fn is_clean(&self) -> bool
-        ensures { IsTrue result ↔ (All IsOk self.now.results.items × (self.now.gate_failed ≡ false)) }
+        ensures { IsTrue result ↔ (All IsOk self.now.results.items
+            × (self.now.gate_failed ≡ false)) }
     {
         self.results.iter().all(|ended| ended.is_ok()) && !self.gate_failed
     }

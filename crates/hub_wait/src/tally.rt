@@ -52,7 +52,8 @@ impl Tally {
 
     /// Adds a watch, as it is now.
     pub fn add(&mut self, watch: &Watch)
-        ensures { (span : Span) (watches : List Watching) → self.old ≡ tally_of span watches → self.new ≡ tally_of span (watches ++ watch.now ∷ []) }
+        ensures { (span : Span) (watches : List Watching) → self.old ≡ tally_of span watches
+            → self.new ≡ tally_of span (watches ++ watch.now ∷ []) }
     {
         let met = watch.met();
         let lost = watch.lost();
@@ -72,7 +73,8 @@ impl Tally {
     /// `All` and Never for `Any`.
     #[tactic(auto, unfolding(crate::specs::Verdicts::tally_of))]
     pub fn answer(&self) -> Option<Verdict>
-        ensures { (span : Span) (watches : List Watching) → self.now ≡ tally_of span watches → result ≡ verdict span watches }
+        ensures { (span : Span) (watches : List Watching) → self.now ≡ tally_of span watches
+            → result ≡ verdict span watches }
     {
         if self.yes {
             Some(Verdict::Yes)

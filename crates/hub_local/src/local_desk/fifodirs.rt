@@ -23,7 +23,8 @@ impl LocalDesk {
         reports: Option<bool>,
         limits: Limits,
     ) -> Reply
-        ensures step { Answers self.old true (λ desk. refusal_to_make desk name.now) (λ desk. made desk name.now kind reports (Some limits)) Unchanged result self.new }
+        ensures step { Answers self.old true (λ desk. refusal_to_make desk name.now)
+            (λ desk. made desk name.now kind reports (Some limits)) Unchanged result self.new }
         ensures short { length (text_of result) ≤ 4101 }
     {
         if self.fifodirs.contains_key(name) {

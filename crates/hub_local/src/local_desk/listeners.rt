@@ -92,7 +92,8 @@ fn hear(hearing: &mut Hearing, kept: &mut Record, id: u64) -> Heard
     requires stands { HasSubscription kept.old id }
     requires unspent { is_spent hearing.old.listener ≡ false }
     requires room { length hearing.old.listener.gathered < 4096 }
-    ensures { (w : World) (s : Subscription) → StandsFor kept.old w → found w id ≡ Some s → Hears hearing.old w id result hearing.new kept.new }
+    ensures { (w : World) (s : Subscription) → StandsFor kept.old w → found w id ≡ Some s
+        → Hears hearing.old w id result hearing.new kept.new }
 {
     for _ in hearing.listener.text().len()..ROOM {
         match hear_one(hearing, kept, id) {
@@ -108,7 +109,8 @@ fn hear_one(hearing: &mut Hearing, kept: &mut Record, id: u64) -> Option<Heard>
     requires stands { HasSubscription kept.old id }
     requires unspent { is_spent hearing.old.listener ≡ false }
     requires room { length hearing.old.listener.gathered < 4096 }
-    ensures { (w : World) (s : Subscription) → StandsFor kept.old w → found w id ≡ Some s → HearsOne hearing.old w id result hearing.new kept.new }
+    ensures { (w : World) (s : Subscription) → StandsFor kept.old w → found w id ≡ Some s
+        → HearsOne hearing.old w id result hearing.new kept.new }
 {
     let letter = match hearing.held {
         Some(letter) => letter,
@@ -135,7 +137,8 @@ fn hear_one(hearing: &mut Hearing, kept: &mut Record, id: u64) -> Option<Heard>
 /// Takes the next pending event, and returns its letter.
 fn take_one(kept: &mut Record, id: u64) -> Result<Letter, Heard>
     requires { HasSubscription kept.old id }
-    ensures { (w : World) (s : Subscription) → StandsFor kept.old w → found w id ≡ Some s → TakesOne w id result kept.new }
+    ensures { (w : World) (s : Subscription) → StandsFor kept.old w → found w id ≡ Some s
+        → TakesOne w id result kept.new }
 {
     let least = Event {
         who: 0,

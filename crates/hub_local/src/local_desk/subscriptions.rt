@@ -38,7 +38,8 @@ impl LocalDesk {
 
     /// Why there can be no further handle for a subscription to the fifodir of this name. None if there can.
     pub(super) fn refusal_to_hold(&self, name: &Name) -> Option<Refusal>
-        ensures own { (desk : Desk) → Stands self.now desk → result ≡ refusal_to_hold desk name.now }
+        ensures own { (desk : Desk) → Stands self.now desk
+            → result ≡ refusal_to_hold desk name.now }
         ensures short { IfSome result (λ refusal. length (text_of (No refusal)) ≤ 4101) }
     {
         if !self.fifodirs.contains_key(name) {
@@ -55,9 +56,12 @@ impl LocalDesk {
 
     /// Subscribes, and gives the subscription the next handle.
     pub(super) fn hold(&mut self, name: &Name, hearing: Option<Hearing>) -> Reply
-        requires unrefused { (desk : Desk) → Stands self.old desk → refusal_to_hold desk name.now ≡ None }
+        requires unrefused { (desk : Desk) → Stands self.old desk
+            → refusal_to_hold desk name.now ≡ None }
         requires goes_on { GoesOn hearing }
-        ensures step { Answers self.old true (λ desk. refusal_to_hold desk name.now) (λ desk. in_world desk (λ w. subscribed desk name.now hearing w (subscribe_reply w)) (world_of desk.fifodirs name.now)) Unchanged result self.new }
+        ensures step { Answers self.old true (λ desk. refusal_to_hold desk name.now)
+            (λ desk. in_world desk (λ w. subscribed desk name.now hearing w (subscribe_reply w))
+            (world_of desk.fifodirs name.now)) Unchanged result self.new }
         ensures short { length (text_of result) ≤ 4101 }
     {
         let Ok(key) = name.copy() else {
@@ -118,7 +122,8 @@ impl LocalDesk {
 
 /// Cancels the subscription of a handle, if it is current.
 fn release(fifodirs: &mut IndexMap<Name, LocalFifodir>, holding: &Holding)
-    ensures { (model : List Fifodir) → AreKept fifodirs.old.entries model → AreKept fifodirs.new.entries (without_held model holding.now) }
+    ensures { (model : List Fifodir) → AreKept fifodirs.old.entries model
+        → AreKept fifodirs.new.entries (without_held model holding.now) }
 {
     if let Some(fifodir) = fifodirs.get_mut(&holding.name) {
         let _ = fifodir.kept.cancel(holding.id);
@@ -130,7 +135,8 @@ pub(super) fn release_all(
     fifodirs: &mut IndexMap<Name, LocalFifodir>,
     holdings: &IndexMap<u64, Holding>,
 )
-    ensures { (model : List Fifodir) → AreKept fifodirs.old.entries model → AreKept fifodirs.new.entries (without_all model (values holdings.now)) }
+    ensures { (model : List Fifodir) → AreKept fifodirs.old.entries model
+        → AreKept fifodirs.new.entries (without_all model (values holdings.now)) }
 {
     for holding in holdings.values() {
         release(fifodirs, holding);
@@ -142,8 +148,11 @@ pub(super) fn release_all(
 fn take_waiting(alloc: Global, kept: &mut Record, id: u64, most: usize) -> Result<Reply, AllocError>
     requires stands { HasSubscription kept.old id }
     requires few { most ≤ 256 }
-    ensures reply { (w : World) → StandsFor kept.old w → IfOk result (λ reply. reply ≡ take_shown (letters (take_events w id most)) (take_reply w id most)) }
-    ensures after { (w : World) → StandsFor kept.old w → OnOk result (StandsFor kept.new (after_take w id most)) }
+    ensures reply { (w : World) → StandsFor kept.old w
+        → IfOk result (λ reply. reply ≡ take_shown (letters (take_events w id most))
+        (take_reply w id most)) }
+    ensures after { (w : World) → StandsFor kept.old w
+        → OnOk result (StandsFor kept.new (after_take w id most)) }
     ensures short { IfOk result (λ reply. length (text_of reply) ≤ 4101) }
     ensures err { OnErr result (kept.new ≡ kept.old) }
 {
@@ -167,8 +176,11 @@ fn take_letters(
 ) -> Result<Reply, AllocError>
     requires stands { HasSubscription kept.old id }
     requires few { length room.old ≤ 256 }
-    ensures reply { (w : World) → StandsFor kept.old w → IfOk result (λ reply. reply ≡ take_shown (letters (take_events w id (length room.old))) (take_reply w id (length room.old))) }
-    ensures after { (w : World) → StandsFor kept.old w → OnOk result (StandsFor kept.new (after_take w id (length room.old))) }
+    ensures reply { (w : World) → StandsFor kept.old w
+        → IfOk result (λ reply. reply ≡ take_shown (letters (take_events w id (length room.old)))
+        (take_reply w id (length room.old))) }
+    ensures after { (w : World) → StandsFor kept.old w
+        → OnOk result (StandsFor kept.new (after_take w id (length room.old))) }
     ensures short { IfOk result (λ reply. length (text_of reply) ≤ 4101) }
     ensures err { OnErr result (kept.new ≡ kept.old) }
 {

@@ -28,7 +28,9 @@ impl LocalDesk {
     /// Answers at once, since nothing can change during a wait of the only session.
     pub(super) fn wait(&mut self, span: Span, want: Want, names: &Names) -> Reply
         requires { length names.now ≤ 32 }
-        ensures step { Answers self.old true (λ desk. refusal_to_wait desk names.now) (λ desk. waited desk span want names.now) (λ desk left. LeftByWait desk want names.now left) result self.new }
+        ensures step { Answers self.old true (λ desk. refusal_to_wait desk names.now)
+            (λ desk. waited desk span want names.now)
+            (λ desk left. LeftByWait desk want names.now left) result self.new }
         ensures short { length (text_of result) ≤ 4101 }
     {
         let names = names.items();
@@ -90,7 +92,8 @@ fn open(
     name: &Name,
     want: Want,
 ) -> Result<Post, Refusal>
-    ensures opens { (model : List Fifodir) → AreKept fifodirs.old.entries model → OpensPost want name.now model result fifodirs.new.entries }
+    ensures opens { (model : List Fifodir) → AreKept fifodirs.old.entries model
+        → OpensPost want name.now model result fifodirs.new.entries }
     ensures short { IfErr result (λ refusal. length (text_of (No refusal)) ≤ 4101) }
 {
     let Some(fifodir) = fifodirs.get_mut(name) else {
@@ -119,7 +122,8 @@ fn open_all(
 ) -> Result<(), Refusal>
     requires empty { vec_len posts.old ≡ 0 }
     requires fits { length names.now ≤ vec_capacity posts.old }
-    ensures opens { (model : List Fifodir) → AreKept fifodirs.old.entries model → OpensAll want names.now model result fifodirs.new.entries posts.new.items }
+    ensures opens { (model : List Fifodir) → AreKept fifodirs.old.entries model
+        → OpensAll want names.now model result fifodirs.new.entries posts.new.items }
     ensures few { vec_len posts.new ≤ length names.now }
     ensures short { IfErr result (λ refusal. length (text_of (No refusal)) ≤ 4101) }
 {
@@ -132,7 +136,8 @@ fn open_all(
 
 /// Cancels the subscription of this id, if it is current.
 fn cancel_at(fifodirs: &mut IndexMap<Name, LocalFifodir>, name: &Name, id: u64)
-    ensures { (model : List Fifodir) → AreKept fifodirs.old.entries model → AreKept fifodirs.new.entries (without_subscription model name.now id) }
+    ensures { (model : List Fifodir) → AreKept fifodirs.old.entries model
+        → AreKept fifodirs.new.entries (without_subscription model name.now id) }
 {
     if let Some(fifodir) = fifodirs.get_mut(name) {
         let _ = fifodir.kept.cancel(id);
@@ -142,7 +147,8 @@ fn cancel_at(fifodirs: &mut IndexMap<Name, LocalFifodir>, name: &Name, id: u64)
 /// Ends the posts, which were opened for the first of these names.
 fn give_back(fifodirs: &mut IndexMap<Name, LocalFifodir>, names: &[Name], posts: &[Post])
     requires { length posts.now ≤ length names.now }
-    ensures { (model : List Fifodir) → AreKept fifodirs.old.entries model → AreKept fifodirs.new.entries (without_posts model names.now posts.now) }
+    ensures { (model : List Fifodir) → AreKept fifodirs.old.entries model
+        → AreKept fifodirs.new.entries (without_posts model names.now posts.now) }
 {
     for i in 0..posts.len() {
         cancel_at(fifodirs, &names[i], posts[i].id);

@@ -82,7 +82,8 @@ impl Fifodirs {
     }
 
     pub fn publish<H: Wait>(&mut self, rt: &H, hub: &Hub, name: &Name, letters: &Letters) -> Reply
-        ensures step { AsksByName hub.now (says_published letters.now) self.old name.now result self.new }
+        ensures step { AsksByName hub.now (says_published letters.now) self.old name.now result
+            self.new }
         ensures short { length (text_of result) ≤ 4101 }
     {
         if let Err(refusal) = self.join(rt, hub, name) {

@@ -45,7 +45,8 @@ impl Joined {
         ensures found { self.new.found ≡ self.old.found }
         ensures silent { self.new.publisher ≡ None }
         ensures of { IfOk result (λ p. IsPublisherOf (arc_value self.old.found.dir) p) }
-        ensures ok { IfOk result (λ p. IsSpeaker (arc_value self.old.found.dir) self.old.publisher p) }
+        ensures ok { IfOk result (λ p. IsSpeaker
+            (arc_value self.old.found.dir) self.old.publisher p) }
         ensures err { OnErr result (self.old.publisher ≡ None) }
     {
         match self.publisher.take() {

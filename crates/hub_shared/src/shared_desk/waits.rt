@@ -37,7 +37,8 @@ impl Fifodirs {
     ) -> Result<Posts, Refusal>
         requires { length names.now ≤ 32 }
         ensures services { OnOk result (AreSeen self.new names.now false) }
-        ensures opened { IfOk result (λ opened. ArePosts self.new want names.now opened.posts.items) }
+        ensures opened { IfOk result (λ opened. ArePosts self.new want names.now
+            opened.posts.items) }
         ensures refused { IfErr result (IsWaitRefused self.new names.now) }
         ensures kept { KeepsAll hub.now self.old self.new }
         ensures brief { IfErr result IsBrief }
