@@ -174,7 +174,7 @@ fn replies_that_are_cut_at_each_byte(rt: HostRuntime) {
     for (cut, size) in (0u64..15).zip(0usize..15) {
         let ends = REPLIES.get(..size).unwrap_or(REPLIES);
         expect_replies(&rt, Dripping::new(ends, 64, 0), RelayError::Ended, cut);
-        let fails = Dripping::new(REPLIES, 1, cut + 1);
+        let fails = Dripping::new(REPLIES, 1, cut.saturating_add(1));
         expect_replies(&rt, fails, RelayError::Receive, cut);
     }
 }
