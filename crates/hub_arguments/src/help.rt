@@ -1,17 +1,17 @@
 //! The texts of `--help`.
 
 /// The program in one line.
-pub const ABOUT: &str = "A notification hub: event directories (fifodirs) inside one program.";
+pub const ABOUT: &str = "An event hub for service start-up: event directories (fifodirs) inside one program.";
 
 /// The program, for a reader who doesn't know it.
 pub const LONG_ABOUT: &str = "\
-A notification hub: event directories (fifodirs) inside one program.
+An event hub for service start-up: event directories (fifodirs) inside one program.
 
-A fifodir is where those who tell of a change meet those who wait for it. What is published to it, letter by letter,
-is a numbered list of events. Whoever has subscribed gets every event from then on, each once and in order; who hasn't
-gets none. Events wait for the slowest subscription: there is no loss, but a refusal (`no full`) to who publishes.
+Publishers and subscribers meet at a fifodir. The letters that are published there are a numbered list of events. A
+subscriber gets every event from then on, each once and in order. Events are pending until the slowest subscriber has
+taken them. No event is lost: if too many are pending, the publisher is refused (`no full`) and retries.
 
-A start-up script waits so until two services are ready, for about five seconds at most:
+A start-up script waits until two services are ready, for about five seconds at most:
 
   ftrighub serve /run/hub.sock --sessions 8 &
   printf 'wait all ready 5000 db web\\n' | ftrighub call /run/hub.sock";
@@ -28,19 +28,19 @@ pub const SCRIPT_LINES: &str = "\
 Each line of standard input is a request, and each gets one reply line, in order. N is a name of 1 to 32 bytes
 (letters, digits, `_`, `.`, `-`). Fields are separated by exactly one space.
 
-  dir N W T      make a fifodir: at most W events wait (1 to 4096), T in its life (1 to 10^12)
+  dir N W T      make a fifodir: at most W events pending (1 to 4096), T in its life (1 to 10^12)
                  dir web 64 1000000000000 ok
-  svc N W T R    the same of a service, whose letters keep their lawful order; R is 1 where it reports readiness
+  svc N W T R    make a service's fifodir, for letters in their lawful order; R is 1 if it reports readiness
                  svc db 64 1000000000000 1 ok
   sub N          subscribe; the reply has the handle
                  sub web                ok 1
   pub N LETTERS  publish letters (bytes from ! to ~); the reply has the number of the first event
                  pub web ab             ok 0
-  take ID MAX    take at most MAX events (1 to 256) that wait for a handle
+  take ID MAX    take at most MAX pending events (1 to 256) of a subscription
                  take 1 256             got ab, or none, or end
   cancel ID      end a subscription or a listener
                  cancel 1               ok
-  close N        close for events and subscriptions; what waits may still be taken
+  close N        close for events and subscriptions; pending events may still be taken
                  close web              ok
   status N       the number of events, the flags' code (up 1, settled 2, supervised 4, failed 8), open or closed
                  status web             ok 2 0 open
@@ -51,16 +51,17 @@ Each line of standard input is a request, and each gets one reply line, in order
                  poll 2                 hit suU, or none, or end
   wait SPAN WANT TURNS N1 .. Nk
                  wait until all or any (SPAN) of 1 to 32 services are up, ready, down or finished (WANT), for at most
-                 TURNS turns (0 to 1000000); the reply has each one's number of events, or `-` where it isn't so yet
+                 TURNS turns (0 to 1000000); the reply has each one's number of events, or `-` if it isn't so yet
                  wait all ready 5000 db yes 3, or never, or late
-                 `never`: it can't come about any more, since one failed for good or is closed
+                 `never`: it can't come about any more, because one failed for good or is closed
 
-A line that can't be carried out is refused, `no` and one word, and changes nothing: long, text, word, form, range,
-name, exists, kind (a wait for what is no service), id, many, spent, closed, unlawful I, full, pattern (it is no
-regular expression), overlong (4096 letters came since the last hit: cancel the listener), memory. The session goes on.
+A line that can't be carried out is refused by `no` and one word, and changes nothing: long, text, word, form, range,
+name, exists, kind (a wait for a fifodir that isn't a service's), id, many, spent, closed, unlawful I, full, pattern
+(not a regular expression, or too large), overlong (4096 letters came since the last hit: cancel the listener),
+memory. The session goes on.
 
-In `script` nothing can change while a wait lasts, so without a verdict it is `late` at once. In a session of `serve`
-a turn takes about a millisecond after the first 32, which nothing promises.
+In `script` nothing can change during a wait, so it answers `late` immediately if there is no verdict. In a session of
+`serve` a turn takes about a millisecond after the first 32, but this isn't promised.
 
 Exit status: 0 all went well, 1 a fault while running (one line on standard error), 2 the command line was refused.";
 
@@ -70,23 +71,23 @@ pub const SERVE_ABOUT: &str = "Serve sessions at a Unix socket, over one hub";
 /// What `serve` does.
 pub const SERVE_LINES: &str = "\
 Makes the socket SOCKET, accepts N connections there, and serves all of them at the same time. Each is a session with
-the request lines of `script` (see `ftrighub script --help`). The sessions share one hub: the fifodirs that one makes,
-all see, and what one publishes, the subscriptions of the others get. A session's own subscriptions end with it; a
+the request lines of `script` (see `ftrighub script --help`). The sessions share one hub: all sessions see the fifodirs
+that one makes, and subscribers get the events that any session publishes. A session's subscriptions end with it. A
 fifodir stays as long as the server.
 
   ftrighub serve /run/hub.sock --sessions 8 &
   printf 'svc db 64 1000000000000 1\\n' | ftrighub call /run/hub.sock
 
 It ends when N connections were made and all have ended, so N is the number of calls that a start-up makes in all.
-A connection ends when its client hangs up.
+A connection ends when its client disconnects.
 
-The file SOCKET is left. Where one stands there from before, it can't listen: remove it first, once no server uses it.
+The file SOCKET stays. If it exists before, the server can't listen: remove it first, once no server uses it.
 
   rm -f /run/hub.sock
 
 Exit status: 0 all went well, 2 the command line was refused, 1 a fault while running, with a line on standard error:
-`cannot listen`, `cannot accept`, `cannot start a session`, `out of memory`, and after all have ended, for a session
-that stopped, as `session 2: read failed` (write failed, too many reads, out of memory).";
+`cannot listen`, `cannot accept`, `cannot start a session`, `out of memory`. When all sessions have ended, each that
+stopped gets a line such as `session 2: read failed` (write failed, too many reads, out of memory).";
 
 /// The subcommand `call` in one line.
 pub const CALL_ABOUT: &str = "Send the lines of standard input to a server, and write its replies";
@@ -94,11 +95,11 @@ pub const CALL_ABOUT: &str = "Send the lines of standard input to a server, and 
 /// What `call` does.
 pub const CALL_LINES: &str = "\
 Connects to the server at SOCKET and sends it each line of standard input, once the line before has its reply. Each
-reply is written to standard output. At the end of input it hangs up, which ends its session and its subscriptions.
+reply is written to standard output. At the end of input it disconnects, which ends its session and its subscriptions.
 
   printf 'pub db suU\\n' | ftrighub call /run/hub.sock
 
-A start-up script goes on where both services are ready, and gives up after about five seconds:
+A start-up script goes on if both services are ready, and gives up after about five seconds:
 
   case $(printf 'wait all ready 5000 db web\\n' | ftrighub call /run/hub.sock) in
   yes*) echo 'both are ready' ;;
