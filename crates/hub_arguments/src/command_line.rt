@@ -1,4 +1,4 @@
-//! The words of the command line.
+//! Reads the words of the command line.
 ghost use Rattle.std.specs.Prelude.{◌≡◌, ◌⊎◌, IfOk, IfSome};
 
 use crate::help::{
@@ -9,21 +9,21 @@ use clap::error::ErrorKind;
 use clap::{Arg, ArgAction, Command, Error, value_parser};
 use std::alloc::{AllocError, Global};
 
-/// The program's version, as `--version` prints it behind its name.
+/// The program's version, which `--version` prints after its name.
 const VERSION: &str = "0.2.0";
 
 const SOCKET: &str = "socket";
 
 const SESSIONS: &str = "sessions";
 
-/// What the words ask for.
+/// What the program is to do.
 #[derive(Clone, Copy, Debug, PartialEq, Eq)]
 pub enum Plan<'a> {
-    /// Serve standard input to standard output.
+    /// Serves standard input to standard output, as one local session.
     Script,
-    /// Accept so many connections at the socket, and serve them.
+    /// Accepts this many connections at the socket (1 to 64), and serves each as a session.
     Serve { socket: &'a str, sessions: u64 },
-    /// Send standard input to the server at the socket, and write its replies to standard output.
+    /// Sends standard input to the server at the socket, and writes its replies to standard output.
     Call { socket: &'a str },
 }
 
@@ -69,7 +69,8 @@ fn command<'a>(alloc: Global) -> Result<Command<'a>, AllocError> {
         .subcommand(call)
 }
 
-/// Reads the words, of which the first is the program's name, as usage is to say it.
+/// Reads the words. The first word is the program's name, which the usage lines print. An error has the text to print:
+/// help, the version, or what is wrong with the words; `OutOfMemory` if memory ran out.
 pub fn read_words<'a>(alloc: Global, words: &'a [String]) -> Result<Plan<'a>, Error> {
     let matches = command(alloc)?.try_get_matches_from(words)?;
     Ok(match matches.subcommand() {
@@ -84,14 +85,14 @@ pub fn read_words<'a>(alloc: Global, words: &'a [String]) -> Result<Plan<'a>, Er
     })
 }
 
-/// The status that the program ends with where the words were refused (2) or ask for help (0).
+/// The exit status for words that run nothing: 2 if they were refused, 0 if they ask for help or the version.
 pub fn status_of(error: &Error) -> u8
     ensures { (result ≡ 0) ⊎ (result ≡ 2) }
 {
     if error.use_stderr() { 2 } else { 0 }
 }
 
-/// The status that ends the program before it runs anything; none where it is to run.
+/// The exit status for words that run nothing. None if the words are a plan to run.
 pub fn early_status(alloc: Global, words: &[String]) -> Result<Option<u8>, AllocError>
     ensures { IfOk result (λ status. IfSome status (λ s. (s ≡ 0) ⊎ (s ≡ 2))) }
 {

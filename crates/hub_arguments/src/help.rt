@@ -1,9 +1,9 @@
 //! The texts of `--help`.
 
-/// One line on the program.
+/// The program in one line.
 pub const ABOUT: &str = "A notification hub: event directories (fifodirs) inside one program.";
 
-/// The program, for a stranger.
+/// The program, for a reader who doesn't know it.
 pub const LONG_ABOUT: &str = "\
 A notification hub: event directories (fifodirs) inside one program.
 
@@ -16,11 +16,11 @@ A start-up script waits so until two services are ready, for about five seconds 
   ftrighub serve /run/hub.sock --sessions 8 &
   printf 'wait all ready 5000 db web\\n' | ftrighub call /run/hub.sock";
 
-/// What the program ends with.
+/// The exit statuses.
 pub const EXIT: &str = "\
 Exit status: 0 all went well, 1 a fault while running (one line on standard error), 2 the command line was refused.";
 
-/// One line on `script`.
+/// The subcommand `script` in one line.
 pub const SCRIPT_ABOUT: &str = "Answer the request lines of standard input on standard output";
 
 /// The request lines and their replies.
@@ -64,7 +64,7 @@ a turn takes about a millisecond after the first 32, which nothing promises.
 
 Exit status: 0 all went well, 1 a fault while running (one line on standard error), 2 the command line was refused.";
 
-/// One line on `serve`.
+/// The subcommand `serve` in one line.
 pub const SERVE_ABOUT: &str = "Serve sessions at a Unix socket, over one hub";
 
 /// What `serve` does.
@@ -88,7 +88,7 @@ Exit status: 0 all went well, 2 the command line was refused, 1 a fault while ru
 `cannot listen`, `cannot accept`, `cannot start a session`, `out of memory`, and after all have ended, for a session
 that stopped, as `session 2: read failed` (write failed, too many reads, out of memory).";
 
-/// One line on `call`.
+/// The subcommand `call` in one line.
 pub const CALL_ABOUT: &str = "Send the lines of standard input to a server, and write its replies";
 
 /// What `call` does.

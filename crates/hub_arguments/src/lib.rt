@@ -1,7 +1,7 @@
-//! The words of the command line.
+//! The command line: its words, and the texts of `--help`.
 //!
-//! [`read_words`] reads them by the crate `clap`, as a [`Plan`] or as the text and status that the program ends with:
-//! help, the version, or what was wrong with them.
+//! [`read_words`] reads the words with the crate `clap`. They are a [`Plan`], or an error with the text to print: help,
+//! the version, or what is wrong with them. [`status_of`] is the exit status for such an error.
 #![tactic(auto)]
 
 mod command_line;

@@ -1,13 +1,13 @@
-//! A bare echo of lines: what reading and writing a line cost a proved program that makes nothing of it.
+//! A bare echo of lines: the cost of reading and writing lines for a proved program that does nothing else.
 
 use anyhow::Result;
 use std::alloc::Global;
 use std::io::{BufRead, BufReader, Read, Write};
 
-/// How many bytes one read may take.
+/// The size of the reader's buffer.
 const CHUNK: usize = 65_536;
 
-/// Writes each line of the reader back by itself, in one write, until the reader ends.
+/// Writes each line of the reader back, each in one write, until the reader ends.
 pub fn echo<R: Read + Drop, W: Write>(alloc: Global, reader: R, writer: &mut W) -> Result<()> {
     let mut lines = BufReader::with_capacity(alloc, CHUNK, reader)?;
     let mut line = Vec::new(alloc);

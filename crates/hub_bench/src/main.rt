@@ -1,6 +1,7 @@
-//! Measures what the hub stands on, beside plain forms of the same work, so that the ratios hold on any machine:
-//! `record`, how many letters a second pass a record, and `fifodir`, looks and publishing among threads. `echo` is no
-//! measure but a contender: a program of the same making as the hub that does nothing with a line but write it back.
+//! Measures the layers of the hub and plain forms of the same work, so that the ratios hold on any machine.
+//!
+//! `record` measures how many letters a second pass through a record, and `fifodir` measures looks and publishing among
+//! threads. `echo` isn't a measure but a contender: a program built like the hub that only writes each line back.
 #![tactic(auto)]
 
 mod echo;
@@ -18,13 +19,13 @@ use std::sync::Wait;
 use std::thread::Threads;
 use std::time::{Duration, Instant};
 
-/// How many events may wait.
+/// How many events may be pending.
 const WAITING: usize = 4096;
 
-/// How many bursts of each length are sent.
+/// The length of each kind of burst, and how many bursts are sent.
 const MEASURES: [(usize, u32); 2] = [(1, 1_000_000), (256, 20_000)];
 
-/// How many listeners there are.
+/// The numbers of listeners to measure with.
 const LISTENERS: [u64; 3] = [1, 4, 16];
 
 fn main(rt: HostRuntime) -> ExitCode {
@@ -91,7 +92,7 @@ fn measure_record(rt: &impl Runtime, alloc: Global) -> Result<()> {
     Ok(())
 }
 
-/// Letters a second.
+/// The rate in letters, or looks, a second.
 fn rate(letters: u64, took: Duration) -> u128 {
     letters as u128 * 1_000_000 / took.as_micros().max(1)
 }
@@ -103,7 +104,7 @@ fn filler() -> Event {
     }
 }
 
-/// A record with so many subscriptions, and their ids.
+/// A record with this many subscriptions, and their ids.
 fn subscribed(alloc: Global, listeners: u64) -> Result<(Record, Vec<u64>)> {
     let limits = Limits::of(WAITING as u64, 1_000_000_000_000, listeners.max(1)).ok_or_else(
         || anyhow!("no limits"),
@@ -117,7 +118,7 @@ fn subscribed(alloc: Global, listeners: u64) -> Result<(Record, Vec<u64>)> {
     Ok((record, ids))
 }
 
-/// Each burst is published, and then taken by each listener.
+/// The time to publish each burst and to take it with each listener.
 fn through_record(
     rt: &impl Clock,
     alloc: Global,
@@ -137,7 +138,7 @@ fn through_record(
     Ok(start.elapsed(rt)?)
 }
 
-/// The same with a vector and an index for each listener: nothing is numbered, bounded or refused.
+/// The same with a vector and an index for each listener. Nothing is numbered, bounded or refused.
 fn through_vector(
     rt: &impl Clock,
     alloc: Global,
@@ -167,7 +168,7 @@ fn through_vector(
     Ok(start.elapsed(rt)?)
 }
 
-/// Copies the events from a place on, as far as the slice goes, and answers the next place.
+/// Copies the events from a place on, as many as fit, and returns the next place.
 fn copied(events: &[Event], from: usize, out: &mut [Event]) -> usize {
     let from = from.min(events.len());
     let count = (events.len() - from).min(out.len());
@@ -175,7 +176,7 @@ fn copied(events: &[Event], from: usize, out: &mut [Event]) -> usize {
     from + count
 }
 
-/// The ring is filled by 16 messages, of which the time is taken, and emptied by the listeners, of which it isn't.
+/// The time to fill the ring with 16 messages. The listeners then empty it, and that time doesn't count.
 fn publishing_alone(
     rt: &impl Clock,
     alloc: Global,

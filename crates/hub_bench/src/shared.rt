@@ -1,9 +1,10 @@
-//! Measures a fifodir: looks without its lock beside a bare load and a lock, and publishing to listeners on threads.
-ghost use Rattle.hub_fifodir.specs.Passes.{IsTicketOf};
+//! Measures a fifodir: looks without its lock, compared with a bare load and a mutex, and publishing to listeners on
+//! threads.
+ghost use Rattle.hub_fifodir.specs.Passes.{IsPublisherOf, IsTicketOf};
 
 use crate::{filler, rate};
 use anyhow::{Result, anyhow};
-use hub_fifodir::{Fifodir, Ticket};
+use hub_fifodir::{Fifodir, Publisher, Ticket};
 use hub_letters::Letter;
 use hub_record::{Kind, Limits, PubError, Record, Taken};
 use std::alloc::{AllocGlobal, Global};
@@ -38,13 +39,9 @@ pub fn looks<R: Runtime + Wait>(rt: &R, alloc: Global) -> Result<()> {
     let bare = start.elapsed(rt)?;
     let fifodir = Fifodir::new(alloc, Kind::Plain, limits()?)?;
     let mut ticket = fifodir.subscribe(rt)?;
-    let start = Instant::now(rt)?;
-    all = all.wrapping_add(statuses(&fifodir, &mut ticket));
-    let status = start.elapsed(rt)?;
-    let start = Instant::now(rt)?;
-    all = all.wrapping_add(fronts(&fifodir, &mut ticket));
-    let front = start.elapsed(rt)?;
+    let looked = look_by(rt, &fifodir, &mut ticket, &mut all);
     fifodir.cancel(rt, ticket);
+    let (status, front) = looked?;
     let behind = behind_a_mutex(rt, alloc, &mut all)?;
     println!(rt;
         "looks a second: bare load {}, status {}, front {}, mutex {} ({all})",
@@ -54,6 +51,25 @@ pub fn looks<R: Runtime + Wait>(rt: &R, alloc: Global) -> Result<()> {
         rate(LOOKS, behind)
     )?;
     Ok(())
+}
+
+/// How long the looks at the status take, and those at the front.
+fn look_by<R: Runtime>(
+    rt: &R,
+    fifodir: &Fifodir,
+    ticket: &mut Ticket,
+    all: &mut u64,
+) -> Result<(Duration, Duration)>
+    requires { IsTicketOf fifodir.now ticket.old }
+    ensures { IsTicketOf fifodir.now ticket.new }
+{
+    let start = Instant::now(rt)?;
+    *all = all.wrapping_add(statuses(fifodir, ticket));
+    let status = start.elapsed(rt)?;
+    let start = Instant::now(rt)?;
+    *all = all.wrapping_add(fronts(fifodir, ticket));
+    let front = start.elapsed(rt)?;
+    Ok((status, front))
 }
 
 fn statuses(fifodir: &Fifodir, ticket: &mut Ticket) -> u64
@@ -126,9 +142,24 @@ pub fn threads<R: Runtime + AllocGlobal + Wait + Threads + Sync + Send + 'static
 fn publish_all<R: Wait>(rt: &R, alloc: Global, fifodir: &Fifodir) -> Result<()> {
     let message = vec![in alloc; Letter::least(); BURST]?;
     let mut publisher = fifodir.publisher(rt)?;
+    let published = publish_by(rt, fifodir, &mut publisher, &message);
+    let _ = fifodir.close(rt, &mut publisher);
+    fifodir.leave(rt, publisher);
+    published
+}
+
+fn publish_by<R: Wait>(
+    rt: &R,
+    fifodir: &Fifodir,
+    publisher: &mut Publisher,
+    message: &[Letter],
+) -> Result<()>
+    requires { IsPublisherOf fifodir.now publisher.old }
+    ensures { IsPublisherOf fifodir.now publisher.new }
+{
     let mut left = BURSTS;
     'messages: for _ in rt.forever() {
-        match fifodir.publish(rt, &mut publisher, &message) {
+        match fifodir.publish(rt, publisher, message) {
             Ok(_) => left = left.saturating_sub(1),
             Err(PubError::Full) => thread::yield_now(),
             Err(error) => return Err(anyhow::Error::from(error)),
@@ -137,8 +168,6 @@ fn publish_all<R: Wait>(rt: &R, alloc: Global, fifodir: &Fifodir) -> Result<()> 
             break;
         }
     }
-    let _ = fifodir.close(rt, &mut publisher);
-    fifodir.leave(rt, publisher);
     Ok(())
 }
 

@@ -1,4 +1,4 @@
-//! The program `ftrighub`.
+//! The program `ftrighub`: reads the command line, and runs the subcommand with the real streams.
 #![tactic(auto)]
 
 use clap::error::ErrorKind;
@@ -15,13 +15,13 @@ use std::sync::Wait;
 use std::thread::Threads;
 use std::{env, io};
 
-/// The status of a fault while running.
+/// The exit status of a fault while running.
 const FAULTY: u8 = 1;
 
-/// The status of a command line that was refused.
+/// The exit status of a command line that was refused.
 const REFUSED: u8 = 2;
 
-/// What usage calls the program, under whatever name it was started.
+/// The program's name in the usage lines, whatever name it was started by.
 const NAME: &str = "ftrighub";
 
 fn main(rt: HostRuntime) -> ExitCode {
@@ -36,7 +36,7 @@ fn main(rt: HostRuntime) -> ExitCode {
     }
 }
 
-/// Does what the command line asks for, and answers the status to end with.
+/// Does what the command line says, and returns the exit status.
 fn run<H, R: Source, W: Sink, F: Write>(
     rt: &H,
     alloc: Global,
@@ -97,7 +97,7 @@ where
     Ok(0)
 }
 
-/// The words of the command line, with the program's own name first.
+/// The words of the command line, after the program's name.
 fn words<H: Runtime + AllocGlobal>(rt: &H, alloc: Global) -> io::Result<Vec<String>> {
     let mut words = Vec::new(alloc);
     words.push(String::from_str(alloc, NAME)?)?;

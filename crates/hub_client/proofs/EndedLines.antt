@@ -139,12 +139,12 @@ parts (b ∷ bs) =
       | inr other ↦ parts_more b bs other p.lines p.part p.are_cut p.cut p.whole
     ]
 
--- a last part gets an LF where it isn't empty
+-- a last part gets an LF if it isn't empty
 ended_last : (part : List ℕ) → (ending : List ℕ) × (ended_lines (last_line part) ≡ part ++ ending)
 ended_last [] = ([], refl)
 ended_last (b ∷ bs) = (10 ∷ [], ended_one (b ∷ bs))
 
--- bytes are the front of their lines
+-- the bytes are a prefix of their lines with LFs
 pub front : (bytes : List ℕ) → (ending : List ℕ) × (ended_lines (lines_of bytes) ≡ bytes ++ ending)
 front bytes =
     let p : Parts bytes = parts bytes in
@@ -154,7 +154,7 @@ front bytes =
       ap ended_lines cut ∙ ended-append p.lines (last_line p.part) ∙ ap (λ l. ended_lines p.lines ++ l) last ∙ sym (append_assoc (ended_lines p.lines) p.part ending) ∙ ap (λ l. l ++ ending) (sym p.whole),
     )
 
--- a part without LF, and more, is shorter than the lines that it is of
+-- a part without LF is shorter than the lines of it and more bytes
 pub part_short : (part rest : List ℕ) → has_lf part ≡ false → 1 ≤ length (part ++ rest) → length part < length (ended_lines (lines_of (part ++ rest)))
 part_short part [] cut some =
     let same : part ++ [] ≡ part = append-nil part in

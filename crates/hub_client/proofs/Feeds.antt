@@ -75,11 +75,11 @@ or_left false b e = refl
 pub has_lf-take : (n : ℕ) (bs : List ℕ) → has_lf bs ≡ false → has_lf (take n bs) ≡ false
 has_lf-take n bs e = or_left (has_lf (take n bs)) (has_lf (drop n bs)) (sym (list_any-append (λ b. b == 10) (take n bs) (drop n bs)) ∙ ap has_lf (take-append-drop n bs) ∙ e)
 
--- up to the first LF and with it
+-- up to the first LF and including it
 pub line_at : (bytes : List ℕ) (place : ℕ) → IsFirst bytes place → IsLine (take (place + 1) bytes)
 line_at bytes place f = record { line = take place bytes; cut = f.before; ends = rw add-one f.here }
 
--- A front was to be written, with an LF at its end at most, and wasn't written whole.
+-- A prefix was to be written, with an LF only at its end, and wasn't written whole.
 pub breaks_off : (held holds : Option (List ℕ)) (bytes front : List ℕ) (size : ℕ) → front ≡ take size bytes → size ≤ length bytes → has_lf (take (size - 1) bytes) ≡ false
     → AppendsPart held holds front → (piece rest : List ℕ) × (bytes ≡ piece ++ rest) × (1 ≤ length rest) × (has_lf piece ≡ false) × Appends held holds piece
 breaks_off held holds bytes front size e within cut a =

@@ -1,4 +1,4 @@
--- Bytes that come behind what is pending, until there is an LF.
+-- Bytes that come after what is pending, until there is an LF.
 use Rattle.std.proofs.Common.{◌≡◌, ℕ, ◌+◌, ◌-◌, ◌<◌, ◌≤◌, true, false, is_some, List, [], ◌∷◌, ◌++◌, ◌==◌, length, take, drop, Vec, Option, None, Some, position, refl, sym, ap, ◌∙◌, subst, arith, append-nil, length-take, length-drop}
 use Rattle.std.proofs.lemmas.List.{append_cancel_left, take_at, drop_at, take-append-le, drop-append-le, drop-take, length-take-le, with_items_is}
 use Rattle.std.specs.Vec.{with_items}
@@ -27,9 +27,9 @@ lf_some : (bs : List ℕ) → has_lf bs ≡ true → 1 ≤ length bs
 lf_some [] e = cc
 lf_some (b ∷ bs) e = omega arith
 
--- ---- the buffer after a read into what is behind end
+-- ---- the buffer after a read into its part after end
 
--- what is written behind end comes behind what is pending
+-- what is written after end follows what is pending
 behind : (xs got : List ℕ) (start end k n : ℕ) → start ≤ end → end ≤ length xs → n ≤ length got
     → between (take end xs ++ (got ++ post_of end k xs)) start (end + n) ≡ between xs start end ++ take n got
 behind xs got start end k n ordered within fits =

@@ -37,7 +37,7 @@ reads_some had has made makes left left' n bytes within few consumed spent told 
   least = omega (arith, length-take-le n bytes within);
 }
 
--- what was read comes behind what is pending
+-- what was read follows what is pending
 pub reads_behind : {had has : Option (List ℕ)} {made makes : Option ℕ} {got : List ℕ} {left left' slack : ℕ} (before after : List ℕ) (slack' : ℕ) → Moves had has made makes [] got left left' slack [] → after ≡ before ++ got → slack ≤ slack'
     → Moves had has made makes before after left left' slack' []
 reads_behind before after slack' m e le = record {
@@ -51,7 +51,7 @@ reads_behind before after slack' m e le = record {
   least = omega (arith, m.least, le);
 }
 
--- a read that gave nothing
+-- a read that gave no byte
 pub reads_nothing : {had has : Option (List ℕ)} {made makes : Option ℕ} {left left' slack : ℕ} (before after : List ℕ) → Moves had has made makes [] [] left left' slack [] → after ≡ before → Moves had has made makes before after left left' slack []
 reads_nothing before after m e = reads_behind before after _ m (e ∙ sym (append-nil before)) (omega arith)
 
@@ -111,7 +111,7 @@ moves_reads {had} {mid} {has} {made} {much} {makes} {before} {between} {after} {
   least = omega (arith, m.least, n.least, length-append m.bytes n.bytes);
 }
 
--- one read more may have given nothing
+-- one more read may have given no byte
 pub moves_more : {had has : Option (List ℕ)} {made makes : Option ℕ} {before after : List ℕ} {left left' : ℕ} {passed : List ℕ}
     → Moves had has made makes before after left left' 0 passed → Moves had has made makes before after left left' 1 passed
 moves_more m = record { bytes = m.bytes; reads = m.reads; consumed = m.consumed; kept = m.kept; spent = m.spent; told = m.told; most = m.most; least = omega (arith, m.least) }
@@ -127,7 +127,7 @@ between_some items start end lt within =
 pub between_none : (items : List ℕ) (start end : ℕ) → end ≤ start → take (end - start) (drop start items) ≡ []
 between_none items start end le = let none : end - start ≡ 0 = omega arith in ap (λ n. take n (drop start items)) none
 
--- a front of what is pending leaves the rest
+-- without its prefix, the rest is pending
 pub between_later : (items : List ℕ) (start end more : ℕ) → start + more ≤ end
     → drop more (take (end - start) (drop start items)) ≡ take (end - (start + more)) (drop (start + more) items)
 between_later items start end more le =

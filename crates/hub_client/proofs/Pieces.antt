@@ -10,7 +10,7 @@ use Rattle.hub_client.proofs.Moving.{between_later, between_none}
 abbrev pub between : List ℕ → (start end : ℕ) → List ℕ
 between items start end = take (end - start) (drop start items)
 
--- what an error says of a piece: a front of it was written
+-- what an error says about a piece: a prefix of it was written
 abbrev Broken : (held holds : Option (List ℕ)) → List ℕ → Type 0
 Broken held holds bytes = (piece rest : List ℕ) × (bytes ≡ piece ++ rest) × (1 ≤ length rest) × (has_lf piece ≡ false) × Appends held holds piece
 

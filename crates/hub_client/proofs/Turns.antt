@@ -77,7 +77,7 @@ sent_lines {pending = pending} p = record {
   least = omega (arith, p.least);
 }
 
--- a last line had no LF, and was sent with one
+-- a last line without an LF was sent with one
 pub sent_part : {had mid has held between holds : Option (List ℕ)} {made much makes : Option ℕ} {before after passed : List ℕ} {count reads left left' : ℕ}
     → (p : HasPassed had mid held between made much before count reads) (m : Moves mid has much makes before after left left' 1 passed)
     → 1 ≤ length passed → has_lf passed ≡ false → after ≡ [] → Appends between holds (passed ++ 10 ∷ [])
@@ -176,7 +176,7 @@ awaits lines replies passed rest due c d cut cut' one none e =
       missing = omega (arith, count-ended lines c, one, count-ended_part replies (passed ++ rest) d no_lf, ap line_count all);
     }
 
--- Sending the next line failed. a and b are the two directions before it.
+-- The sending of the next line failed. a and b are the two directions before it.
 module _ {had mid has held between had' has' held' holds' : Option (List ℕ)} {made much makes made' makes' : Option ℕ} {before rest passed pending' : List ℕ} {count reads reads' left left' : ℕ}
     (a : HasPassed had mid held between made much before count reads) (b : HasPassed had' has' held' holds' made' makes' pending' count reads') (cut : has_lf passed ≡ false) where
   send_stops_at : (e : RelayError) → Moves mid has much makes before rest left left' (slack_for e) passed → FailsToSend e passed rest left' → reads + reads' + left ≡ 10000000
@@ -209,7 +209,7 @@ module _ {had mid has held between had' has' held' holds' : Option (List ℕ)} {
         stopped = send_stops_at e m f spent;
       }
 
--- Receiving a reply failed. s are the lines that were sent, and b are the replies before it.
+-- The receiving of a reply failed. s are the lines that were sent, and b are the replies before it.
 module _ {had has held holds had' mid' has' held' between' : Option (List ℕ)} {made makes made' much' makes' : Option ℕ} {more : List (List ℕ)} {before rest passed : List ℕ} {count reads reads' left left' : ℕ}
     (s : HasSent had has held holds made makes more (count + 1) reads) (b : HasPassed had' mid' held' between' made' much' before count reads') (cut : has_lf passed ≡ false)
     (due : List ℕ) (e : writable (passed ++ rest) ≡ passed ++ due) where
@@ -279,7 +279,7 @@ pub within : {T : Type 0} (made makes made' makes' : Option ℕ) (r : Result T R
     → ReadsWithin made makes made' makes' r
 within made makes made' makes' r n m left spent told told' turns = (n, m, omega arith, told, told', λ e. let none : left ≡ 0 = turns e in omega arith)
 
--- no read was left where that is the error
+-- no read was left if that is the error
 pub send_turns : {T : Type 0} (r : Result T RelayError) (e : RelayError) (passed rest : List ℕ) (left' : ℕ) → r ≡ Err e → FailsToSend e passed rest left' → r ≡ Err Turns → left' ≡ 0
 send_turns r e passed rest left' is f turns = let it : e ≡ Turns = cc in (subst (λ x. FailsToSend x passed rest left') it f).1
 

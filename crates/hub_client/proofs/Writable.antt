@@ -1,4 +1,4 @@
--- What of the peer's bytes may be written.
+-- The part of the peer's bytes that may be written.
 use Rattle.std.proofs.Common.{◌≡◌, ℕ, ◌+◌, ◌*◌, ◌/◌, ◌<◌, ◌≤◌, true, false, List, [], ◌∷◌, ◌++◌, length, take, inl, inr, refl, sym, ap, ◌∙◌, arith, append-nil, append_assoc, length-append}
 use Rattle.std.proofs.lemmas.Bool.{cases_Bool}
 use Rattle.std.proofs.lemmas.List.{take_at}
@@ -58,7 +58,7 @@ due_full front rest buffers cut none full some =
     let all : front ++ rest ≡ (front ++ rest) ++ [] = sym (append-nil (front ++ rest)) in
     (rest, ap writable all ∙ writable-front (front ++ rest) [] buffers (has_lf-append front rest cut ∙ none) refl full (omega arith), some)
 
--- a piece of what was ready wasn't written whole
+-- a piece of what may be written wasn't written whole
 pub due : (front piece rest : List ℕ) (buffers : ℕ) → has_lf front ≡ false → length front ≡ buffers * 65536 → has_lf piece ≡ false → 1 ≤ length rest → IsReady (piece ++ rest)
     → (due : List ℕ) × (writable ((front ++ piece) ++ rest) ≡ (front ++ piece) ++ due) × (1 ≤ length due)
 due front piece rest buffers cut full cut' some ready =

@@ -1,25 +1,25 @@
--- Which stream a fault is of.
+-- The stream of each fault.
 use Rattle.std.specs.Prelude.{ℕ, Result, Ok, Err}
 use Rattle.hub_io.specs.declared.fault.FrontError.{FrontError}
 use Rattle.hub_io.specs.declared.fault.FrontError.TheVariants as passing
 use Rattle.hub_client.specs.declared.fault.RelayError.{RelayError}
 use Rattle.hub_client.specs.declared.fault.RelayError.TheVariants.{Input, Output, Send, Receive, Ended, Turns, Memory}
 
--- a fault where lines pass from the input to the peer
+-- the error for a fault between the input and the peer
 abbrev pub sending : FrontError → RelayError
 sending passing.Read = Input
 sending passing.Write = Send
 sending passing.Turns = Turns
 sending passing.Memory = Memory
 
--- a fault where replies pass from the peer to the output
+-- the error for a fault between the peer and the output
 abbrev pub receiving : FrontError → RelayError
 receiving passing.Read = Receive
 receiving passing.Write = Output
 receiving passing.Turns = Turns
 receiving passing.Memory = Memory
 
--- the faults of the input's reader that a relay met: it stops at the first
+-- the faults of the input's reader: a relay stops at the first
 abbrev pub input_faults : {T : Type 0} → Result T RelayError → ℕ
 input_faults (Ok x) = 0
 input_faults (Err Input) = 1

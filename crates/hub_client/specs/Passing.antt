@@ -10,7 +10,7 @@ use Rattle.hub_client.specs.declared.buffer.Came.TheVariants.{Lf, Bytes, End}
 use Rattle.hub_client.specs.declared.buffer.Passed.{Passed}
 use Rattle.hub_client.specs.declared.buffer.Passed.TheVariants.{Line, Part, Nothing}
 
--- whether an LF is among bytes
+-- whether there is an LF among the bytes
 abbrev pub has_lf : List ℕ → Bool
 has_lf bytes = list_any (λ b. b == 10) bytes
 
@@ -20,9 +20,9 @@ pub record IsLine (bytes : List ℕ) : Type 0 where
   pub cut : has_lf line ≡ false
   pub ends : bytes ≡ line ++ 10 ∷ []
 
--- Reads were made, and bytes left the buffer. had and has are what the reader had left before and has left after, made
--- and makes how often it was called, before and after what was pending, left and left' the reads that might be made.
--- Each read but slack of them gave a byte at least.
+-- Reads were made, and bytes left the buffer. had is what the reader had left before, and has what it has left after.
+-- made and makes are how often it was called before and after. before and after are what was pending then. left and
+-- left' are the reads that might still be made. Each read gave at least one byte, except slack of them.
 pub record Moves (had has : Option (List ℕ)) (made makes : Option ℕ) (before after : List ℕ) (left left' slack : ℕ)
     (passed : List ℕ) : Type 0 where
   pub bytes : List ℕ
@@ -34,8 +34,8 @@ pub record Moves (had has : Option (List ℕ)) (made makes : Option ℕ) (before
   pub most : length bytes ≤ reads * 65536
   pub least : reads ≤ length bytes + slack
 
--- A line on its way: a front of it passed and was written, and the end is still to come. some tells whether there was a
--- byte of it.
+-- A line on its way: a prefix of it passed and was written, and its end is still to come. some says whether the prefix
+-- has a byte.
 pub record IsOnItsWay (had has held holds : Option (List ℕ)) (made makes : Option ℕ) (before after : List ℕ) (left left' : ℕ)
     (some : Bool) : Type 0 where
   pub passed : List ℕ
@@ -44,20 +44,20 @@ pub record IsOnItsWay (had has held holds : Option (List ℕ)) (made makes : Opt
   pub cut : has_lf passed ≡ false
   pub begun : MatchBool some (1 ≤ length passed) (passed ≡ [])
 
--- the reads that may have given nothing, up to the end of a line or of the stream
+-- the reads that may have given no byte, up to the end of a line or of the stream
 abbrev pub slack_of : Passed → ℕ
 slack_of Line = 0
 slack_of Part = 1
 slack_of Nothing = 1
 
--- the reads that may have given nothing before a fault
+-- the reads that may have given no byte before a fault
 abbrev pub slack_at : FrontError → ℕ
 slack_at Read = 1
 slack_at Write = 1
 slack_at Turns = 0
 slack_at Memory = 0
 
--- what was passed on, up to the end of a line or of the stream, and what is pending then
+-- what was passed on, up to the end of a line or of the stream, and what is pending afterwards
 abbrev pub EndsAs : Passed → (passed after : List ℕ) → (has : Option (List ℕ)) → Type 0
 EndsAs Line passed after has = IsLine passed
 EndsAs Part passed after has = (1 ≤ length passed) × (has_lf passed ≡ false) × (after ≡ []) × IsAtEnd has
@@ -76,27 +76,27 @@ ComesAs Lf bytes = has_lf bytes ≡ true
 ComesAs Bytes bytes = (1 ≤ length bytes) × (has_lf bytes ≡ false)
 ComesAs End bytes = bytes ≡ []
 
--- the reads that may have given nothing
+-- the reads that may have given no byte
 abbrev pub slack_when : Came → ℕ
 slack_when Lf = 0
 slack_when Bytes = 0
 slack_when End = 1
 
--- where the stream ended, nothing is left of it
+-- if the stream ended, nothing is left of it
 abbrev pub EndsWhen : Came → (has : Option (List ℕ)) → Type 0
 EndsWhen Lf has = Unit {0}
 EndsWhen Bytes has = Unit {0}
 EndsWhen End has = IsAtEnd has
 
--- what is pending of a reply may be written: there is an LF, or it fills the buffer
+-- the pending part of a reply may be written: it has an LF, or it fills the buffer
 abbrev pub IsReady : List ℕ → Type 0
 IsReady pending = (has_lf pending ≡ true) ⊎ (length pending ≡ 65536)
 
--- what is pending of a reply is withheld
+-- the pending part of a reply is withheld
 abbrev pub IsShort : List ℕ → Type 0
 IsShort pending = (has_lf pending ≡ false) × (length pending < 65536)
 
--- A reply on its way: the buffers that it filled passed and were written, and no LF was in them.
+-- A reply on its way: the buffers that it filled passed and were written, and had no LF.
 pub record IsInPieces (had has held holds : Option (List ℕ)) (made makes : Option ℕ) (before after : List ℕ) (left left' : ℕ) : Type 0 where
   pub passed : List ℕ
   pub moved : Moves had has made makes before after left left' 0 passed
@@ -105,7 +105,7 @@ pub record IsInPieces (had has held holds : Option (List ℕ)) (made makes : Opt
   pub buffers : ℕ
   pub full : length passed ≡ buffers * 65536
 
--- how a reply fails to pass: rest was read and not written, and due of it might have been
+-- how a reply fails to pass: rest was read and not written, and due is the part of rest that may be written
 abbrev pub FailsInPieces : FrontError → (due rest : List ℕ) → (left' : ℕ) → Type 0
 FailsInPieces Read due rest left' = (due ≡ []) × (has_lf rest ≡ false)
 FailsInPieces Write due rest left' = 1 ≤ length due

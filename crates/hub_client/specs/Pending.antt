@@ -1,4 +1,4 @@
--- What a buffer holds.
+-- What is in a buffer.
 use Rattle.std.specs.Prelude.{ℕ, ◌-◌, List, take, drop}
 use Rattle.hub_client.specs.declared.buffer.Buffer.{Buffer}
 

@@ -10,26 +10,28 @@ use Rattle.hub_client.specs.declared.fault.RelayError.TheVariants.{Input, Output
 abbrev pub ended_lines : List (List ℕ) → List ℕ
 ended_lines lines = flat_map (λ line. line ++ 10 ∷ []) lines
 
--- how many lines end in bytes
+-- how many lines end within the bytes
 abbrev pub line_count : List ℕ → ℕ
 line_count bytes = length (complete_of bytes)
 
--- the bytes of an unfinished reply that filled whole buffers of 64 KiB: none if it is shorter than one
+-- the bytes of an unfinished reply that filled whole buffers of 64 KiB; none if it is shorter than a buffer
 abbrev pub full_buffers : List ℕ → List ℕ
 full_buffers part = take (length part / 65536 * 65536) part
 
--- what of the peer's bytes may be written: each whole reply with its LF, and the full buffers of an unfinished one
+-- the part of the peer's bytes that may be written: each whole reply with its LF, and the full buffers of an unfinished
+-- one
 abbrev pub writable : List ℕ → List ℕ
 writable heard = ended_lines (complete_of heard) ++ full_buffers (rest_of heard)
 
--- Bytes were read, and bytes were written. had and has are what the reader had left before and has left after, held and
--- holds what the writer held before and holds after.
+-- Bytes were read, and bytes were written. had is what the reader had left before, and has what it has left after. held
+-- is what the writer had before, and holds what it has after.
 pub record Passes (had has held holds : Option (List ℕ)) (read written : List ℕ) : Type 0 where
   pub consumed : Consumes had has read
   pub appended : Appends held holds written
 
--- A relay that ended with its input: each of its n lines was sent, with an LF, and the first n lines of the peer were
--- written. The first four are of the input and the writer to the peer, the others of the peer's stream and the output.
+-- A relay that ended with its input: each of its n lines was sent with an LF, and the first n lines of the peer were
+-- written. The first four are those of the input and the writer to the peer, the others those of the peer's stream and
+-- the output.
 pub record Finished (had has held holds had' has' held' holds' : Option (List ℕ)) (n : ℕ) : Type 0 where
   pub input : List ℕ
   pub heard : List ℕ
@@ -39,20 +41,20 @@ pub record Finished (had has held holds had' has' held' holds' : Option (List �
   pub answered : n ≤ line_count heard
   pub written : Passes had' has' held' holds' heard (ended_lines (take n (complete_of heard)))
 
--- each line that was sent to its end was answered, and nothing else was written
+-- each line that was sent whole was answered, and nothing else was written
 pub record AreAnswered (sent heard written : List ℕ) : Type 0 where
   pub enough : line_count sent ≤ line_count heard
   pub replies : written ≡ ended_lines (take (line_count sent) (complete_of heard))
 
--- The last line was sent to its end, and the LF of its reply is missing. All that may be written was written: if the
--- unfinished reply is shorter than a buffer, the replies before it and nothing of it.
+-- The last line was sent whole, and the LF of its reply is missing. All that may be written was written. If the
+-- unfinished reply is shorter than a buffer, that is the replies before it, and nothing of it.
 pub record AwaitsReply (sent heard written : List ℕ) : Type 0 where
   pub passed : written ≡ writable heard
   pub withheld : length (rest_of heard) < 65536 → written ≡ ended_lines (complete_of heard)
   pub missing : line_count sent ≡ suc (line_count heard)
 
--- What a relay did before it stopped, where input and heard are what was read of the input and of the peer, sent and
--- written what was sent and written. Each read gave a byte at least, but for the one that found the end of the input.
+-- What a relay did before it stopped. input and heard are what was read of the input and of the peer, and sent and
+-- written what was sent and written. Each read gave at least one byte, except the one that found the end of the input.
 abbrev pub StopsAt : (input sent heard written : List ℕ) → (has' : Option (List ℕ)) → RelayError → Type 0
 StopsAt input sent heard written has' Input = (sent ≡ input) × AreAnswered sent heard written
 StopsAt input sent heard written has' Send = (length sent < length (ended_lines (lines_of input))) × AreAnswered sent heard written
@@ -63,8 +65,8 @@ StopsAt input sent heard written has' Turns =
     (10000000 ≤ length input + length heard + 1) × (((sent ≡ input) × AreAnswered sent heard written) ⊎ AwaitsReply sent heard written)
 StopsAt input sent heard written has' Memory = (input ≡ []) × (heard ≡ [])
 
--- A relay that stopped: a front of the input's lines was sent, and a front of what the peer said was written, and of
--- what may be written of it. due is what may be written and wasn't.
+-- A relay that stopped: a prefix of the input's lines was sent. What was written is a prefix of the peer's bytes, and
+-- of what may be written of them. due is the part that may be written and wasn't.
 pub record Stopped (had has held holds had' has' held' holds' : Option (List ℕ)) (e : RelayError) : Type 0 where
   pub input : List ℕ
   pub sent : List ℕ
@@ -80,8 +82,8 @@ pub record Stopped (had has held holds had' has' held' holds' : Option (List ℕ
   pub writable_front : writable heard ≡ written ++ due
   pub stopped : StopsAt input sent heard written has' e
 
--- At most 10,000,000 reads were made, of both readers together, and at Turns just as many. made and makes are the
--- counts of the one before and after, made' and makes' those of the other.
+-- At most 10,000,000 reads were made, of both readers together, and exactly that many at Turns. made and makes are the
+-- counts of one reader before and after, made' and makes' those of the other.
 abbrev pub ReadsWithin : {T : Type 0} → (made makes made' makes' : Option ℕ) → Result T RelayError → Type 0
 ReadsWithin made makes made' makes' result =
     (n m : ℕ) × (n + m ≤ 10000000) × Grows made makes n × Grows made' makes' m × (result ≡ Err Turns → n + m ≡ 10000000)

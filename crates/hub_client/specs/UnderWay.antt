@@ -10,13 +10,13 @@ use Rattle.hub_client.specs.declared.buffer.Passed.TheVariants.{Line, Part, Noth
 use Rattle.hub_client.specs.Passing.{has_lf}
 use Rattle.hub_client.specs.Relaying.{ended_lines}
 
--- what is sent of a line: a last part gets an LF
+-- what is sent of a line; a last part gets an LF
 abbrev pub sent_of : Passed → List ℕ → List ℕ
 sent_of Line passed = passed
 sent_of Part passed = passed ++ 10 ∷ []
 sent_of Nothing passed = passed
 
--- the reads that may have given nothing before an error
+-- the reads that may have given no byte before an error
 abbrev pub slack_for : RelayError → ℕ
 slack_for Input = 1
 slack_for Output = 1
@@ -26,7 +26,7 @@ slack_for Ended = 1
 slack_for Turns = 0
 slack_for Memory = 0
 
--- how sending a line fails: passed was sent, and rest was read and not sent
+-- how the sending of a line fails: passed was sent, and rest was read and not sent
 abbrev pub FailsToSend : RelayError → (passed rest : List ℕ) → (left' : ℕ) → Type 0
 FailsToSend Input passed rest left' = rest ≡ []
 FailsToSend Output passed rest left' = ⊥
@@ -36,7 +36,7 @@ FailsToSend Ended passed rest left' = ⊥
 FailsToSend Turns passed rest left' = (rest ≡ []) × (left' ≡ 0)
 FailsToSend Memory passed rest left' = ⊥
 
--- how receiving a reply fails: rest was read and not written, and due of it might have been
+-- how the receiving of a reply fails: rest was read and not written, and due is the part of rest that may be written
 abbrev pub FailsToReceive : RelayError → (due rest : List ℕ) → (has : Option (List ℕ)) → (left' : ℕ) → Type 0
 FailsToReceive Input due rest has left' = ⊥
 FailsToReceive Output due rest has left' = 1 ≤ length due
@@ -46,7 +46,7 @@ FailsToReceive Ended due rest has left' = (due ≡ []) × (has_lf rest ≡ false
 FailsToReceive Turns due rest has left' = (due ≡ []) × (has_lf rest ≡ false) × (left' ≡ 0)
 FailsToReceive Memory due rest has left' = ⊥
 
--- no LF is in any of the lines
+-- none of the lines has an LF
 abbrev pub AreCut : List (List ℕ) → Type 0
 AreCut [] = Unit {0}
 AreCut (line ∷ lines) = (has_lf line ≡ false) × AreCut lines
@@ -61,7 +61,8 @@ pub record HasPassed (had has held holds : Option (List ℕ)) (made makes : Opti
   pub told : Grows made makes reads
   pub least : reads ≤ length (ended_lines lines ++ pending)
 
--- The lines before a reply: count of them were sent, with an LF each, and more are the lines of what else was read.
+-- The lines before a reply: count of them were sent, with an LF each, and more are the lines of the other bytes that
+-- were read.
 pub record HasSent (had has held holds : Option (List ℕ)) (made makes : Option ℕ) (more : List (List ℕ)) (count reads : ℕ) : Type 0 where
   pub input : List ℕ
   pub lines : List (List ℕ)

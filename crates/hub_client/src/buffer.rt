@@ -1,4 +1,4 @@
-//! The way of lines through a buffer, from a reader to a writer.
+//! Lines on their way through a buffer, from a reader to a writer.
 ghost use Rattle.std.specs.Prelude.{◌≡◌, ◌≢◌, ◌+◌, ◌-◌, ◌<◌, ◌≤◌, ℕ, List, [], ◌++◌, ◌==◌, length, take, position, true, false, OnErr, IfOk, IfErr, IsTrue, MatchBool, vec_len};
 ghost use Rattle.std.specs.Io.KnownBytes.{Appends, IsAtEnd};
 ghost use Rattle.hub_io.specs.Telling.{Grows};
@@ -11,10 +11,10 @@ use std::alloc::{AllocError, Global};
 
 const LF: u8 = b'\n';
 
-/// How far the bytes of a line passed.
+/// How much of a line passed.
 #[derive(Clone, Copy, Debug, PartialEq, Eq)]
 pub(crate) enum Passed {
-    /// The line passed, and its LF.
+    /// The line passed, with its LF.
     Line,
     /// The stream ended after some bytes of a line.
     Part,
@@ -27,13 +27,13 @@ pub(crate) enum Passed {
 enum Came {
     // Bytes with an LF among them.
     Lf,
-    // Bytes without LF.
+    // Bytes without an LF.
     Bytes,
-    // Nothing: the stream has ended.
+    // No byte: the stream has ended.
     End,
 }
 
-/// Bytes that were read and not passed on yet: those from start to end.
+/// Bytes that were read and not passed on yet. They are from `start` to `end`.
 #[derive(Drop)]
 pub(crate) struct Buffer {
     bytes: Vec<u8>,
@@ -92,7 +92,8 @@ impl Buffer {
         })
     }
 
-    /// Passes bytes on, each piece as it comes, up to the LF of a line and with it. What was read beyond it stays.
+    /// Passes bytes on, each piece as it comes, up to the LF of a line and including it. What was read beyond the LF
+    /// stays.
     pub(crate) fn pass_line<R: Source, W: Sink>(
         &mut self,
         reader: &mut R,
@@ -109,8 +110,10 @@ impl Buffer {
             (pending self.old) rest left.old left.new (slack_at e) passed
             × FailsAs e rest left.new × (has_lf passed ≡ false)
             × Appends (W.contents writer.old) (W.contents writer.new) passed) }
-        ensures read_faults { Grows (R.faults reader.old) (R.faults reader.new) (read_faults result) }
-        ensures write_faults { Grows (W.faults writer.old) (W.faults writer.new) (write_faults result) }
+        ensures read_faults { Grows (R.faults reader.old) (R.faults reader.new)
+            (read_faults result) }
+        ensures write_faults { Grows (W.faults writer.old) (W.faults writer.new)
+            (write_faults result) }
     {
         let mut some = false;
         'pieces: loop {
@@ -124,8 +127,8 @@ impl Buffer {
         }
     }
 
-    /// Passes a reply on, up to its LF and with it, and says whether that came before the stream's end. Nothing passes
-    /// before the LF has come, but for the bytes of a longer reply that fill the buffer. What was read beyond it stays.
+    /// Passes a reply on, up to its LF and including it. Returns whether the LF came before the stream's end. Nothing
+    /// passes before the LF has come, except the full buffers of a longer reply. What was read beyond the LF stays.
     pub(crate) fn pass_reply<R: Source, W: Sink>(
         &mut self,
         reader: &mut R,
@@ -145,8 +148,10 @@ impl Buffer {
             (pending self.old) rest left.old left.new (slack_at e) passed × (has_lf passed ≡ false)
             × (writable (passed ++ rest) ≡ passed ++ due) × FailsInPieces e due rest left.new
             × Appends (W.contents writer.old) (W.contents writer.new) passed) }
-        ensures read_faults { Grows (R.faults reader.old) (R.faults reader.new) (read_faults result) }
-        ensures write_faults { Grows (W.faults writer.old) (W.faults writer.new) (write_faults result) }
+        ensures read_faults { Grows (R.faults reader.old) (R.faults reader.new)
+            (read_faults result) }
+        ensures write_faults { Grows (W.faults writer.old) (W.faults writer.new)
+            (write_faults result) }
     {
         'pieces: loop {
             if !self.gather(reader, left)? {
@@ -158,7 +163,7 @@ impl Buffer {
         }
     }
 
-    // Reads on until an LF is pending or the buffer is full, and says whether that came before the stream's end.
+    // Reads on until an LF is pending or the buffer is full. Returns whether that came before the stream's end.
     fn gather<R: Source>(&mut self, reader: &mut R, left: &mut u64) -> Result<bool, FrontError>
         ensures ok { IfOk result (λ ready. MatchBool ready
             (Moves (R.remaining reader.old) (R.remaining reader.new) (R.reads reader.old) (R.reads reader.new)
@@ -196,7 +201,7 @@ impl Buffer {
         self.end = end - start;
     }
 
-    // Reads once, behind what is pending.
+    // Reads once, and puts the bytes after those that are pending.
     fn read_on<R: Source>(&mut self, reader: &mut R, left: &mut u64) -> Result<Came, FrontError>
         requires room { self.old.end < 65536 }
         ensures ok { IfOk result (λ came.
@@ -216,8 +221,8 @@ impl Buffer {
         Ok(Came::of(&self.bytes[end..end + n]))
     }
 
-    // Reads once where nothing is pending, and says whether there is a byte to pass on: there is none where the stream
-    // has ended.
+    // Reads once if nothing is pending. Returns whether there is a byte to pass on: there is none if the stream has
+    // ended.
     fn fill<R: Source>(&mut self, reader: &mut R, left: &mut u64) -> Result<bool, FrontError>
         ensures ok { IfOk result (λ ready. MatchBool ready
             (Moves (R.remaining reader.old) (R.remaining reader.new) (R.reads reader.old) (R.reads reader.new)
@@ -240,7 +245,7 @@ impl Buffer {
         Ok(n > 0)
     }
 
-    // Passes the pending bytes on, up to the first LF and with it, and says whether there was one.
+    // Passes the pending bytes on, up to the first LF and including it. Returns whether there was one.
     fn pass_piece<W: Sink>(&mut self, writer: &mut W) -> Result<bool, FrontError>
         ensures ok { IfOk result (λ whole. (piece : List ℕ)
             × (pending self.old ≡ piece ++ pending self.new)
@@ -285,7 +290,7 @@ impl Passed {
     ghost use Rattle.std.specs.Prelude.{if◌then◌else◌};
     ghost use Rattle.hub_client.specs.declared.buffer.Passed.TheVariants.{Part, Nothing};
 
-    // How far a line passed whose stream has ended, after some bytes or none.
+    // How much of a line passed whose stream has ended: some bytes, or none.
     fn at_end(some: bool) -> Passed
         ensures { result ≡ (if some then Part else Nothing) }
     {

@@ -20,15 +20,15 @@ pub enum RelayError {
     /// A write to the peer failed, or took no byte.
     #[error("send failed")]
     Send,
-    /// A read of the peer's stream failed. If a reply had begun to come, it wasn't written, as at `Ended`.
+    /// A read of the peer's stream failed. If a reply was unfinished, it wasn't written, as at `Ended`.
     #[error("receive failed")]
     Receive,
-    /// The peer's stream ended before the LF of a reply. What had come of that reply wasn't written, but for the buffers
-    /// of 64 KiB that it filled.
+    /// The peer's stream ended before the LF of a reply. The unfinished reply wasn't written, except for the buffers of
+    /// 64 KiB that it filled.
     #[error("connection ended")]
     Ended,
-    /// 10,000,000 reads were made, of the input and the peer's stream together, and more were due. If a reply had begun
-    /// to come, it wasn't written, as at `Ended`.
+    /// 10,000,000 reads were made, of the input and the peer's stream together, and more were needed. If a reply was
+    /// unfinished, it wasn't written, as at `Ended`.
     #[error("too many reads")]
     Turns,
     /// There was no memory for the two buffers.
@@ -44,7 +44,7 @@ impl From<AllocError> for RelayError {
     }
 }
 
-// What a fault is where lines pass from the input to the peer.
+// The error for a fault between the input and the peer.
 pub(crate) fn of_sending(fault: FrontError) -> RelayError
     ensures { result ≡ sending fault }
 {
@@ -56,7 +56,7 @@ pub(crate) fn of_sending(fault: FrontError) -> RelayError
     }
 }
 
-// What a fault is where replies pass from the peer to the output.
+// The error for a fault between the peer and the output.
 pub(crate) fn of_receiving(fault: FrontError) -> RelayError
     ensures { result ≡ receiving fault }
 {

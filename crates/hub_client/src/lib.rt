@@ -1,13 +1,15 @@
-//! Lines to a peer, and its reply lines back.
+//! The client's side: sends lines to a peer, and writes the peer's reply lines.
 //!
-//! A line of the input is sent with its LF, and then one line of the peer's stream is read and written, before the next
-//! line is sent: so the replies come in the order of the lines, and a peer that answers each line is never ahead and at
-//! most one line behind. Lines and replies may be as long as they like: their bytes pass through two buffers of 64 KiB,
-//! and what a read gave beyond the end of a line waits in its buffer for the next one.
+//! [`relay`] sends a line of the input with its LF. Then it reads one line of the peer's stream and writes it, before
+//! it sends the next line. So the replies come in the order of the lines, and a peer that answers each line is never
+//! ahead and at most one line behind.
 //!
-//! A line is sent piece by piece, as it comes. A reply is written once its LF has come, so that a peer that ends in
-//! mid-reply can't make `yes 12` look like `yes 1`. A reply that is longer than the buffer is written in pieces, each a
-//! full buffer, and its end once its LF has come.
+//! Lines and replies may have any length. Their bytes pass through two buffers of 64 KiB. What a read gave beyond the
+//! end of a line stays in its buffer for the next line.
+//!
+//! A line is sent piece by piece, as it comes. A reply is written once its LF has come, so a peer whose stream ends
+//! within a reply can't make `yes 12` look like `yes 1`. A reply that is longer than the buffer is written in pieces:
+//! each is a full buffer, and the last piece is written once its LF has come.
 #![tactic(auto)]
 
 mod buffer;

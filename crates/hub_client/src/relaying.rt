@@ -14,7 +14,7 @@ use hub_io::{MAX_READS, Sink, Source, write_whole};
 use std::alloc::Global;
 use std::sync::Wait;
 
-// Sends the next line of the input, and adds an LF where it has none.
+// Sends the next line of the input, and adds an LF if it has none.
 fn send_line<R: Source, SW: Sink>(
     lines: &mut Buffer,
     input: &mut R,
@@ -61,8 +61,10 @@ fn receive_reply<SR: Source, W: Sink>(
         × (writable (passed ++ rest) ≡ passed ++ due)
         × FailsToReceive e due rest (SR.remaining receiver.new) left.new
         × Appends (W.contents output.old) (W.contents output.new) passed) }
-    ensures receive_faults { Grows (SR.faults receiver.old) (SR.faults receiver.new) (receive_faults result) }
-    ensures output_faults { Grows (W.faults output.old) (W.faults output.new) (output_faults result) }
+    ensures receive_faults { Grows (SR.faults receiver.old) (SR.faults receiver.new)
+        (receive_faults result) }
+    ensures output_faults { Grows (W.faults output.old) (W.faults output.new)
+        (output_faults result) }
 {
     match replies.pass_reply(receiver, output, left) {
         Ok(true) => Ok(()),
@@ -71,7 +73,7 @@ fn receive_reply<SR: Source, W: Sink>(
     }
 }
 
-// Sends the lines and writes the replies, one for one.
+// Sends the lines and writes the replies, one reply for each line.
 fn relay_lines<R: Source, W: Sink, SR: Source, SW: Sink>(
     lines: &mut Buffer,
     replies: &mut Buffer,
@@ -92,9 +94,11 @@ fn relay_lines<R: Source, W: Sink, SR: Source, SW: Sink>(
     ensures reads { ReadsWithin (R.reads input.old) (R.reads input.new)
         (SR.reads receiver.old) (SR.reads receiver.new) result }
     ensures input_faults { Grows (R.faults input.old) (R.faults input.new) (input_faults result) }
-    ensures output_faults { Grows (W.faults output.old) (W.faults output.new) (output_faults result) }
+    ensures output_faults { Grows (W.faults output.old) (W.faults output.new)
+        (output_faults result) }
     ensures send_faults { Grows (SW.faults sender.old) (SW.faults sender.new) (send_faults result) }
-    ensures receive_faults { Grows (SR.faults receiver.old) (SR.faults receiver.new) (receive_faults result) }
+    ensures receive_faults { Grows (SR.faults receiver.old) (SR.faults receiver.new)
+        (receive_faults result) }
 {
     let mut left = MAX_READS;
     let mut count = 0;
@@ -111,11 +115,12 @@ fn relay_lines<R: Source, W: Sink, SR: Source, SW: Sink>(
     }
 }
 
-/// Sends each line of the input to the peer, writes one reply line for each, and answers how many lines they were. A
-/// reply is read only once its line was sent whole, and the next line is sent only once the reply was written. Nothing
-/// of a reply is written before its LF has come, but for the full buffers of one that is longer than 64 KiB. A last line
-/// without LF gets one. After an error the streams are where they stopped. It may wait for its peer as long as the
-/// streams that it is given do.
+/// Sends each line of the input to the peer, writes one reply line for each, and returns how many lines there were. A
+/// reply is read only after its line was sent whole, and the next line is sent only after the reply was written.
+///
+/// Nothing of a reply is written before its LF has come, except the full buffers of a reply that is longer than 64 KiB.
+/// A last line without an LF gets one. After an error the streams are where they stopped. The call waits for its peer
+/// as long as the streams do.
 pub fn relay<H: Wait, R: Source, W: Sink, SR: Source, SW: Sink>(
     _rt: &H,
     alloc: Global,
@@ -124,31 +129,33 @@ pub fn relay<H: Wait, R: Source, W: Sink, SR: Source, SW: Sink>(
     receiver: &mut SR,
     sender: &mut SW,
 ) -> Result<u64, RelayError>
-    // What is sent are the lines of the input, and what is written are as many lines of the peer, however the readers
-    // cut their bytes.
+    // The lines of the input are sent, and as many lines of the peer are written, however the readers cut their bytes.
     ensures finished { IfOk result (Finished
         (R.remaining input.old) (R.remaining input.new) (SW.contents sender.old) (SW.contents sender.new)
         (SR.remaining receiver.old) (SR.remaining receiver.new) (W.contents output.old) (W.contents output.new)) }
 
-    // At an error, a front of the lines was sent and whole replies were written. Of a reply whose LF is missing, only
-    // the buffers that it filled were: of one with fewer than 65,536 bytes nothing, at Ended, Receive and Turns alike.
+    // At an error, a prefix of the lines was sent, and whole replies were written. Of a reply whose LF is missing, only
+    // the buffers that it filled were written: nothing if it has fewer than 65,536 bytes, at Ended, Receive and Turns
+    // alike.
     ensures stopped { IfErr result (Stopped
         (R.remaining input.old) (R.remaining input.new) (SW.contents sender.old) (SW.contents sender.new)
         (SR.remaining receiver.old) (SR.remaining receiver.new) (W.contents output.old) (W.contents output.new)) }
 
-    // Memory comes before the first read.
+    // Memory is allocated before the first read.
     ensures memory { result ≡ Err RelayError.Memory → (input.new ≡ input.old) × (output.new ≡ output.old)
         × (receiver.new ≡ receiver.old) × (sender.new ≡ sender.old) }
 
-    // It ends by a count of its own.
+    // It makes at most 10,000,000 reads.
     ensures reads { ReadsWithin (R.reads input.old) (R.reads input.new)
         (SR.reads receiver.old) (SR.reads receiver.new) result }
 
-    // A fault is answered where it was told, and nowhere else.
+    // An error is reported if its fault was counted, and only then.
     ensures input_faults { Grows (R.faults input.old) (R.faults input.new) (input_faults result) }
-    ensures output_faults { Grows (W.faults output.old) (W.faults output.new) (output_faults result) }
+    ensures output_faults { Grows (W.faults output.old) (W.faults output.new)
+        (output_faults result) }
     ensures send_faults { Grows (SW.faults sender.old) (SW.faults sender.new) (send_faults result) }
-    ensures receive_faults { Grows (SR.faults receiver.old) (SR.faults receiver.new) (receive_faults result) }
+    ensures receive_faults { Grows (SR.faults receiver.old) (SR.faults receiver.new)
+        (receive_faults result) }
 {
     let mut lines = Buffer::new(alloc)?;
     let mut replies = Buffer::new(alloc)?;

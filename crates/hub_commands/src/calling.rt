@@ -7,8 +7,9 @@ use std::net::Net;
 use std::os::unix::net::UnixStream;
 use std::sync::Wait;
 
-/// Connects to the server at the socket, for receiving and for sending. Each is a clone, since a clone has a descriptor from
-/// 3 on: where a standard stream is closed, the connection itself may have got that stream's descriptor.
+/// Connects to the server at the socket, and returns the connection twice: for receiving and for sending. Both are
+/// clones, since the descriptor of a clone is 3 or more. If a standard stream is closed, the connection itself may have
+/// that stream's descriptor.
 fn connect<H: Net>(rt: &H, socket: &str) -> Option<(UnixStream, UnixStream)> {
     let connection = UnixStream::connect(rt, socket).ok()?;
     let receive = connection.try_clone().ok()?;
@@ -16,7 +17,7 @@ fn connect<H: Net>(rt: &H, socket: &str) -> Option<(UnixStream, UnixStream)> {
     Some((receive, send))
 }
 
-/// Sends the lines of the input to the server at the socket, and writes its replies. Answers how many lines there were.
+/// Sends the lines of the input to the server at the socket, and writes its replies. Returns how many lines there were.
 pub fn call<H: Net + Wait, R: Source, W: Sink>(
     rt: &H,
     alloc: Global,

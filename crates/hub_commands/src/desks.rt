@@ -4,14 +4,15 @@ ghost use Rattle.std.specs.Arc.{arc_value};
 ghost use Rattle.hub_server.specs.Gates.{StopsEarly, ThenCloses};
 ghost use Rattle.hub_server.specs.Reports.{IsReport};
 ghost use Rattle.hub_commands.specs.Desks.{Begins};
+ghost use Rattle.hub_shared.specs.declared.shared_desk.SharedDesk.{SharedDesk};
 
-use hub_io::{Sink, Source};
+use hub_front::serve;
+use hub_io::{FrontError, Sink, Source};
 use hub_requests::Desk;
 use hub_server::{Desks, Gate, Report, ServeError, serve_each};
 use hub_shared::{Hub, SharedDesk};
 use hub_wait::Pause;
 use std::alloc::{AllocError, Global};
-use std::os::unix::net::UnixStream;
 use std::sync::{Arc, Wait};
 use std::thread::Threads;
 
@@ -23,9 +24,13 @@ struct HubDesks<P: Pause + Copy> {
 }
 
 impl<P: Pause + Copy> Desks for HubDesks<P> {
-    type Own = SharedDesk<P>;
+    ghost Own = { SharedDesk P };
 
     ghost opens = { λ desks. Begins (arc_value desks.hub) desks.pause };
+
+    ghost asks = { ⟦<SharedDesk<P> as Desk>⟧.asks };
+
+    ghost ends = { ⟦<SharedDesk<P> as Desk>⟧.ends };
 
     fn share(&self) -> Result<HubDesks<P>, AllocError> {
         let hub = Arc::try_clone(&self.hub)?;
@@ -35,21 +40,29 @@ impl<P: Pause + Copy> Desks for HubDesks<P> {
         })
     }
 
-    fn open(&self, alloc: Global, client: Option<UnixStream>) -> Result<SharedDesk<P>, AllocError> {
-        let hub = Arc::try_clone(&self.hub)?;
-        let mut desk = SharedDesk::new(alloc, hub, self.pause)?;
-        desk.watch(client);
-        Ok(desk)
-    }
-
-    fn release<H: Wait>(&self, _rt: &H, desk: SharedDesk<P>) {
-        drop(desk);
+    fn serve<H: Wait, R: Source, W: Sink>(
+        &self,
+        rt: &H,
+        alloc: Global,
+        reader: &mut R,
+        writer: &mut W,
+    ) -> Result<u64, FrontError> {
+        let Ok(hub) = Arc::try_clone(&self.hub) else {
+            return Err(FrontError::Memory);
+        };
+        let Ok(mut desk) = SharedDesk::new(alloc, hub, self.pause) else {
+            return Err(FrontError::Memory);
+        };
+        desk.watch(reader.connection());
+        let served = serve(rt, alloc, &mut desk, reader, writer);
+        desk.release(rt);
+        served
     }
 }
 
-/// Asks the gate for at most so many sessions, and serves each on a thread of its own by a desk of its own over the hub,
-/// with a copy of the pause for its waits. All run at the same time. When it returns, all have ended. At an error their
-/// results are lost.
+/// Asks the gate for at most this many sessions, and serves each on a thread of its own, by a desk of its own over the hub,
+/// with a copy of the pause for its waits. All run at the same time, and all have ended when it returns. At an error
+/// their results are lost.
 pub fn serve_all<H, R, W, G, P>(
     rt: &H,
     alloc: Global,
@@ -64,8 +77,9 @@ where
     W: Sink + Send + Drop + 'static,
     G: Gate<R, W>,
     P: Pause + Copy + Send + 'static,
-    // The gate is asked no more after it failed or was over, and closed once after the last asking. Each session that it
-    // gave has a result, in its order, that is one of serving just that session's reader and writer.
+    // The gate isn't asked again after it failed or was over, and is closed once after the last asking. Each session
+    // that it gave has a result, in the gate's order. The result is one of serving exactly that session's reader and
+    // writer.
     ensures report { IfOk result (λ report. IsReport
         (Begins (arc_value hub) pause)
         ⟦<SharedDesk<P> as Desk>⟧.asks ⟦<SharedDesk<P> as Desk>⟧.ends

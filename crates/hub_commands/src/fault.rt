@@ -1,4 +1,4 @@
-//! What goes wrong while the program runs.
+//! The faults that end the program.
 use hub_client::RelayError;
 use hub_io::FrontError;
 use hub_server::ServeError;
@@ -7,22 +7,22 @@ use std::io;
 use std::io::Write;
 use thiserror::Error;
 
-/// Why the program ends with status 1, as its line on standard error says.
+/// Why the program ends with status 1. Its text is the line on standard error.
 #[derive(Clone, Copy, Debug, PartialEq, Eq, Error)]
 pub enum Fault {
-    /// The socket couldn't be bound.
+    /// The socket couldn't be made at its path.
     #[error("cannot listen")]
     Listen,
-    /// A connection should have come, and accepting it failed.
+    /// A connection was expected, and accepting it failed.
     #[error("cannot accept")]
     Accept,
-    /// There is no server at the socket.
+    /// The connection to a server at the socket couldn't be made.
     #[error("cannot connect")]
     Connect,
-    /// There was no memory for what comes before the first session.
+    /// Memory ran out before the first session.
     #[error("out of memory")]
     Memory,
-    /// The one session of `script` stopped.
+    /// The session of `script` stopped, or a text such as `--help` couldn't be printed.
     #[error("{0}")]
     Script(FrontError),
     /// The sessions of `serve` couldn't be served.
@@ -37,8 +37,8 @@ pub enum Fault {
 }
 
 impl Fault {
-    /// Writes the fault's line, at once, so that lines of several programs don't mix. Only where there is no memory for it is
-    /// it written in pieces. That a fault can't be told to anybody is no fault of its own.
+    /// Writes the fault's line in one write, so that the lines of several programs don't mix. Only if memory runs out
+    /// is it written in pieces. If the line can't be written, that isn't reported.
     pub fn tell<W: Write>(self, alloc: Global, out: &mut W) {
         let _: io::Result<()> = match format!(in alloc; "ftrighub: {self}\n") {
             Ok(line) => out.write_all(line.as_bytes()),

@@ -1,4 +1,7 @@
-//! What the subcommands `serve` and `call` do, and the faults that end the program.
+//! The subcommands `serve` and `call`, and the faults that end the program.
+//!
+//! [`serve`] accepts connections at a Unix socket, and serves them by [`serve_all`] over one hub. [`call`] is the
+//! client of such a server. A [`Fault`] says in one line why the program ends with status 1.
 #![tactic(auto)]
 
 mod calling;

@@ -17,7 +17,7 @@ use std::rt::Clock;
 use std::sync::{Arc, Wait};
 use std::thread::Threads;
 
-/// A gate that accepts connections, each a session, as long as it has its listener.
+/// The gate of a listening socket: it accepts connections, each a session, until it is closed.
 #[derive(Drop)]
 struct Door {
     listener: Option<UnixListener>,
@@ -30,7 +30,7 @@ fn accept(listener: &UnixListener) -> io::Result<(UnixStream, UnixStream)> {
     Ok((receive, send))
 }
 
-/// Whether a fault of accepting is of one connection only: its client left before it was accepted, or a signal came.
+/// Whether a failed accept concerns one connection only: its client had left before, or a signal came.
 fn passes(fault: &io::Error) -> bool {
     matches!(
         fault.kind(),
@@ -62,7 +62,7 @@ impl Gate<UnixStream, UnixStream> for Door {
     }
 }
 
-/// Listens at the socket. An empty path is none: the system would choose an address that nobody finds.
+/// Listens at the socket. An empty path is refused: the system would choose an address that no client knows.
 fn listen<H: Files + Net>(rt: &H, socket: &str) -> Result<UnixListener, Fault> {
     if socket.is_empty() {
         return Err(Fault::Listen);
@@ -70,9 +70,9 @@ fn listen<H: Files + Net>(rt: &H, socket: &str) -> Result<UnixListener, Fault> {
     UnixListener::bind(rt, socket).map_err(|_| Fault::Listen)
 }
 
-/// Accepts so many connections at the socket, and serves them all at the same time, over one hub. With the last accept,
-/// or when one fails, it closes the socket: from then on a client can't connect. If it answers, all sessions have ended.
-/// The socket's file is left.
+/// Accepts this many connections at the socket, and serves all of them at the same time, over one hub. After the last
+/// accept, or after a failure, it closes the socket, and no client can connect any more. All sessions have ended when
+/// it returns. The socket's file stays.
 pub fn serve<H>(rt: &H, alloc: Global, socket: &str, sessions: u64) -> Result<Report, Fault>
 where
     H: Files + Net + Clock + Threads + Wait + Copy + Send + 'static,
@@ -87,7 +87,7 @@ where
     Ok(serve_all(rt, alloc, hub, &mut door, sessions, pause)?)
 }
 
-/// Writes the line of each session that stopped, in their order, and then that of a gate that failed.
+/// Writes a line for each session that stopped, in their order, and then a line if the gate failed.
 pub fn tell_faults<W: Write>(alloc: Global, report: &Report, out: &mut W) {
     let mut number = 0u64;
     for ended in report.results.iter() {

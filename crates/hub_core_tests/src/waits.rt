@@ -7,6 +7,7 @@ use hub_letters::{Letter, Want};
 use hub_record::{Kind, Limits, PubError};
 use hub_wait::{Backoff, Go, Pause, Post, Span, Verdict, svlisten, svwait};
 use std::alloc::{AllocError, Global};
+use std::process::Abort;
 use std::sync::{Arc, Wait};
 use std::test::Fail;
 
@@ -22,7 +23,6 @@ fn word(alloc: Global, text: &str) -> Result<Vec<Letter>, AllocError> {
 }
 
 /// A publisher beside the fifodir that made it.
-#[derive(Drop)]
 struct Supervisor {
     fifodir: Arc<Fifodir, Global>,
     me: Publisher,
@@ -42,6 +42,11 @@ impl Supervisor {
     fn close<R: Wait>(&mut self, rt: &R) {
         let _ = self.fifodir.close(rt, &mut self.me);
     }
+
+    fn leave<R: Wait>(self, rt: &R) {
+        let Supervisor { fifodir, me } = self;
+        fifodir.leave(rt, me);
+    }
 }
 
 /// What a pause does at one of its calls.
@@ -53,7 +58,6 @@ enum Deed {
 }
 
 /// A pause that counts its calls, and does its deed at one of them.
-#[derive(Drop)]
 struct Doing {
     supervisor: Supervisor,
     deed: Deed,
@@ -82,18 +86,21 @@ impl Pause for Doing {
 }
 
 /// A service's fifodir whose supervisor has started.
-fn started<R: Wait>(rt: &R, alloc: Global) -> Result<(Arc<Fifodir, Global>, Supervisor), Fail> {
+fn started<R: Abort + Wait>(
+    rt: &R,
+    alloc: Global,
+) -> Result<(Arc<Fifodir, Global>, Supervisor), Fail> {
+    let letters = word(alloc, "s")?;
     let limits = Limits::of(64, 1000, 10).ok_or("no limits")?;
     let fifodir = Arc::new(alloc, Fifodir::new(alloc, Kind::Service, limits)?)?;
     let mut supervisor = Supervisor::of(rt, Arc::try_clone(&fifodir)?)?;
-    let letters = word(alloc, "s")?;
-    supervisor.send(rt, &letters)?;
+    supervisor.send(rt, &letters).expect(rt, "its first letter");
     Ok((fifodir, supervisor))
 }
 
 /// The verdict of a wait for readiness of one service with a deed at a call of the pause, the number of the watch, and
 /// how many turns were made.
-fn waited<R: Wait>(
+fn waited<R: Abort + Wait>(
     rt: &R,
     alloc: Global,
     deed: Deed,
@@ -101,7 +108,7 @@ fn waited<R: Wait>(
     turns: u64,
 ) -> Result<(Verdict, u64, u64), Fail> {
     let (fifodir, supervisor) = started(rt, alloc)?;
-    let mut posts = [Post::open(rt, fifodir, Want::Ready, true)?];
+    let mut posts = [Post::open(rt, fifodir, Want::Ready, true).expect(rt, "a post")];
     let mut pause = Doing {
         supervisor,
         deed,
@@ -112,7 +119,14 @@ fn waited<R: Wait>(
     let at = posts[0].watch().at();
     let [post] = posts;
     post.end(rt);
-    Ok((verdict, at, pause.calls))
+    let Doing {
+        supervisor,
+        deed: _,
+        at_call: _,
+        calls,
+    } = pause;
+    supervisor.leave(rt);
+    Ok((verdict, at, calls))
 }
 
 #[test]
@@ -163,9 +177,9 @@ fn a_wait_for_no_service(rt: HostRuntime) -> Result<(), Fail> {
 #[test]
 fn what_an_act_leads_to_is_not_missed(rt: HostRuntime) -> Result<(), Fail> {
     for (turns, verdict, at) in [(1, Verdict::Yes, 2), (0, Verdict::Late, 1)] {
-        let (fifodir, mut supervisor) = started(&rt, rt.alloc())?;
-        let mut posts = [Post::open(&rt, fifodir, Want::Up, true)?];
         let up = word(rt.alloc(), "u")?;
+        let (fifodir, mut supervisor) = started(&rt, rt.alloc())?;
+        let mut posts = [Post::open(&rt, fifodir, Want::Up, true).expect(&rt, "a post")];
         let mut pause = Backoff::new(rt);
         let (acted, answer) = svlisten(&rt, &mut posts, Span::All, turns, &mut pause, |_posts| {
             supervisor.send(&rt, &up)
@@ -176,6 +190,7 @@ fn what_an_act_leads_to_is_not_missed(rt: HostRuntime) -> Result<(), Fail> {
         assert_eq!(rt; posts[0].mark(), 1);
         let [post] = posts;
         post.end(&rt);
+        supervisor.leave(&rt);
     }
     Ok(())
 }
@@ -184,9 +199,9 @@ fn what_an_act_leads_to_is_not_missed(rt: HostRuntime) -> Result<(), Fail> {
 fn a_long_wait_and_room_after_it(rt: HostRuntime) -> Result<(), Fail> {
     let limits = Limits::of(2, 100, 10).ok_or("no limits")?;
     let fifodir = Arc::new(rt.alloc(), Fifodir::new(rt.alloc(), Kind::Plain, limits)?)?;
-    let mut supervisor = Supervisor::of(&rt, Arc::try_clone(&fifodir)?)?;
-    let mut posts = [Post::open(&rt, fifodir, Want::Up, false)?];
     let two = word(rt.alloc(), "ab")?;
+    let mut supervisor = Supervisor::of(&rt, Arc::try_clone(&fifodir)?)?;
+    let mut posts = [Post::open(&rt, fifodir, Want::Up, false).expect(&rt, "a post")];
     assert_eq!(rt; supervisor.send(&rt, &two), Ok(0));
     assert_eq!(rt; supervisor.send(&rt, &two), Err(PubError::Full));
     let mut pause = Backoff::new(rt);
@@ -200,5 +215,6 @@ fn a_long_wait_and_room_after_it(rt: HostRuntime) -> Result<(), Fail> {
     let [post] = posts;
     post.end(&rt);
     assert_eq!(rt; supervisor.send(&rt, &two), Ok(4));
+    supervisor.leave(&rt);
     Ok(())
 }

@@ -55,5 +55,5 @@ pub fn run_anew<H: AllocGlobal + Abort + Wait>(rt: &H, rows: &[Row]) {
     run(rt, &mut new_local(rt), rows);
     let mut desk = alone(rt);
     run(rt, &mut desk, rows);
-    desk.end(rt);
+    desk.release(rt);
 }

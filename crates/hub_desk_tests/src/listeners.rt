@@ -153,7 +153,9 @@ fn refuse_and_end<H: AllocGlobal + Abort + Wait, D: Desk>(rt: &H, desk: &mut D) 
 #[test]
 fn the_end_cancels_listeners(rt: HostRuntime) {
     refuse_and_end(&rt, &mut new_local(&rt));
-    refuse_and_end(&rt, &mut alone(&rt));
+    let mut desk = alone(&rt);
+    refuse_and_end(&rt, &mut desk);
+    desk.release(&rt);
 }
 
 static WEB: [Row; 1] = [(Ask::Dir("web", 1, 1), "ok")];
@@ -180,7 +182,9 @@ fn stand<H: AllocGlobal + Abort + Wait, D: Desk>(rt: &H, desk: &mut D) {
 #[test]
 fn standing_handles_are_limited(rt: HostRuntime) {
     stand(&rt, &mut new_local(&rt));
-    stand(&rt, &mut alone(&rt));
+    let mut desk = alone(&rt);
+    stand(&rt, &mut desk);
+    desk.release(&rt);
 }
 
 fn many_letters(rt: &impl Abort, alloc: Global, count: usize) -> Result<Request, AllocError>
@@ -234,7 +238,9 @@ static OVERLONG: [Row; 7] = [
 #[test]
 fn a_listener_gathers_so_many_letters(rt: HostRuntime) {
     hear_many(&rt, &mut new_local(&rt), 4096, &OVERLONG);
-    hear_many(&rt, &mut alone(&rt), 4096, &OVERLONG);
+    let mut desk = alone(&rt);
+    hear_many(&rt, &mut desk, 4096, &OVERLONG);
+    desk.release(&rt);
 }
 
 /// 4,095 letters are gathered at the end.
@@ -247,5 +253,7 @@ static LESS: [Row; 3] = [
 #[test]
 fn one_letter_less_is_not_overlong(rt: HostRuntime) {
     hear_many(&rt, &mut new_local(&rt), 4095, &LESS);
-    hear_many(&rt, &mut alone(&rt), 4095, &LESS);
+    let mut desk = alone(&rt);
+    hear_many(&rt, &mut desk, 4095, &LESS);
+    desk.release(&rt);
 }

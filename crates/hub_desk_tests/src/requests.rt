@@ -124,7 +124,9 @@ fn end_and_go_on<H: AllocGlobal + Abort + Wait, D: Desk>(rt: &H, desk: &mut D) {
 #[test]
 fn a_desk_serves_on_after_the_end(rt: HostRuntime) {
     end_and_go_on(&rt, &mut new_local(&rt));
-    end_and_go_on(&rt, &mut alone(&rt));
+    let mut desk = alone(&rt);
+    end_and_go_on(&rt, &mut desk);
+    desk.release(&rt);
 }
 
 fn counted_once(rt: &impl Abort, alloc: Global, number: u64) -> Result<Name, AllocError> {
@@ -169,8 +171,12 @@ fn names_are_limited(rt: HostRuntime) {
     make_names(&rt, &mut local);
     run(&rt, &mut local, &ALL_THERE);
     let hub = new_hub(&rt);
-    make_names(&rt, &mut session(&rt, &hub));
-    run(&rt, &mut session(&rt, &hub), &ALL_THERE);
+    let mut maker = session(&rt, &hub);
+    make_names(&rt, &mut maker);
+    maker.release(&rt);
+    let mut other = session(&rt, &hub);
+    run(&rt, &mut other, &ALL_THERE);
+    other.release(&rt);
 }
 
 static WEB: [Row; 1] = [(Ask::Dir("web", 1, 1), "ok")];
@@ -192,7 +198,9 @@ fn stand<H: AllocGlobal + Abort + Wait, D: Desk>(rt: &H, desk: &mut D) {
 #[test]
 fn standing_handles_are_limited(rt: HostRuntime) {
     stand(&rt, &mut new_local(&rt));
-    stand(&rt, &mut alone(&rt));
+    let mut desk = alone(&rt);
+    stand(&rt, &mut desk);
+    desk.release(&rt);
 }
 
 fn cancel<H: Wait>(rt: &H, desk: &mut LocalDesk, id: u64) {

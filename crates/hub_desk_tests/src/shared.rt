@@ -38,6 +38,8 @@ fn a_session_that_ends_holds_no_one_up(rt: HostRuntime) {
     first.end(&rt);
     run(&rt, &mut second, &FINDS_ROOM);
     run(&rt, &mut first, &SERVES_ON);
+    first.release(&rt);
+    second.release(&rt);
 }
 
 /// The number that the next publisher under the name gets.
@@ -64,7 +66,8 @@ fn a_session_keeps_its_publisher(rt: HostRuntime) -> Result<(), Fail> {
     let hub = new_hub(&rt);
     let mut desk = session(&rt, &hub);
     run(&rt, &mut desk, &SPEAKS);
-    assert_eq!(rt; next_number(&rt, &hub)?, 2);
-    desk.end(&rt);
+    let number = next_number(&rt, &hub);
+    desk.release(&rt);
+    assert_eq!(rt; number?, 2);
     Ok(())
 }

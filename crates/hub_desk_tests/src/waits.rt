@@ -223,5 +223,7 @@ fn wait_beside_all<H: AllocGlobal + Abort + Wait, D: Desk>(rt: &H, desk: &mut D)
 #[test]
 fn a_wait_works_beside_all_handles(rt: HostRuntime) {
     wait_beside_all(&rt, &mut new_local(&rt));
-    wait_beside_all(&rt, &mut alone(&rt));
+    let mut desk = alone(&rt);
+    wait_beside_all(&rt, &mut desk);
+    desk.release(&rt);
 }

@@ -1,4 +1,4 @@
--- What each step asks, as the functions on seats owe it.
+-- What each step requires, in the form that the functions on seats have to show.
 use Rattle.std.proofs.Common.{◌≡◌, ℕ, List, [], ◌∷◌, Option, Some, None, sym, refl, ap, ◌∙◌, subst}
 use mathlib.Core.Option as maybe
 use mathlib.Core.Path.{Path}
@@ -41,7 +41,7 @@ asks_split rules id m idle = splits book_of IsBehind IsSound rules id m.0 idle.l
 pub asks_join : (rules : Rules) (id : ℕ) (m : M) (other : ℕ) (n v : View) → IsIdle m → n ≡ note_of v → Joins (Kept rules) id m.0 other n (with_note m.0 n) spent
 asks_join rules id m other n v h is = joins book_of IsBehind IsSound rules id m.0 other n h.live h.held h.met (ap (λ (x : View). x.role) is) (ap (λ (x : View). x.held) is) (ap (λ (x : View). x.met) is)
 
--- ---- the locked value out of the slot
+-- ---- the locked value, moved out of the slot
 
 abbrev first_held : List (ℕ × Option Locked) → Option Locked
 first_held [] = None
@@ -50,11 +50,11 @@ first_held (x ∷ xs) = x.1
 some_same : (x y : Locked) → Path (Option Locked) (Some x) (Some y) → x ≡ y
 some_same x y e = cc
 
--- the slot that was taken has the value that the step found
+-- the slot has the value that the step found
 pub found_it : (old mid : M) (found : Option Locked) (t : Takes book_of IsBehind IsSound old mid) → mid.1 ≡ (0, found) ∷ rest mid.1 → found ≡ Some t.0
 found_it old mid found t at = sym (ap first_held at) ∙ ap first_held t.1
 
--- it is taken out
+-- the value is moved out
 pub taken_out : (old mid new : M) (found : Option Locked) (b : Locked) → Takes book_of IsBehind IsSound old mid → mid.1 ≡ (0, found) ∷ rest mid.1 → new ≡ (mid.0, (0, None) ∷ rest mid.1) → found ≡ Some b → Holding old b new
 taken_out old mid new found b t at now is =
     let same : t.0 ≡ b = some_same t.0 b (sym (found_it old mid found t at) ∙ is) in

@@ -53,13 +53,13 @@ module _ {B : Type 0} (book_of : B → Book) (stands_for : Rules → List Event 
         writers = λ n g. absurd (none_given n _ no_numbers g);
       }
 
-  -- a number above the count wrote nothing
+  -- a number above the count has written nothing
   silent : (s : St) (r : R s) (n : ℕ) → r.a.book.numbers < n → by n r.a.log ≡ []
   silent s r n above = let a = r.a in by_absent n a.log (λ k e at same.
       let g = r.authors k e at in let le : e.who ≤ a.book.numbers = g.1 in
       let is : e.who ≡ n = same in let lt : a.book.numbers < n = above in omega arith)
 
-  -- nor did it close
+  -- and it hasn't closed the record
   closed_by : (s : St) (r : R s) → r.a.mark ≤ r.a.book.numbers
   closed_by s r = let a = r.a in dite (ℕ_discrete a.mark 0)
       (λ zero. omega arith)

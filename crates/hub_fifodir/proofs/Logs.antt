@@ -1,4 +1,4 @@
--- Lists of events: beginnings, slices, and the letters of one publisher.
+-- Lists of events: prefixes, slices, and the letters of one publisher.
 use Rattle.std.proofs.Common.{◌≡◌, ◌≢◌, ◌⊎◌, ℕ, zero, suc, ◌+◌, ◌-◌, ◌≤◌, ◌==◌, List, [], ◌∷◌, ◌++◌, map, filter, length, take, drop, sym, refl, ap, ◌∙◌, subst, inl, inr, append_assoc, append-nil, arith, length-append, eq-eqb, ne_eqb, length-drop}
 use Rattle.std.proofs.lemmas.List.{take-append-le, drop-append-le, map-append, nil_from_length}
 use Rattle.std.proofs.lemmas.List.Elements.{filter-append}
@@ -22,7 +22,7 @@ starts_through l m s p q = subst (λ (z : List Event). StartsWith z s) (sym p.1)
 pub starts_length : (l s : List Event) → StartsWith l s → length s ≤ length l
 starts_length l s p = omega (arith, ap length p.1, length-append s p.0)
 
--- a beginning as long as the whole is the whole
+-- a prefix as long as the whole is the whole
 pub starts_whole : (s t : List Event) → StartsWith t s → length s ≡ length t → t ≡ s
 starts_whole s t p e = let none : p.0 ≡ [] = nil_from_length p.0 (omega (arith, ap length p.1, length-append s p.0)) in p.1 ∙ ap (λ (l : List Event). s ++ l) none ∙ append-nil s
 

@@ -1,4 +1,4 @@
--- The steps that change no word but take a look: a new seat, and a look by a seat.
+-- The steps that change no word and only look: a new seat, and a look by a seat.
 use Rattle.std.proofs.Common.{◌≡◌, ℕ, List, [], ◌∷◌, ◌++◌, length, set, get_or, Option, Some, None, sym, refl, ap, ◌∙◌, subst, inl}
 use mathlib.Core.Option as maybe
 use mathlib.Core.Path.{Path}
@@ -29,7 +29,7 @@ module _ {B : Type 0} (book_of : B → Book) (stands_for : Rules → List Event 
   pub its_seat : (s : St) (r : Rule s) (j : ℕ) (v : View) → get_elem? s.views j ≡ maybe.some v → IsLive v.role → IsSeat rules r.a j v
   its_seat s r j v at live = live_seat rules r.a j v v.role live (r.each j v at)
 
-  -- the publisher that closed has seen that
+  -- the publisher that closed the record has seen that
   pub own_close : (s : St) (r : Rule s) (id : ℕ) (v : View) → get_elem? s.views id ≡ maybe.some v → KnowsOwnClose v.role v.sight (sight r.a.log r.a.mark)
   own_close s r id v at n is marked some_mark =
       let a = r.a in let seat = its_seat s r id v at (numbered_live n v.role is) in
@@ -42,7 +42,7 @@ module _ {B : Type 0} (book_of : B → Book) (stands_for : Rules → List Event 
   home_more a (free b) views w h = h
   home_more a (taken j) views w h = at_more (HasHeld a.book) views w j h
 
-  -- a new view that fits, and holds nothing
+  -- a new view that fits, and doesn't have the lock
   pub joined_by : (s : St) (r : Rule s) (w : View) → Fits rules r.a (length s.views) w → Rule record { words = s.words; homes = s.homes; views = s.views ++ w ∷ [] }
   joined_by s r w fits = let a = r.a in record {
     a = a;

@@ -20,7 +20,7 @@ grows_self s = (starts_self s.seen, λ _. refl)
 pub grows_through : (s t u : Sight) → Grows s t → Grows t u → Grows s u
 grows_through s t u p q = (starts_through u.seen t.seen s.seen q.0 p.0, λ n. let e = p.1 n in q.1 (λ z. n (sym (ap (λ (x : Sight). x.closed) e) ∙ z)) ∙ e)
 
--- the seat after it looked with a note beside it
+-- the seat after it looked with a joined note
 pub joined_look : (m m1 m' : M) (n : View) → IsIdle m → m1 ≡ (with_note m.0 n, m.1) → Renews book_of IsBehind IsSound m1.0 m'.0 None → m'.1 ≡ m1.1 → Looks m m' × Grows n.sight m'.0.sight
 joined_look m m1 m' n h e r out =
     let r' = subst (λ (x : M). Renews book_of IsBehind IsSound x.0 m'.0 None) e r in (
@@ -42,7 +42,7 @@ learns_through r r' s t u same p q = (
       p.1 n is (ap (λ (x : Sight). x.closed) late ∙ marked) some_mark ∙ late,
 )
 
--- ---- the same front word, for a beginning
+-- ---- the same front word, for a prefix
 
 small_digit : (b : Bool) → digit b ≤ 1
 small_digit true = omega arith

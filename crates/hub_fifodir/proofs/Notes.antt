@@ -1,4 +1,4 @@
--- A note is cut off a seat, and another seat takes it in.
+-- A seat splits off a note, and another seat joins it.
 use Rattle.std.proofs.Common.{◌≡◌, ◌≢◌, ℕ, List, [], ◌∷◌, ◌++◌, set, Option, Some, None, sym, refl, ap, ◌∙◌, subst, inl, inr, ⊎_elim}
 use mathlib.Core.Option as maybe
 use mathlib.Core.Logic.{dite}
@@ -41,7 +41,7 @@ module _ {B : Type 0} (book_of : B → Book) (stands_for : Rules → List Event 
       let more = joined_by book_of stands_for sound rules s r (note_of v) record { ruled = seat.ruled; part = seat.part; met_part = tt; holds = tt; in_role = tt } in
       subst (λ (l : List View). R record { words = s.words; homes = s.homes; views = l ++ note_of v ∷ [] }) (sym (set_again s.views id v at)) more
 
-  -- one view changes in what it keeps beside its own, or is spent, and nothing else does
+  -- one view changes its note or is spent, and nothing else changes
   abbrev changed : (s : St) (r : R s) (id : ℕ) (v w : View) → get_elem? s.views id ≡ maybe.some v → Fits rules r.a id w → v.held ≡ None → ((i : ℕ) → HasId i v.role → HasId i w.role)
       → ((n : ℕ) → IsNumbered n v.role → IsNumbered n w.role × (w.sight ≡ v.sight)) → Somewhere (set s.views id w) (HasSeen (sight r.a.log r.a.mark)) → R record { words = s.words; homes = s.homes; views = set s.views id w }
   changed s r id v w at fits idle known named seen = let a = r.a in record {

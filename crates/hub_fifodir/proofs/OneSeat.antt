@@ -62,7 +62,7 @@ module _ {B : Type 0} (rules : Rules) (a : Account B) where
   pub held_none : (j : ℕ) (s : Sight) (held : Option Book) → held ≡ None → Holds rules a j s held
   held_none j s held e = subst (Holds rules a j s) (sym e) tt
 
-  -- where another seat has the turn
+  -- if another seat has the turn
   pub held_elsewhere : (i j : ℕ) (s : Sight) (held : Option Book) → i ≢ j → a.turn ≡ taken i → Holds rules a j s held → held ≡ None
   held_elsewhere i j s None n is h = refl
   held_elsewhere i j s (Some k) n is h = absurd (n (same (sym is ∙ h.0)))
@@ -85,7 +85,7 @@ module _ {B : Type 0} (rules : Rules) (a a' : Account B) where
   fits_map j v (Publisher p) f h = f h
   fits_map j v Spent f h = tt
 
--- a record that is not closed grows, or is closed
+-- a record that isn't closed grows, or is closed
 pub part_longer : (log x : List Event) (s : Sight) → IsPart log 0 s → IsPart (log ++ x) 0 s
 part_longer log x s p = (starts_more log x s.seen p.0, λ n. absurd (n (p.1 n).1))
 

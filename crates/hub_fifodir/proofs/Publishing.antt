@@ -38,7 +38,7 @@ open_when mark closed e c = dite (ℕ_discrete mark 0) (λ z. z) (λ n. absurd (
 pub closed_when : (mark : ℕ) (closed : Bool) → closed ≡ is_closed mark → closed ≡ true → mark ≢ 0
 closed_when mark closed e c z = absurd (true_apart (sym (sym c ∙ e ∙ ap not (eq-eqb mark 0 z))))
 
--- what the answer to a close says
+-- what the answer to a close shows
 pub shut_by : (w : World) → Ok tt ≡ close_reply w → w.closed ≡ false
 shut_by w e = elim (cases_Bool w.closed) [ inl t ↦ (let k = simp t at e in cc) | inr f ↦ f ]
 

@@ -1,4 +1,4 @@
--- The ways in which a seat gives the lock back, from what the call on the locked value ensures.
+-- The ways in which a seat releases the lock, from what the call on the locked value ensures.
 use Rattle.std.proofs.Common.{◌≡◌, ℕ, suc, ◌+◌, ◌<◌, ◌≤◌, nat_eq, cond, true, false, List, [], length, Some, sym, refl, ap, ◌∙◌, subst, inl, inr, arith}
 use Rattle.std.proofs.lemmas.Bool.{ne_eqb, eq-eqb}
 use mathlib.Core.Logic.{dite}
@@ -18,7 +18,7 @@ use Rattle.hub_fifodir.proofs.Subscriptions.{cursor_given}
 pub none_between : (n most : ℕ) → most < n → n ≤ most → ⊥
 none_between n most a b = absurd (omega arith)
 
--- only what was given stands, and has a cursor
+-- only what was given is current, and has a cursor
 pub bounded_after : (b : Locked) (w : World) → Stands b w → ((n : ℕ) → stands b.standing.keys n ≡ true → IsGiven n b.given) → IsBounded (book_of b)
 bounded_after b w h low = record { cursors = λ i next at. cursor_given b.kept w i next h.for at; standing = low }
 
@@ -50,7 +50,7 @@ pub rests : (m : M) (b b' : Locked) → IsLive m.0.role → m.0.held ≡ Some (b
 rests m b b' live held low same behind =
     let k : Book = book_of b in (k, m.0.role, suc k.ids, suc k.numbers, held, refl, behind, subst (λ (x : Book). Changes m.0.sight.seen m.0.role m.0.role k x (suc k.ids) (suc k.numbers)) (sym same) (same_state m.0.sight.seen m.0.role k live low))
 
--- a call on the record alone, which leaves the subscriptions
+-- a call on the record alone that leaves the subscriptions as they are
 pub same_book : (b b' : Locked) (w w' : World) → Stands b w → Stands b' w' → w'.subscriptions ≡ w.subscriptions → KeepsPublishers b b' → book_of b' ≡ book_of b
 same_book b b' w w' h h' same others =
     let cursors : b'.kept.cursors ≡ b.kept.cursors = h'.for.cursors ∙ ap (λ (l : List Subscription). Rattle.hub_record.specs.World.standing_from 1 l) same ∙ sym h.for.cursors in

@@ -42,7 +42,7 @@ tickets_differ rules s j k t u r h i same = sym (ticket_at rules s r j t h).its_
 pub publishers_differ : PublishersDiffer
 publishers_differ rules s j k p q r h i same = sym (publisher_at rules s r j p h).its_seat ∙ (ap r.a.writer_at same ∙ (publisher_at rules s r k q i).its_seat)
 
--- ---- two beginnings of one list
+-- ---- two prefixes of one list
 
 shorter : (log s t : List Event) → StartsWith log s → StartsWith log t → length s ≤ length t → StartsWith t s
 shorter log s t p q le = let n : ℕ = length s in
@@ -138,7 +138,7 @@ standing_have_publishers rules s b n r homes at =
     stays true e = cc
     stays false e = refl
 
--- the least of the cursors is at most each
+-- the least of the cursors is at most each of them
 least_below : (d : ℕ) (test : ℕ → Bool) (cs : List (ℕ × ℕ)) (v : ℕ) → lookup test cs ≡ Some v → least d cs ≤ v
 least_below d test [] v e = cc
 least_below d test (c ∷ cs) v e = elim (cases_Bool (test c.0)) [

@@ -1,4 +1,4 @@
--- The stores to the front by a seat that has the lock: a message, and the closed mark.
+-- The stores to the front word by a seat that has the lock: a message, and the closed mark.
 use Rattle.std.proofs.Common.{◌≡◌, ◌≢◌, ℕ, List, [], ◌∷◌, ◌++◌, set, Option, Some, sym, refl, ap, ◌∙◌, subst, inl, ⊎_elim, append-nil}
 use mathlib.Core.Option as maybe
 use lib.ListN.{get_elem?}
@@ -21,7 +21,7 @@ use Rattle.hub_fifodir.proofs.ViewLists.{all_set, at_kept, at_own, here}
 use Rattle.hub_fifodir.proofs.OneSeat.{part_whole, seated, fits_map, held_none, held_elsewhere, numbered_live, part_longer, any_longer, part_marked, any_marked}
 use Rattle.hub_fifodir.proofs.Looks.{Rule, its_seat}
 
--- a publisher's own letters, where a message of p joins: another's stay
+-- a publisher's own letters after a message of p: those of another publisher stay
 role_longer : (book : Book) (log : List Event) (f g : ℕ → ℕ) (id j p : ℕ) (message : List ℕ) (seen : List Event) (r : Role) → j ≢ id → g p ≡ id → InRole book log f g j seen r → InRole book (log ++ stamped p message) f g j seen r
 role_longer book log f g id j p message s Visitor n own h = tt
 role_longer book log f g id j p message s Note n own h = tt
@@ -41,7 +41,7 @@ module _ {B : Type 0} (book_of : B → Book) (stands_for : Rules → List Event 
   abbrev R : St → Type 0
   R = Rule book_of stands_for sound rules
 
-  -- what the seat that holds the lock knows
+  -- what the seat that has the lock knows
   holding : (s : St) (r : R s) (id : ℕ) (v : View) (k : Book) → get_elem? s.views id ≡ maybe.some v → IsLive v.role → v.held ≡ Some k → (r.a.turn ≡ taken id) × (k ≡ r.a.book) × (v.sight ≡ sight r.a.log r.a.mark)
   holding s r id v k at live is = let seat = its_seat book_of stands_for sound rules s r id v at live in subst (Holds rules r.a id v.sight) is seat.holds
 

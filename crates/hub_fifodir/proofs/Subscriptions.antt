@@ -1,4 +1,4 @@
--- Subscriptions by id, where one is changed or a new one comes, and the cursors of a world.
+-- Subscriptions by id, if one is changed or a new one is added, and the cursors of a world.
 use Rattle.std.proofs.Common.{ℕ, suc, ◌≡◌, ◌≢◌, ◌+◌, ◌<◌, ◌≤◌, true, false, List, [], ◌∷◌, ◌++◌, length, Option, Some, None, nat_eq, refl, sym, ap, ◌∙◌, inl, inr, arith}
 use Rattle.std.proofs.lemmas.Bool.{ne_eqb, eq-eqb, eqb-true, cases_Bool}
 use Rattle.std.specs.Option.{option_map}
@@ -67,7 +67,7 @@ next_of o = option_map (λ (s : Subscription). s.next) o
 pub cursor_found : (r : Kept) (w : World) (i : ℕ) → StandsFor r w → cursor_of r.cursors i ≡ next_of (found w i)
 cursor_found r w i h = ap (λ c. cursor_of c i) h.cursors ∙ lookup_standing 1 w.subscriptions i
 
--- the standing subscription behind a cursor
+-- the current subscription of a cursor
 pub subscription_of : (o : Option Subscription) (next : ℕ) → next_of o ≡ Some next → (s : Subscription) × (o ≡ Some s) × (s.next ≡ next)
 subscription_of None next h = cc
 subscription_of (Some s) next h = (s, refl, cc)

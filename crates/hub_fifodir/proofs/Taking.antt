@@ -22,7 +22,7 @@ use Rattle.hub_fifodir.proofs.Subscriptions.{found_changed, found_stopped, found
 use Rattle.hub_fifodir.proofs.Publishing.{open_when, closed_when}
 use Rattle.hub_fifodir.proofs.Rests.{none_between, bounded_after}
 
--- the same publishers stand, so only they do
+-- the same publishers are current, so only numbers that were given are
 still_low : (b b' : Locked) → IsBounded (book_of b) → KeepsPublishers b b' → (n : ℕ) → stands b'.standing.keys n ≡ true → IsGiven n b'.given
 still_low b b' low others n at = let g = low.standing n (sym (ap (λ (l : List ℕ). stands l n) others.0) ∙ at) in let e = others.1 in (g.0, let a = g.1 in omega arith)
 
@@ -82,7 +82,7 @@ is_new_taker m m3 b' id mark is at ok e = subst (λ (x : M). IsTaker x id mark m
   within = ok.0;
 }
 
--- ---- what the answer to a take says of a standing subscription
+-- ---- what the answer to a take shows of a current subscription
 
 got_says : (w : World) (most : ℕ) (s : Subscription) (n : ℕ) → Ok (Got n) ≡ reply_for w most (Some s) → (s.next < length w.events) × (n ≡ taken w s most)
 got_says w most s n e = elim (cases_Bool (nat_lt s.next (length w.events))) [
@@ -106,7 +106,7 @@ end_says w most s e = elim (cases_Bool (nat_lt s.next (length w.events))) [
 pub id_given : (b' : Locked) (w : World) (given : ℕ × ℕ) → given ≡ (length w.subscriptions + 1, length w.events) → Stands b' (after_subscribe w (Ok given)) → given.0 ≡ b'.kept.given
 id_given b' w given e after = ap (λ (p : ℕ × ℕ). p.0) e ∙ sym (after.for.given ∙ length-append w.subscriptions (new_subscription w ∷ []))
 
--- a standing subscription has an answer
+-- a current subscription has an answer
 answered : (w : World) (most : ℕ) (s : Subscription) → IsOk (reply_for w most (Some s))
 answered w most s = elim (cases_Bool (nat_lt s.next (length w.events))) [ inl t ↦ simp t refl | inr f ↦ elim (cases_Bool w.closed) [ inl c ↦ simp (f, c) refl | inr o ↦ simp (f, o) refl ] ]
 

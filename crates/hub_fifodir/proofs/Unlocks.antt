@@ -1,4 +1,5 @@
--- The store that gives the lock back: the view rests in a role that may have changed, and the locked value goes home.
+-- The store that releases the lock: the view has a role that may have changed, and the locked value is back in its
+-- slot.
 use Rattle.std.proofs.Common.{◌≡◌, ◌≢◌, ◌⊎◌, ℕ, ◌<◌, ◌≤◌, cond, List, [], ◌∷◌, set, Option, Some, sym, refl, ap, ◌∙◌, subst, inl, ⊎_elim, arith, eq-eqb, ne_eqb}
 use mathlib.Core.Option as maybe
 use mathlib.Core.Logic.{dite}
@@ -26,13 +27,13 @@ put_new f n j = ap (λ b. cond b j (f n)) (eq-eqb n n refl)
 put_else : (f : ℕ → ℕ) (n0 j n : ℕ) → n ≢ n0 → put f n0 j n ≡ f n
 put_else f n0 j n ne = ap (λ b. cond b j (f n)) (ne_eqb n n0 ne)
 
--- at a count that was not given before, or at the seat's own, all that were given stay
+-- if n0 wasn't given before, or is the seat's own, all numbers that were given keep their seats
 put_same : (f : ℕ → ℕ) (n0 j most n : ℕ) → (most < n0) ⊎ (f n0 ≡ j) → n ≤ most → put f n0 j n ≡ f n
 put_same f n0 j most n own le = dite (ℕ_discrete n n0)
     (λ same. ⊎_elim (λ (lt : most < n0). absurd (omega arith)) (λ (e : f n0 ≡ j). ap (put f n0 j) same ∙ (put_new f n0 j ∙ sym e) ∙ ap f (sym same)) own)
     (λ other. put_else f n0 j n other)
 
--- n that another seat has is not n0
+-- an n that another seat has isn't n0
 apart : (f : ℕ → ℕ) (n0 j k most n : ℕ) → (most < n0) ⊎ (f n0 ≡ j) → n ≤ most → f n ≡ k → k ≢ j → n ≢ n0
 apart f n0 j k most n own le at ne same = ⊎_elim (λ (lt : most < n0). absurd (omega arith)) (λ (e : f n0 ≡ j). absurd (ne (sym at ∙ (ap f same ∙ e)))) own
 
@@ -50,7 +51,7 @@ role_ported k k' log f g i0 n0 id j s (Publisher p) iu nu cs ss oi on ne h =
     record { its_seat = put_same g n0 id k.numbers p.number on h.given.1 ∙ h.its_seat; given = given_more p.number k.numbers k'.numbers nu h.given; all = h.all; known = h.known; standing = ss p.number (apart g n0 id j k.numbers p.number on h.given.1 h.its_seat ne) ∙ h.standing }
 role_ported k k' log f g i0 n0 id j s Spent iu nu cs ss oi on ne h = tt
 
--- the seat's own, after its id and its number are put
+-- what a seat shows of itself, after `put` has given it its id and its number
 own_ported : (k : Book) (log : List Event) (f g : ℕ → ℕ) (i0 n0 id : ℕ) (seen : List Event) (r : Role) → (k.ids < i0) ⊎ (f i0 ≡ id) → (k.numbers < n0) ⊎ (g n0 ≡ id)
     → InRole k log f g id seen r → InRole k log (put f i0 id) (put g n0 id) id seen r
 own_ported k log f g i0 n0 id s Visitor oi on h = tt

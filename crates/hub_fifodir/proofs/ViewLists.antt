@@ -1,4 +1,4 @@
--- Lists of views, where one view changes or a new one comes.
+-- Lists of views, if one view changes or a new one is added.
 use Rattle.std.proofs.Common.{◌≡◌, ◌≢◌, ℕ, zero, suc, ◌<◌, List, [], ◌∷◌, ◌++◌, length, set, sym, ap, ◌∙◌, subst, ⊎_elim, arith}
 use mathlib.Core.Logic.{dite}
 use native.Mathlib.Decide.{ℕ_discrete}
@@ -21,7 +21,7 @@ all_set F views j w mine others k u e = ⊎_elim (λ (x : (k ≡ j) × (w ≡ u)
 pub same_at : (views : List View) (k : ℕ) (v u : View) → get_elem? views k ≡ some v → get_elem? views k ≡ some u → v ≡ u
 same_at views k v u p q = some-injective v u (sym p ∙ q)
 
--- a fact of the view at k stays where the view at j becomes w, if w has it where the old one had
+-- a fact about the view at k stays if the view at j becomes w and w has it if the old view had it
 pub at_kept : (P : View → Type 0) (views : List View) (j : ℕ) (v w : View) (k : ℕ) → get_elem? views j ≡ some v → (P v → P w) → At views k P → At (set views j w) k P
 at_kept P views j v w k at keep t = dite (ℕ_discrete k j)
     (λ same. (w, ap (get_elem? (set views j w)) same ∙ set_here views j w (within views j v at), keep (subst P (same_at views k t.0 v t.1 (ap (get_elem? views) same ∙ at)) t.2)))

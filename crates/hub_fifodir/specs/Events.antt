@@ -1,4 +1,4 @@
--- Lists of events: beginnings, slices, and the front word that says what they come to.
+-- Lists of events: prefixes, slices, and the front word of a list.
 use Rattle.std.specs.Prelude.{◌≡◌, ◌==◌, ℕ, ◌-◌, Bool, not, List, ◌++◌, length, take, drop}
 use Rattle.hub_letters.specs.Flags.{flags_of}
 use Rattle.hub_record.specs.declared.Event.{Event}

@@ -1,4 +1,4 @@
--- What the rule says of any table under it.
+-- What the rule says about any table under it.
 use Rattle.std.specs.Prelude.{◌≢◌, slice_index, length, ◌≡◌, ◌⊎◌, ◌≤◌, ◌∷◌, [], ℕ, Option, Some, true, false}
 use mathlib.Core.Option.{some}
 use lib.ListN.{get_elem?}
@@ -37,12 +37,12 @@ TicketsDiffer = (rules : Rules) (s : Board) (j k : ℕ) (t u : Taking) → Kept 
 abbrev pub PublishersDiffer : Type 0
 PublishersDiffer = (rules : Rules) (s : Board) (j k : ℕ) (p q : Writing) → Kept rules s → HasPublisher s j p → HasPublisher s k q → p.number ≡ q.number → j ≡ k
 
--- of what two seats have seen one is a beginning of the other
+-- of what two seats have seen, one is a prefix of the other
 abbrev pub SeatsAgree : Type 0
 SeatsAgree = (rules : Rules) (s : Board) (j k : ℕ) (v w : View) → Kept rules s → get_elem? s.views j ≡ some v → get_elem? s.views k ≡ some w → IsLive v.role → IsLive w.role
     → StartsWith v.sight.seen w.sight.seen ⊎ StartsWith w.sight.seen v.sight.seen
 
--- a ticket that stands has its cursor, and a cursor has its ticket
+-- a current ticket has its cursor, and a cursor has its ticket
 abbrev pub TicketsHaveCursors : Type 0
 TicketsHaveCursors = (rules : Rules) (s : Board) (b : Locked) (j : ℕ) (t : Taking) → Kept rules s → IsFree s b → HasTicket s j t → t.gone ≡ false → cursor_of b.kept.cursors t.id ≡ Some t.next
 
@@ -50,17 +50,17 @@ abbrev pub CursorsHaveTickets : Type 0
 CursorsHaveTickets = (rules : Rules) (s : Board) (b : Locked) (id next : ℕ) → Kept rules s → IsFree s b → cursor_of b.kept.cursors id ≡ Some next
     → (j : ℕ) × (t : Taking) × HasTicket s j t × (t.id ≡ id) × (t.next ≡ next) × (t.gone ≡ false)
 
--- a number that stands has its publisher
+-- a current number has its publisher
 abbrev pub StandingHavePublishers : Type 0
 StandingHavePublishers = (rules : Rules) (s : Board) (b : Locked) (n : ℕ) → Kept rules s → IsFree s b → stands b.standing.keys n ≡ true
     → (j : ℕ) × (p : Writing) × HasPublisher s j p × (p.number ≡ n) × (p.gone ≡ false)
 
--- the base has not passed what a ticket that stands takes next
+-- the base hasn't passed what a current ticket takes next
 abbrev pub BaseIsBehind : Type 0
 BaseIsBehind = (rules : Rules) (s : Board) (b : Locked) (w : World) (j : ℕ) (t : Taking) → Kept rules s → IsFree s b → Stands b w → HasTicket s j t → t.gone ≡ false → base w ≤ t.next
 
--- the record behind it stands for one history, of which each seat has seen a beginning, and all of it where it has
--- seen the close; the front word says how it stands
+-- the record behind the lock stands for one history; each seat has seen a prefix of it, and all of it if it has seen
+-- the close; the front word shows its status
 pub record IsHistory (rules : Rules) (s : State (Option Locked) View) (b : Locked) (w : World) : Type 0 where
   pub stands : Stands b w
   pub kind : w.kind ≡ rules.kind

@@ -1,4 +1,4 @@
--- The value behind the lock, and what its calls do beside those of its record.
+-- The value behind the lock, and what its calls do beside the calls of its record.
 use Rattle.std.specs.Prelude.{◌≡◌, ℕ, ◌+◌, ◌<◌, ◌≤◌, Bool, true, false, cond, List, length, Result, Ok, Err, nat_eq}
 use Rattle.std.specs.List.{list_any}
 use Rattle.hub_record.specs.World.{World}
@@ -16,7 +16,7 @@ pub record Stands (b : Locked) (w : World) : Type 0 where
 abbrev pub KeepsRecord : Locked → Locked → Type 0
 KeepsRecord old new = (new.kept ≡ old.kept) × (new.ids ≡ old.ids)
 
--- whether a number is among those that stand
+-- whether a number is that of a current publisher
 abbrev pub stands : List ℕ → ℕ → Bool
 stands numbers n = list_any (nat_eq n) numbers
 
@@ -26,7 +26,7 @@ PublisherReply b (Err pass.Many) = 1024 ≤ length b.standing.keys
 PublisherReply b (Err pass.Spent) = (length b.standing.keys < 1024) × (b.ids ≤ b.given)
 PublisherReply b (Err pass.Memory) = (length b.standing.keys < 1024) × (b.given < b.ids)
 
--- the same publishers stand, and no number was given
+-- the same publishers are current, and no number was given
 abbrev pub KeepsPublishers : Locked → Locked → Type 0
 KeepsPublishers old new = (new.standing.keys ≡ old.standing.keys) × (new.given ≡ old.given) × (new.ids ≡ old.ids)
 
@@ -34,6 +34,6 @@ abbrev pub IsAfterPublisher : Locked → Result ℕ PassError → Locked → Typ
 IsAfterPublisher old (Ok n) new = ((m : ℕ) → stands new.standing.keys m ≡ cond (nat_eq n m) true (stands old.standing.keys m)) × (new.given ≡ n)
 IsAfterPublisher old (Err e) new = KeepsPublishers old new
 
--- the number n stands no more, and the others as before
+-- the number n isn't current any more, and the others are as before
 abbrev pub HasLeft : Locked → ℕ → Locked → Type 0
 HasLeft old n new = ((m : ℕ) → stands new.standing.keys m ≡ cond (nat_eq n m) false (stands old.standing.keys m)) × (new.given ≡ old.given)

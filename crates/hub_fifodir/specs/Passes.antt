@@ -1,4 +1,4 @@
--- What clauses say of a fifodir and its passes.
+-- What contracts say about a fifodir and its passes.
 use Rattle.std.specs.Prelude.{◌≡◌, ◌≢◌, ℕ, ◌+◌, ◌-◌, ◌<◌, ◌≤◌, ◌++◌, min, length, drop, List, []}
 use Rattle.atomic_table.specs.Seated.{TableId}
 use Rattle.hub_letters.specs.Flags.{flags_of}
@@ -35,7 +35,7 @@ kind_of f = f.rules.kind
 abbrev pub limits_of : Fifodir → Limits
 limits_of f = f.rules.limits
 
--- this fifodir made the pass, and it has its kind and limits
+-- this fifodir made the pass, and the pass has its kind and limits
 abbrev pub IsOf : Fifodir → TableId → Rules → Type 0
 IsOf f table rules = (table ≡ f.table.shared.table_id) × (rules ≡ f.rules)
 
@@ -57,7 +57,7 @@ closed_mark p = p.seat.me.0.sight.closed
 abbrev pub mine : Publisher → List ℕ
 mine p = mine_of p.seat.me.0.role
 
--- what it has seen keeps the total, and is lawful for a service
+-- what it has seen is within the total, and is lawful if the fifodir is a service's
 abbrev pub IsPublisherSound : Publisher → Type 0
 IsPublisherSound p = IsSound p.seat.me.0.rules p.seat.me.0.sight.seen
 
@@ -84,21 +84,21 @@ ticket_rules t = t.seat.me.0.rules
 abbrev pub IsTicketSound : Ticket → Type 0
 IsTicketSound t = IsSound t.seat.me.0.rules t.seat.me.0.sight.seen
 
--- ---- what a call leaves a pass with
+-- ---- what a pass has seen after a call
 
--- more of the record was seen, and who closed it knew so before
+-- it has seen at least as much as before, and if it closed the record itself, it had seen that before
 abbrev pub Learns : Role → Sight → Sight → Type 0
 Learns r s t = Grows s t × KnowsOwnClose r s t
 
--- the status of what was seen
+-- the status of what it has seen
 abbrev pub IsStatusOf : Status → Sight → Type 0
 IsStatusOf s t = (s.number ≡ length t.seen) × (s.flags ≡ flags_of (letters t.seen)) × (s.closed ≡ is_closed t.closed)
 
--- a publisher knew of its own close before
+-- if the publisher itself had closed the record, it had seen that before
 abbrev pub KnewOwnClose : Publisher → Publisher → Type 0
 KnewOwnClose old new = closed_mark new ≡ new.number → closed_mark old ≢ 0
 
--- a message was accepted: it stands last in what is seen now
+-- a message was accepted: it is last in what is seen now
 abbrev pub HasPublished : Publisher → List ℕ → ℕ → Publisher → Type 0
 HasPublished old message n new = (closed_mark new ≡ 0) × (n + length message ≡ length (seen new)) × (mine new ≡ mine old ++ message)
     × ((others : List Event) × (seen new ≡ (seen old ++ others) ++ stamped old.number message))
@@ -118,7 +118,7 @@ IsRefusedAt p message e = IsRefusedBy p.seat.me.0.rules p.seat.me.0.sight messag
 abbrev pub HasSubscribed : Ticket → Type 0
 HasSubscribed t = (t.mark ≡ length (ticket_seen t)) × (t.next ≡ t.mark) × (got t ≡ [])
 
--- what a take into this many places answers, by what the ticket has then seen
+-- what a take into this many places reports, by what the ticket has then seen
 abbrev pub HasTaken : Ticket → ℕ → Taken → Ticket → Type 0
 HasTaken old most (Got n) new = (old.next < length (ticket_seen new)) × (n ≡ min most (length (ticket_seen new) - old.next)) × (new.next ≡ old.next + n)
     × (got new ≡ got old ++ slice old.next (old.next + n) (ticket_seen new))

@@ -1,4 +1,4 @@
--- The rule of the table: there is one history, and what each seat knows of it is a beginning of it.
+-- The rule of the table: there is one history, and each seat has seen a prefix of it.
 use Rattle.std.specs.Prelude.{◌≡◌, ◌≢◌, ◌⊎◌, ℕ, ◌≤◌, ◌<◌, List, [], ◌∷◌, length, Option, Some, None, Bool, true, false, not, nat_eq}
 use Rattle.std.proofs.Common.{lit≤}
 use Rattle.std.specs.Map.{lookup}
@@ -30,7 +30,7 @@ sight seen closed = record { seen = seen; closed = closed }
 abbrev pub view : Rules → Sight → Role → Option Book → Option Sight → View
 view rules at role held met = record { rules = rules; sight = at; role = role; held = held; met = met }
 
--- a seat that holds nothing and has no note
+-- a seat that doesn't hold the lock and has joined no note
 abbrev pub resting : Rules → Sight → Role → View
 resting rules at role = view rules at role None None
 
@@ -62,21 +62,21 @@ abbrev pub IsNumbered : ℕ → Role → Type 0
 IsNumbered n (Publisher p) = p.number ≡ n
 IsNumbered n _ = ⊥
 
--- ---- the state that the rule speaks of
+-- ---- the state that the rule is about
 
 abbrev pub cursor_of : List (ℕ × ℕ) → ℕ → Option ℕ
 cursor_of cursors id = lookup (nat_eq id) cursors
 
--- one of the first ids, or numbers, which run from 1
+-- one of the ids, or numbers, that were given: they run from 1
 abbrev pub IsGiven : ℕ → ℕ → Type 0
 IsGiven n most = (0 < n) × (n ≤ most)
 
--- only ids and numbers that were given have cursors and stand
+-- only ids that were given have cursors, and only numbers that were given are current
 pub record IsBounded (book : Book) : Type 0 where
   pub cursors : (i next : ℕ) → cursor_of book.cursors i ≡ Some next → IsGiven i book.ids
   pub standing : (n : ℕ) → stands book.standing n ≡ true → IsGiven n book.numbers
 
--- free, with the locked value at home, or taken by a seat
+-- free, with the locked value in its slot, or taken by a seat
 pub data Turn (B : Type 0) : Type 0 where
   free : B → Turn B
   taken : ℕ → Turn B
@@ -90,7 +90,7 @@ module _ {B : Type 0} where
   home (free b) = maybe.some (Some b)
   home (taken j) = maybe.none
 
--- the record with its closed mark, and the state; ticket_at and writer_at say which seat has an id, and which a
+-- the record with its closed mark, and the state; ticket_at says which seat has an id, and writer_at which seat has a
 -- publisher's number
 pub record Account (B : Type 0) : Type 0 where
   pub log : List Event
@@ -100,7 +100,7 @@ pub record Account (B : Type 0) : Type 0 where
   pub ticket_at : ℕ → ℕ
   pub writer_at : ℕ → ℕ
 
--- a beginning of the record, and all of it where the close was seen
+-- a prefix of the record, and all of it if the close was seen
 abbrev pub IsPart : List Event → ℕ → Sight → Type 0
 IsPart log mark s = StartsWith log s.seen × (s.closed ≢ 0 → (s.seen ≡ log) × (s.closed ≡ mark))
 
@@ -112,14 +112,14 @@ abbrev pub cursor_if : Bool → ℕ → Option ℕ
 cursor_if true next = None
 cursor_if false next = Some next
 
--- a ticket's seat, against the cursors
+-- a ticket's seat, compared with the cursors
 pub record IsTicket (book : Book) (ticket_at : ℕ → ℕ) (j : ℕ) (seen : List Event) (t : Taking) : Type 0 where
   pub its_seat : ticket_at t.id ≡ j
   pub given : IsGiven t.id book.ids
   pub sane : IsSane seen (Ticket t)
   pub cursor : cursor_of book.cursors t.id ≡ cursor_if t.gone t.next
 
--- a publisher's seat, against the record
+-- a publisher's seat, compared with the record
 pub record IsPublisher (book : Book) (log : List Event) (writer_at : ℕ → ℕ) (j : ℕ) (seen : List Event) (p : Writing) : Type 0 where
   pub its_seat : writer_at p.number ≡ j
   pub given : IsGiven p.number book.numbers
@@ -133,7 +133,7 @@ InRole book log ticket_at writer_at j seen (Publisher p) = IsPublisher book log 
 InRole book log ticket_at writer_at j seen _ = Unit {0}
 
 module _ {B : Type 0} (rules : Rules) (a : Account B) where
-  -- a seat that holds has seen the whole record, and has the state
+  -- a seat that has the lock has seen the whole record, and knows the state
   abbrev pub Holds : ℕ → Sight → Option Book → Type 0
   Holds j s None = Unit {0}
   Holds j s (Some b) = (a.turn ≡ taken j) × (b ≡ a.book) × (s ≡ sight a.log a.mark)
@@ -161,7 +161,7 @@ HasHeld book v = IsLive v.role × (v.held ≡ Some book)
 abbrev pub HasClosed : ℕ → List Event → View → Type 0
 HasClosed mark log v = IsNumbered mark v.role × (v.sight ≡ sight log mark)
 
--- some view is so
+-- the fact holds for some view
 abbrev pub Somewhere : List View → (View → Type 0) → Type 0
 Somewhere views P = (j : ℕ) × (v : View) × (get_elem? views j ≡ maybe.some v) × P v
 
@@ -181,7 +181,7 @@ module _ {B : Type 0} (book_of : B → Book) (stands_for : Rules → List Event 
     pub bounded : IsBounded a.book
     pub locked : IsHome rules a a.turn s.views
     pub each : (j : ℕ) (v : View) → get_elem? s.views j ≡ maybe.some v → Fits rules a j v
-    -- somebody has seen the whole record, and the publisher that closed it has
+    -- some seat has seen the whole record, and the publisher that closed it has
     pub reached : Somewhere s.views (HasSeen (sight a.log a.mark))
     pub closer : a.mark ≢ 0 → At s.views (a.writer_at a.mark) (HasClosed a.mark a.log)
     -- each event, each id and each number that was given has its seat

@@ -1,4 +1,4 @@
--- What each kind of step tells its seat.
+-- What each kind of step shows its seat.
 use Rattle.std.specs.Prelude.{◌≡◌, ◌≢◌, ℕ, List, [], ◌∷◌, ◌++◌, ◌⊎◌, ◌<◌, ◌≤◌, ◌==◌, ◌+◌, cond, not, length, Option, Some, None, true, false}
 use Rattle.atomic_table.specs.Table.{Me, Step}
 use Rattle.hub_record.specs.declared.Event.{Event}
@@ -19,7 +19,7 @@ use Rattle.hub_fifodir.specs.Rule.{sight, view, resting, visitor, IsLive, IsSane
 
 -- ---- what a seat learns
 
--- what was seen is a beginning of what is seen now, and is all of it if the close was seen
+-- what was seen is a prefix of what is seen now, and is all of it if the close was seen
 abbrev pub Grows : Sight → Sight → Type 0
 Grows s t = StartsWith t.seen s.seen × (s.closed ≢ 0 → t ≡ s)
 
@@ -27,16 +27,16 @@ abbrev pub GrowsIfAny : Option Sight → Sight → Type 0
 GrowsIfAny None t = Unit {0}
 GrowsIfAny (Some s) t = Grows s t
 
--- the publisher that closed the record knew so before
+-- if the seat's publisher closed the record, it had seen that before
 abbrev pub KnowsOwnClose : Role → Sight → Sight → Type 0
 KnowsOwnClose r s t = (n : ℕ) → IsNumbered n r → t.closed ≡ n → n ≢ 0 → s ≡ t
 
--- no number above the count published or closed
+-- no number above the count has published or closed
 pub record IsFresh (book : Book) (s : Sight) : Type 0 where
   pub silent : (n : ℕ) → book.numbers < n → by n s.seen ≡ []
   pub closed : s.closed ≤ book.numbers
 
--- a ticket's cursor, and that a publisher stands
+-- a ticket has its cursor, or none if it was cancelled; a publisher is current unless it left
 abbrev pub IsInBook : Book → Role → Type 0
 IsInBook book (Ticket t) = IsGiven t.id book.ids × (cursor_of book.cursors t.id ≡ cursor_if t.gone t.next)
 IsInBook book (Publisher p) = IsGiven p.number book.numbers × (stands book.standing p.number ≡ not p.gone)
@@ -46,7 +46,7 @@ abbrev pub Front : ℕ → Sight → Type 0
 Front n s = n ≡ front_word s.seen s.closed
 
 module _ {B : Type 0} (book_of : B → Book) (stands_for : Rules → List Event → ℕ → B → Type 0) (sound : Rules → List Event → Type 0) where
-  -- the view v has become w, which has the whole record of that moment, and this state
+  -- the view v has become w: it has seen the whole record of that moment, and knows this state if it has the lock
   pub record Renews (v w : View) (held : Option Book) : Type 0 where
     pub is : w ≡ view v.rules w.sight v.role held None
     pub grows : Grows v.sight w.sight
@@ -87,7 +87,7 @@ looked = looked_as book_of IsBehind IsSound
 abbrev pub locked : Step (Option Locked) → M → ℕ → M → Type 0
 locked = locked_as book_of IsBehind IsSound
 
--- the seat has taken the lock, and the value b out of the slot
+-- the seat has taken the lock, and has moved the value b out of the slot
 abbrev pub Holding : M → Locked → M → Type 0
 Holding m b m' = (m'.1 ≡ (0, None) ∷ []) × Locks book_of IsBehind IsSound m.0 m'.0 b
 
@@ -97,7 +97,7 @@ Looks m m' = Renews book_of IsBehind IsSound m.0 m'.0 None × (m'.1 ≡ [])
 
 -- ---- what a seat is before a step
 
--- neither holding the lock nor a note
+-- the seat has neither the lock nor a note
 pub record IsIdle (m : M) : Type 0 where
   pub live : IsLive m.0.role
   pub held : m.0.held ≡ None
@@ -124,7 +124,7 @@ got_of r = (taking_of r).got
 abbrev pub taker : ℕ → ℕ → ℕ → List Event → Role
 taker id mark next got = Ticket record { id = id; mark = mark; next = next; got = got; gone = false }
 
--- the seat of the standing publisher n, between two calls
+-- the seat of the current publisher n, between two calls
 pub record IsWriter (m : M) (n : ℕ) : Type 0 where
   pub role : m.0.role ≡ writer n (mine_of m.0.role)
   pub held : m.0.held ≡ None
@@ -133,7 +133,7 @@ pub record IsWriter (m : M) (n : ℕ) : Type 0 where
   pub own : by n m.0.sight.seen ≡ mine_of m.0.role
   pub within : length m.0.sight.seen ≤ m.0.rules.limits.total
 
--- the seat of a standing ticket, between two calls
+-- the seat of a current ticket, between two calls
 pub record IsTaker (m : M) (id mark next : ℕ) : Type 0 where
   pub role : m.0.role ≡ taker id mark next (got_of m.0.role)
   pub held : m.0.held ≡ None
@@ -144,13 +144,13 @@ pub record IsTaker (m : M) (id mark next : ℕ) : Type 0 where
   pub got : got_of m.0.role ≡ slice mark next m.0.sight.seen
   pub within : length m.0.sight.seen ≤ m.0.rules.limits.total
 
--- ---- what a seat that holds the lock may do
+-- ---- what a seat that has the lock may do
 
--- the view v of the publisher p with a message more
+-- the view v of the publisher p after one more message
 abbrev pub grown : View → Writing → List ℕ → View
 grown v p message = view v.rules (sight (v.sight.seen ++ stamped p.number message) v.sight.closed) (Publisher record { number = p.number; mine = p.mine ++ message; gone = p.gone }) v.held v.met
 
--- the same with the record closed by it
+-- the view v after the publisher p closed the record
 abbrev pub closing : View → Writing → View
 closing v p = view v.rules (sight v.sight.seen p.number) v.role v.held v.met
 
@@ -166,12 +166,12 @@ abbrev pub WritesMark : M → ℕ → View → Type 0
 WritesMark m new w = (k : Book) × (m.0.held ≡ Some k) × (m.0.sight.closed ≡ 0) × (m.0.role ≡ Publisher (writing_of m.0.role))
     × (new ≡ front_word m.0.sight.seen (writing_of m.0.role).number) × (w ≡ closing m.0 (writing_of m.0.role))
 
--- the number or id n0 goes to the seat j
+-- the number or id n0 is given to the seat j
 abbrev pub put : (ℕ → ℕ) → ℕ → ℕ → ℕ → ℕ
 put f n0 j n = cond (n == n0) j (f n)
 
--- How the state changes while a seat in the role r, which becomes r', has the lock: at the id i0 and the number n0
--- alone, which are its own or new
+-- How the state changes while a seat in the role r, which becomes r', has the lock: only at the id i0 and the number
+-- n0, which are the seat's own or new.
 pub record Changes (seen : List Event) (r r' : Role) (k k' : Book) (i0 n0 : ℕ) : Type 0 where
   pub ids_up : k.ids ≤ k'.ids
   pub numbers_up : k.numbers ≤ k'.numbers
@@ -183,24 +183,24 @@ pub record Changes (seen : List Event) (r r' : Role) (k k' : Book) (i0 n0 : ℕ)
   pub own_number : (f g : ℕ → ℕ) (j : ℕ) → InRole k seen f g j seen r → (k.numbers < n0) ⊎ (g n0 ≡ j)
   pub id_kept : (i : ℕ) → HasId i r → HasId i r'
   pub number_kept : (n : ℕ) → IsNumbered n r → IsNumbered n r'
-  -- what is given goes to this seat
+  -- what is given is given to this seat
   pub id_given : (i : ℕ) → k.ids < i → i ≤ k'.ids → (i ≡ i0) × HasId i r'
   pub number_given : (n : ℕ) → k.numbers < n → n ≤ k'.numbers → (n ≡ n0) × IsNumbered n r'
   pub bounded : IsBounded k'
   pub fits : (f g : ℕ → ℕ) (j : ℕ) → InRole k seen f g j seen r → f i0 ≡ j → g n0 ≡ j → InRole k' seen f g j seen r'
 
--- A seat that has the lock may give b back, and rest as w
+-- A seat that has the lock may put b into the slot, release the lock, and then have the view w.
 abbrev pub Gives : M → Locked → View → Type 0
 Gives m b w = (k : Book) × (r : Role) × (i0 : ℕ) × (n0 : ℕ) × (m.0.held ≡ Some k) × (w ≡ rested m.0 r)
     × IsBehind m.0.rules m.0.sight.seen m.0.sight.closed b × Changes m.0.sight.seen m.0.role r k (book_of b) i0 n0
 
--- ---- the roles in which a seat gives the lock back
+-- ---- the roles of a seat that releases the lock
 
--- the ticket with the last id given, from here on
+-- the ticket with the last id given, whose mark is the end of what is seen
 abbrev pub new_taker : Locked → List Event → Role
 new_taker b seen = taker b.kept.given (length seen) (length seen) []
 
--- the ticket t after n more events of what was seen
+-- the ticket t after it took n more events of what was seen
 abbrev pub moved : List Event → Taking → ℕ → Role
 moved seen t n = taker t.id t.mark (t.next + n) (t.got ++ slice t.next (t.next + n) seen)
 
@@ -217,6 +217,6 @@ gone_writer r = Publisher record { number = (writing_of r).number; mine = mine_o
 abbrev pub note_of : View → View
 note_of v = resting v.rules v.sight Note
 
--- a view that has a note beside what it has seen
+-- a view that has joined a note
 abbrev pub with_note : View → View → View
 with_note v u = view v.rules v.sight v.role v.held (Some u.sight)

@@ -1,4 +1,4 @@
-//! The fifodir, and what its passes read of it without the lock.
+//! The fifodir, and what a pass reads of it without the lock.
 ghost use Rattle.std.specs.Prelude.{◌≡◌, length, IfOk};
 ghost use Rattle.hub_fifodir.specs.Notes.{IsSized};
 ghost use Rattle.hub_fifodir.specs.Rule.{IsSound};
@@ -14,12 +14,12 @@ use std::alloc::{AllocError, Global};
 use std::sync::Wait;
 use std::sync::atomic::AtomicU64;
 
-/// A record that threads share.
+/// A record that threads share. Publishers and tickets are its passes, and each call takes the pass of its caller.
 #[derive(Drop)]
 pub struct Fifodir {
     table: Table<Option<Locked>, View, Rules, OneHistory, Global>,
     rules: Rules,
-    /// How many threads may sleep until the lock is free.
+    /// How many threads may be asleep, waiting for the lock.
     sleepers: AtomicU64,
     ghost sized: { IsSized table.shared.table_id },
     ghost ruled: { table.shared.key ≡ rules },
@@ -28,7 +28,7 @@ pub struct Fifodir {
 impl Fifodir {
     ghost use Rattle.hub_fifodir.specs.Passes.{IsOf, IsStatusOf, Learns, table_of, kind_of, limits_of};
 
-    /// An open fifodir with no event.
+    /// An open fifodir without events and passes.
     pub fn new(alloc: Global, kind: Kind, limits: Limits) -> Result<Fifodir, AllocError>
         ensures { IfOk result (λ f. (kind_of f ≡ kind) × (limits_of f ≡ limits)) }
     {
@@ -45,7 +45,7 @@ impl Fifodir {
         }
     }
 
-    /// Whether it takes the letters of a service alone.
+    /// `Service` if it takes only letters in their lawful order, `Plain` if it takes any letters.
     pub fn kind(&self) -> Kind
         ensures { result ≡ kind_of self.now }
     {
@@ -53,7 +53,8 @@ impl Fifodir {
     }
 
     pub(crate) fn board(&self) -> &Board
-        ensures { (result.now.table_id ≡ table_of self.now) × IsSized result.now.table_id × (result.now.key ≡ self.now.rules) }
+        ensures { (result.now.table_id ≡ table_of self.now) × IsSized result.now.table_id
+            × (result.now.key ≡ self.now.rules) }
     {
         &self.table.shared
     }
@@ -62,10 +63,12 @@ impl Fifodir {
         &self.sleepers
     }
 
-    /// The number of events, the flags and whether it is closed, as they stand at one moment. It waits for nobody.
+    /// The number of events, the flags and whether it is closed, all of one moment. It is one load of the front word,
+    /// and never waits for the lock.
     pub fn status<A: Pass>(&self, me: &mut A) -> Status
         requires { IsOf self.now (A.table me.old) (A.rules me.old) }
-        ensures pass { IsOf self.now (A.table me.new) (A.rules me.new) × (A.role me.new ≡ A.role me.old) × (A.numbers me.new ≡ A.numbers me.old) }
+        ensures pass { IsOf self.now (A.table me.new) (A.rules me.new)
+            × (A.role me.new ≡ A.role me.old) × (A.numbers me.new ≡ A.numbers me.old) }
         ensures sound { IsSound (A.rules me.new) (A.sight me.new).seen }
         ensures seen { Learns (A.role me.old) (A.sight me.old) (A.sight me.new) }
         ensures status { IsStatusOf result (A.sight me.new) }
@@ -73,10 +76,11 @@ impl Fifodir {
         word::unpack(me.look(self.board()))
     }
 
-    /// The number of events. It waits for nobody.
+    /// The number of events. It is one load of the front word, and never waits for the lock.
     pub fn front<A: Pass>(&self, me: &mut A) -> u64
         requires { IsOf self.now (A.table me.old) (A.rules me.old) }
-        ensures pass { IsOf self.now (A.table me.new) (A.rules me.new) × (A.role me.new ≡ A.role me.old) × (A.numbers me.new ≡ A.numbers me.old) }
+        ensures pass { IsOf self.now (A.table me.new) (A.rules me.new)
+            × (A.role me.new ≡ A.role me.old) × (A.numbers me.new ≡ A.numbers me.old) }
         ensures sound { IsSound (A.rules me.new) (A.sight me.new).seen }
         ensures seen { Learns (A.role me.old) (A.sight me.old) (A.sight me.new) }
         ensures number { result ≡ length (A.sight me.new).seen }
@@ -84,13 +88,15 @@ impl Fifodir {
         self.status(me).number
     }
 
-    /// Afterwards both know the same record. It takes no lock, and looks again until the front stayed the same
-    /// meanwhile.
+    /// Brings two passes together: afterwards both have seen the same record. It takes no lock, and looks again until
+    /// the front word was the same before and after.
     pub fn meet<R: Wait, A: Pass, B: Pass>(&self, rt: &R, one: &mut A, other: &mut B)
         requires one { IsOf self.now (A.table one.old) (A.rules one.old) }
         requires other { IsOf self.now (B.table other.old) (B.rules other.old) }
-        ensures one { IsOf self.now (A.table one.new) (A.rules one.new) × (A.role one.new ≡ A.role one.old) × (A.numbers one.new ≡ A.numbers one.old) }
-        ensures other { IsOf self.now (B.table other.new) (B.rules other.new) × (B.role other.new ≡ B.role other.old) × (B.numbers other.new ≡ B.numbers other.old) }
+        ensures one { IsOf self.now (A.table one.new) (A.rules one.new)
+            × (A.role one.new ≡ A.role one.old) × (A.numbers one.new ≡ A.numbers one.old) }
+        ensures other { IsOf self.now (B.table other.new) (B.rules other.new)
+            × (B.role other.new ≡ B.role other.old) × (B.numbers other.new ≡ B.numbers other.old) }
         ensures sound { IsSound (A.rules one.new) (A.sight one.new).seen }
         ensures one_seen { Learns (A.role one.old) (A.sight one.old) (A.sight one.new) }
         ensures other_seen { Learns (B.role other.old) (B.sight other.old) (B.sight other.new) }

@@ -1,4 +1,4 @@
-//! Laws: facts with no code, which hold of every table under the rule and of every pass.
+//! Laws: facts without code, which hold for every table under the rule and for every pass.
 ghost use Rattle.std.specs.Prelude.{◌≡◌, ◌≤◌, ◌++◌, drop, length};
 ghost use Rattle.hub_record.specs.Runs.{by};
 ghost use Rattle.hub_fifodir.specs.Laws.{TicketsDiffer, PublishersDiffer, SeatsAgree, RecordIsHistory, TicketsHaveCursors, CursorsHaveTickets, StandingHavePublishers, BaseIsBehind};
@@ -17,48 +17,49 @@ pub fn publishers_differ()
     ensures { PublishersDiffer }
 {}
 
-/// There is one history: of what two seats have seen one is a beginning of the other.
+/// There is one history: of what two seats have seen, one is a prefix of the other.
 pub fn seats_agree()
     ensures { SeatsAgree }
 {}
 
-/// While the lock is free, the record behind it stands for that history, and the front word says how it stands.
+/// While the lock is free, the record behind it stands for that history, and the front word shows its status.
 pub fn record_is_history()
     ensures { RecordIsHistory }
 {}
 
-/// While the lock is free, the value behind it has the cursor of each ticket that stands.
+/// While the lock is free, the value behind it has the cursor of each current ticket.
 pub fn tickets_have_cursors()
     ensures { TicketsHaveCursors }
 {}
 
-/// And no other: nothing holds the base but tickets.
+/// It has no other cursor: only tickets hold the base back.
 pub fn cursors_have_tickets()
     ensures { CursorsHaveTickets }
 {}
 
-/// Each number that stands has a publisher that stands.
+/// Each current number has its current publisher.
 pub fn standing_have_publishers()
     ensures { StandingHavePublishers }
 {}
 
-/// The record keeps what a ticket has not taken: the base never passes its next event.
+/// The record keeps what a ticket hasn't taken: the base never passes the next event of a current ticket.
 pub fn base_is_behind()
     ensures { BaseIsBehind }
 {}
 
-/// What a ticket took, followed by what waits behind its cursor, is the record since it subscribed, each event once
-/// and in order.
+/// What a ticket took, followed by what is pending behind its cursor, is the record since it subscribed, each event
+/// once and in order.
 pub fn takes_each_once(_ticket: &Ticket)
-    ensures { got _ticket.now ++ drop _ticket.now.next (ticket_seen _ticket.now) ≡ drop _ticket.now.mark (ticket_seen _ticket.now) }
+    ensures { got _ticket.now ++ drop _ticket.now.next
+        (ticket_seen _ticket.now) ≡ drop _ticket.now.mark (ticket_seen _ticket.now) }
 {}
 
-/// Of a publisher's own events the record has just those that it published, in their order.
+/// The record has exactly those events of a publisher that it published, in their order.
 pub fn publishes_each_once(_publisher: &Publisher)
     ensures { by _publisher.now.number (seen _publisher.now) ≡ mine _publisher.now }
 {}
 
-/// A record never has more events than its total.
+/// A record never has more events than the total of its limits.
 pub fn keeps_the_total(_ticket: &Ticket)
     ensures { length (ticket_seen _ticket.now) ≤ (ticket_rules _ticket.now).limits.total }
 {}

@@ -1,14 +1,14 @@
-//! A fifodir: a record of numbered events that threads share.
+//! A fifodir that threads share: a record of numbered events behind a lock, and its status readable without the lock.
 //!
-//! Publishers add messages and tickets take events, each call under one lock. What a pass knows is its seen list, the
-//! record as it stood when the pass last looked, and contracts speak of that alone: there is no other way to say what
-//! stands in a record that others change. Two passes that meet know the same.
+//! Publishers add messages and tickets take events, each call under the one lock. A publisher or a ticket is a *pass*.
+//! What a pass knows is its seen list: the record at the moment of its latest step. Contracts speak only of seen lists,
+//! since other threads may change the record at any time. Two passes that meet have seen the same list.
 //!
-//! A ticket gets every event from its mark on. Where the slowest of them leaves no room, `publish` is refused as Full
-//! and
-//! nothing is lost. After a close nothing is added, and what waits may still be taken; then a take answers End.
+//! A ticket gets every event from its mark on. If the slowest ticket leaves no room, `publish` is refused as `Full`,
+//! nothing is lost, and the publisher retries. After a close nothing is added. Pending events can still be taken; after
+//! them a take reports `End`.
 //!
-//! `status` and `front` read one word without the lock, so that who only looks never waits for who writes.
+//! `status` and `front` read one word without the lock, so a reader of the status never waits for a publisher.
 #![tactic(auto)]
 
 mod fifodir;
@@ -31,15 +31,16 @@ pub use publisher::Publisher;
 use thiserror::Error;
 pub use ticket::Ticket;
 
-/// Why no publisher was given.
+/// Why there is no new publisher. If several reasons hold, the first in this order is reported.
 #[derive(Clone, Copy, Debug, PartialEq, Eq, Error)]
 pub enum PassError {
-    /// 1,024 publishers stand.
+    /// 1,024 publishers are current. There is room again after one of them leaves.
     #[error("too many publishers stand")]
     Many,
-    /// The last number was given.
+    /// The last number was given. A number is never given again.
     #[error("no number is left")]
     Spent,
+    /// There was no memory to record the publisher. The same call may succeed later.
     #[error("out of memory")]
     Memory,
 }

@@ -9,21 +9,24 @@ use hub_record::{Closed, Event, Kind, Limits, NoId, PubError, Record, Status, Su
 use indexmap::IndexSet;
 use std::alloc::{AllocError, Global};
 
-/// A record, the numbers of the publishers that stand, and how many numbers were given. Its calls are those of a
-/// `Fifodir`, for one thread and with ids and numbers in place of passes.
+/// A record, the numbers of the current publishers, and how many numbers were given. Its calls are those of a
+/// `Fifodir`, for one thread, with ids and numbers in place of passes.
 #[derive(Drop)]
 pub struct Locked {
     kept: Record,
     /// How many numbers may be given in all.
     ids: u64,
+    /// The numbers of the current publishers.
     standing: IndexSet<u64>,
+    /// How many numbers were given so far.
     given: u64,
 }
 
 impl Locked {
-    /// An empty open record, with no publisher.
+    /// An open record without events, and no publisher.
     pub fn new(alloc: Global, kind: Kind, limits: Limits) -> Result<Locked, AllocError>
-        ensures { IfOk result (λ b. Stands b (empty_world kind limits) × (b.standing.keys ≡ []) × (b.given ≡ 0)) }
+        ensures { IfOk result (λ b. Stands b (empty_world kind limits) × (b.standing.keys ≡ [])
+            × (b.given ≡ 0)) }
     {
         Ok(Locked {
             kept: Record::new(alloc, kind, limits)?,
@@ -33,7 +36,7 @@ impl Locked {
         })
     }
 
-    /// Gives the next number, to a publisher that stands from now on.
+    /// Gives the next number, to a publisher that is current from now on.
     pub fn publisher(&mut self) -> Result<u64, PassError>
         ensures reply { PublisherReply self.old result }
         ensures after { IsAfterPublisher self.old result self.new }
@@ -55,38 +58,44 @@ impl Locked {
         }
     }
 
-    /// Gives the next id, with the number of events so far.
+    /// Gives the next id, and its mark: the number of events so far.
     pub fn subscribe(&mut self) -> Result<(u64, u64), SubError>
         ensures reply { (w : World) → Stands self.old w → SubscribeReply w result }
-        ensures world { (w : World) → Stands self.old w → Stands self.new (after_subscribe w result) }
+        ensures world { (w : World) → Stands self.old w
+            → Stands self.new (after_subscribe w result) }
         ensures others { KeepsPublishers self.old self.new }
         ensures err { OnErr result (self.new ≡ self.old) }
     {
         self.kept.subscribe()
     }
 
-    /// Adds the whole message, or nothing. It doesn't test whether the publisher stands.
+    /// Adds the whole message, or nothing. It doesn't check whether the publisher is current.
     pub fn publish(&mut self, number: u64, letters: &[Letter]) -> Result<u64, PubError>
         ensures reply { (w : World) → Stands self.old w → PublishReply w letters.now result }
-        ensures world { (w : World) → Stands self.old w → Stands self.new (after_publish w number letters.now result) }
+        ensures world { (w : World) → Stands self.old w
+            → Stands self.new (after_publish w number letters.now result) }
         ensures others { KeepsPublishers self.old self.new }
         ensures err { OnErr result (self.new ≡ self.old) }
     {
         self.kept.publish(number, letters)
     }
 
-    /// Takes what waits behind a cursor, as far as the slice goes.
+    /// Takes what is pending behind a cursor, as far as it fits. An error says that the id has no cursor.
     pub fn take_into(&mut self, id: u64, out: &mut [Event]) -> Result<Taken, NoId>
-        ensures reply { (w : World) → Stands self.old w → result ≡ take_reply w id (length out.old) }
-        ensures world { (w : World) → Stands self.old w → Stands self.new (after_take w id (length out.old)) }
-        ensures filled { (w : World) → Stands self.old w → out.new ≡ take_events w id (length out.old) ++ drop (length (take_events w id (length out.old))) out.old }
+        ensures reply { (w : World) → Stands self.old w
+            → result ≡ take_reply w id (length out.old) }
+        ensures world { (w : World) → Stands self.old w
+            → Stands self.new (after_take w id (length out.old)) }
+        ensures filled { (w : World) → Stands self.old w
+            → out.new ≡ take_events w id (length out.old) ++ drop
+            (length (take_events w id (length out.old))) out.old }
         ensures others { KeepsPublishers self.old self.new }
         ensures err { OnErr result (self.new ≡ self.old) }
     {
         self.kept.take_into(id, out)
     }
 
-    /// Ends a subscription.
+    /// Ends a subscription. An error says that the id has no subscription.
     pub fn cancel(&mut self, id: u64) -> Result<(), NoId>
         ensures reply { (w : World) → Stands self.old w → result ≡ cancel_reply w id }
         ensures world { (w : World) → Stands self.old w → Stands self.new (after_cancel w id) }
@@ -96,7 +105,7 @@ impl Locked {
         self.kept.cancel(id)
     }
 
-    /// Takes a publisher out of those that stand. Where it doesn't stand, nothing changes.
+    /// Ends a publisher. If it isn't current, nothing changes.
     pub fn leave(&mut self, number: u64)
         ensures left { HasLeft self.old number self.new }
         ensures record { KeepsRecord self.old self.new }
@@ -104,7 +113,7 @@ impl Locked {
         self.standing.shift_remove(&number);
     }
 
-    /// Closes for events and subscriptions.
+    /// Closes the record for good. An error says that it was closed before.
     pub fn close(&mut self) -> Result<(), Closed>
         ensures reply { (w : World) → Stands self.old w → result ≡ close_reply w }
         ensures world { (w : World) → Stands self.old w → Stands self.new (after_close w) }
@@ -114,9 +123,10 @@ impl Locked {
         self.kept.close()
     }
 
-    /// What the record comes to.
+    /// The number of events, the flags and whether the record is closed.
     pub fn status(&self) -> Status
-        ensures { (result.number ≡ self.now.kept.end) × (result.flags ≡ self.now.kept.flags) × (result.closed ≡ self.now.kept.closed) }
+        ensures { (result.number ≡ self.now.kept.end) × (result.flags ≡ self.now.kept.flags)
+            × (result.closed ≡ self.now.kept.closed) }
     {
         Status {
             number: self.kept.end(),

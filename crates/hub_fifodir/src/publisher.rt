@@ -10,8 +10,8 @@ use hub_letters::Letter;
 use hub_record::{Closed, PubError};
 use std::sync::Wait;
 
-/// Who may publish to a fifodir. It can't be copied, and `Fifodir::leave` takes it back.
-#[derive(Drop)]
+/// The pass of a publisher. A publisher that was dropped would keep its place among the 1,024. So it is neither `Copy`
+/// nor `Drop`, and only `Fifodir::leave` takes it.
 pub struct Publisher {
     number: u64,
     seat: Seat,
@@ -33,7 +33,8 @@ impl Fifodir {
 
     /// A new publisher, which has published nothing. A closed fifodir gives publishers too.
     pub fn publisher<R: Wait>(&self, rt: &R) -> Result<Publisher, PassError>
-        ensures { IfOk result (λ p. IsPublisherOf self.now p × IsPublisherSound p × (mine p ≡ []) × (closed_mark p ≢ p.number)) }
+        ensures { IfOk result (λ p. IsPublisherOf self.now p × IsPublisherSound p × (mine p ≡ [])
+            × (closed_mark p ≢ p.number)) }
     {
         let board = self.board();
         let mut seat = steps::enter(board);
@@ -85,7 +86,8 @@ impl Fifodir {
     /// Closes the fifodir for events and subscriptions.
     pub fn close<R: Wait>(&self, rt: &R, me: &mut Publisher) -> Result<(), Closed>
         requires { IsPublisherOf self.now me.old }
-        ensures pass { IsPublisherOf self.now me.new × (me.new.number ≡ me.old.number) × (mine me.new ≡ mine me.old) }
+        ensures pass { IsPublisherOf self.now me.new × (me.new.number ≡ me.old.number)
+            × (mine me.new ≡ mine me.old) }
         ensures sound { IsPublisherSound me.new }
         ensures seen { Grows (publisher_sight me.old) (publisher_sight me.new) }
         ensures ok { OnOk result ((closed_mark me.old ≡ 0) × (closed_mark me.new ≡ me.old.number)) }

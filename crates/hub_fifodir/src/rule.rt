@@ -1,11 +1,11 @@
-//! The rule of the table, and the names of its steps. Word 0 is the front and word 1 the turn; the one slot has the
-//! locked value.
+//! The rule of the table, and the names of its steps. Word 0 is the front word and word 1 the turn. The one slot has
+//! the locked value.
 use crate::locked::Locked;
 use crate::views::{Rules, View};
 use atomic_table::{Join, Play, Shared, Split, TableRule};
 use std::marker::{Brand, PhantomData};
 
-/// The rule: one history, of which each seat has seen a beginning.
+/// The rule: there is one history, and each seat has seen a prefix of it.
 pub struct OneHistory;
 
 impl TableRule<Option<Locked>, View, Rules> for OneHistory {
@@ -17,13 +17,13 @@ impl TableRule<Option<Locked>, View, Rules> for OneHistory {
     ghost first = { λ rules. visitor rules [] 0 };
 }
 
-/// The table as the calls step on it.
+/// The table on which the calls make their steps.
 pub type Board = Shared<Option<Locked>, View, Rules, OneHistory>;
 
-/// What a pass steps with.
+/// The seat of a pass, with which it makes its steps.
 pub type Seat = atomic_table::Seat<Option<Locked>, View>;
 
-/// The first load of the front, by a new seat.
+/// The first load of the front word, by a new seat.
 pub struct Enter;
 
 impl Play<Option<Locked>, View> for Enter {
@@ -32,7 +32,7 @@ impl Play<Option<Locked>, View> for Enter {
     ghost then = { entered };
 }
 
-/// A load of the front.
+/// A load of the front word.
 pub struct Look;
 
 impl Play<Option<Locked>, View> for Look {
@@ -41,7 +41,7 @@ impl Play<Option<Locked>, View> for Look {
     ghost then = { looked };
 }
 
-/// The swap of 1 into the turn.
+/// The swap of 1 into the turn, which takes the lock if the turn was 0.
 pub struct Lock;
 
 impl Play<Option<Locked>, View> for Lock {
@@ -50,7 +50,7 @@ impl Play<Option<Locked>, View> for Lock {
     ghost then = { locked };
 }
 
-/// The view that a store leaves its seat with. Each call picks it.
+/// The view that a store leaves in its seat. Each call chooses it.
 pub trait Next {
     ghost use Rattle.hub_fifodir.specs.declared.views.View.{View};
 
@@ -63,7 +63,7 @@ impl Next for Brand {
     ghost view = { spent };
 }
 
-/// A store to the front.
+/// A store to the front word.
 pub struct Write<N> {
     next: PhantomData<N>,
 }
@@ -74,7 +74,7 @@ impl<N: Next> Play<Option<Locked>, View> for Write<N> {
     ghost then = { λ st m n r. (r.0 ≡ N.view) × (r.1 ≡ m.1) };
 }
 
-/// The store of 0 into the turn.
+/// The store of 0 into the turn, which releases the lock.
 pub struct Unlock<N> {
     next: PhantomData<N>,
 }
@@ -85,7 +85,7 @@ impl<N: Next> Play<Option<Locked>, View> for Unlock<N> {
     ghost then = { λ st m n r. (r.0 ≡ N.view) × (r.1 ≡ []) };
 }
 
-/// A note of what a seat has seen, split off it and joined by another.
+/// A note of what a seat has seen: one seat splits it off, and another joins it.
 pub struct Notes;
 
 impl Split<View> for Notes {

@@ -1,4 +1,4 @@
-//! Each kind of step, on one seat.
+//! The steps of a call, each on one seat.
 ghost use Rattle.std.specs.Prelude.{◌≡◌, ◌∷◌, [], None};
 ghost use Rattle.hub_fifodir.specs.Rule.{IsSound, visitor};
 ghost use Rattle.hub_fifodir.specs.Steps.{IsIdle, Holding, Gives, Front, WritesMessage, WritesMark, grown, closing, writing_of, taking_of, writer, rested, new_taker, moved, gone_taker, gone_writer, Looks, Grows, note_of};
@@ -11,19 +11,20 @@ use std::marker::Brand;
 use std::sync::Wait;
 use std::sync::atomic::{AtomicU64, Ordering};
 
-// Has no `Drop`, so that what carries it has to be given back.
+// This type has no `Drop`, so the compiler finds each path that doesn't release the lock.
 struct Key<'a> {
     sleepers: &'a AtomicU64,
 }
 
-/// The value behind the lock, while a seat has it. It can't be let go: `rest` and its like take it back.
+/// The value behind the lock, while a seat has it. It can't be dropped: `rest`, or one of its variants, takes it and
+/// releases the lock.
 pub(crate) struct Held<'a> {
     pub(crate) locked: Locked,
     key: Key<'a>,
 }
 
-// Takes the lock, and the value behind it. Who has to wait for it is counted among the sleepers meanwhile, so that who
-// gives the lock back wakes one only where one may sleep.
+// Takes the lock, and the value behind it. A thread that has to wait is counted among the sleepers meanwhile, so the
+// thread that releases the lock wakes one only if one may be asleep.
 pub(crate) fn take_turn<'a, R: Wait>(
     rt: &R,
     board: &Board,
@@ -51,7 +52,8 @@ pub(crate) fn take_turn<'a, R: Wait>(
     unreachable!()
 }
 
-// Puts the value back, and gives the lock back. The events are those that were taken, for the view that is picked.
+// Puts the value back into the slot, and releases the lock. `N` is the view afterwards; `_taken`, the number of events
+// taken, only helps to say it.
 fn give_back<N: Next>(board: &Board, seat: &mut Seat, held: Held<'_>, _taken: u64)
     requires table { (seat.old.table_id ≡ board.now.table_id) × IsSized board.now.table_id }
     requires held { seat.old.me.1 ≡ (0, None) ∷ [] }
@@ -70,7 +72,7 @@ fn give_back<N: Next>(board: &Board, seat: &mut Seat, held: Held<'_>, _taken: u6
     }
 }
 
-// Gives the lock back, as what the seat was.
+// Releases the lock; the seat keeps its role.
 pub(crate) fn rest(board: &Board, seat: &mut Seat, held: Held<'_>)
     requires table { (seat.old.table_id ≡ board.now.table_id) × IsSized board.now.table_id }
     requires held { seat.old.me.1 ≡ (0, None) ∷ [] }
@@ -81,62 +83,76 @@ pub(crate) fn rest(board: &Board, seat: &mut Seat, held: Held<'_>)
     give_back::<Brand>(board, seat, held, 0);
 }
 
-// Gives the lock back, as the publisher with the last number given.
+// Releases the lock; the seat becomes the publisher with the last number given.
 pub(crate) fn rest_as_publisher(board: &Board, seat: &mut Seat, held: Held<'_>)
     requires table { (seat.old.table_id ≡ board.now.table_id) × IsSized board.now.table_id }
     requires held { seat.old.me.1 ≡ (0, None) ∷ [] }
-    requires gives { Gives seat.old.me held.locked (rested seat.old.me.0 (writer held.locked.given [])) }
+    requires gives { Gives seat.old.me held.locked
+        (rested seat.old.me.0 (writer held.locked.given [])) }
     ensures table { (seat.new.table_id ≡ seat.old.table_id) × (seat.new.id ≡ seat.old.id) }
     ensures view { seat.new.me ≡ (rested seat.old.me.0 (writer held.entry.locked.given []), []) }
 {
     give_back::<Brand>(board, seat, held, 0);
 }
 
-// Gives the lock back, as the ticket with the last id given.
+// Releases the lock; the seat becomes the ticket with the last id given.
 pub(crate) fn rest_as_ticket(board: &Board, seat: &mut Seat, held: Held<'_>)
     requires table { (seat.old.table_id ≡ board.now.table_id) × IsSized board.now.table_id }
     requires held { seat.old.me.1 ≡ (0, None) ∷ [] }
-    requires gives { Gives seat.old.me held.locked (rested seat.old.me.0 (new_taker held.locked seat.old.me.0.sight.seen)) }
+    requires gives { Gives seat.old.me held.locked
+        (rested seat.old.me.0 (new_taker held.locked seat.old.me.0.sight.seen)) }
     ensures table { (seat.new.table_id ≡ seat.old.table_id) × (seat.new.id ≡ seat.old.id) }
-    ensures view { seat.new.me ≡ (rested seat.old.me.0 (new_taker held.entry.locked seat.old.me.0.sight.seen), []) }
+    ensures view { seat.new.me ≡ (
+      rested seat.old.me.0
+          (new_taker held.entry.locked seat.old.me.0.sight.seen),
+      [],
+    ) }
 {
     give_back::<Brand>(board, seat, held, 0);
 }
 
-// Gives the lock back, as a ticket that took some events.
+// Releases the lock; the seat is a ticket that took `taken` events.
 pub(crate) fn rest_moved(board: &Board, seat: &mut Seat, held: Held<'_>, taken: u64)
     requires table { (seat.old.table_id ≡ board.now.table_id) × IsSized board.now.table_id }
     requires held { seat.old.me.1 ≡ (0, None) ∷ [] }
-    requires gives { Gives seat.old.me held.locked (rested seat.old.me.0 (moved seat.old.me.0.sight.seen (taking_of seat.old.me.0.role) taken)) }
+    requires gives { Gives seat.old.me held.locked
+        (rested seat.old.me.0 (moved seat.old.me.0.sight.seen
+        (taking_of seat.old.me.0.role) taken)) }
     ensures table { (seat.new.table_id ≡ seat.old.table_id) × (seat.new.id ≡ seat.old.id) }
-    ensures view { seat.new.me ≡ (rested seat.old.me.0 (moved seat.old.me.0.sight.seen (taking_of seat.old.me.0.role) taken), []) }
+    ensures view { seat.new.me ≡ (
+      rested seat.old.me.0
+          (moved seat.old.me.0.sight.seen (taking_of seat.old.me.0.role) taken),
+      [],
+    ) }
 {
     give_back::<Brand>(board, seat, held, taken);
 }
 
-// Gives the lock back, as a ticket that was cancelled.
+// Releases the lock; the seat is a ticket that is cancelled.
 pub(crate) fn rest_cancelled(board: &Board, seat: &mut Seat, held: Held<'_>)
     requires table { (seat.old.table_id ≡ board.now.table_id) × IsSized board.now.table_id }
     requires held { seat.old.me.1 ≡ (0, None) ∷ [] }
-    requires gives { Gives seat.old.me held.locked (rested seat.old.me.0 (gone_taker seat.old.me.0.role)) }
+    requires gives { Gives seat.old.me held.locked
+        (rested seat.old.me.0 (gone_taker seat.old.me.0.role)) }
     ensures table { (seat.new.table_id ≡ seat.old.table_id) × (seat.new.id ≡ seat.old.id) }
     ensures view { seat.new.me ≡ (rested seat.old.me.0 (gone_taker seat.old.me.0.role), []) }
 {
     give_back::<Brand>(board, seat, held, 0);
 }
 
-// Gives the lock back, as a publisher that left.
+// Releases the lock; the seat is a publisher that left.
 pub(crate) fn rest_left(board: &Board, seat: &mut Seat, held: Held<'_>)
     requires table { (seat.old.table_id ≡ board.now.table_id) × IsSized board.now.table_id }
     requires held { seat.old.me.1 ≡ (0, None) ∷ [] }
-    requires gives { Gives seat.old.me held.locked (rested seat.old.me.0 (gone_writer seat.old.me.0.role)) }
+    requires gives { Gives seat.old.me held.locked
+        (rested seat.old.me.0 (gone_writer seat.old.me.0.role)) }
     ensures table { (seat.new.table_id ≡ seat.old.table_id) × (seat.new.id ≡ seat.old.id) }
     ensures view { seat.new.me ≡ (rested seat.old.me.0 (gone_writer seat.old.me.0.role), []) }
 {
     give_back::<Brand>(board, seat, held, 0);
 }
 
-// Stores the front word with a message more.
+// Stores the front word after a message was added.
 fn store_message<N: Next>(board: &Board, seat: &mut Seat, word: u64, _message: &[Letter])
     requires table { (seat.old.table_id ≡ board.now.table_id) × IsSized board.now.table_id }
     requires writes { WritesMessage seat.old.me word _message.now N.view }
@@ -146,7 +162,7 @@ fn store_message<N: Next>(board: &Board, seat: &mut Seat, word: u64, _message: &
     board.store::<Write<N>>(seat, 0, word);
 }
 
-// Stores the front word with the closed mark.
+// Stores the front word after the record was closed.
 fn store_mark<N: Next>(board: &Board, seat: &mut Seat, word: u64)
     requires table { (seat.old.table_id ≡ board.now.table_id) × IsSized board.now.table_id }
     requires writes { WritesMark seat.old.me word N.view }
@@ -156,12 +172,17 @@ fn store_mark<N: Next>(board: &Board, seat: &mut Seat, word: u64)
     board.store::<Write<N>>(seat, 0, word);
 }
 
-// The record grows by a message. An empty one changes no word.
+// Shows in the front word that a message was added. An empty message changes no word.
 pub(crate) fn write_message(board: &Board, seat: &mut Seat, word: u64, message: &[Letter])
     requires table { (seat.old.table_id ≡ board.now.table_id) × IsSized board.now.table_id }
-    requires writes { WritesMessage seat.old.me word message.now (grown seat.old.me.0 (writing_of seat.old.me.0.role) message.now) }
+    requires writes { WritesMessage seat.old.me word message.now
+        (grown seat.old.me.0 (writing_of seat.old.me.0.role) message.now) }
     ensures table { (seat.new.table_id ≡ seat.old.table_id) × (seat.new.id ≡ seat.old.id) }
-    ensures view { seat.new.me ≡ (grown seat.old.me.0 (writing_of seat.old.me.0.role) message.now, seat.old.me.1) }
+    ensures view { seat.new.me ≡ (
+      grown seat.old.me.0
+          (writing_of seat.old.me.0.role) message.now,
+      seat.old.me.1,
+    ) }
 {
     if message.is_empty() {
         return;
@@ -169,12 +190,17 @@ pub(crate) fn write_message(board: &Board, seat: &mut Seat, word: u64, message: 
     store_message::<Brand>(board, seat, word, message);
 }
 
-// The record is closed.
+// Shows in the front word that the record was closed.
 pub(crate) fn write_mark(board: &Board, seat: &mut Seat, word: u64)
     requires table { (seat.old.table_id ≡ board.now.table_id) × IsSized board.now.table_id }
-    requires writes { WritesMark seat.old.me word (closing seat.old.me.0 (writing_of seat.old.me.0.role)) }
+    requires writes { WritesMark seat.old.me word
+        (closing seat.old.me.0 (writing_of seat.old.me.0.role)) }
     ensures table { (seat.new.table_id ≡ seat.old.table_id) × (seat.new.id ≡ seat.old.id) }
-    ensures view { seat.new.me ≡ (closing seat.old.me.0 (writing_of seat.old.me.0.role), seat.old.me.1) }
+    ensures view { seat.new.me ≡ (
+      closing seat.old.me.0
+          (writing_of seat.old.me.0.role),
+      seat.old.me.1,
+    ) }
 {
     store_mark::<Brand>(board, seat, word);
 }
@@ -183,12 +209,13 @@ pub(crate) fn write_mark(board: &Board, seat: &mut Seat, word: u64)
 pub(crate) fn enter(board: &Board) -> Seat
     requires { IsSized board.now.table_id }
     ensures table { (result.table_id ≡ board.now.table_id) × (result.me.1 ≡ []) }
-    ensures view { result.me.0 ≡ visitor board.now.key result.me.0.sight.seen result.me.0.sight.closed }
+    ensures view { result.me.0 ≡ visitor board.now.key result.me.0.sight.seen
+        result.me.0.sight.closed }
 {
     board.load_new_seat::<Enter>(0).1
 }
 
-// One look at the front.
+// One load of the front word by the seat.
 pub(crate) fn look(board: &Board, seat: &mut Seat) -> u64
     requires table { (seat.old.table_id ≡ board.now.table_id) × IsSized board.now.table_id }
     requires idle { IsIdle seat.old.me }
@@ -198,17 +225,18 @@ pub(crate) fn look(board: &Board, seat: &mut Seat) -> u64
     board.load::<Look>(seat, 0)
 }
 
-// A note of what the seat has seen.
+// Splits off a note of what the seat has seen.
 pub(crate) fn note(board: &Board, seat: &mut Seat) -> Seat
     requires table { (seat.old.table_id ≡ board.now.table_id) × IsSized board.now.table_id }
     requires idle { IsIdle seat.old.me }
-    ensures table { (seat.new.table_id ≡ seat.old.table_id) × (seat.new.id ≡ seat.old.id) × (seat.new.me ≡ seat.old.me) }
+    ensures table { (seat.new.table_id ≡ seat.old.table_id) × (seat.new.id ≡ seat.old.id)
+        × (seat.new.me ≡ seat.old.me) }
     ensures note { IsNote seat.old.table_id seat.old.me.0.sight result }
 {
     board.split_seat::<Notes>(seat)
 }
 
-// The seat takes a note in, and looks.
+// The seat joins a note, and loads the front word.
 pub(crate) fn read(board: &Board, seat: &mut Seat, note: Seat) -> u64
     requires table { (seat.old.table_id ≡ board.now.table_id) × IsSized board.now.table_id }
     requires idle { IsIdle seat.old.me }

@@ -9,9 +9,8 @@ use crate::steps;
 use hub_record::{Event, SubError, Taken};
 use std::sync::Wait;
 
-/// A subscription. It can't be copied, and `Fifodir::cancel` takes it back: one that is let go otherwise stands on,
-/// and what waits behind its cursor fills the fifodir.
-#[derive(Drop)]
+/// The pass of a subscription. A ticket that was dropped would keep its cursor, and the events that are pending behind it would fill the
+/// fifodir. So a ticket is neither `Copy` nor `Drop`, and only `Fifodir::cancel` takes it.
 pub struct Ticket {
     id: u64,
     /// The number of events when it subscribed.
@@ -75,7 +74,8 @@ impl Fifodir {
     /// Takes what waits behind the ticket's cursor, as far as the slice goes.
     pub fn take_into<R: Wait>(&self, rt: &R, me: &mut Ticket, out: &mut [Event]) -> Taken
         requires { IsTicketOf self.now me.old }
-        ensures pass { IsTicketOf self.now me.new × (me.new.id ≡ me.old.id) × (me.new.mark ≡ me.old.mark) }
+        ensures pass { IsTicketOf self.now me.new × (me.new.id ≡ me.old.id)
+            × (me.new.mark ≡ me.old.mark) }
         ensures sound { IsTicketSound me.new }
         ensures seen { Grows (ticket_sight me.old) (ticket_sight me.new) }
         ensures took { HasTaken me.old (length out.old) result me.new }

@@ -1,4 +1,4 @@
-//! Programs over fifodirs: two threads publish at once, and events go on from one fifodir to another.
+//! Programs over fifodirs: two threads publish at once, and events are sent on from one fifodir to another.
 ghost use Rattle.std.specs.Prelude.{◌≡◌, ℕ, ◌++◌, [], ◌∷◌, OnOk, OnErr, IfOk, IfErr};
 ghost use Rattle.hub_record.specs.Runs.{by};
 ghost use Rattle.hub_fifodir.specs.Passes.{IsPublisherOf, IsTicketOf, HasTaken, IsRefusedAt, got, seen, mine, sent_on};
@@ -15,60 +15,71 @@ use thiserror::Error;
 
 type Sent = (Publisher, Result<u64, PubError>);
 
-// One publisher's message, from a thread of its own.
-fn send<R: Wait>(rt: &R, fifodir: &Fifodir, mut me: Publisher, letters: &[Letter]) -> Sent
-    requires { IsPublisherOf fifodir.now me × (mine me ≡ []) }
-    ensures pass { IsPublisherOf fifodir.now result.0 × (result.0.number ≡ me.number) }
-    ensures mine { OnOk result.1 (mine result.0 ≡ letters.now) }
+// Sends one publisher's message, as one thread of `send_both`.
+fn send<R: Wait>(
+    rt: &R,
+    fifodir: &Fifodir,
+    me: &mut Publisher,
+    letters: &[Letter],
+) -> Result<u64, PubError>
+    requires { IsPublisherOf fifodir.now me.old × (mine me.old ≡ []) }
+    ensures pass { IsPublisherOf fifodir.now me.new × (me.new.number ≡ me.old.number) }
+    ensures mine { OnOk result (mine me.new ≡ letters.now) }
 {
-    let answer = fifodir.publish(rt, &mut me, letters);
-    (me, answer)
+    fifodir.publish(rt, me, letters)
 }
 
-/// Sends two messages at once, each from a thread of its own, and brings the two publishers together.
-/// What both then know of the record is one list, in which each one's own letters are just those of its message.
+/// Sends two messages at once, each from a thread of its own, and brings the two publishers together. Both then know
+/// the same list of events. In it each publisher's letters are exactly those of its message, if the message was
+/// accepted.
 pub fn send_both<R: Threads + Wait + Sync>(
     rt: &R,
     fifodir: &Fifodir,
-    one: Publisher,
-    other: Publisher,
+    mut one: Publisher,
+    mut other: Publisher,
     first: &[Letter],
     second: &[Letter],
 ) -> (Sent, Sent)
     requires one { IsPublisherOf fifodir.now one × (mine one ≡ []) }
     requires other { IsPublisherOf fifodir.now other × (mine other ≡ []) }
-    ensures one { IsPublisherOf fifodir.now result.0.0 × OnOk result.0.1 (by result.0.0.number (seen result.0.0) ≡ first.now) }
-    ensures other { IsPublisherOf fifodir.now result.1.0 × OnOk result.1.1 (by result.1.0.number (seen result.1.0) ≡ second.now) }
+    ensures one { IsPublisherOf fifodir.now result.0.0
+        × OnOk result.0.1 (by result.0.0.number (seen result.0.0) ≡ first.now) }
+    ensures other { IsPublisherOf fifodir.now result.1.0
+        × OnOk result.1.1 (by result.1.0.number (seen result.1.0) ≡ second.now) }
     ensures numbers { (result.0.0.number ≡ one.number) × (result.1.0.number ≡ other.number) }
     ensures same { seen result.1.0 ≡ seen result.0.0 }
 {
-    let (mut one, mut other) = thread::join(
+    let (one_sent, other_sent) = thread::join_mut(
         rt,
-        move || -> Sent
+        &mut || -> Result<u64, PubError>
             requires { IsPublisherOf fifodir.now one × (mine one ≡ []) }
-            ensures { IsPublisherOf fifodir.entry.now result.0 × (result.0.number ≡ one.number) × OnOk result.1 (mine result.0 ≡ first.entry.now) }
-        { send(rt, fifodir, one, first) },
-        move || -> Sent
+            ensures { IsPublisherOf fifodir.entry.now one.exit
+                × (one.exit.number ≡ one.entry.number)
+                × OnOk result (mine one.exit ≡ first.entry.now) }
+        { send(rt, fifodir, &mut one, first) },
+        &mut || -> Result<u64, PubError>
             requires { IsPublisherOf fifodir.now other × (mine other ≡ []) }
-            ensures { IsPublisherOf fifodir.entry.now result.0 × (result.0.number ≡ other.number) × OnOk result.1 (mine result.0 ≡ second.entry.now) }
-        { send(rt, fifodir, other, second) },
+            ensures { IsPublisherOf fifodir.entry.now other.exit
+                × (other.exit.number ≡ other.entry.number)
+                × OnOk result (mine other.exit ≡ second.entry.now) }
+        { send(rt, fifodir, &mut other, second) },
     );
-    fifodir.meet(rt, &mut one.0, &mut other.0);
-    (one, other)
+    fifodir.meet(rt, &mut one, &mut other);
+    ((one, one_sent), (other, other_sent))
 }
 
 /// An event that was taken and couldn't be sent on.
 #[derive(Clone, Copy, Debug, PartialEq, Eq, Error)]
 #[error("the event could not be sent on: {why}")]
 pub struct Unsent {
-    /// The event. The ticket doesn't take it again, so whoever wants it sent keeps it.
+    /// The event. The ticket doesn't take it again, so a caller that wants to send it later has to keep it.
     pub event: Event,
     /// Why the other fifodir refused its letter.
     pub why: PubError,
 }
 
-/// Takes one event from a fifodir, and sends its letter on to another. If the other refuses it, the event comes back in the
-/// error.
+/// Takes one event from a fifodir, and sends its letter on to another. If the other refuses the letter, the error has
+/// the event.
 pub fn send_on<R: Wait>(
     rt: &R,
     from: &Fifodir,
@@ -84,7 +95,8 @@ pub fn send_on<R: Wait>(
     ensures refused { IfErr result (λ unsent. HasTaken ticket.old 1 (Taken.Got 1) ticket.new
         × (got ticket.new ≡ got ticket.old ++ unsent.event ∷ []) × IsRefusedAt publisher.new (unsent.event.letter ∷ []) unsent.why) }
     ensures unsent { OnErr result (mine publisher.new ≡ mine publisher.old) }
-    ensures sent { IfOk result (λ taken. mine publisher.new ≡ mine publisher.old ++ sent_on ticket.old taken ticket.new) }
+    ensures sent { IfOk result (λ taken. mine publisher.new ≡ mine publisher.old ++ sent_on
+        ticket.old taken ticket.new) }
 {
     let mut out = [Event {
         who: 0,

@@ -6,6 +6,7 @@ ghost use Rattle.hub_fifodir.specs.Word.{packed};
 use hub_letters::Flags;
 use hub_record::Status;
 
+/// The front word of a status: `number * 32 + closed * 16 + code of the flags`.
 pub fn pack(status: Status) -> u64
     requires { status.number ≤ 1000000000000 }
     ensures { result ≡ packed status.number status.closed status.flags }
@@ -14,8 +15,10 @@ pub fn pack(status: Status) -> u64
     status.number * 32 + closed * 16 + status.flags.code()
 }
 
+/// The status of a front word.
 pub fn unpack(word: u64) -> Status
-    ensures { (number : ℕ) (closed : Bool) (flags : Flags) → word ≡ packed number closed flags → (result.number ≡ number) × (result.closed ≡ closed) × (result.flags ≡ flags) }
+    ensures { (number : ℕ) (closed : Bool) (flags : Flags) → word ≡ packed number closed flags
+        → (result.number ≡ number) × (result.closed ≡ closed) × (result.flags ≡ flags) }
 {
     Status {
         number: word / 32,

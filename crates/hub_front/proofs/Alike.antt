@@ -18,7 +18,7 @@ use Rattle.hub_protocol.proofs.OneReading.{one_reading}
 abbrev IsGiven : Reply → Type 0
 IsGiven reply = reply ≢ No Memory
 
--- from desks that are alike a request has one reply, and leaves them alike
+-- from desks that are alike a request has one reply, and leaves desks that are alike
 abbrev pub StayAlike : {D : Type 0} → Asking D → (D → D → Type 0) → Type 0
 StayAlike {D} asks alike = (old old' new new' : D) (request : Request) (reply reply' : Reply) → alike old old' → reply ≢ No Memory → reply' ≢ No Memory
     → asks old request reply new → asks old' request reply' new' → (reply ≡ reply') × alike new new'
@@ -27,7 +27,7 @@ pub alike_of_function : {D : Type 0} (asks : Asking D) → IsFunction asks → S
 alike_of_function asks function old old' new new' request reply reply' same given given' asked asked' =
     function old' new new' request reply reply' given given' (subst (λ d. asks d request reply new) same asked) asked'
 
--- a line whose reply isn't want of memory was read whole
+-- a line whose reply isn't `no memory` was read whole
 read_whole : {D : Type 0} (asks : Asking D) (old new : D) (read : Result Request Bad) (reply : Reply) → AnswersRead asks old read reply new → reply ≢ No Memory → read ≢ Err bad.Memory
 read_whole asks old new (Ok request) reply answered given = λ e. cc
 read_whole asks old new (Err why) reply answered given = λ e. given (answered.0 ∙ (let same : why ≡ bad.Memory = cc in ap (λ w. No (refusal_of w)) same))
@@ -57,7 +57,7 @@ same_run asks alike stay old old' new new' (l ∷ ls) (r ∷ rs) (s ∷ ss) a no
     let rest = same_run asks alike stay mid mid' new new' ls rs ss first.1 (All-tail IsGiven r rs none) (All-tail IsGiven s ss none') p q in
     (ap (λ x. x ∷ rs) first.0 ∙ ap (λ xs. s ∷ xs) rest.0, rest.1)
 
--- a session that came to the end of known bytes read them all
+-- a session that reached the end of known bytes read all of them
 all_read : (bytes input : List ℕ) (has : Option (List ℕ)) → Consumes (Some bytes) has input → IsAtEnd has → input ≡ bytes
 all_read bytes input None consumed end = absurd consumed
 all_read bytes input (Some rest) consumed end = sym (consumed ∙ ap (λ l. input ++ l) end ∙ append-nil input)

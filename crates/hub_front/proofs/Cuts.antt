@@ -29,7 +29,7 @@ done_few (b ∷ bs) kept =
       | false ↦ let h : length (done bs (keep kept b)) ≤ length bs = done_few bs (keep kept b) in omega arith
     ]
 
--- ---- front was taken, which left line, and then piece
+-- ---- after front was taken, which left line, comes piece
 
 pub done_on : (front piece kept line : List ℕ) → line ≡ left front kept → done (front ++ piece) kept ≡ done front kept ++ done piece line
 done_on front piece kept line k = done-append front piece kept ∙ ap (λ l. done front kept ++ done piece l) (sym k)
@@ -49,7 +49,7 @@ pub served_on : {D : Type 0} {asks : Asking D} {old mid new : D} {held between h
 served_on front piece kept line k p q =
     served_same (sym (done_on front piece kept line k)) (served_then p q)
 
--- a fault came in piece, which rest follows
+-- a fault came within piece, and rest follows it
 pub breaks_on : {D : Type 0} {asks : Asking D} {old mid new : D} {held between holds : Option (List ℕ)} (front piece rest kept line : List ℕ) → line ≡ left front kept
     → Served asks old (done front kept) held between mid → BreaksOff asks mid (done piece line) between holds new → BreaksOff asks old (done (front ++ (piece ++ rest)) kept) held holds new
 breaks_on front piece rest kept line k p b =

@@ -1,4 +1,4 @@
--- What is kept of the lines is enough to answer them: their first 513 bytes.
+-- The first 513 bytes of each line are enough to answer it.
 use Rattle.std.proofs.Common.{◌≡◌, ℕ, ◌+◌, ◌≤◌, ◌<◌, ◌⊎◌, inl, inr, List, [], ◌∷◌, ◌++◌, length, take, map, ◌==◌, ◌||◌, Bool, true, false, cond, Option, Result, Ok, Err, refl, sym, ap, ◌∙◌, subst, append_assoc, append-nil, length-append, arith, rules}
 use Rattle.std.specs.List.{list_any}
 use Rattle.std.proofs.lemmas.List.{take-append-le, map-append, take_all, length-take-le, length-map}
@@ -87,7 +87,7 @@ pieces-whole bs =
     ∙ ap (λ ls. map cut (complete_of bs) ++ ls) (last_line-cut (rest_of bs))
     ∙ sym (map-append cut (complete_of bs) (last_line (rest_of bs)))
 
--- ---- a line is read as what is kept of it is
+-- ---- a line is read as its first 513 bytes are
 
 -- more than 512 bytes are too long, whatever they are
 cut_is_long : (line : List ℕ) (read : Result Request Bad) → 513 ≤ length line → IsReading (cut line) read → 512 < length line × (read ≡ Err Long)
@@ -123,7 +123,7 @@ served_of_cut {asks} {old} {new} kept lines e s = record {
   written = s.written;
 }
 
--- where a list of images is split, the list is too
+-- if a list of images is split, the list is split too
 split_of_map : (ls front : List (List ℕ)) (line : List ℕ) (after : List (List ℕ)) → map cut ls ≡ front ++ line ∷ after
     → (a : List (List ℕ)) × (x : List ℕ) × (b : List (List ℕ)) × (ls ≡ a ++ x ∷ b) × (front ≡ map cut a) × (cut x ≡ line)
 split_of_map [] [] line after e = cc
@@ -152,7 +152,7 @@ breaks_of_cut {asks} {new} kept lines e s =
       written = s.written;
     }
 
--- ---- what a session did to the pieces, it did to the lines
+-- ---- what a session did with the pieces, it did with the lines
 
 pub served_complete : {D : Type 0} {asks : Asking D} {old new : D} (input : List ℕ) {held holds : Option (List ℕ)} → Served asks old (done input []) held holds new → Served asks old (complete_of input) held holds new
 served_complete input s = served_of_cut (done input []) (complete_of input) (done-whole input) s

@@ -1,4 +1,4 @@
--- Runs over lines, by the requests among them.
+-- Runs over lines, split into the requests among them and the refusals.
 use Rattle.std.proofs.Common.{◌≡◌, ◌≢◌, ℕ, List, [], ◌∷◌, Result, Ok, Err, refl, sym, ap, subst}
 use Rattle.std.proofs.lemmas.List.Elements.{All-nil, All-cons, All-head, All-tail}
 use Rattle.hub_requests.specs.declared.request.Request.{Request}

@@ -1,4 +1,4 @@
--- A session over the reads so far.
+-- A session after the reads so far.
 use Rattle.std.proofs.Common.{◌≡◌, ℕ, ◌+◌, ◌≤◌, List, [], ◌++◌, length, inl, Option, refl, sym, ap, ◌∙◌, length-append, zero-add, arith}
 use Rattle.std.specs.Io.KnownBytes.{Keeps, Consumes}
 use Rattle.std.proofs.KnownBytes.{Consumes-trans, Consumes-kept}
@@ -9,7 +9,7 @@ use Rattle.hub_front.proofs.Cuts.{done_on, served_on, left_on, count_on}
 use Rattle.hub_front.proofs.Kept.{served_complete, served_lines, breaks_complete, breaks_lines, count_lines}
 use Rattle.hub_front.proofs.Runs.{served_same, served_then, breaks_same, breaks_then}
 
--- a read gave a piece, and the lines that ended in it were served
+-- a read gave a piece, and the lines that ended within it were served
 pub goes_on : {D : Type 0} {asks : Asking D} {old mid new : D} {held between holds had has has' : Option (List ℕ)} {line line' : List ℕ} {count count' least : ℕ} (piece : List ℕ)
     → 1 ≤ length piece → Consumes has has' piece → Served asks mid (done piece line) between holds new → line' ≡ left piece line → count' ≡ count + length (done piece line)
     → IsUnderWay asks old mid held between had has line count least → IsUnderWay asks old new held holds had has' line' count' (least + 1)
@@ -30,7 +30,7 @@ pub stops : {D : Type 0} {asks : Asking D} {old mid : D} {held holds had has : O
     → Consumes had has' u.input × Served asks old (complete_of u.input) held holds mid
 stops {had = had} {has} has' same u = (Consumes-kept had has has' u.input u.consumed same, served_complete u.input u.served)
 
--- a fault came among the lines that end in a piece
+-- a fault came among the lines that end within a piece
 pub breaks : {D : Type 0} {asks : Asking D} {old mid new : D} {held between holds had has : Option (List ℕ)} (has' : Option (List ℕ)) {line : List ℕ} {count least : ℕ} (piece : List ℕ)
     → Consumes has has' piece → BreaksOff asks mid (done piece line) between holds new → IsUnderWay asks old mid held between had has line count least
     → (input : List ℕ) × Consumes had has' input × ((lines : List (List ℕ)) × AreDue input has' lines × BreaksOff asks old lines held holds new)

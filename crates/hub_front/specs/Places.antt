@@ -1,4 +1,4 @@
--- Where replies stand: a desk's replies to the requests, and the refusals in their lines' places.
+-- The places of replies: a desk's replies to the requests, and the refusals in the places of their lines.
 use Rattle.std.specs.Prelude.{◌≡◌, ◌≢◌, ℕ, List, [], ◌∷◌, All, Result, Ok, Err}
 use Rattle.std.specs.List.{AllZip}
 use Rattle.hub_requests.specs.declared.request.Request.{Request}
@@ -17,14 +17,14 @@ requests_of [] = []
 requests_of (Ok request ∷ reads) = request ∷ requests_of reads
 requests_of (Err bad ∷ reads) = requests_of reads
 
--- the replies to the requests, with the refusals in their lines' places
+-- the replies to the requests, with the refusals in the places of their lines
 abbrev pub in_place : List (Result Request Bad) → List Reply → List Reply
 in_place [] given = []
 in_place (Ok request ∷ reads) [] = []
 in_place (Ok request ∷ reads) (reply ∷ given) = reply ∷ in_place reads given
 in_place (Err bad ∷ reads) given = No (refusal_of bad) ∷ in_place reads given
 
--- a desk replies so to the requests, one after another
+-- a desk gives these replies to the requests, one after another
 abbrev pub Asked : {D : Type 0} → Asking D → D → List Request → List Reply → D → Type 0
 Asked asks old [] [] new = new ≡ old
 Asked {D} asks old (request ∷ requests) (reply ∷ replies) new =
@@ -32,11 +32,11 @@ Asked {D} asks old (request ∷ requests) (reply ∷ replies) new =
 Asked asks old [] (reply ∷ replies) new = ⊥
 Asked asks old (request ∷ requests) [] new = ⊥
 
--- no reply is want of memory
+-- no reply is `no memory`
 abbrev pub NoneIsMemory : List Reply → Type 0
 NoneIsMemory replies = All (λ reply. reply ≢ No Memory) replies
 
--- The lines are read, the desk is asked the requests among them, and each refusal stands in its line's place.
+-- The lines are read, the desk is asked the requests among them, and each refusal is in the place of its line.
 pub record AreInPlace {D : Type 0} (asks : Asking D) (old : D) (lines : List (List ℕ)) (replies : List Reply)
     (new : D) : Type 0 where
   pub reads : List (Result Request Bad)
@@ -47,7 +47,7 @@ pub record AreInPlace {D : Type 0} (asks : Asking D) (old : D) (lines : List (Li
   pub read_whole : NoneIsMemory replies → All (λ read. read ≢ Err bad.Memory) reads
   pub given_whole : NoneIsMemory replies → NoneIsMemory given
 
--- asked a request, a desk has one reply and goes on in one way, want of memory aside
+-- unless memory runs out, a desk has one reply to a request, and one desk afterwards
 abbrev pub IsFunction : {D : Type 0} → Asking D → Type 0
 IsFunction {D} asks = (old new new' : D) (request : Request) (reply reply' : Reply)
     → reply ≢ No Memory → reply' ≢ No Memory

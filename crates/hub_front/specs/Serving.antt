@@ -19,7 +19,7 @@ use Rattle.hub_io.specs.Telling.{Grows}
 abbrev pub Asking : Type 0 → Type 1
 Asking D = D → Request → Reply → D → Type 0
 
--- A request is answered by the desk. What is none is refused, and the desk stays as it is.
+-- A request is answered by the desk. A line that isn't a request is refused, and the desk stays as it is.
 abbrev pub AnswersRead : {D : Type 0} → Asking D → D → Result Request Bad → Reply → D → Type 0
 AnswersRead asks old (Ok request) reply new = asks old request reply new
 AnswersRead asks old (Err bad) reply new = (reply ≡ No (refusal_of bad)) × (new ≡ old)
@@ -38,15 +38,15 @@ Run {D} asks old (line ∷ lines) (reply ∷ replies) new =
 Run asks old [] (reply ∷ replies) new = ⊥
 Run asks old (line ∷ lines) [] new = ⊥
 
--- The lines were answered, and the texts of the replies were written, in order.
--- held and holds are what the writer held before and after.
+-- The lines were answered, and the texts of the replies were written, in order. held is what the writer had before, and
+-- holds what it has after.
 pub record Served {D : Type 0} (asks : Asking D) (old : D) (lines : List (List ℕ))
     (held holds : Option (List ℕ)) (new : D) : Type 0 where
   pub replies : List Reply
   pub run : Run asks old lines replies new
   pub written : Appends held holds (flat_map text_of replies)
 
--- Some of the lines were served, and the one after them was answered, but its reply wasn't written whole.
+-- Some of the lines were served, and the next one was answered, but its reply wasn't written whole.
 pub record BreaksOff {D : Type 0} (asks : Asking D) (old : D) (lines : List (List ℕ))
     (held holds : Option (List ℕ)) (new : D) : Type 0 where
   pub front : List (List ℕ)
@@ -60,12 +60,13 @@ pub record BreaksOff {D : Type 0} (asks : Asking D) (old : D) (lines : List (Lis
   pub answered : Answers asks mid line reply new
   pub written : AppendsPart between holds (text_of reply)
 
--- the lines that are due after input was read: the complete ones, and with them the last piece where nothing is left
+-- the lines that are due after the input was read: the complete ones, and also the last piece if nothing is left to
+-- read
 abbrev pub AreDue : List ℕ → (has : Option (List ℕ)) → List (List ℕ) → Type 0
 AreDue input has lines = (lines ≡ complete_of input) ⊎ (IsAtEnd has × (lines ≡ lines_of input))
 
--- A session that ended with its input: each of its n lines was answered, and what was written are the texts of the
--- replies, in order. had and has are what the reader had left before and has left after.
+-- A session that ended with its input: each of its n lines was answered, and the texts of the replies were written, in
+-- order. had is what the reader had left before, and has what it has left after.
 pub record Finished {D : Type 0} (asks : Asking D) (ends : D → D → Type 0) (old new : D)
     (held holds had has : Option (List ℕ)) (n : ℕ) : Type 0 where
   pub input : List ℕ
@@ -76,8 +77,8 @@ pub record Finished {D : Type 0} (asks : Asking D) (ends : D → D → Type 0) (
   pub served : Served asks old (lines_of input) held holds mid
   pub ended : ends mid new
 
--- What a session did before it stopped, where input is what was read. After a fault of the reader, and after the last
--- read that it may make, each complete line was served. Each read gave a byte at least.
+-- What a session did before it stopped; input is what was read. After a fault of the reader, and after the last read
+-- that it may make, each complete line was served. Each read gave at least one byte.
 abbrev pub StopsAt : {D : Type 0} → Asking D → D → List ℕ → (held holds has : Option (List ℕ)) → D → FrontError → Type 0
 StopsAt asks old input held holds has mid Read = Served asks old (complete_of input) held holds mid
 StopsAt asks old input held holds has mid Turns =
@@ -95,6 +96,6 @@ pub record Stopped {D : Type 0} (asks : Asking D) (ends : D → D → Type 0) (o
   pub stopped : StopsAt asks old input held holds has mid e
   pub ended : ends mid new
 
--- At most 10,000,000 reads were made, and at Turns just as many. made and makes are the counts before and after.
+-- At most 10,000,000 reads were made, and exactly that many at Turns. made and makes are the counts before and after.
 abbrev pub ReadsWithin : {T : Type 0} → (made makes : Option ℕ) → Result T FrontError → Type 0
 ReadsWithin made makes result = (n : ℕ) × (n ≤ 10000000) × Grows made makes n × (result ≡ Err Turns → n ≡ 10000000)

@@ -1,8 +1,8 @@
-//! The engine of a session: from the bytes of a client to the replies that it reads.
+//! The engine of a session: reads a client's bytes, lets the session's desk answer, and writes the replies.
 //!
-//! The bytes of a client are cut at each LF. A line either spells one request, which the session's desk answers, or it
-//! is refused by the first rule that it breaks. Each reply is one line, written whole before the next line is looked
-//! at, so that replies come in the order of the lines however the bytes were cut on their way.
+//! [`serve`] cuts the client's bytes at each LF. A line either spells one request, which the desk answers, or it is
+//! refused by the first rule that it breaks. Each reply is one line. It is written whole before the next line is
+//! answered, so the replies come in the order of the lines, however the bytes were cut on their way.
 #![tactic(auto)]
 
 mod places;

@@ -1,4 +1,4 @@
-//! Where replies stand: laws of the definitions alone.
+//! The places of replies: laws about the definitions alone.
 ghost use Rattle.std.specs.Prelude.{◌≡◌, ℕ, List, Option};
 ghost use Rattle.hub_requests.specs.declared.reply.Reply.{Reply};
 ghost use Rattle.hub_front.specs.Serving.{Run, Finished};
@@ -6,13 +6,14 @@ ghost use Rattle.hub_front.specs.Places.{AreInPlace, IsFunction, NoneIsMemory};
 
 use hub_requests::Desk;
 
-/// The replies to lines are the desk's to the requests among them, with the refusals in their lines' places.
+/// The replies to lines are the desk's replies to the requests among them, with the refusals in the places of their
+/// lines.
 pub fn refusals_stand_in_place<D: Desk>()
     ensures { (old new : D) (lines : List (List ℕ)) (replies : List Reply)
         → Run D.asks old lines replies new → AreInPlace D.asks old lines replies new }
 {}
 
-/// Where a desk has one answer to each request, the same lines have the same replies, want of memory aside.
+/// If a desk has one answer to each request, the same lines have the same replies, unless memory runs out.
 pub fn same_lines_same_replies<D: Desk>()
     ensures { IsFunction D.asks → (old new new' : D) (lines : List (List ℕ)) (replies replies' : List Reply)
         → NoneIsMemory replies → NoneIsMemory replies'
@@ -20,8 +21,8 @@ pub fn same_lines_same_replies<D: Desk>()
         → (replies ≡ replies') × (new ≡ new') }
 {}
 
-/// Where a desk has one answer to each request, what a session writes follows from the bytes that it reads, however they
-/// were cut on their way, want of memory aside.
+/// If a desk has one answer to each request, the bytes that a session reads determine what it writes, however they were
+/// cut on their way, unless memory runs out.
 pub fn same_input_same_output<D: Desk>()
     ensures { IsFunction D.asks → (old new new' : D) (bytes held holds holds' : List ℕ)
         → (has has' : Option (List ℕ)) (n n' : ℕ)

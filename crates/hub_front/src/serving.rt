@@ -50,7 +50,7 @@ fn serve_reads<H: Wait, D: Desk, R: Source, W: Sink>(
     Err(FrontError::Turns)
 }
 
-// Serves the lines of the input.
+// Serves all lines of the input, the last one too if it has no LF.
 fn serve_lines<H: Wait, D: Desk, R: Source, W: Sink>(
     rt: &H,
     alloc: Global,
@@ -66,7 +66,8 @@ fn serve_lines<H: Wait, D: Desk, R: Source, W: Sink>(
         × Consumes (R.remaining reader.old) (R.remaining reader.new) input
         × StopsAt D.asks desk.old input (W.contents writer.old) (W.contents writer.new)
         (R.remaining reader.new) desk.new e) }
-    ensures memory { result ≡ Err FrontError.Memory → (reader.new ≡ reader.old) × (writer.new ≡ writer.old) }
+    ensures memory { result ≡ Err FrontError.Memory → (reader.new ≡ reader.old)
+        × (writer.new ≡ writer.old) }
     ensures reads { ReadsWithin (R.reads reader.old) (R.reads reader.new) result }
     ensures read_faults { Grows (R.faults reader.old) (R.faults reader.new) (read_faults result) }
     ensures write_faults { Grows (W.faults writer.old) (W.faults writer.new) (write_faults result) }
@@ -77,8 +78,8 @@ fn serve_lines<H: Wait, D: Desk, R: Source, W: Sink>(
     session.finish(rt, desk, writer)
 }
 
-/// Serves lines until the end of the input, and answers how many they were. Each reply is written whole, by itself,
-/// before the next line is looked at. The desk is ended in each case.
+/// Serves lines until the end of the input, and returns how many they were. Each reply is written whole, by itself,
+/// before the next line is answered. The desk is ended at every outcome.
 pub fn serve<H: Wait, D: Desk, R: Source, W: Sink>(
     rt: &H,
     alloc: Global,
@@ -86,19 +87,20 @@ pub fn serve<H: Wait, D: Desk, R: Source, W: Sink>(
     reader: &mut R,
     writer: &mut W,
 ) -> Result<u64, FrontError>
-    // What is written are the texts of one reply for each line, however the reader cut its bytes.
+    // The texts of one reply for each line are written, however the reader cut its bytes.
     ensures finished { IfOk result (Finished D.asks D.ends desk.old desk.new
         (W.contents writer.old) (W.contents writer.new) (R.remaining reader.old) (R.remaining reader.new)) }
     ensures stopped { IfErr result (Stopped D.asks D.ends desk.old desk.new
         (W.contents writer.old) (W.contents writer.new) (R.remaining reader.old) (R.remaining reader.new)) }
 
-    // Memory comes before the first read.
-    ensures memory { result ≡ Err FrontError.Memory → (reader.new ≡ reader.old) × (writer.new ≡ writer.old) }
+    // Memory is allocated before the first read.
+    ensures memory { result ≡ Err FrontError.Memory → (reader.new ≡ reader.old)
+        × (writer.new ≡ writer.old) }
 
-    // It ends by a count of its own.
+    // It makes at most 10,000,000 reads.
     ensures reads { ReadsWithin (R.reads reader.old) (R.reads reader.new) result }
 
-    // A fault is answered where it was told, and nowhere else.
+    // An error is reported if its fault was counted, and only then.
     ensures read_faults { Grows (R.faults reader.old) (R.faults reader.new) (read_faults result) }
     ensures write_faults { Grows (W.faults writer.old) (W.faults writer.new) (write_faults result) }
 {

@@ -1,4 +1,4 @@
-//! What a session keeps between two reads, and how it answers the bytes of one.
+//! What a session keeps between two reads, and how it answers the bytes of one read.
 ghost use Rattle.std.specs.Prelude.{◌≡◌, ◌+◌, ◌<◌, ◌≤◌, ◌^◌, List, [], ◌∷◌, length, OnOk, OnErr, IfOk, IfErr, vec_len, vec_capacity};
 ghost use Rattle.std.specs.Io.KnownBytes.{Appends};
 ghost use Rattle.hub_requests.specs.Texts.{text_of};
@@ -14,15 +14,15 @@ use hub_requests::{Desk, Refusal, Reply};
 use std::alloc::{AllocError, Global};
 use std::sync::Wait;
 
-// One byte more than a line may have, which is enough to tell that a line is too long.
+// One byte more than a line may have, which is enough to know that a line is too long.
 const KEPT: usize = 513;
 
 const LONGEST_REPLY: usize = 4_101;
 
 const LF: u8 = b'\n';
 
-/// What a session keeps between two reads: the first 513 bytes of the line that goes on, room for a reply's text, and
-/// how many lines were answered.
+/// What a session keeps between two reads: the first 513 bytes of the unfinished line, room for the text of a reply,
+/// and how many lines were answered.
 #[derive(Drop)]
 pub(crate) struct Session {
     alloc: Global,
@@ -49,7 +49,7 @@ impl Session {
         })
     }
 
-    /// Answers the lines that end in the bytes, and keeps the front of the line that goes on.
+    /// Answers the lines that end within the bytes, and keeps the beginning of the unfinished line.
     pub(crate) fn take_bytes<H: Wait, D: Desk, W: Sink>(
         &mut self,
         rt: &H,
@@ -61,7 +61,8 @@ impl Session {
         ensures ok { OnOk result (Served D.asks desk.old (done bytes.now self.old.line.items)
             (W.contents writer.old) (W.contents writer.new) desk.new) }
         ensures line { OnOk result (self.new.line.items ≡ left bytes.now self.old.line.items) }
-        ensures count { OnOk result (self.new.count ≡ self.old.count + length (done bytes.now self.old.line.items)) }
+        ensures count { OnOk result (self.new.count ≡ self.old.count + length
+            (done bytes.now self.old.line.items)) }
         ensures err { OnErr result (BreaksOff D.asks desk.old (done bytes.now self.old.line.items)
             (W.contents writer.old) (W.contents writer.new) desk.new) }
         ensures fault { IfErr result (λ e. e ≡ FrontError.Write) }
@@ -85,7 +86,8 @@ impl Session {
         ensures ok { OnOk result (Served D.asks desk.old (done (byte ∷ []) self.old.line.items)
             (W.contents writer.old) (W.contents writer.new) desk.new) }
         ensures line { OnOk result (self.new.line.items ≡ left (byte ∷ []) self.old.line.items) }
-        ensures count { OnOk result (self.new.count ≡ self.old.count + length (done (byte ∷ []) self.old.line.items)) }
+        ensures count { OnOk result (self.new.count ≡ self.old.count + length
+            (done (byte ∷ []) self.old.line.items)) }
         ensures err { OnErr result (BreaksOff D.asks desk.old (done (byte ∷ []) self.old.line.items)
             (W.contents writer.old) (W.contents writer.new) desk.new) }
         ensures fault { IfErr result (λ e. e ≡ FrontError.Write) }
@@ -100,7 +102,7 @@ impl Session {
         Ok(())
     }
 
-    /// Answers the line that the input ended in, where there is one, and says how many lines were answered in all.
+    /// Answers the unfinished last line of the input, if there is one. Returns how many lines were answered in all.
     pub(crate) fn finish<H: Wait, D: Desk, W: Sink>(
         mut self,
         rt: &H,
@@ -149,7 +151,7 @@ impl Session {
     }
 }
 
-// What a line is answered.
+// The reply to a line: the desk's if it spells a request, and else the refusal of the first rule that it breaks.
 fn reply_to<H: Wait, D: Desk>(rt: &H, alloc: Global, desk: &mut D, line: &[u8]) -> Reply
     ensures step { Answers D.asks desk.old line.now result desk.new }
     ensures short { length (text_of result) ≤ 4101 }

@@ -23,8 +23,9 @@ const HANDLES: usize = 256;
 /// How many handles may be given.
 const NUMBERS: u64 = 1_000_000;
 
-/// What the standing handles of a session hold, by number. Subscriptions and listeners are numbered in one sequence.
-#[derive(Drop)]
+/// What the current handles of a session hold, by number. Subscriptions and listeners are numbered in one sequence.
+///
+/// It isn't `Drop`, and only `release` takes it, after `end`.
 pub struct Handles {
     alloc: Global,
     /// How many handles were given.
@@ -86,7 +87,8 @@ impl Handles {
         rt: &H,
         dir: Arc<Fifodir, Global>,
     ) -> Result<u64, Refusal>
-        ensures ok { IfOk result (λ number. AddsSubscription self.old (arc_value dir) number self.new) }
+        ensures ok { IfOk result (λ number. AddsSubscription self.old
+            (arc_value dir) number self.new) }
         ensures err { OnErr result (IsStill self.old self.new) }
         ensures in_place { IfErr result (IsInPlace self.old) }
         ensures brief { IfErr result IsBrief }
@@ -97,7 +99,8 @@ impl Handles {
         }
         let subscription = Subscription::new(rt, dir)?;
         let number = self.given + 1;
-        self.subscriptions.insert(number, subscription).unwrap();
+        let replaced = self.subscriptions.insert(number, subscription).unwrap();
+        let None = replaced else { unreachable!() };
         self.given = number;
         Ok(number)
     }
@@ -126,7 +129,8 @@ impl Handles {
         mode: Mode,
         pattern: &PatternText,
     ) -> Result<u64, Refusal>
-        ensures ok { IfOk result (λ number. AddsListener self.old (arc_value dir) mode pattern.now number self.new) }
+        ensures ok { IfOk result (λ number. AddsListener self.old
+            (arc_value dir) mode pattern.now number self.new) }
         ensures err { OnErr result (IsStill self.old self.new) }
         ensures in_place { IfErr result (IsInPlace self.old) }
         ensures brief { IfErr result IsBrief }
@@ -143,7 +147,8 @@ impl Handles {
         let subscription = Subscription::new(rt, dir)?;
         let number = self.given + 1;
         let hearing = Hearing::new(subscription, listener, mode);
-        self.listeners.insert(number, hearing).unwrap();
+        let replaced = self.listeners.insert(number, hearing).unwrap();
+        let None = replaced else { unreachable!() };
         self.given = number;
         Ok(number)
     }
@@ -181,7 +186,8 @@ impl Handles {
     /// Ends a listener that stands.
     fn end_listener<H: Wait>(&mut self, rt: &H, id: u64)
         ensures gone { listener_of self.new id ≡ None }
-        ensures others { (other : ℕ) → nat_eq id other ≡ false → listener_of self.new other ≡ listener_of self.old other }
+        ensures others { (other : ℕ) → nat_eq id other ≡ false
+            → listener_of self.new other ≡ listener_of self.old other }
         ensures subscriptions { self.new.subscriptions.entries ≡ self.old.subscriptions.entries }
         ensures given { self.new.given ≡ self.old.given }
     {
@@ -212,13 +218,29 @@ impl Handles {
         ensures subscriptions { self.new.subscriptions.entries ≡ [] }
         ensures listeners { self.new.listeners.entries ≡ [] }
     {
-        let subscriptions = mem::replace(&mut self.subscriptions, IndexMap::new(self.alloc));
-        for (_, subscription) in subscriptions {
+        let mut subscriptions = mem::replace(&mut self.subscriptions, IndexMap::new(self.alloc));
+        while let Some((_, subscription)) = subscriptions.pop() {
             subscription.cancel(rt);
         }
-        let listeners = mem::replace(&mut self.listeners, IndexMap::new(self.alloc));
-        for (_, hearing) in listeners {
+        subscriptions.destroy_empty();
+        let mut listeners = mem::replace(&mut self.listeners, IndexMap::new(self.alloc));
+        while let Some((_, hearing)) = listeners.pop() {
             hearing.cancel(rt);
         }
+        listeners.destroy_empty();
+    }
+
+    /// Ends all subscriptions and listeners, and frees what is left of the handles.
+    pub fn release<H: Wait>(mut self, rt: &H) {
+        self.end(rt);
+        let Handles {
+            alloc: _,
+            given: _,
+            subscriptions,
+            listeners,
+            room: _,
+        } = self;
+        subscriptions.destroy_empty();
+        listeners.destroy_empty();
     }
 }

@@ -16,8 +16,7 @@ use std::sync::Wait;
 const GATHERED: usize = 4096;
 
 /// A listener that hears a subscription. It hears in mode `Repeat` whatever its own mode is: after the one hit of mode
-/// `Once` the session ends it.
-#[derive(Drop)]
+/// `Once` the session ends it. It isn't `Drop`, and only `cancel` takes it.
 pub struct Hearing {
     subscription: Subscription,
     listener: Listener,
@@ -79,7 +78,8 @@ impl Hearing {
     fn hear<H: Wait>(&mut self, rt: &H) -> Result<bool, Reply>
         requires { length self.old.listener.gathered < 4096 }
         ensures heard { IfOk result (λ hit. HearsOne self.old hit self.new) }
-        ensures stopped { IfErr result (λ reply. Hears self.old [] (Ok Quiet) self.new × Stops reply self.new) }
+        ensures stopped { IfErr result (λ reply. Hears self.old [] (Ok Quiet) self.new
+            × Stops reply self.new) }
         ensures short { IfErr result (λ reply. length (text_of reply) ≤ 4101) }
     {
         let letter = self.next_letter(rt)?;
@@ -106,7 +106,7 @@ impl Hearing {
         }
     }
 
-    /// Gives the subscription back.
+    /// Ends the subscription.
     pub fn cancel<H: Wait>(self, rt: &H) {
         let Hearing {
             subscription,

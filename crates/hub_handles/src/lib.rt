@@ -4,7 +4,8 @@
 //! subscription takes events by the ticket that its fifodir gave it, and a listener hears them letter by letter. What
 //! either is answered is told by what its own ticket has seen of the fifodir's record.
 //!
-//! All that stands is given back by `cancel` and `end`: what stands and isn't taken fills the fifodirs.
+//! A subscription that nobody ends would hold publishers up for ever. So nothing here is `Drop`: `cancel`, `end` and `release`
+//! end what they take, and code that drops a subscription or a listener doesn't compile.
 #![tactic(auto)]
 
 mod handles;

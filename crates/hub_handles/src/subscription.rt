@@ -13,8 +13,7 @@ use hub_requests::Reply;
 use std::alloc::Global;
 use std::sync::{Arc, Wait};
 
-/// A ticket beside its fifodir. It is given back by `cancel`.
-#[derive(Drop)]
+/// A ticket beside its fifodir. It isn't `Drop`, and only `cancel` takes it.
 pub struct Subscription {
     dir: Arc<Fifodir, Global>,
     ticket: Ticket,
@@ -85,7 +84,7 @@ impl Subscription {
         }
     }
 
-    /// Gives the ticket back.
+    /// Ends the subscription.
     pub fn cancel<H: Wait>(self, rt: &H) {
         let Subscription { dir, ticket } = self;
         dir.cancel(rt, ticket);

@@ -1,4 +1,4 @@
--- What is known holds at whatever outcome.
+-- A fact that holds at every outcome.
 use Rattle.std.proofs.Common.{◌≡◌, Result, Ok, Err, OnOk, OnErr, IfOk, IfErr, sym, subst}
 use Rattle.hub_io.specs.declared.fault.FrontError.{FrontError}
 use Rattle.hub_io.specs.declared.fault.FrontError.TheVariants.{Write, Turns}
@@ -19,7 +19,7 @@ pub IfErr-from : {T E P : Type 0} (Q R : E → Type 0) (r : Result T E) → ((e 
 IfErr-from Q R (Ok x) f p q = tt
 IfErr-from Q R (Err e) f p q = f e p q
 
--- a fault of the writer is no want of reads
+-- a fault of the writer isn't the end of the reads
 pub only_write : {T : Type 0} (r : Result T FrontError) → IfErr r (λ e. e ≡ Write) → r ≡ Err Turns → ⊥
 only_write (Ok x) fault turns = cc
 only_write (Err e) fault turns = let it : e ≡ Turns = cc in let other : Write ≡ Turns = cc in cc

@@ -19,7 +19,7 @@ Grows-trans None b c n p q = tt
 Grows-trans (Some k) None c n p q = cc
 Grows-trans (Some k) (Some m) c n p q = let e : m ≡ k + 0 = cc in let s : m + n ≡ k + n = omega arith in q ∙ ap Some s
 
--- a write that took some bytes tells no fault
+-- a write that took some bytes isn't a fault
 pub taken-Grows : (E : Type 0) (a b : Option ℕ) (n : ℕ) → 0 < n → Grows a b (faults_of_write {E = E} (Ok n)) → Grows a b 0
 taken-Grows E a b zero some g = absurd (omega arith)
 taken-Grows E a b (suc n) some g = g

@@ -1,17 +1,17 @@
--- What a fault leaves written, and the faults that an outcome tells.
+-- What is written at a fault, and the faults of an outcome.
 use Rattle.std.specs.Prelude.{ℕ, ◌<◌, List, length, take, Option, Result, Ok, Err}
 use Rattle.std.specs.Io.KnownBytes.{Appends}
 use Rattle.hub_io.specs.declared.fault.FrontError.{FrontError}
 use Rattle.hub_io.specs.declared.fault.FrontError.TheVariants as fault
 use Rattle.hub_io.specs.declared.fault.FrontError.TheVariants.{Read, Write, Turns}
 
--- a front of the bytes was written, and not all of them
+-- a prefix of the bytes was written, and not all of them
 pub record AppendsPart (held holds : Option (List ℕ)) (bytes : List ℕ) : Type 0 where
   pub count : ℕ
   pub part : count < length bytes
   pub written : Appends held holds (take count bytes)
 
--- the faults of the reader that were met: it stops at the first
+-- the reader's faults: it stops at the first
 abbrev pub read_faults : {T : Type 0} → Result T FrontError → ℕ
 read_faults (Ok x) = 0
 read_faults (Err Read) = 1
@@ -19,7 +19,7 @@ read_faults (Err Write) = 0
 read_faults (Err Turns) = 0
 read_faults (Err fault.Memory) = 0
 
--- the faults of the writer that were met
+-- the writer's faults: it stops at the first
 abbrev pub write_faults : {T : Type 0} → Result T FrontError → ℕ
 write_faults (Ok x) = 0
 write_faults (Err Read) = 0

@@ -1,4 +1,4 @@
-//! Reads and writes that a signal broke off are made again.
+//! Retries reads and writes that a signal interrupted.
 ghost use Rattle.std.specs.Prelude.{◌<◌, length};
 ghost use Rattle.std.specs.Io.{ReadsAtMost, WritesAtMost};
 ghost use Rattle.std.specs.Io.KnownBytes.{ReadConsumes, WriteAppends};
@@ -6,10 +6,11 @@ ghost use Rattle.std.specs.Io.KnownBytes.{ReadConsumes, WriteAppends};
 use std::io;
 use std::io::{ErrorKind, Read, Write};
 
-/// How often a call is made again at most. No storm of signals breaks off so many in a row.
+/// The most retries of one call. So many signals in a row aren't expected: after them the call's result is returned as
+/// it is.
 const TRIES: u32 = 1_000_000;
 
-/// Reads, and reads again if a signal broke the read off.
+/// Reads, and retries if a signal interrupted the read.
 pub(crate) fn read_again<R: Read>(reader: &mut R, buf: &mut [u8]) -> io::Result<usize>
     ensures bound { ReadsAtMost result buf.new }
     ensures bytes { ReadConsumes (R.remaining reader.old) (R.remaining reader.new) result buf.new }
@@ -23,7 +24,7 @@ pub(crate) fn read_again<R: Read>(reader: &mut R, buf: &mut [u8]) -> io::Result<
     reader.read(buf)
 }
 
-/// Writes, and writes again if a signal broke the write off.
+/// Writes, and retries if a signal interrupted the write.
 pub(crate) fn write_again<W: Write>(writer: &mut W, bytes: &[u8]) -> io::Result<usize>
     requires { 0 < length bytes.now }
     ensures bound { WritesAtMost result bytes.now }

@@ -6,7 +6,7 @@ ghost use Rattle.hub_io.specs.declared.fault.FrontError.TheVariants.{Memory};
 use std::alloc::AllocError;
 use thiserror::Error;
 
-/// Why a session stopped before the end of its input.
+/// Why a session stopped before the end of its input, or a relay before its end.
 #[derive(Clone, Copy, Debug, PartialEq, Eq, Error)]
 pub enum FrontError {
     /// A read failed.
@@ -15,7 +15,7 @@ pub enum FrontError {
     /// A write failed, or took no byte.
     #[error("write failed")]
     Write,
-    /// 10,000,000 reads were made, and the input went on.
+    /// 10,000,000 reads were made, and the input hasn't ended.
     #[error("too many reads")]
     Turns,
     /// There was no memory for the session's own buffers.

@@ -1,7 +1,7 @@
 //! The bytes of a session: where they come from, where they go, and why they may stop.
 //!
-//! A [`Source`] is a reader and a [`Sink`] a writer whose faults a contract can count. [`write_whole`] writes a line or a
-//! reply whole, or says that it failed.
+//! A [`Source`] is a reader and a [`Sink`] is a writer. Contracts can count their faults, and a call that fails because
+//! a signal interrupted it is retried. [`write_whole`] writes a line or a reply whole, or reports that it failed.
 #![tactic(auto)]
 
 mod again;

@@ -1,4 +1,4 @@
-//! Writers that tell their faults.
+//! Writers whose faults can be counted.
 ghost use Rattle.std.specs.Prelude.{◌≡◌, ℕ, ◌<◌, length, Option, None, Some, IfOk, IfErr};
 ghost use Rattle.std.specs.Io.{WritesAtMost};
 ghost use Rattle.std.specs.Io.KnownBytes.{WriteAppends};
@@ -10,21 +10,22 @@ use std::io;
 use std::io::{ErrorKind, Stdout, Write};
 use std::os::unix::net::UnixStream;
 
-/// What a session writes to: a writer whose faults a contract can count. A write that fails is a fault, and so is one
-/// that takes no byte.
+/// What a session writes to: a writer whose faults a contract can count. A write is a fault if it fails or takes no
+/// byte.
 pub trait Sink: Write {
-    /// How many writes have failed or taken no byte, where that is known.
+    /// How many writes have failed or taken no byte, if that is known.
     ghost faults: { Self → Option ℕ };
 
-    /// Writes once, as `write` does. Where the operating system writes, a write that a signal broke off is made again.
+    /// Writes once, as `write` does. If the operating system writes, a write that a signal interrupted is retried.
     fn push(&mut self, bytes: &[u8]) -> io::Result<usize>
         requires { 0 < length bytes.now }
         ensures bound { WritesAtMost result bytes.now }
-        ensures bytes { WriteAppends (Self.contents self.old) (Self.contents self.new) result bytes.now }
+        ensures bytes { WriteAppends (Self.contents self.old)
+            (Self.contents self.new) result bytes.now }
         ensures told { Grows (faults self.old) (faults self.new) (faults_of_write result) };
 }
 
-// It fails where there is no memory, and else takes all.
+// A write fails if memory runs out, and else takes all bytes.
 impl Sink for Vec<u8> {
     ghost faults = { λ _. None };
 

@@ -1,4 +1,4 @@
-//! Readers that tell their reads and their faults.
+//! Readers whose reads and faults can be counted.
 ghost use Rattle.std.specs.Prelude.{ℕ, Option, Some, None};
 ghost use Rattle.std.specs.Io.{ReadsAtMost};
 ghost use Rattle.std.specs.Io.KnownBytes.{ReadConsumes};
@@ -9,23 +9,24 @@ use std::io;
 use std::io::{Read, Stdin};
 use std::os::unix::net::UnixStream;
 
-/// What a session reads: a reader whose reads, and those that failed, a contract can count.
+/// What a session reads: a reader whose reads and failed reads a contract can count.
 pub trait Source: Read {
-    /// How many reads were made, where that is known.
+    /// How many reads were made, if that is known.
     ghost reads: { Self → Option ℕ };
 
-    /// How many reads have failed, where that is known.
+    /// How many reads have failed, if that is known.
     ghost faults: { Self → Option ℕ };
 
-    /// Reads once, as `read` does. Where the operating system reads, a read that a signal broke off is made again.
+    /// Reads once, as `read` does. If the operating system reads, a read that a signal interrupted is retried.
     fn pull(&mut self, buf: &mut [u8]) -> io::Result<usize>
         ensures bound { ReadsAtMost result buf.new }
-        ensures bytes { ReadConsumes (Self.remaining self.old) (Self.remaining self.new) result buf.new }
+        ensures bytes { ReadConsumes (Self.remaining self.old)
+            (Self.remaining self.new) result buf.new }
         ensures counted { Grows (reads self.old) (reads self.new) 1 }
         ensures told { Grows (faults self.old) (faults self.new) (faults_of_read result) };
 
-    /// The connection that is read, by a descriptor of its own, so that a session that waits can look whether its client is
-    /// still there. None if what is read is no connection, or if the system has no descriptor left.
+    /// A descriptor of its own for the connection that is read, by which a session can see during a wait whether its
+    /// client is still there. None if no connection is read, or if the system has no descriptor left.
     fn connection(&self) -> Option<UnixStream> {
         None
     }

@@ -1,4 +1,4 @@
--- The flags of a word: each by the last of the letters that bear on it.
+-- The flags of a word. Each is decided by the last of the letters that bear on it.
 use Rattle.std.specs.Prelude.{ℕ, ◌+◌, ◌*◌, Bool, true, false, List, [], ◌∷◌, Option, Some, None, map}
 use Rattle.hub_letters.specs.declared.flags.Flags.{Flags}
 use Rattle.hub_letters.specs.Marks.{Mark, Began, Ran, Reported, Died, Finished, GaveUp, Exited, Other, mark, last_among, is_life, is_supervision, is_hope, is_began, is_gave_up}
@@ -25,7 +25,7 @@ settled_by (Some GaveUp) = false
 settled_by (Some Exited) = false
 settled_by (Some Other) = false
 
--- the flags of a word: each by the last of the letters that bear on it
+-- the flags of a word, each by the last of the letters that bear on it
 abbrev pub flags_by : List Mark → Flags
 flags_by ms = record {
   up = up_by (last_among is_life ms);

@@ -3,7 +3,7 @@ use Rattle.std.specs.Prelude.{ℕ, ◌≡◌, ◌<◌, ◌+◌, length, Bool, tr
 use Rattle.std.specs.List.{flat_map}
 use Rattle.hub_letters.specs.Marks.{Mark, Began, Ran, Reported, Died, Finished, GaveUp, Exited, Other, mark, last_among, is_supervision}
 
--- what a service does between one start and the next
+-- what a service does between two starts
 pub data Block : Type 0 where
   Silent : Block  -- u d D
   Loud : Block  -- u U d D
@@ -12,7 +12,7 @@ abbrev pub block_marks : Block → List Mark
 block_marks Silent = Ran ∷ Died ∷ Finished ∷ []
 block_marks Loud = Ran ∷ Reported ∷ Died ∷ Finished ∷ []
 
--- a segment: s, then the first `cut` letters of a row of blocks, then x where it exits
+-- a segment: s, then the first `cut` letters of a row of blocks, then x if it exits
 pub record Segment : Type 0 where
   pub blocks : List Block
   pub cut : ℕ
@@ -35,7 +35,7 @@ is_kept GaveUp = false
 is_kept Exited = true
 is_kept Other = true
 
--- lawful: without its O the marks are a row of segments, and before each O the last of s x is s
+-- lawful: without its O's the marks are a row of segments, and before each O the last of s x is s
 pub record IsLawfulRow (ms : List Mark) : Type 0 where
   pub segments : List Segment
   pub spelled : filter is_kept ms ≡ flat_map segment_marks segments
@@ -44,7 +44,7 @@ pub record IsLawfulRow (ms : List Mark) : Type 0 where
 abbrev pub IsLawful : List ℕ → Type 0
 IsLawful word = IsLawfulRow (map mark word)
 
--- place i is the least of the message such that the word followed by the message up to and with that place isn't lawful
+-- place i is the least of the message for which the word, followed by the message up to and including it, isn't lawful
 pub record IsFirstUnlawful (word message : List ℕ) (i : ℕ) : Type 0 where
   pub inside : i < length message
   pub before : (j : ℕ) → j < i → IsLawful (word ++ take (j + 1) message)

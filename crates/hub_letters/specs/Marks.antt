@@ -60,7 +60,7 @@ is_hope GaveUp = true
 is_hope Exited = false
 is_hope Other = false
 
--- the last is that mark
+-- whether the last mark is this one
 abbrev pub is_began : Option Mark → Bool
 is_began None = false
 is_began (Some Began) = true

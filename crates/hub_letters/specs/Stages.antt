@@ -5,7 +5,7 @@ use Rattle.hub_letters.specs.declared.stage.Stage.TheVariants.{Off, Idle, Starti
 use Rattle.hub_letters.specs.Marks.{Mark, Began, Ran, Reported, Died, Finished, GaveUp, Exited, Other, mark, last_among, is_life, is_supervision, is_began}
 use Rattle.hub_letters.specs.Lawful.{IsLawful, IsFirstUnlawful}
 
--- the stage of a lawful word: Off where the last of s x is none or x, else by the last of s u U d D
+-- the stage of a lawful word: Off if the last of s x is none or x, else by the last of s u U d D
 abbrev pub stage_where : Bool → Option Mark → Stage
 stage_where false m = Off
 stage_where true None = Idle
@@ -26,7 +26,7 @@ stage_of word = stage_by (map mark word)
 
 -- ---- one letter at a time
 
--- the stage after one more letter; none where the letter is unlawful there
+-- the stage after one more letter, or none if the letter is unlawful there
 abbrev pub next_by : Stage → Mark → Option Stage
 next_by Off Began = Some Idle
 next_by Off Ran = None
@@ -83,7 +83,7 @@ followed stage word = follow_by (Some stage) (map mark word)
 
 -- ---- a message after a word
 
--- what following a message from the stage of a lawful word tells
+-- what following a message from the stage of a lawful word shows
 abbrev pub Follows : List ℕ → List ℕ → Result Stage ℕ → Type 0
 Follows word message (Ok stage) = IsLawful (word ++ message) × (stage ≡ stage_of (word ++ message))
 Follows word message (Err i) = IsFirstUnlawful word message i

@@ -5,16 +5,16 @@ ghost use Rattle.hub_letters.specs.Flags.{flags_of, flags_next, flags_folded, no
 
 use crate::letter::Letter;
 
-/// What the letters so far say of the service. Each flag is false where no letter bears on it.
+/// What the letters so far say of the service. A flag is false if no letter bears on it.
 #[derive(Clone, Copy, Debug, PartialEq, Eq)]
 pub struct Flags {
     /// The run process runs: the last letter among `s u U d D` is `u` or `U`.
     pub up: bool,
-    /// The service is where it was going: the last letter among `s u U d D` is `s`, `U` or `D`.
+    /// The service isn't on its way up or down: the last letter among `s u U d D` is `s`, `U` or `D`.
     pub settled: bool,
     /// A supervisor runs: the last letter among `s x` is `s`.
     pub supervised: bool,
-    /// The service won't be restarted: an `O` stands, and no `s` or `u` after it.
+    /// The service won't be restarted: there is an `O`, and no `s` or `u` after it.
     pub failed: bool,
 }
 
@@ -86,7 +86,7 @@ impl Flags {
         flags
     }
 
-    /// A law: the flags folded over a word, letter by letter, are those of the word.
+    /// A law: the flags folded over a word, letter by letter, are the flags of the word.
     pub fn fold_to_those_of_the_word()
         ensures { (word : List ℕ) → flags_folded no_flags (map mark word) ≡ flags_of word }
     {}
@@ -112,7 +112,7 @@ impl Flags {
         code
     }
 
-    /// The flags with this code; none from 16 on.
+    /// The flags with this code. None if the code is 16 or more.
     pub fn of_code(code: u64) -> Option<Flags>
         ensures coded { MatchOption result (16 ≤ code) (λ flags. code_of flags ≡ code) }
         ensures back { (flags : Flags) → code_of flags ≡ code → result ≡ Some flags }

@@ -3,7 +3,7 @@ ghost use Rattle.std.specs.Prelude.{◌≡◌, ◌≤◌, SomeIff};
 
 use std::marker::Model;
 
-/// One byte from 0x21 (`!`) to 0x7E (`~`), as `s6-ftrig-notify` sends it. Contracts see it as its byte.
+/// One byte from 0x21 (`!`) to 0x7E (`~`), as `s6-ftrig-notify` sends it. In contracts a letter is its byte.
 #[derive(Clone, Copy, Debug, PartialEq, Eq)]
 pub struct Letter {
     byte: u8,
@@ -22,7 +22,7 @@ impl Model for Letter {
 }
 
 impl Letter {
-    /// The letter with this byte; none outside 0x21 to 0x7E.
+    /// The letter with this byte. None if the byte isn't within 0x21 to 0x7E.
     pub fn of(byte: u8) -> Option<Letter>
         ensures { SomeIff result ((33 ≤ byte) × (byte ≤ 126)) byte }
     {
@@ -33,13 +33,14 @@ impl Letter {
         }
     }
 
-    /// The letter `!`, to fill a slice with before events are taken into it.
+    /// The letter `!`, which fills a slice before events are taken into it.
     pub fn least() -> Letter
         ensures { result ≡ 33 }
     {
         Letter { byte: b'!' }
     }
 
+    /// Its byte, from 0x21 to 0x7E.
     pub fn byte(self) -> u8
         ensures value { result ≡ self }
         ensures range { (33 ≤ result) × (result ≤ 126) }

@@ -3,8 +3,8 @@
 /// Whether a listener goes on after a hit.
 #[derive(Clone, Copy, Debug, PartialEq, Eq)]
 pub enum Mode {
-    /// It has one hit, and is spent from then on.
+    /// The listener has one hit, and is spent from then on.
     Once,
-    /// It gathers anew after each hit.
+    /// The listener gathers from scratch after each hit.
     Repeat,
 }

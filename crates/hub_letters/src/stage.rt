@@ -6,7 +6,7 @@ ghost use Rattle.hub_letters.specs.Stages.{stage_of, next_by, followed, Follows}
 
 use crate::letter::Letter;
 
-/// Where a service stands in its lawful order. A record begins at `Off`.
+/// The stage of a service in its lawful order. A record begins at `Off`.
 #[derive(Clone, Copy, Debug, PartialEq, Eq)]
 pub enum Stage {
     /// No supervisor: none has started, or the last has exited.
@@ -22,7 +22,7 @@ pub enum Stage {
 }
 
 impl Stage {
-    /// The stage after one more letter; none where the letter is unlawful there.
+    /// The stage after one more letter. None if the letter is unlawful at this stage.
     pub fn next(self, letter: Letter) -> Option<Stage>
         ensures { result ≡ next_by self (mark letter) }
     {
@@ -41,9 +41,10 @@ impl Stage {
         }
     }
 
-    /// The stage after the letters, or the least place (from 0) at which one is unlawful.
+    /// The stage after the letters. An error is the least place, from 0, whose letter is unlawful.
     pub fn follow(self, letters: &[Letter]) -> Result<Stage, u64>
-        ensures { (word : List ℕ) → IsLawful word → stage_of word ≡ self → Follows word letters.now result }
+        ensures { (word : List ℕ) → IsLawful word → stage_of word ≡ self
+            → Follows word letters.now result }
     {
         let mut stage = self;
         for (i, letter) in letters.iter().enumerate() {
@@ -55,9 +56,11 @@ impl Stage {
         Ok(stage)
     }
 
-    /// A law: the stages, followed from `Off`, accept just the lawful words, and end in the word's stage.
+    /// A law: the stages, followed from `Off`, accept exactly the lawful words, and end in the word's stage.
     pub fn accept_just_the_lawful_words()
-        ensures all { (word : List ℕ) → IsLawful word → followed Stage.Off word ≡ Some (stage_of word) }
-        ensures only { (word : List ℕ) (stage : Stage) → followed Stage.Off word ≡ Some stage → IsLawful word × (stage ≡ stage_of word) }
+        ensures all { (word : List ℕ) → IsLawful word
+            → followed Stage.Off word ≡ Some (stage_of word) }
+        ensures only { (word : List ℕ) (stage : Stage) → followed Stage.Off word ≡ Some stage
+            → IsLawful word × (stage ≡ stage_of word) }
     {}
 }

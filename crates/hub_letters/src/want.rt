@@ -1,10 +1,10 @@
-//! What one waits for.
+//! The state that a wait asks for.
 ghost use Rattle.std.specs.Prelude.{◌≡◌};
 ghost use Rattle.hub_letters.specs.Wants.{is_met, is_hopeless};
 
 use crate::flags::Flags;
 
-/// What is wanted of a service, as `s6-svwait` and `s6-svlisten` ask it.
+/// The state of a service that a wait asks for, as in `s6-svwait` and `s6-svlisten`.
 #[derive(Clone, Copy, Debug, PartialEq, Eq)]
 pub enum Want {
     /// It is up (`-u`).
@@ -13,13 +13,14 @@ pub enum Want {
     Ready,
     /// It isn't up (`-d`).
     Down,
-    /// It isn't up, and its finish script has ended (`-D`).
+    /// It isn't up and has settled (`-D`): its finish script has ended (`D`), or a supervisor has started and no run
+    /// process since (`s`).
     Finished,
 }
 
 impl Want {
-    /// Whether the flags show what is wanted. `notifies` says whether the service reports that it is ready; one that
-    /// doesn't counts as ready where it is up, as in `s6-svc -wU` (`s6-svwait -U` would wait for it without end).
+    /// Whether the flags show what is wanted. `notifies` says whether the service reports that it is ready. A service
+    /// that doesn't report it counts as ready if it is up, as in `s6-svc -wU` (`s6-svwait -U` would never end for it).
     pub fn met(self, flags: Flags, notifies: bool) -> bool
         ensures { result ≡ is_met self flags notifies }
     {
@@ -31,7 +32,8 @@ impl Want {
         }
     }
 
-    /// Whether nothing more is to be hoped for, since the service won't be restarted. A want may be met and hopeless.
+    /// Whether the want, if it isn't met yet, can't be met any more, since the service won't be restarted. A want may
+    /// be both met and hopeless.
     pub fn hopeless(self, flags: Flags) -> bool
         ensures { result ≡ is_hopeless self flags }
     {

@@ -1,4 +1,4 @@
--- Lists that grow until they have every state to which a search comes.
+-- Lists that grow until they have every state in which a search is.
 use Rattle.std.proofs.Common.{◌≡◌, ◌≢◌, ℕ, ◌+◌, ◌<◌, ◌≤◌, ◌↔◌, List, [], length, Some, slice_get, slice_index, refl, sym, ap, ◌∙◌, subst, inl, inr, ⊎_elim, arith}
 use Rattle.std.proofs.lemmas.Bool.{cases_lt}
 use Rattle.std.proofs.lemmas.Option.{same_Some}
@@ -70,7 +70,7 @@ module _ (nfa : Nfa) (text : List ℕ) (i : ℕ) where
   }
 
   module _ (seeds states : List ℕ) (all : (q : ℕ) → Enters nfa text q i → Has seeds q) (c : ClosesBelow nfa text i seeds states (length states)) where
-    -- a closed list that has every state which is entered has every state that is reached
+    -- a closed list that has every state that is entered has every state that is reached
     pub Has-reached : (q : ℕ) → Reaches nfa text q i → Has states q
     Has-reached q (begins _ _ is start) = c.keeps q (all q (inl (is, start)))
     Has-reached q (reads _ _ p j b reached read goes next) =
@@ -109,7 +109,8 @@ module _ (nfa : Nfa) (text : List ℕ) (i : ℕ) where
         e,
   )
 
-  -- where the states are closed, no match ends, and reading the byte there leads to those that are alive at the next place
+  -- if the states are closed, no match ends here, and reading the byte here leads to those that are alive at the next
+  -- place
   module _ (start seeds reached : List ℕ) (alive : AreAlive nfa text i start) (same : (q : ℕ) → Has seeds q ↔ Has start q)
       (closed : ClosesBelow nfa text i seeds reached (length reached)) where
     pub no_match_here : ¬ (HasMatch nfa text i)

@@ -1,4 +1,4 @@
--- A piece cut in two, where the first part is quiet; and that there is one answer.
+-- A piece cut in two, if the first part is quiet; and that there is one answer.
 use Rattle.std.proofs.Common.{◌≡◌, ℕ, suc, ◌+◌, ◌<◌, ◌≤◌, ◌-◌, false, List, [], ◌∷◌, ◌++◌, take, length, refl, sym, ap, subst, ◌∙◌, arith, append_assoc, length-append, ⊎_elim, Result, Ok, Err, true≢false}
 use Rattle.std.proofs.lemmas.Bool.{cases_lt}
 use Rattle.hub_listen.specs.Hit.{finds, IsHit, HasNoHit}
@@ -19,11 +19,11 @@ take-append-past (x ∷ a) b k =
     ap (λ n. take n (x ∷ (a ++ b))) e ∙ ap (λ t. x ∷ t) (take-append-past a b k)
 
 module _ (p g a b : List ℕ) where
-  -- a front that ends in the second part
+  -- a prefix that ends in the second part
   past : (i : ℕ) → g ++ take (length a + i) (a ++ b) ≡ (g ++ a) ++ take i b
   past i = ap (λ t. g ++ t) (take-append-past a b i) ∙ sym (append_assoc g a (take i b))
 
-  -- where the first part has no hit, a front of both finds nothing if it finds nothing in the second
+  -- if the first part has no hit, a prefix of both finds nothing if it finds nothing in the second
   finds_nothing : HasNoHit p g a → length g + length a ≤ 4096 → (j : ℕ) → 1 ≤ j
       → ((i : ℕ) → 1 ≤ i → j ≡ length a + i → finds p ((g ++ a) ++ take i b) ≡ false) → finds p (g ++ take j (a ++ b)) ≡ false
   finds_nothing quiet fits j some later =
@@ -48,7 +48,7 @@ module _ (p g a b : List ℕ) where
       let all = length-append g a in let both = length-append a b in
       finds_nothing quiet fits j from (λ i start e. none i start (omega arith) (omega arith))
 
--- where the listener between the two parts is written out
+-- with the listener between the two parts written out
 cut : (old new : Listening) (first second : List ℕ) (answer : Result Feed FeedError)
     → Feeds old first (Ok Quiet) (after_quiet old first) → Feeds (after_quiet old first) second answer new
     → Feeds old (first ++ second) (counted_from (length first) answer) (left_by answer old new)

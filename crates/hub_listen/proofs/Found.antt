@@ -1,4 +1,4 @@
--- A pattern finds a match in a text exactly if a search comes to the state of a match.
+-- A pattern finds a match in a text exactly if a search reaches a match state.
 use Rattle.std.proofs.Common.{◌≡◌, ℕ, ◌+◌, ◌-◌, ◌<◌, ◌≤◌, true, false, List, [], ◌∷◌, ◌++◌, length, None, is_some, All, if◌then◌else◌, refl, sym, ap, ◌∙◌, subst, ⊎_elim, arith, true≢false, length-append}
 use Rattle.std.proofs.lemmas.Bool.{cases_Bool, cases_lt, cond-true}
 use Rattle.std.proofs.lemmas.Str.Ascii.{All-from_ascii, IsAscii-push}
@@ -76,13 +76,13 @@ module _ (nfa : Nfa) (text : List ℕ) where
       IsSome-run_of_Accepts nfa text (length text) i nfa.unanchored 0
       (Accepts-of_Reaches i m.state i m.reached (matched m.state i m.match_state refl))
 
--- ---- one letter more
+-- ---- one more letter
 
 module _ (nfa : Nfa) (pattern : List ℕ) (searches : SearchesFor nfa pattern) where
   pub finds_match : (text : List ℕ) → IsAscii text → (i : ℕ) → HasMatch nfa text i → finds pattern text ≡ true
   finds_match text ascii i m = searches text ascii ∙ finds_by_of_match nfa text i m
 
-  -- where a text has no match, a longer one has none unless it ends where the text ended, or later
+  -- if a text has no match, a longer one has none unless it ends where the text ended, or later
   pub finds_no_more : (text : List ℕ) (b : ℕ) → IsAscii text → IsAscii (text ++ b ∷ []) → (1 ≤ length text → finds pattern text ≡ false)
       → ¬ (HasMatch nfa (text ++ b ∷ []) (length text)) → ¬ (HasMatch nfa (text ++ b ∷ []) (length text + 1))
       → finds pattern (text ++ b ∷ []) ≡ false
@@ -104,7 +104,7 @@ module _ (nfa : Nfa) (pattern : List ℕ) (searches : SearchesFor nfa pattern) w
       (λ none. none)
       (cases_Bool (finds pattern (text ++ b ∷ [])))
 
--- ---- the same of a text as it is spelled elsewhere
+-- ---- the same for a text that is spelled elsewhere
 
 pub AreAlive-pushed : (nfa : Nfa) (old text : List ℕ) (b : ℕ) (states : List ℕ) → IsAscii old → text ≡ old ++ b ∷ []
     → AreAlive nfa old (length old) states → AreAlive nfa text (length text - 1) states

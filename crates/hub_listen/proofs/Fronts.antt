@@ -1,4 +1,4 @@
--- The fronts of a piece: what one of them tells of a longer one.
+-- The prefixes of a piece: what one of them shows of a longer one.
 use Rattle.std.proofs.Common.{◌≡◌, ℕ, ◌+◌, ◌<◌, ◌≤◌, Bool, false, List, [], ◌∷◌, ◌++◌, take, length, get_or, sym, ap, subst, ◌∙◌, arith, append_assoc, length-append, ⊎_elim}
 use Rattle.std.proofs.lemmas.Bool.{cases_lt}
 use Rattle.std.proofs.lemmas.List.{take_more, length-take-le, take-append-le}
@@ -6,14 +6,14 @@ use Rattle.hub_listen.specs.Hit.{finds, IsHit, HasNoHit}
 
 -- ---- a text that grows by the letters of a piece
 
--- by one letter more
+-- by one more letter
 pub grown_more : (old now new piece : List ℕ) (i x : ℕ) → i < length piece → now ≡ old ++ take i piece
     → x ≡ get_or piece i x → new ≡ now ++ x ∷ [] → new ≡ old ++ take (i + 1) piece
 grown_more old now new piece i x within e at f =
     f ∙ ap (λ t. t ++ x ∷ []) e ∙ append_assoc old (take i piece) (x ∷ []) ∙ ap (λ y. old ++ (take i piece ++ y ∷ [])) at
     ∙ ap (λ t. old ++ t) (sym (take_more piece i x within))
 
--- how long it then is
+-- how long the text is then
 pub length_grown : (old now piece : List ℕ) (i : ℕ) → i < length piece → now ≡ old ++ take i piece → length now ≡ length old + i
 length_grown old now piece i within e =
     ap length e ∙ length-append old (take i piece) ∙ ap (λ n. length old + n) (length-take-le i piece (omega arith))
@@ -26,7 +26,7 @@ fails_more f i before here j some le =
     (λ (ge : i + 1 ≤ j). let e : j ≡ i + 1 = omega arith in subst (λ k. f k ≡ false) (sym e) here)
     (cases_lt j (i + 1))
 
--- ---- a front, and the whole
+-- ---- a prefix, and the whole
 
 module _ (p g front rest : List ℕ) where
   pub finds-front : (j : ℕ) → j ≤ length front → finds p (g ++ take j (front ++ rest)) ≡ finds p (g ++ take j front)

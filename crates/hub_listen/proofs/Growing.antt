@@ -24,7 +24,7 @@ edges_of_split nfa text i p q a b is (by_second first e) = let same : Split a b 
 edges_of_split nfa text i p q a b is (by_save slot e) = absurd (cc)
 edges_of_split nfa text i p q a b is (by_look l e ok) = absurd (cc)
 
--- ---- a list to which the states of another are added in turn
+-- ---- a list to which the states of another are added one after the other
 
 module _ (from : List ℕ) (old new : List ℕ) (k p : ℕ) (inside : k < length from) (is : p ≡ slice_index from k)
     (grows : Grows (λ q. p ≡ q) old new) (has : Has new p) where
@@ -42,7 +42,7 @@ pub added_all : (from new : List ℕ) (k : ℕ) → length from ≤ k → ((j : 
 added_all from new k le all q h =
     let at = index_of_Has from q h in let below = at.1 in subst (Has new) at.2 (all at.0 (omega arith))
 
--- ---- the states to which those of another list go on a byte, in turn
+-- ---- the states to which those of another list go on a byte, one after the other
 
 module _ (from : List ℕ) (goes : ℕ → Option ℕ) (old new : List ℕ) (k p : ℕ) (inside : k < length from) (is : p ≡ slice_index from k) where
   pub read_more : ((r : ℕ) → Has old r → Has new r) → ((r : ℕ) → goes p ≡ Some r → Has new r)

@@ -1,4 +1,4 @@
--- The length of a hit as a function, and that there always is an answer.
+-- The length of a hit as a function, and that there is always an answer.
 use Rattle.std.proofs.Common.{◌≡◌, ◌≢◌, ◌⊎◌, ℕ, zero, suc, ◌+◌, ◌-◌, ◌<◌, ◌≤◌, Bool, true, false, List, ◌++◌, take, length, min, Option, None, Some, refl, sym, ap, ◌∙◌, arith, ⊎_elim, inl, inr, Result, Ok, Err}
 use Rattle.std.proofs.lemmas.Bool.{cases_lt, cases_Bool, cond-true, cond-false}
 use Rattle.hub_listen.specs.Hit.{finds, HasNoHit, first_such, hit_length}

@@ -1,4 +1,4 @@
--- The states to which the searches of a text come, if more follows.
+-- The states of the searches of a text if more text follows.
 use Rattle.std.proofs.Common.{ℕ, ◌<◌, ◌≤◌, List, ◌++◌, length, sym, ◌∙◌, inl, inr, ⊎_elim, arith}
 use Rattle.std.specs.Str.{IsAscii}
 use Rattle.regex_nfa.specs.declared.nfa.Nfa.{Nfa}

@@ -1,4 +1,4 @@
--- Letters one at a time, and all of them at once.
+-- Letters fed one at a time, and all of them at once.
 use Rattle.std.proofs.Common.{◌≡◌, ◌≢◌, ℕ, ◌+◌, ◌-◌, ◌<◌, ◌≤◌, false, List, [], ◌∷◌, ◌++◌, take, drop, length, length-append, slice_range, drop-cons, refl, sym, ap, subst, ◌∙◌, arith, ⊎_elim, Result, Ok, Err, true≢false}
 use Rattle.std.proofs.lemmas.List.{take_more, take-append-le, take-append-drop, length-take-le, append-nil}
 use Rattle.hub_listen.specs.Hit.{IsHit}
@@ -39,7 +39,7 @@ at_the_first old new x letters (Err Overlong) unspent fits f other =
     let over = f.2 in (unspent, HasNoHit-append old.pattern old.gathered (x ∷ []) letters f.1 (omega arith), omega arith, refl)
 at_the_first old new x letters (Err Memory) unspent fits f other = (unspent, refl)
 
--- what an answer to the second part leaves, is what it leaves of both
+-- what an answer to the second part leaves is what it leaves of both
 left_by-left_by : (later : Result Feed FeedError) (old between new : Listening)
     → left_by later old (left_by later between new) ≡ left_by (counted_from 1 later) old new
 left_by-left_by (Ok Spent) old between new = refl
@@ -47,7 +47,7 @@ left_by-left_by (Ok (Hit k)) old between new = refl
 left_by-left_by (Ok Quiet) old between new = refl
 left_by-left_by (Err e) old between new = refl
 
--- the answer to those after a quiet first letter, counted from it, is the answer to them all
+-- the answer to the letters after a quiet first letter, counted from it, is the answer to all of them
 after_the_first : (old between new : Listening) (x : ℕ) (letters : List ℕ) (later answer : Result Feed FeedError)
     → Feeds old (x ∷ []) (Ok Quiet) between → Feeds between letters later (left_by later between new) → answer ≡ counted_from 1 later
     → Feeds old (x ∷ letters) answer (left_by answer old new)
@@ -92,7 +92,7 @@ one_more old between new letters i within answer quiet f =
     subst (λ l. Feeds old l (counted_from i answer) (left_by answer old new)) (take-slice_range letters i within)
     (subst (λ n. Feeds old (take i letters ++ slice_range letters i (i + 1)) (counted_from n answer) (left_by answer old new)) len both)
 
--- the last letter that was fed completes a hit in them all
+-- the last letter that was fed completes a hit in all of them
 pub one_more_hit : (old between new : Listening) (letters : List ℕ) (i k : ℕ) → i < length letters
     → Feeds old (take i letters) (Ok Quiet) between → Feeds between (slice_range letters i (i + 1)) (Ok (Hit k)) new
     → IsHit old.pattern old.gathered letters (i + 1) × (new ≡ after_hit old letters (i + 1))

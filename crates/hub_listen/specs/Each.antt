@@ -1,11 +1,11 @@
--- What feeding letters one at a time does, for as long as there is room.
+-- Letters fed one at a time, for as long as there is room.
 use Rattle.std.specs.Prelude.{◌≡◌, ℕ, ◌-◌, ◌<◌, List, length, take, min}
 use Rattle.hub_listen.specs.Hit.{IsHit, HasNoHit}
 use Rattle.hub_listen.specs.Listening.{Listening, after_hit, after_quiet}
 use Rattle.hub_listen.specs.declared.each.Each.{Each}
 use Rattle.hub_listen.specs.declared.each.Each.TheVariants.{Hit, Ran, Memory}
 
--- how many of the letters there is room for
+-- how many of the letters fit
 abbrev pub fitting : Listening → List ℕ → ℕ
 fitting l letters = min (length letters) (4096 - length l.gathered)
 

@@ -1,4 +1,4 @@
--- When a pattern is hit. A pattern is the bytes of its text, and means what the grammar of `regex` reads in them.
+-- When a pattern has a hit. A pattern is the bytes of its text, and means what the grammar of `regex` reads in them.
 use Rattle.std.specs.Prelude.{◌≡◌, ℕ, zero, suc, ◌+◌, ◌-◌, ◌≤◌, ◌<◌, Bool, true, false, List, ◌++◌, length, take, min, is_some, IsSome, chars, Option, Some, None, if◌then◌else◌}
 use Rattle.std.specs.Option.{option_map_or}
 use Rattle.regex.specs.Patterns.{find_str, default_config}
@@ -12,8 +12,8 @@ IsPattern text = IsSome (read default_config (chars text))
 unfoldable pub finds : List ℕ → List ℕ → Bool
 finds pattern text = option_map_or (λ r. is_some (find_str r.0.value text 0)) (read default_config (chars pattern)) false
 
--- The first k letters of the piece are the least non-empty front of it that, behind what was gathered, has at most
--- 4096 letters and a match.
+-- The first k letters of the piece are its least non-empty prefix that, after what was gathered, has at most 4096
+-- letters and a match.
 pub record IsHit (pattern gathered piece : List ℕ) (k : ℕ) : Type 0 where
   pub some : 1 ≤ k
   pub within : k ≤ length piece
@@ -21,7 +21,7 @@ pub record IsHit (pattern gathered piece : List ℕ) (k : ℕ) : Type 0 where
   pub found : finds pattern (gathered ++ take k piece) ≡ true
   pub least : (j : ℕ) → 1 ≤ j → j < k → finds pattern (gathered ++ take j piece) ≡ false
 
--- there is no such front
+-- there is no such prefix
 abbrev pub HasNoHit : List ℕ → List ℕ → List ℕ → Type 0
 HasNoHit pattern gathered piece =
     (j : ℕ) → 1 ≤ j → j ≤ length piece → length gathered + j ≤ 4096 → finds pattern (gathered ++ take j piece) ≡ false

@@ -15,7 +15,7 @@ listening_of l = record {
   hit = l.hit.items;
 }
 
--- The text has the letters' bytes, the searches of it are alive in the states, and there is room for 4096 of each.
+-- The text has the letters' bytes, the states are those of its searches, and there is room for 4096 of each.
 pub record IsKept (l : Inside) : Type 0 where
   pub same : string_bytes l.text ≡ l.letters.items
   pub ascii : IsAscii (string_bytes l.text)

@@ -8,7 +8,7 @@ use Rattle.hub_listen.specs.declared.states.States.TheInside.{Inside}
 abbrev pub list_of : Inside → StateList
 list_of a = record { count = length a.set; items = a.list.items }
 
--- The set has the states of the list, each is in the list once, and there is room for all.
+-- The set has the states of the list, each is in the list once, and there is room for all of them.
 pub record IsListed (a : Inside) : Type 0 where
   pub tracks : Tracks a.set a.list.items
   pub within : All (λ q. q < length a.set) a.list.items

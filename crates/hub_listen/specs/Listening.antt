@@ -13,7 +13,7 @@ pub record Listening : Type 0 where
   pub mode : Mode
   -- the letters since the last hit
   pub gathered : List ℕ
-  -- the letters of the last hit, none before the first
+  -- the letters of the last hit; none before the first hit
   pub hit : List ℕ
 
 -- a listener that has heard nothing
@@ -37,9 +37,8 @@ after_hit l piece k = record l { gathered = []; hit = l.gathered ++ take k piece
 abbrev pub after_quiet : Listening → List ℕ → Listening
 after_quiet l piece = record l { gathered = l.gathered ++ piece }
 
--- The piece took the listener from `old` to `new`, with this answer. Want of memory may stand in the place of any
--- answer
--- but Spent.
+-- The piece took the listener from `old` to `new`, with this answer. Instead of any answer but Spent, it may report
+-- that memory ran out.
 abbrev pub Feeds : Listening → List ℕ → Result Feed FeedError → Listening → Type 0
 Feeds old piece (Ok Spent) new = (is_spent old ≡ true) × (new ≡ old)
 Feeds old piece (Ok (Hit k)) new =

@@ -1,4 +1,4 @@
--- How the answers to pieces of letters hang together.
+-- How the answers to pieces of letters are related.
 use Rattle.std.specs.Prelude.{◌≡◌, ◌≢◌, ◌⊎◌, ◌↔◌, ℕ, ◌+◌, ◌≤◌, false, List, [], ◌∷◌, ◌++◌, length, Some, None, Result, Ok, Err}
 use Rattle.hub_listen.specs.Hit.{IsHit, HasNoHit, hit_length}
 use Rattle.hub_listen.specs.Listening.{Listening, Feeds, is_spent}
@@ -7,7 +7,7 @@ use Rattle.hub_listen.specs.declared.feed.Feed.TheVariants.{Spent, Hit, Quiet}
 use Rattle.hub_listen.specs.declared.feed.FeedError.{FeedError}
 use Rattle.hub_listen.specs.declared.feed.FeedError.TheVariants.{Memory}
 
--- the answer, with a hit counted from so many letters earlier
+-- the answer, with a hit counted from this many letters earlier
 abbrev pub counted_from : ℕ → Result Feed FeedError → Result Feed FeedError
 counted_from before (Ok Spent) = Ok Spent
 counted_from before (Ok (Hit k)) = Ok (Hit (before + k))
@@ -19,18 +19,18 @@ abbrev pub left_by : Result Feed FeedError → Listening → Listening → Liste
 left_by (Ok feed) unchanged new = new
 left_by (Err e) unchanged new = unchanged
 
--- Fed one piece, quietly, and then another, a listener answers and ends as it would have on both in one.
+-- Fed one piece with the answer Quiet and then another, a listener answers and ends as it would on both in one.
 abbrev pub CutsAnywhere : Type 0
 CutsAnywhere = (old between new : Listening) (first second : List ℕ) (answer : Result Feed FeedError)
     → Feeds old first (Ok Quiet) between → Feeds between second answer new
     → Feeds old (first ++ second) (counted_from (length first) answer) (left_by answer old new)
 
--- Want of memory aside, a listener has an answer to each piece,
+-- Unless memory runs out, a listener has an answer to each piece,
 abbrev pub Answers : Type 0
 Answers = (old : Listening) (piece : List ℕ)
     → (answer : Result Feed FeedError) × (new : Listening) × (answer ≢ Err Memory) × Feeds old piece answer new
 
--- and one only, with one way to go on.
+-- and only one, with one listener afterwards.
 abbrev pub AnswersOnce : Type 0
 AnswersOnce = (old new new' : Listening) (piece : List ℕ) (answer answer' : Result Feed FeedError)
     → answer ≢ Err Memory → answer' ≢ Err Memory → Feeds old piece answer new → Feeds old piece answer' new'
@@ -50,17 +50,17 @@ SinglyIsAtOnce = (old new : Listening) (letters : List ℕ) (answer : Result Fee
     → is_spent old ≡ false → length old.gathered ≤ 4096 → FedSingly old letters answer new
     → Feeds old letters answer (left_by answer old new)
 
--- A hit in a front is a hit in the whole.
+-- A hit in a prefix is a hit in the whole.
 abbrev pub FrontsShowHits : Type 0
 FrontsShowHits = (pattern gathered front rest : List ℕ) (k : ℕ)
     → IsHit pattern gathered front k → IsHit pattern gathered (front ++ rest) k
 
--- Where a front without a hit leaves no room, there is no hit in the whole.
+-- If a prefix without a hit leaves no room, there is no hit in the whole.
 abbrev pub FullFrontsShowNone : Type 0
 FullFrontsShowNone = (pattern gathered front rest : List ℕ)
     → HasNoHit pattern gathered front → 4096 ≤ length gathered + length front → HasNoHit pattern gathered (front ++ rest)
 
--- The function gives just the hit, and none just where there is none.
+-- The function gives exactly the hit, and none exactly if there is none.
 abbrev pub LengthIsHit : Type 0
 LengthIsHit = (pattern gathered piece : List ℕ) (k : ℕ)
     → (hit_length pattern gathered piece ≡ Some k) ↔ IsHit pattern gathered piece k

@@ -1,4 +1,4 @@
--- What an NFA has to do with a pattern.
+-- How an NFA is related to a pattern.
 use Rattle.std.specs.Prelude.{◌≡◌, ℕ, Bool, List, length, is_some}
 use Rattle.std.specs.Str.{IsAscii}
 use Rattle.regex_nfa.specs.Run.{run}

@@ -8,7 +8,7 @@ use Rattle.regex.specs.declared.string.regex.Regex.{Regex}
 abbrev pub most_bytes : ℕ
 most_bytes = 280 * 2 ^ 10 + 24
 
--- a regex that is read from the text takes no more
+-- a regex that is read from the text takes at most that many bytes
 pub record IsSmall (text : List ℕ) : Type 0 where
   pub regex : Regex
   pub source : regex_source regex ≡ text

@@ -11,19 +11,19 @@ use regex_nfa::{Nfa, State, StateId, holds};
 use std::alloc::{AllocError, Global};
 use std::mem;
 
-/// Where the searches of a text are: one begins at each of its places.
+/// The states of the searches of a text. A search begins at each place of the text.
 #[derive(Drop)]
 pub(crate) struct Alive {
-    /// The states that they enter as they read the newest byte.
+    /// The states that the searches enter when they read the newest byte.
     pub(crate) states: States,
-    /// Those, and all to which empty edges lead from them.
+    /// These states, and all states to which empty edges lead from them.
     pub(crate) reached: States,
-    /// What `states` once was.
+    /// What `states` was when [`Alive::keep_if`] kept it.
     pub(crate) kept: States,
 }
 
 impl Alive {
-    /// Where the searches of the empty text are.
+    /// The states of the searches of the empty text.
     pub(crate) fn new(alloc: Global, nfa: &Nfa) -> Result<Alive, AllocError>
         ensures room { IfOk result (λ alive. HasRoom alive (vec_len nfa.now.states)) }
         ensures alive { IfOk result (λ alive. AreAlive nfa.now [] 0 alive.states.items) }
@@ -40,7 +40,7 @@ impl Alive {
         })
     }
 
-    /// Begins anew with the empty text.
+    /// Begins from scratch with the empty text.
     pub(crate) fn restart(&mut self, nfa: &Nfa)
         requires { HasRoom self.old (vec_len nfa.now.states) }
         ensures room { HasRoom self.new (vec_len nfa.now.states) }
@@ -50,12 +50,13 @@ impl Alive {
         self.states.add(nfa.unanchored);
     }
 
-    /// Keeps the states for [`Alive::go_back`], if they are needed.
+    /// Keeps the states for [`Alive::go_back`] if they are needed.
     pub(crate) fn keep_if(&mut self, needed: bool, nfa: &Nfa)
         requires { HasRoom self.old (vec_len nfa.now.states) }
         ensures room { HasRoom self.new (vec_len nfa.now.states) }
         ensures states { self.new.states ≡ self.old.states }
-        ensures kept { IsTrue needed → (q : ℕ) → Has self.new.kept.items q ↔ Has self.old.states.items q }
+        ensures kept { IsTrue needed → (q : ℕ) → Has self.new.kept.items q ↔ Has
+            self.old.states.items q }
     {
         if needed {
             self.kept.copy(&self.states);
@@ -71,8 +72,8 @@ impl Alive {
         mem::swap(&mut self.states, &mut self.kept);
     }
 
-    /// Goes on to the last byte of the text. Returns whether a match ends in front of that byte or behind it; then the
-    /// states are of no use.
+    /// Goes on to the last byte of the text. Returns whether a match ends before or after that byte. If so, the states
+    /// are of no use any more.
     pub(crate) fn hear_last(&mut self, nfa: &Nfa, text: &[u8]) -> bool
         requires some { 1 ≤ length text.now }
         requires room { HasRoom self.old (vec_len nfa.now.states) }
@@ -82,7 +83,8 @@ impl Alive {
         ensures found { IsTrue result → (i : ℕ) × HasMatch nfa.now text.now i }
         ensures none_before { result ≡ false → ¬ (HasMatch nfa.now text.now (length text.now - 1)) }
         ensures none_behind { result ≡ false → ¬ (HasMatch nfa.now text.now (length text.now)) }
-        ensures alive { result ≡ false → AreAlive nfa.now text.now (length text.now) self.new.states.items }
+        ensures alive { result ≡ false → AreAlive nfa.now text.now
+            (length text.now) self.new.states.items }
     {
         let last = text.len() - 1;
         self.reached.copy(&self.states);
@@ -95,7 +97,7 @@ impl Alive {
     }
 }
 
-/// Adds all states to which empty edges lead, unless one of them is a match. Returns whether one is.
+/// Adds all states to which empty edges lead, until one of them is a match. Returns whether one is.
 fn close(nfa: &Nfa, text: &[u8], at: usize, reached: &mut States) -> bool
     requires room { reached.old.count ≡ vec_len nfa.now.states }
     requires reached { AreReached nfa.now text.now at reached.old.items }
@@ -115,7 +117,7 @@ fn close(nfa: &Nfa, text: &[u8], at: usize, reached: &mut States) -> bool
     false
 }
 
-/// Adds the states to which empty edges lead from this one. Returns whether it is a match.
+/// Adds the states to which empty edges lead from this one. Returns whether it is a match itself.
 fn follow(nfa: &Nfa, text: &[u8], at: usize, state: StateId, reached: &mut States) -> bool
     requires room { reached.old.count ≡ vec_len nfa.now.states }
     requires state { state < vec_len nfa.now.states }
@@ -146,7 +148,7 @@ fn follow(nfa: &Nfa, text: &[u8], at: usize, state: StateId, reached: &mut State
     }
 }
 
-/// Lists the states that those which were reached go to on the byte.
+/// Lists the states to which the reached states go on the byte.
 fn read(nfa: &Nfa, byte: u8, reached: &States, states: &mut States)
     requires from { reached.now.count ≡ vec_len nfa.now.states }
     requires room { states.old.count ≡ vec_len nfa.now.states }

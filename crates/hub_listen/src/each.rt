@@ -1,4 +1,4 @@
-//! Feeding letters one at a time.
+//! Letters fed one at a time.
 ghost use Rattle.std.specs.Prelude.{◌≡◌, false};
 ghost use Rattle.hub_listen.specs.Each.{FeedsEach};
 ghost use Rattle.hub_listen.specs.Listening.{is_spent};
@@ -7,18 +7,18 @@ use crate::feed::{Feed, FeedError};
 use crate::listener::{Listener, ROOM};
 use hub_letters::Letter;
 
-/// What feeding letters one at a time led to.
+/// The answer to letters that are fed one at a time.
 #[derive(Clone, Copy, Debug, PartialEq, Eq)]
 pub enum Each {
-    /// So many letters completed a hit.
+    /// The first letters, this many, completed a hit.
     Hit(usize),
-    /// No hit in so many letters: all there are, or all that there is room for.
+    /// There is no hit in this many letters: all of them, or as many as there is room for.
     Ran(usize),
-    /// No memory for the next letter, after so many without a hit.
+    /// Memory ran out at the letter after this many letters without a hit.
     Memory(usize),
 }
 
-/// Feeds letters one at a time up to a hit, for as long as there is room.
+/// Feeds letters one at a time until there is a hit or no room.
 pub fn feed_each(listener: &mut Listener, letters: &[Letter]) -> Each
     requires { is_spent listener.old ≡ false }
     ensures { FeedsEach listener.old letters.now result listener.new }

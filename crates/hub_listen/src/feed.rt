@@ -1,25 +1,25 @@
-//! What a listener answers to a piece of letters.
+//! The answers of a listener to a piece of letters.
 use std::alloc::AllocError;
 use thiserror::Error;
 
-/// What a piece of letters led to.
+/// The answer to a piece of letters.
 #[derive(Clone, Copy, Debug, PartialEq, Eq)]
 pub enum Feed {
-    /// Nothing: the listener had its one hit before.
+    /// The listener is spent: in mode `Once` it had its hit before.
     Spent,
-    /// A hit, which so many letters of the piece completed. The rest of the piece wasn't used.
+    /// A hit. This many letters of the piece completed it; the rest of the piece wasn't used.
     Hit(usize),
-    /// No hit: the whole piece is gathered.
+    /// There is no hit, and the whole piece is gathered.
     Quiet,
 }
 
-/// Why a piece was refused. The listener is as it was.
+/// Why a piece was refused. The listener hasn't changed.
 #[derive(Clone, Copy, Debug, PartialEq, Eq, Error)]
 pub enum FeedError {
-    /// There is no hit, and what was gathered has more than 4096 letters together with the piece.
+    /// There is no hit, and the gathered letters and the piece together are more than 4,096 letters.
     #[error("more letters than a listener gathers")]
     Overlong,
-    /// There was no memory to search. Since all room is made with the listener, this doesn't come today.
+    /// The search ran out of memory. This can't happen today, since all room is made with the listener.
     #[error("out of memory")]
     Memory,
 }

@@ -11,16 +11,17 @@ use std::marker::Model;
 use std::mem;
 use thiserror::Error;
 
-/// How many letters a listener gathers at most.
+/// The most letters that a listener gathers.
 pub(crate) const ROOM: usize = 4096;
 
 /// Why there is no listener.
 #[derive(Clone, Copy, Debug, PartialEq, Eq, Error)]
 pub enum ListenError {
-    /// The text is no pattern, or one that is too large.
+    /// The text isn't a pattern, or the pattern is too large ([`MOST_BYTES`](crate::MOST_BYTES)).
     #[error("no pattern can be read")]
     Pattern,
     #[error("out of memory")]
+    /// There was no memory for the pattern or the listener's room.
     Memory,
 }
 
@@ -56,9 +57,9 @@ impl From<regex::Error> for ListenError {
 pub struct Listener {
     pattern: Pattern,
     mode: Mode,
-    /// The bytes of `letters`, to be searched.
+    /// The bytes of `letters`, for the search.
     text: String,
-    /// Where the searches of `text` are.
+    /// The states of the searches of `text`.
     alive: Alive,
     /// The letters since the last hit.
     letters: Vec<Letter>,
@@ -112,7 +113,7 @@ impl Listener {
         self.letters.as_slice()
     }
 
-    /// The letters of the last hit, none before the first.
+    /// The letters of the last hit; none before the first hit.
     pub fn hit(&self) -> &[Letter]
         ensures value { result.now ≡ self.now.hit }
         ensures short { length self.now.hit ≤ 4096 }
@@ -120,7 +121,7 @@ impl Listener {
         self.hit.as_slice()
     }
 
-    /// Whether the one hit of mode `Once` was had.
+    /// Whether the listener has had the one hit of mode `Once`.
     pub fn is_spent(&self) -> bool
         ensures { result ≡ is_spent self.now }
     {

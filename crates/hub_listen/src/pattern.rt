@@ -51,7 +51,7 @@ pub(crate) struct Pattern {
 }
 
 impl Pattern {
-    /// Compiles a text, if it is a pattern within the limit.
+    /// Compiles a text, if it is a pattern within the limit [`MOST_BYTES`].
     pub(crate) fn new(alloc: Global, text: &str) -> Result<Pattern, ListenError>
         ensures text { IfOk result (λ pattern. string_bytes pattern.text ≡ text.now) }
         ensures read { OnOk result (IsPattern text.now) }

@@ -10,7 +10,7 @@ use crate::listener::ROOM;
 use crate::pattern::Pattern;
 use hub_letters::Letter;
 
-/// Appends a letter where there is room.
+/// Appends a letter; the caller knows that there is room.
 fn append(text: &mut String, letter: Letter)
     requires { string_len text.old < string_capacity text.old }
     ensures bytes { string_bytes text.new ≡ string_bytes text.old ++ letter ∷ [] }
@@ -20,8 +20,8 @@ fn append(text: &mut String, letter: Letter)
     text.push(char::from(letter.byte())).unwrap();
 }
 
-/// Appends the letters of the piece to the text, for as long as there is room and up to a hit, and answers after how
-/// many there was one. `alive` is where the searches of the text are, in which there was no match.
+/// Appends the letters of the piece to the text until there is a hit or no room. Returns how many letters completed the
+/// hit. `alive` has the states of the searches of the text, in which there was no match.
 pub(crate) fn first_hit(
     pattern: &Pattern,
     alive: &mut Alive,
@@ -32,10 +32,14 @@ pub(crate) fn first_hit(
     requires room { 4096 ≤ string_capacity text.old }
     requires ascii { IsAscii (string_bytes text.old) }
     requires states { HasRoom alive.old (vec_len pattern.now.nfa.states) }
-    requires alive { AreAlive pattern.now.nfa (string_bytes text.old) (string_len text.old) alive.old.states.items }
-    requires quiet { 1 ≤ string_len text.old → finds (string_bytes pattern.now.text) (string_bytes text.old) ≡ false }
-    ensures hit { IfSome result (IsHit (string_bytes pattern.now.text) (string_bytes text.old) piece.now) }
-    ensures none { IfNone result (HasNoHit (string_bytes pattern.now.text) (string_bytes text.old) piece.now) }
+    requires alive { AreAlive pattern.now.nfa (string_bytes text.old)
+        (string_len text.old) alive.old.states.items }
+    requires quiet { 1 ≤ string_len text.old → finds (string_bytes pattern.now.text)
+        (string_bytes text.old) ≡ false }
+    ensures hit { IfSome result (IsHit (string_bytes pattern.now.text)
+        (string_bytes text.old) piece.now) }
+    ensures none { IfNone result (HasNoHit (string_bytes pattern.now.text)
+        (string_bytes text.old) piece.now) }
     ensures grown { IfNone result (string_bytes text.new
         ≡ string_bytes text.old ++ take (4096 - string_len text.old) piece.now) }
     ensures alive { IfNone result

@@ -8,7 +8,7 @@ use regex_vm::StateSet;
 use std::alloc::{AllocError, Global};
 use std::marker::Model;
 
-/// Appends a state where there is room.
+/// Appends a state; the caller knows that there is room.
 fn push(list: &mut Vec<StateId>, state: StateId)
     requires { vec_len list.old < vec_capacity list.old }
     ensures items { list.new.items ≡ list.old.items ++ state ∷ [] }
@@ -17,7 +17,7 @@ fn push(list: &mut Vec<StateId>, state: StateId)
     list.push(state).unwrap();
 }
 
-/// Some of so many states, each once. All of its room is made at the start.
+/// Some of the states 0, 1, 2, .. below a count, each once. All of the room is made at the start.
 #[derive(Drop)]
 pub(crate) struct States {
     set: StateSet,
@@ -38,7 +38,7 @@ impl Model for States {
 }
 
 impl States {
-    /// None of so many states.
+    /// An empty list, for states below this count.
     pub(crate) fn new(alloc: Global, count: usize) -> Result<States, AllocError>
         ensures { IfOk result (λ states. states ≡ record { count = count; items = [] }) }
     {

@@ -1,4 +1,4 @@
--- How a request is answered, whichever it is.
+-- How any request is answered.
 use Rattle.std.proofs.Common.{◌≡◌, ◌≢◌, ℕ, Bool, true, false, List, Option, Some, None, is_some, refl, sym, ap, subst, ◌∙◌, ◌⊎◌, inl, inr, true≢false}
 use Rattle.std.specs.Map.{lookup, set_value}
 use Rattle.std.specs.Str.{bytes_eq}
@@ -50,11 +50,11 @@ module _ (old new : Local) (needs : Bool) (own : Desk → Option Refusal) (done 
   pub by_lacking : reply ≡ No no.Memory → needs ≡ true → ((d : Desk) → Stands old d → IsLacking new (own d) (left d)) → Answers old needs own done left reply new
   by_lacking is grows h = record { answered = λ real. absurd (real is); grew = λ _. grows; lacking = λ _. h }
 
--- where nothing has changed
+-- if nothing has changed
 pub still_lacking : (new : Local) (d : Desk) (own : Option Refusal) → own ≡ None → Stands new d → IsLacking new own (Unchanged d)
 still_lacking new d own unrefused stands = record { unrefused = unrefused; desk = d; is_left = refl; stands = stands }
 
--- ---- a desk that was answered stands for some desk
+-- ---- a desk that has answered stands for some desk
 
 pub is_memory : (refusal : Refusal) → (refusal ≡ no.Memory) ⊎ (refusal ≢ no.Memory)
 is_memory no.Long = inr (λ e. cc)
@@ -97,7 +97,7 @@ stands_on before old new needs own done left reply same a some =
       | inr ne ↦ record { desk = (answer_by some.desk (own some.desk) (done some.desk)).desk; stands = (a.answered ne some.desk st).stands }
     ]
 
--- ---- spelled by another name of the desk
+-- ---- with another expression for the desk
 
 pub answers_from : {before old new : Local} {needs : Bool} {own : Desk → Option Refusal} {done : Desk → Answer} {left : Desk → Desk → Type 0} {reply : Reply} → before ≡ old
     → Answers before needs own done left reply new → Answers old needs own done left reply new
@@ -107,7 +107,7 @@ pub answers_here : {before old : Local} {needs : Bool} {own : Desk → Option Re
     → Answers before needs own done left reply before → Answers old needs own done left reply old
 answers_here {before} {old} {needs} {own} {done} {left} {reply} same a = subst (λ (z : Local). Answers z needs own done left reply z) same a
 
--- ---- spelled by another refusal and another deed
+-- ---- with another refusal and another answer
 
 pub answers_like : {old new : Local} {needs : Bool} {own own' : Desk → Option Refusal} {done done' : Desk → Answer} {left : Desk → Desk → Type 0} {reply : Reply}
     → ((d : Desk) → Stands old d → own' d ≡ own d) → ((d : Desk) → done' d ≡ done d) → Answers old needs own done left reply new → Answers old needs own' done' left reply new
@@ -153,7 +153,7 @@ module _ (old new : Local) (name : List ℕ) (r : LocalFifodir) (kept : Kept) (p
     is_desk = record { held = held_still d.fifodirs (with_world d.fifodirs name w') (λ h. held_in_changed d.fifodirs name w w' is h (λ _. keep h.id)) _ st.is_desk.held; apart = st.is_desk.apart; go_on = st.is_desk.go_on };
   }
 
-  -- where it stands for the same world
+  -- if it stands for the same world
   pub stands_still : (w : World) → world_of d.fifodirs name ≡ Some w → StandsFor kept w → Stands new d
   stands_still w is stands = record {
     fifodirs = subst (λ (es : List (List ℕ × LocalFifodir)). AreKept es d.fifodirs) (sym put.fifodirs) (kept_still name old.fifodirs d.fifodirs r (record { kept = kept; reports = r.reports }) w st.fifodirs put.was is refl stands);
@@ -162,7 +162,7 @@ module _ (old new : Local) (name : List ℕ) (r : LocalFifodir) (kept : Kept) (p
     is_desk = st.is_desk;
   }
 
--- ---- what a map doesn't have
+-- ---- what isn't in a map
 
 pub none_of : {X : Type 0} (o : Option X) → is_some o ≡ false → o ≡ None
 none_of None e = refl
@@ -176,7 +176,7 @@ named d name w is = simp is
 pub unnamed : (old : Local) (d : Desk) (name : List ℕ) → Stands old d → None ≡ lookup (bytes_eq name) old.fifodirs → refusal_by_name d name ≡ Some no.Name
 unnamed old d name st none = let e = none_kept name old.fifodirs d.fifodirs st.fifodirs (sym none) in simp e
 
--- the refusal of a name that isn't there
+-- the refusal of a name without a fifodir
 pub no_name : (before old new : Local) (needs : Bool) (name : List ℕ) (done : Desk → Answer) (left : Desk → Desk → Type 0) → before ≡ old → new ≡ before
     → None ≡ lookup (bytes_eq name) before.fifodirs → Answers old needs (λ d. refusal_by_name d name) done left (No no.Name) new
 no_name before old new needs name done left same still none =

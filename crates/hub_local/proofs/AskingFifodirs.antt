@@ -1,4 +1,4 @@
--- What is asked of a fifodir.
+-- The requests about a fifodir.
 use Rattle.std.proofs.Common.{◌≡◌, ℕ, ◌<◌, ◌≤◌, Bool, true, false, List, [], ◌∷◌, ◌++◌, length, Option, Some, None, is_some, Ok, Err, refl, sym, ap, subst, ◌∙◌, arith}
 use Rattle.std.specs.Map.{lookup}
 use Rattle.std.specs.Str.{bytes_eq}
@@ -44,7 +44,7 @@ module _ (old : Local) (name : List ℕ) (kind : Kind) (reports : Option Bool) (
       (λ d st. (let same = length-kept old.fifodirs d.fifodirs st.fifodirs in
       simp (no_world old d name st absent, le-leb 256 (length d.fifodirs) (omega arith)))) (λ d st. st)
 
-  -- none has the name, and there is room for one more
+  -- no fifodir has the name, and there is room for one more
   module _ (absent : is_some (lookup (bytes_eq name) old.fifodirs) ≡ false) (few : length old.fifodirs < 256) where
     may_make : (d : Desk) → Stands old d → refusal_to_make d name ≡ None
     may_make d st = let same = length-kept old.fifodirs d.fifodirs st.fifodirs in

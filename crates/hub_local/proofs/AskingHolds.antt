@@ -1,4 +1,4 @@
--- What is asked of a subscription or a listener that is to begin: one more handle.
+-- The requests that begin a subscription or a listener: one more handle.
 use Rattle.std.proofs.Common.{◌≡◌, ◌≢◌, ℕ, ◌+◌, ◌<◌, ◌≤◌, Bool, true, false, List, [], ◌∷◌, ◌++◌, length, nat_eq, nat_le, Option, Some, None, is_some, Ok, Err, refl, sym, ap, subst, ◌∙◌, inl, inr, length-append, arith}
 use Rattle.std.proofs.lemmas.Bool.{cases_Bool, le-leb, lt-leb, leb-false}
 use Rattle.std.proofs.lemmas.Slice.Eq.{bytes_eq-Decides}
@@ -56,7 +56,7 @@ module _ (local : Local) (name : List ℕ) (d : Desk) (st : Stands local d) wher
     may_hold few left = let n = ap length st.holdings in let g = st.given in
         simp (known true there, lt-leb 256 (length (standing d)) (omega arith), lt-leb 1000000 (length d.handles) (omega arith))
 
--- where it doesn't refuse
+-- if it doesn't refuse
 some_none : {X : Type 0} (x : X) → Some x ≡ None → ⊥
 some_none x e = cc
 
@@ -76,11 +76,11 @@ numbers_left local name d st may =
       | inr t ↦ absurd (some_none no.Name (simp t at may))
     ]
 
--- spelled by another name of the desk
+-- with another expression for the desk
 pub unrefused_at : {before old : Local} (name : List ℕ) → before ≡ old → ((d : Desk) → Stands old d → refusal_to_hold d name ≡ None) → (d : Desk) → Stands before d → refusal_to_hold d name ≡ None
 unrefused_at {before} {old} name same may = subst (λ (z : Local). (d : Desk) → Stands z d → refusal_to_hold d name ≡ None) (sym same) may
 
--- the next number is none of those that stand
+-- the next number isn't that of a current handle
 pub fresh_number : (local : Local) (d : Desk) → Stands local d → lookup (nat_eq (local.given + 1)) local.holdings ≡ None
 fresh_number local d st = let g = st.given in ap (lookup (nat_eq (local.given + 1))) st.holdings ∙ none_above 1 d.handles (local.given + 1) (omega arith)
 
@@ -155,7 +155,7 @@ module _ (old : Local) (name : List ℕ) (hearing : Option Hearing) where
       hold_refused sub.Spent reply replies still same is = refused_by_record sub.Spent reply replies still same is (λ e. cc) (λ e. cc)
       hold_refused sub.Memory reply replies still same is = lacked_by_record sub.Memory reply replies still same is refl
 
--- ---- a listener that was read
+-- ---- a listener whose text is a pattern
 
 pub listen_held : (old new : Local) (name pattern : List ℕ) (mode : Mode) (l : Listening) (reply : Reply) → ((d : Desk) → Stands old d → None ≡ refusal_to_hold d name) → l ≡ unheard pattern Repeat
     → Answers old true (λ d. refusal_to_hold d name) (λ d. in_world d (λ w. subscribed d name (Some (record { listener = l; mode = mode; held = None })) w (subscribe_reply w)) (world_of d.fifodirs name)) Unchanged reply new

@@ -1,4 +1,4 @@
--- What is asked of a listener that stands.
+-- The requests about a current listener.
 use Rattle.std.proofs.Common.{◌≡◌, ◌⊎◌, ℕ, ◌+◌, ◌-◌, ◌<◌, ◌≤◌, Bool, true, false, ◌&&◌, if◌then◌else◌, List, ◌++◌, length, take, nat_eq, nat_lt, slice_get, Option, Some, None, option_to_list, refl, sym, ap, subst, ◌∙◌, inl, inr, true≢false}
 use Rattle.std.proofs.lemmas.Bool.{cases_Bool, le-leb, lt-leb, le-ltb, lt-ltb}
 use Rattle.std.proofs.lemmas.Map.Steps.{set_value_same}
@@ -69,7 +69,7 @@ module _ (old new : Local) (n : ℕ) (h : Holding) (was : Some h ≡ lookup (nat
         };
       }
 
--- what was found under a number, put back
+-- what was found under a number, stored there again
 pub same_hearing : (es : List (ℕ × Holding)) (n : ℕ) (h : Holding) (o : Option Hearing) → h.hearing ≡ o → lookup (nat_eq n) es ≡ Some h → set_value (nat_eq n) es (record h { hearing = o }) ≡ es
 same_hearing es n h o is there = ap (λ (x : Option Hearing). set_value (nat_eq n) es (record h { hearing = x })) (sym is) ∙ set_value_same (nat_eq n) es h there
 
@@ -106,7 +106,7 @@ module _ (old new : Local) (n : ℕ) where
       poll_overlong over same = by_refusing old new true _ _ _ _ no.Overlong refl (λ e. cc)
           (λ d st. (let e = there_held d st in simp (e, hears, le-leb 4096 (length g.listener.gathered) over))) (λ d st. stands_same old new d same st)
 
-      -- what it needs to be heard
+      -- what is needed to hear more
       pub unspent : (d : Desk) → Stands old d → g.listener.mode ≡ Repeat
       unspent d st = subst GoesOn hears (go_on_at (standing d) n h st.is_desk.go_on (there_held d st))
 
@@ -125,7 +125,7 @@ module _ (old new : Local) (n : ℕ) where
             ∙ ap (in_world d (polled d n h g)) there
 
         module _ (hearing : Hearing) (r : LocalFifodir) (kept : Kept) (put : Rehears old new n h hearing r kept) where
-          -- the desk then
+          -- the desk after that
           module _ (d : Desk) (st : Stands old d) (w : World) (there : world_of d.fifodirs h.name ≡ Some w) (m : ℕ) (l : Listening) (o : Option ℕ) (at : IsAt g w h.id m l o hearing kept) (goes_on : l.mode ≡ g.listener.mode) where
             stands_then : Stands new (heard_on d n h (record { listener = l; mode = g.mode; held = o }) (taken_from g w h.id m))
             stands_then = subst (λ (q : Hearing). Stands new (heard_on d n h q (taken_from g w h.id m))) (λ i. record { listener = at.listener_is i; mode = at.mode_is i; held = at.held_is i })
@@ -239,7 +239,7 @@ module _ (old new : Local) (n : ℕ) where
                     stands = subst (Stands over) (ap (λ (o : Option Holding). (answer_by after (refusal_to_cancel o) (for_holding after (cancelled after n) o)).desk) e) a.stands;
                   })
 
-              -- spelled by another name of the desk
+              -- with another expression for the desk
               pub poll_ended : hearing.mode ≡ Once → (over final : Local) (reply : Reply) → AskedWith false new (Cancel n) reply over → final ≡ over → AskedWith false old (Poll n) (Hit letters) final
               poll_ended ends over final reply cancels same = subst (λ (z : Local). AskedWith false old (Poll n) (Hit letters) z) (sym same) (poll_hit_once ends over reply cancels)
 

@@ -1,4 +1,4 @@
--- What is asked of several services at once.
+-- The request about several services at once.
 use Rattle.std.proofs.Common.{◌≡◌, ◌≢◌, ℕ, ◌+◌, ◌≤◌, Bool, true, List, [], ◌∷◌, ◌++◌, length, drop, map, take, Option, Some, None, is_some, Result, Ok, Err, refl, sym, ap, subst, ◌∙◌, inl, inr, append_assoc, append-nil, arith}
 use Rattle.std.proofs.lemmas.Bool.{cases_Bool}
 use Rattle.std.proofs.lemmas.List.{take_all, take-append-drop}
@@ -62,7 +62,7 @@ real_among es names refusal e is =
 
 -- ---- what a desk holds besides the posts
 
--- none of the posts is for what is held
+-- none of the posts is for the subscription of this handle
 abbrev AreBeside : List (List ℕ) → List Post → Holding → Type 0
 AreBeside [] posts g = Unit {0}
 AreBeside (name ∷ names) [] g = Unit {0}
@@ -72,7 +72,7 @@ none_beside : (names : List (List ℕ)) (g : Holding) → AreBeside names [] g
 none_beside [] g = tt
 none_beside (name ∷ names) g = tt
 
--- what is held stands still when the posts are given back
+-- the subscription of a handle stays current when the posts are ended
 still_held : (fs : List Fifodir) (names : List (List ℕ)) (posts : List Post) (g : Holding) → AreBeside names posts g → is_some (subscription_of fs g) ≡ true
     → is_some (subscription_of (without_posts fs names posts) g) ≡ true
 still_held fs [] posts g beside s = s
@@ -80,7 +80,7 @@ still_held fs (name ∷ names) [] g beside s = s
 still_held fs (name ∷ names) (post ∷ posts) g beside s =
     still_held (without_subscription fs name post.id) names posts g beside.1 (held_beside_cancelled fs (record { name = name; id = post.id; hearing = None }) g beside.0 s)
 
--- what is held stands beside the posts that were opened
+-- the subscription of a handle is current beside the posts that were opened
 pub record StandsBeside (now : List Fifodir) (names : List (List ℕ)) (before posts : List Post) (g : Holding) : Type 0 where
   pub more : List Post
   pub are : posts ≡ before ++ more
@@ -157,7 +157,7 @@ module _ (old new : Local) (span : Span) (want : Want) (names : List (List ℕ))
       stands = subst (λ (z : Local). Stands z d) (sym same) st;
     })
 
-    -- `mid` has the posts, and `new` none of them
+    -- `mid` has the posts, and in `new` they are ended
     module _ (mid : List (List ℕ × LocalFifodir)) (posts : List Post) (holdings : new.holdings ≡ old.holdings) (given : new.given ≡ old.given)
         (back : (fs : List Fifodir) → AreKept mid fs → AreKept new.fifodirs (without_posts fs names posts)) where
       stands_left : (d : Desk) → Stands old d → (now : List Fifodir) → AreKept mid now → (count : ℕ) → opened want d.fifodirs (take count names) ≡ so_far now posts

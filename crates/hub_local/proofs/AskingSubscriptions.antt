@@ -1,4 +1,4 @@
--- What is asked of a subscription.
+-- The requests about a subscription.
 use Rattle.std.proofs.Common.{◌≡◌, ◌≢◌, ℕ, true, false, List, [], nat_eq, Option, Some, None, is_some, Result, Ok, Err, refl, sym, ap, subst, ◌∙◌, true≢false}
 use Rattle.std.specs.Map.{lookup, remove_entry, set_value, values_of}
 use Rattle.std.specs.Str.{bytes_eq}
@@ -21,7 +21,7 @@ use Rattle.hub_local.proofs.Holdings.{held_at, standing-dropped, length-dropped,
 use Rattle.hub_local.proofs.KeptFifodirs.{none_kept, some_kept, kept_set}
 use Rattle.hub_local.proofs.Worlds.{found_changed}
 
--- a take leaves each subscription standing
+-- after a take each current subscription is still current
 pub taken_still : (w : World) (id max other : ℕ) → is_some (found w other) ≡ true → is_some (found (after_take w id max) other) ≡ true
 taken_still w id max other s = by (found w id)
   where
@@ -84,7 +84,7 @@ shown_real letters (Ok taken.Nothing) = λ e. cc
 shown_real letters (Ok taken.End) = λ e. cc
 shown_real letters (Err error) = λ e. cc
 
--- what a standing handle holds is there
+-- the subscription of a current handle is current
 module _ (local : Local) (d : Desk) (st : Stands local d) (n : ℕ) (h : Holding) (was : Some h ≡ lookup (nat_eq n) local.holdings) where
   is_held : is_some (subscription_of d.fifodirs h) ≡ true
   is_held = held_at d.fifodirs (standing d) n h st.is_desk.held (sym (was ∙ ap (lookup (nat_eq n)) st.holdings))

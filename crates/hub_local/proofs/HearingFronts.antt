@@ -18,7 +18,7 @@ use Rattle.hub_local.specs.declared.local_desk.listeners.Heard.{Heard}
 use Rattle.hub_local.specs.declared.local_desk.listeners.Heard.TheVariants.{Hit, Nothing, End, Lacking}
 use Rattle.hub_local.proofs.Takings.{take_none, take_more_then, found_then, behind_then, closed_then, length-behind}
 
--- the letter that was held is the first to be heard
+-- the held letter is the first to be heard
 abbrev pub held_after : Hearing → ℕ → Option ℕ
 held_after g zero = g.held
 held_after g (suc n) = None
@@ -30,7 +30,7 @@ pub record HeardFront (g : Hearing) (w : World) (id : ℕ) (n : ℕ) (new : Hear
   pub held_is : new.held ≡ held_after g n
   pub stands : StandsFor kept (taken_from g w id n)
 
--- the subscription of a world that has one
+-- the subscription, if there is one
 pub has_found : (o : Option Subscription) → is_some o ≡ true → (s : Subscription) × (o ≡ Some s)
 has_found None e = absurd (let no : ⊥ = cc in no)
 has_found (Some s) e = (s, refl)
@@ -49,7 +49,7 @@ module _ (g : Hearing) (w : World) (id : ℕ) (s : Subscription) (is : found w i
   letters_count : length (to_hear g w id) ≡ length (option_to_list g.held) + (length w.events - s.next)
   letters_count = let b = length-behind w id s is in let a = length-append (option_to_list g.held) (behind w id) in omega arith
 
-  -- at the start
+  -- at the beginning
   pub front_none : (kept : Kept) → is_spent g.listener ≡ false → length g.listener.gathered ≤ 4096 → StandsFor kept w → HeardFront g w id 0 g kept
   front_none kept unspent short stands = record {
     within = omega arith;
@@ -59,7 +59,7 @@ module _ (g : Hearing) (w : World) (id : ℕ) (s : Subscription) (is : found w i
     stands = (let t : taken w s (0 - length (option_to_list g.held)) ≡ 0 = omega arith in subst (StandsFor kept) (sym (take_none w id s is (0 - length (option_to_list g.held)) t)) stands);
   }
 
-  -- the subscription, and the letters, that are left
+  -- the subscription and the letters that are left
   left_at : ℕ → Subscription
   left_at n = moved_on w (n - length (option_to_list g.held)) s
 
@@ -167,7 +167,7 @@ module _ (g : Hearing) (w : World) (id : ℕ) (s : Subscription) (is : found w i
         },
       )
 
-    -- all that there was room for
+    -- all letters that there was room for
     pub front_is : (new' : Hearing) (kept' : Kept) → n ≡ fitting g.listener letters → new'.listener ≡ new.listener → new'.mode ≡ new.mode → new'.held ≡ None → StandsFor kept' (taken_from g w id n)
         → IsAt g w id (fitting g.listener letters) (after_quiet g.listener (take (fitting g.listener letters) letters)) None new' kept'
     front_is new' kept' all listener mode held stands = subst (λ (k : ℕ). IsAt g w id k (after_quiet g.listener (take k letters)) None new' kept') all
@@ -193,7 +193,7 @@ module _ (g : Hearing) (w : World) (id : ℕ) (s : Subscription) (is : found w i
         pub front_end : (taken_from g w id n).closed ≡ true → Hears g w id End new' kept'
         front_end closed = (no_hit, (let a = all_heard in omega arith), sym (closed_then w id s is (n - length (option_to_list g.held))) ∙ closed, at_end)
 
-    -- where there is no more room
+    -- if there is no more room
     pub front_full : length g.listener.gathered + n ≡ 4096 → length g.listener.gathered < 4096 → Hears g w id Nothing new kept
     front_full full room =
         let within = front.within in
@@ -209,7 +209,7 @@ module _ (g : Hearing) (w : World) (id : ℕ) (s : Subscription) (is : found w i
         none_held zero le = absurd (let no : ⊥ = omega arith in no)
         none_held (suc m) le = refl
 
-    -- ---- what the next letter leads to, or that there is none
+    -- ---- what the next letter comes to, or that there is none
 
     pub front_then : length g.listener.gathered + n < 4096 → (heard : Heard) (new' : Hearing) (kept' : Kept) → HearsOne new (taken_from g w id n) id (Some heard) new' kept' → Hears g w id heard new' kept'
     front_then room Hit new' kept' h = front_hit h.0 h.1 h.3 h.2 new' kept' h.4 h.5.mode_is h.5.held_is h.5.stands

@@ -1,4 +1,4 @@
--- What the standing handles hold, after each change.
+-- What the current handles hold, after each change.
 use Rattle.std.proofs.Common.{◌≡◌, ℕ, ◌+◌, ◌<◌, ◌≤◌, true, false, List, [], ◌∷◌, ◌++◌, length, map, nat_eq, Option, Some, None, is_some, refl, sym, ap, subst, ◌∙◌, inl, inr, suc, true≢false, arith}
 use Rattle.std.proofs.lemmas.Bool.{cases_Bool, eqb-true, ne_eqb}
 use Rattle.std.specs.Map.{lookup, remove_entry}
@@ -12,7 +12,7 @@ use Rattle.hub_local.proofs.Worlds.{found_below, found_changed_other}
 
 -- ---- the numbers
 
--- a number below the first is not among them
+-- a number below the first isn't among them
 pub none_below : (from : ℕ) (hs : List Handle) (n : ℕ) → n < from → lookup (nat_eq n) (standing_from from hs) ≡ None
 none_below from [] n l = refl
 none_below from (h ∷ rest) n l =
@@ -20,7 +20,7 @@ none_below from (h ∷ rest) n l =
     let ih = none_below (from + 1) rest n (omega arith) in
     elim (cases_Bool h.stands) [ inl st ↦ simp (st, no) ih | inr st ↦ simp st ih ]
 
--- nor is one that was not given yet
+-- nor is a number that wasn't given yet
 pub none_above : (from : ℕ) (hs : List Handle) (n : ℕ) → from + length hs ≤ n → lookup (nat_eq n) (standing_from from hs) ≡ None
 none_above from [] n l = refl
 none_above from (h ∷ rest) n l =
@@ -63,7 +63,7 @@ pub length-dropped : (hs : List Handle) → length (map dropped hs) ≡ length h
 length-dropped [] = refl
 length-dropped (h ∷ rest) = ap suc (length-dropped rest)
 
--- ---- each is held
+-- ---- the subscription of each is current
 
 pub held_at : (fs : List Fifodir) (es : List (ℕ × Holding)) (n : ℕ) (h : Holding) → AreHeld fs es → lookup (nat_eq n) es ≡ Some h → is_some (subscription_of fs h) ≡ true
 held_at fs [] n h k e = absurd (let no : ⊥ = cc in no)
@@ -82,13 +82,13 @@ pub held_push : (fs : List Fifodir) (es : List (ℕ × Holding)) (e : ℕ × Hol
 held_push fs [] e k s = (s, tt)
 held_push fs (x ∷ es) e k s = (k.0, held_push fs es e k.1 s)
 
--- ---- none is held twice
+-- ---- no two have the same subscription
 
 apart_from_push : (h : Holding) (es : List (ℕ × Holding)) (e : ℕ × Holding) → IsApart h es → (h.name ≡ e.1.name → h.id ≡ e.1.id → ⊥) → IsApart h (es ++ e ∷ [])
 apart_from_push h [] e k a = (a, tt)
 apart_from_push h (x ∷ es) e k a = (k.0, apart_from_push h es e k.1 a)
 
--- one whose id is none of those that are held under its name
+-- a handle whose id isn't that of another one under its name
 pub apart_push : (fs : List Fifodir) (es : List (ℕ × Holding)) (e : ℕ × Holding) → AreApart es → AreHeld fs es
     → ((h : Holding) → is_some (subscription_of fs h) ≡ true → h.name ≡ e.1.name → h.id ≡ e.1.id → ⊥) → AreApart (es ++ e ∷ [])
 apart_push fs [] e k s new = (tt, tt)
@@ -110,7 +110,7 @@ pub apart_removed : (es : List (ℕ × Holding)) (n : ℕ) → AreApart es → A
 apart_removed [] n k = tt
 apart_removed (x ∷ es) n k = elim (cases_Bool (nat_eq n x.0)) [ inl t ↦ simp t (k.1) | inr t ↦ simp t (apart_from_removed x.1 es n k.0, apart_removed es n k.1) ]
 
--- what is apart from one that is given back is held still
+-- a subscription that isn't the ended one is still current
 held_beside : (fs new : List Fifodir) (g : Holding)
     → ((h : Holding) → (g.name ≡ h.name → g.id ≡ h.id → ⊥) → is_some (subscription_of fs h) ≡ true → is_some (subscription_of new h) ≡ true)
     → (es : List (ℕ × Holding)) → IsApart g es → AreHeld fs es → AreHeld new es
@@ -129,7 +129,7 @@ held_removed fs new n g keep (x ∷ es) a k e =
           simp t (keep x.1 (λ same id. other (sym same) (sym id)) k.0, held_removed fs new n g keep es a.1 k.1 z))
     ]
 
--- ---- each may hit
+-- ---- each may have more hits
 
 pub go_on_push : (es : List (ℕ × Holding)) (e : ℕ × Holding) → AllGoOn es → GoesOn e.1.hearing → AllGoOn (es ++ e ∷ [])
 go_on_push [] e k m = (m, tt)
@@ -142,7 +142,7 @@ go_on_removed (x ∷ es) n k = elim (cases_Bool (nat_eq n x.0)) [ inl t ↦ simp
 -- ---- with another world under a name
 
 module _ (fs : List Fifodir) (name : List ℕ) (w new : World) (is : world_of fs name ≡ Some w) where
-  -- a subscription that stands still where it is of that world
+  -- a subscription stays current if it does so in that world
   pub held_in_changed : (h : Holding) → (h.name ≡ name → is_some (found w h.id) ≡ true → is_some (found new h.id) ≡ true)
       → is_some (subscription_of fs h) ≡ true → is_some (subscription_of (with_world fs name new) h) ≡ true
   held_in_changed h keep s =
@@ -154,7 +154,7 @@ module _ (fs : List Fifodir) (name : List ℕ) (w new : World) (is : world_of fs
         | inr t ↦ simp (world_of-with_world name fs w new h.name is, t) s
       ]
 
-  -- an id that this world has not given yet
+  -- an id that this world hasn't given yet
   pub unheld_id : (h : Holding) → is_some (subscription_of fs h) ≡ true → h.name ≡ name → h.id ≡ length w.subscriptions + 1 → ⊥
   unheld_id h s same id =
       let there : world_of fs h.name ≡ Some w = ap (world_of fs) same ∙ is in
@@ -170,7 +170,7 @@ held_with_more fs f h s = by (world_of fs h.name) refl
     by None e = let k = simp e at s in absurd (true≢false (sym k))
     by (Some w) e = let k = simp e at s in simp (world_of-push h.name fs f w e) k
 
--- ---- without what a handle holds
+-- ---- without the subscription of a handle
 
 stopped_still : (w : World) (h g : Holding) → (h.id ≡ g.id → ⊥) → is_some (found w g.id) ≡ true → is_some (found (after_cancel w h.id) g.id) ≡ true
 stopped_still w h g apart s = by (found w h.id)

@@ -1,4 +1,4 @@
--- The fifodirs that a desk keeps, and those of the model: one after another.
+-- The fifodirs that a desk keeps, and those of the model, one after another.
 use Rattle.std.proofs.Common.{◌≡◌, ℕ, if◌then◌else◌, List, [], ◌∷◌, ◌++◌, length, Some, None, is_some, refl, sym, ap, subst, ◌∙◌, inl, inr, suc, true≢false}
 use Rattle.std.proofs.lemmas.Bool.{cases_Bool}
 use Rattle.std.proofs.lemmas.Slice.Eq.{bytes_eq-Decides}
@@ -31,7 +31,7 @@ module _ (name : List ℕ) where
         | inr t ↦ simp t (none_kept es fs h.1 (simp (same, t) at e))
       ]
 
-  -- the world that a kept fifodir stands for
+  -- the world for which a kept fifodir stands
   pub some_kept : (es : List (List ℕ × LocalFifodir)) (fs : List Fifodir) (r : LocalFifodir) → AreKept es fs → lookup (bytes_eq name) es ≡ Some r
       → (w : World) × (world_of fs name ≡ Some w) × StandsFor r.kept w
   some_kept [] [] r h e = absurd (let k : ⊥ = cc in k)
@@ -79,7 +79,7 @@ module _ (name : List ℕ) where
   world_of-push (x ∷ fs) f w e =
       elim (cases_Bool (bytes_eq name x.name)) [ inl t ↦ (let k = simp t at e in simp t k) | inr t ↦ simp t (world_of-push fs f w (simp t at e)) ]
 
-  -- under the name that is changed, and under any other
+  -- the world under the name that is changed, and under any other
   pub world_of-with_world : (fs : List Fifodir) (v w : World) (q : List ℕ) → world_of fs name ≡ Some v
       → world_of (with_world fs name w) q ≡ (if bytes_eq q name then Some w else world_of fs q)
   world_of-with_world [] v w q e = absurd (let k : ⊥ = cc in k)

@@ -1,4 +1,4 @@
--- With another holding under a number, which is for the same subscription.
+-- Another holding under a number, for the same subscription.
 use Rattle.std.proofs.Common.{◌≡◌, ℕ, ◌+◌, List, [], ◌∷◌, length, nat_eq, Some, is_some, true, refl, sym, ap, subst, ◌∙◌, inl, inr, suc, arith}
 use Rattle.std.proofs.lemmas.Bool.{cases_Bool, eqb-true}
 use Rattle.std.specs.Map.{lookup, set_value}
@@ -47,7 +47,7 @@ go_on_at (x ∷ es) n h k e =
       | inr t ↦ go_on_at es n h k.1 (simp t at e)
     ]
 
--- ---- none is held twice
+-- ---- no two have the same subscription
 
 module _ (h new : Holding) (name : new.name ≡ h.name) (id : new.id ≡ h.id) where
   apart_like : (es : List (ℕ × Holding)) → IsApart h es → IsApart new es

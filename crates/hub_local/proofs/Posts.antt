@@ -31,7 +31,7 @@ use Rattle.hub_requests.specs.declared.reply.Refusal.TheVariants as no
 use Rattle.hub_local.proofs.KeptFifodirs.{none_kept, some_kept, kept_set, kept_still}
 use Rattle.hub_local.proofs.RecordReplies.{subscribe_reply_is}
 
--- ---- all are given back
+-- ---- all are ended
 
 pub without_posts-none : (fs : List Fifodir) (names : List (List ℕ)) → without_posts fs names [] ≡ fs
 without_posts-none fs [] = refl
@@ -96,13 +96,13 @@ pub more_opens : (want : Want) (names : List (List ℕ)) (i : ℕ) (d : List ℕ
     → opened want fs (take (i + 1) names) ≡ with_post want (so_far now posts) (get_or names i d)
 more_opens want names i d fs now posts below e = fold_more (with_post want) (so_far fs []) names i d below ∙ ap (λ (o : Opening). with_post want o (get_or names i d)) e
 
--- where one is refused, none is opened after it
+-- if one is refused, none is opened after it
 pub opens_no_more : (want : Want) (names : List (List ℕ)) (i : ℕ) (d : List ℕ) (fs now : List Fifodir) (posts : List Post) (refusal : Refusal) → i < length names → opened want fs (take i names) ≡ so_far now posts
     → with_post want (so_far now posts) (get_or names i d) ≡ stopped now posts refusal → opened want fs names ≡ stopped now posts refusal
 opens_no_more want names i d fs now posts refusal below e ends =
     sym (fold_stuck (with_post want) (stopped now posts refusal) (λ name. refl) (so_far fs []) names i d below (ap (λ (o : Opening). with_post want o (get_or names i d)) e ∙ ends))
 
--- what comes of the names where one is not opened
+-- what the names come to if one isn't opened
 pub opens_until : (want : Want) (names : List (List ℕ)) (i : ℕ) (d : List ℕ) (model : List Fifodir) (entries new : List (List ℕ × LocalFifodir)) (posts : List Post) (refusal : Refusal) → i < length names
     → (now : List Fifodir) × AreKept entries now × (opened want model (take i names) ≡ so_far now posts)
     → ((now : List Fifodir) → AreKept entries now → OpensPost want (get_or names i d) now (Err refusal) new) → OpensAll want names model (Err refusal) new posts

@@ -1,4 +1,4 @@
--- A record's replies are those of the functions.
+-- A record's replies are those that the functions give.
 use Rattle.std.proofs.Common.{◌≡◌, ◌≢◌, ℕ, zero, ◌+◌, ◌<◌, true, false, List, [], ◌∷◌, ◌++◌, length, map, take, Option, Some, None, is_some, Result, Ok, Err, nat_eq, nat_lt, nat_le, refl, sym, ap, subst, ◌∙◌, inl, inr, suc, true≢false, append_assoc, append-nil, arith}
 use Rattle.std.proofs.lemmas.Bool.{cases_Bool, le-leb, lt-leb, lt-ltb, le-ltb, ne_eqb, leb-true, leb-false, ltb-true, ltb-false, eqb-true, eqb-false}
 use Rattle.std.specs.Option.{option_map}
@@ -42,7 +42,7 @@ map_mark-append : (a b : List ℕ) → map mark (a ++ b) ≡ map mark a ++ map m
 map_mark-append [] b = refl
 map_mark-append (x ∷ a) b = ap (λ (z : List Mark). mark x ∷ z) (map_mark-append a b)
 
--- the front of a lawful word is lawful
+-- a prefix of a lawful word is lawful
 pub lawful_front : (kind : Kind) (a b : List ℕ) → IsLawfulIn kind (a ++ b) → is_lawful_in kind a ≡ true
 lawful_front Plain a b h = refl
 lawful_front Service a b h = by (followed Off a) refl

@@ -7,7 +7,7 @@ use Rattle.hub_requests.specs.declared.reply.Reply.{Reply}
 use Rattle.hub_requests.specs.declared.reply.Reply.TheVariants.{No}
 use Rattle.hub_requests.specs.declared.reply.Refusal.TheVariants.{Memory}
 
--- with the yes or no of a request with this pattern before those of the requests after it
+-- with the yes or no for a request with this text before those for the later requests
 with_read : Bool → Option (List ℕ) → List Bool → List Bool
 with_read read None reads = reads
 with_read read (Some text) reads = read ∷ reads

@@ -1,4 +1,4 @@
--- The text of what a record refuses to publish is short.
+-- The text of a refusal to publish is short.
 use Rattle.std.proofs.Common.{ℕ, ◌<◌, ◌≤◌, ◌^◌, List, length, Err, lit≤}
 use Rattle.hub_record.specs.World.{World, letters, PublishReply}
 use Rattle.hub_record.specs.declared.PubError.{PubError}

@@ -1,4 +1,4 @@
--- Taking as many as wait, where fewer wait than are asked for, is taking as many as are asked for.
+-- If fewer events are pending than are asked for, to take as many as are pending is to take as many as are asked for.
 use Rattle.std.proofs.Common.{◌≡◌, ◌-◌, ℕ, min, length, Option, None, Some, option_map, sym, ◌∙◌, ap}
 use Rattle.std.proofs.Math.Nat.{min-eq_left, min-le_right}
 use Rattle.std.proofs.lemmas.Option.{none-some, same_Some}

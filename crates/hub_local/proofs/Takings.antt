@@ -102,7 +102,7 @@ module _ (w : World) (id : ℕ) (s : Subscription) (is : found w id ≡ Some s) 
   only : (x : Subscription) → found w id ≡ Some x → x ≡ s
   only x e = let k : Some x ≡ Some s = sym e ∙ is in cc
 
-  -- the subscription then
+  -- the subscription afterwards
   pub found_then : (m : ℕ) → found (after_take w id m) id ≡ Some (moved_on w m s)
   found_then m = ap (λ (v : World). found v id) (after_take_is m) ∙ found_at (moved_on w m) (λ y. refl) 1 w.subscriptions id s is
 
@@ -153,7 +153,7 @@ module _ (w : World) (id : ℕ) (s : Subscription) (is : found w id ≡ Some s) 
   pub length-behind : length (behind w id) ≡ length w.events - s.next
   length-behind = ap length behind_is ∙ length-map (drop s.next w.events) (λ (e : Event). e.letter) ∙ length-drop s.next w.events
 
-  -- the letters then
+  -- the letters afterwards
   pub behind_then : (m : ℕ) → behind (after_take w id m) id ≡ drop m (behind w id)
   behind_then m =
       let v = with_changed w id (moved_on w m) in
@@ -203,7 +203,7 @@ module _ (w : World) (id : ℕ) (s : Subscription) (is : found w id ≡ Some s) 
         ]
       ]
 
-  -- none waits
+  -- none is pending
   module _ (none : length w.events ≤ s.next) (kept : Kept) (stands : StandsFor kept (after_take w id 1)) where
     pub none_behind : behind w id ≡ []
     none_behind = let l = length-behind in length-none (behind w id) (omega arith)
@@ -211,7 +211,7 @@ module _ (w : World) (id : ℕ) (s : Subscription) (is : found w id ≡ Some s) 
     pub still_stands : StandsFor kept w
     still_stands = let t : taken w s 1 ≡ 0 = omega arith in subst (StandsFor kept) (take_none w id s is 1 t) stands
 
-  -- one waits
+  -- one is pending
   pub one_behind : s.next < length w.events → (out room : List Event) (d : Event) → out ≡ take_events w id 1 ++ room → (rest : List ℕ) × (behind w id ≡ (get_or out 0 d).letter ∷ rest)
   one_behind some out room d filled =
       let one = drop-one w.events s.next some in

@@ -32,7 +32,7 @@ changed_from-append f from (x ∷ xs) ys id above =
     let ih = changed_from-append f (from + 1) xs ys id (omega arith) in
     simp other (ap (λ (z : List Subscription). x ∷ z) (ih ∙ ap (λ (n : ℕ). xs ++ changed_from f n ys id) (sym next)))
 
--- what stands after one is stopped stood before, and isn't that one
+-- a subscription that is current after one is stopped was current before, and isn't that one
 found_stopped : (from : ℕ) (subs : List Subscription) (id other : ℕ) → is_some (found_from from (changed_from stopped_one from subs id) other) ≡ true
     → (is_some (found_from from subs other) ≡ true) × (other ≡ id → ⊥)
 found_stopped from [] id other h = absurd (true≢false (sym h))
@@ -57,7 +57,7 @@ found_cancelled w id other = by (found w id) refl
     by None e h = (h, λ same. true≢false (sym h ∙ ap (λ (n : ℕ). is_some (found w n)) same ∙ ap is_some e))
     by (Some s) e h = found_stopped 1 w.subscriptions id other h
 
--- an id that is found is none below the first
+-- an id that is found isn't below the first
 found_above : (first : ℕ) (subs : List Subscription) (id : ℕ) → is_some (found_from first subs id) ≡ true → first ≤ id
 found_above first [] id h = absurd (true≢false (sym h))
 found_above first (s ∷ subs) id h =
@@ -66,7 +66,7 @@ found_above first (s ∷ subs) id h =
       | inr e ↦ (let ih = found_above (first + 1) subs id (simp e at h) in omega arith)
     ]
 
--- where none of the later ids is found, none stands
+-- if none of the later ids is found, none of them is current
 none_found : (from : ℕ) (more : List Subscription) → ((id : ℕ) → is_some (found_from from more id) ≡ true → ⊥) → list_any (λ s. s.stands) more ≡ false
 none_found from [] none = refl
 none_found from (x ∷ rest) none =
@@ -84,7 +84,7 @@ found_from-append from (x ∷ xs) ys id above =
     let next : from + length (x ∷ xs) ≡ from + 1 + length xs = omega arith in
     simp other (found_from-append (from + 1) xs ys id (omega arith) ∙ ap (λ (n : ℕ). found_from n ys id) (sym next))
 
--- to stop a later one leaves those before
+-- to stop a later one leaves the earlier ones
 stopped_above : (w v : World) (more : List Subscription) (id : ℕ) → v ≡ record w { subscriptions = w.subscriptions ++ more } → length w.subscriptions < id
     → (left : List Subscription) × (after_cancel v id ≡ record w { subscriptions = w.subscriptions ++ left })
 stopped_above w v more id same above = by (found v id)
@@ -109,7 +109,7 @@ none_owed : (names : List (List ℕ)) (name : List ℕ) (id : ℕ) → IsOwed na
 none_owed [] name id h = h
 none_owed (n ∷ names) name id h = h
 
--- more ids were given, those of the posts among them, and no others of them stand
+-- more ids were given, those of the posts among them, and of these ids only those of the posts may be current
 pub record HasPosts (names : List (List ℕ)) (posts : List Post) (name : List ℕ) (old new : World) : Type 0 where
   pub more : List Subscription
   pub same : new ≡ record old { subscriptions = old.subscriptions ++ more }
@@ -131,7 +131,7 @@ no_posts names name (Some w) = record {
   owed = λ id above h. (let below = found_below 1 w.subscriptions id h in absurd (let no : ⊥ = omega arith in no));
 }
 
--- where none is left
+-- if none is left
 all_given_back : (names : List (List ℕ)) (posts : List Post) (name : List ℕ) (o p : Option World) → ((id : ℕ) → IsOwed names posts name id → ⊥) → HasPostsThere names posts name o p → HasUsedIdsThere o p
 all_given_back names posts name None None none h = tt
 all_given_back names posts name None (Some new) none h = absurd h
@@ -200,7 +200,7 @@ module _ (name : List ℕ) (rest : List (List ℕ)) (post : Post) (posts : List 
         owed = λ id above f. (let g = found_cancelled v post.id id f in elim (h.owed id above g.0) [ inl e ↦ absurd (g.1 (sym e.1)) | inr l ↦ l ]);
       }
 
--- what the posts that were opened have come to
+-- what the opened posts have changed
 pub record HasOpened (names : List (List ℕ)) (fs : List Fifodir) (before : List Post) (o : Opening) : Type 0 where
   pub more : List Post
   pub are : o.posts ≡ before ++ more
@@ -256,7 +256,7 @@ has_opened : (want : Want) (names : List (List ℕ)) (fs : List Fifodir) (before
 has_opened want [] fs before = none_opened [] fs before None
 has_opened want (name ∷ rest) fs before = opens_in want name rest fs before (has_opened want rest) (world_of fs name) refl
 
--- ---- and given back
+-- ---- and ended
 
 back_one : (name : List ℕ) (rest : List (List ℕ)) (post : Post) (posts : List Post) (fs now : List Fifodir)
     → ((q : List ℕ) → HasPostsThere (name ∷ rest) (post ∷ posts) q (world_of fs q) (world_of now q))

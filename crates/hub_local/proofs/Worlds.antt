@@ -4,7 +4,7 @@ use Rattle.std.proofs.lemmas.Bool.{cases_Bool, eqb-true, ne_eqb, eq-eqb}
 use Rattle.hub_record.specs.declared.NoId.{NoId}
 use Rattle.hub_record.specs.World.{World, found, reply_for, take_reply, Subscription, found_from, changed_from}
 
--- one more
+-- one more subscription
 pub found-push : (from : ℕ) (subs : List Subscription) (s : Subscription) (id : ℕ) → is_some (found_from from subs id) ≡ true → is_some (found_from from (subs ++ s ∷ []) id) ≡ true
 found-push from [] s id h = absurd (true≢false (sym h))
 found-push from (x ∷ rest) s id h =
@@ -20,7 +20,7 @@ found_new from (x ∷ rest) s id st is =
     let e : nat_eq id from ≡ false = ne_eqb id from (λ (same : id ≡ from). omega arith) in
     simp e (found_new (from + 1) rest s id st (omega arith))
 
--- and no standing one has it
+-- and no current one has it
 pub found_below : (from : ℕ) (subs : List Subscription) (id : ℕ) → is_some (found_from from subs id) ≡ true → id < from + length subs
 found_below from [] id h = absurd (true≢false (sym h))
 found_below from (x ∷ rest) id h =
@@ -29,7 +29,7 @@ found_below from (x ∷ rest) id h =
       | inr e ↦ (let ih = found_below (from + 1) rest id (simp e at h) in omega arith)
     ]
 
--- a change to one leaves the others
+-- a change to one leaves the others as they are
 pub found_changed_other : (f : Subscription → Subscription) (from : ℕ) (subs : List Subscription) (id other : ℕ) → (other ≡ id → ⊥)
     → is_some (found_from from subs other) ≡ true → is_some (found_from from (changed_from f from subs id) other) ≡ true
 found_changed_other f from [] id other apart h = h
@@ -44,7 +44,7 @@ found_changed_other f from (x ∷ rest) id other apart h =
       ]
     ]
 
--- as does one that lets it stand
+-- as does a change that leaves it current
 pub found_changed : (f : Subscription → Subscription) → ((s : Subscription) → (f s).stands ≡ s.stands) → (from : ℕ) (subs : List Subscription) (id other : ℕ)
     → is_some (found_from from subs other) ≡ true → is_some (found_from from (changed_from f from subs id) other) ≡ true
 found_changed f keep from [] id other h = h
@@ -62,7 +62,7 @@ found_changed f keep from (x ∷ rest) id other h =
           ])
     ]
 
--- a take of one that stands is not refused
+-- a take from a current subscription isn't refused
 pub takes_some : (w : World) (id most : ℕ) (error : NoId) → is_some (found w id) ≡ true → Err error ≡ take_reply w id most → ⊥
 takes_some w id most error s e = by (found w id) s e
   where

@@ -43,7 +43,7 @@ refusal_to_make d name =
 abbrev pub refusal_by_name : Desk → List ℕ → Option Refusal
 refusal_by_name d name = if is_some (world_of d.fifodirs name) then None else Some no.Name
 
--- to give one more handle, for a subscription to the fifodir of this name
+-- the refusal of one more handle, for a subscription to the fifodir of this name
 abbrev pub refusal_to_hold : Desk → List ℕ → Option Refusal
 refusal_to_hold d name =
     if is_some (world_of d.fifodirs name) then
@@ -52,13 +52,13 @@ refusal_to_hold d name =
     None)
     else Some no.Name
 
--- the same for a listener, where `read` says whether its pattern is read
+-- the same for a listener; `read` says whether its text is a pattern
 abbrev pub refusal_to_listen : Bool → Option Refusal → Option Refusal
 refusal_to_listen read (Some refusal) = Some refusal
 refusal_to_listen true None = None
 refusal_to_listen false None = Some no.Pattern
 
--- only what a plain subscription's handle holds is taken from
+-- a take needs the handle of a plain subscription
 abbrev pub refusal_to_take : Option Holding → Option Refusal
 refusal_to_take None = Some no.Id
 refusal_to_take (Some h) = if is_some h.hearing then Some no.Id else None
@@ -67,7 +67,7 @@ abbrev pub refusal_to_hear : Option Hearing → Option Refusal
 refusal_to_hear None = Some no.Id
 refusal_to_hear (Some hearing) = if nat_le 4096 (length hearing.listener.gathered) then Some no.Overlong else None
 
--- and only what a listener's holds is polled
+-- and a poll needs the handle of a listener
 abbrev pub refusal_to_poll : Option Holding → Option Refusal
 refusal_to_poll None = Some no.Id
 refusal_to_poll (Some h) = refusal_to_hear h.hearing
@@ -76,14 +76,14 @@ abbrev pub refusal_to_cancel : Option Holding → Option Refusal
 refusal_to_cancel None = Some no.Id
 refusal_to_cancel (Some h) = None
 
--- each name is looked for before any kind is looked at
+-- all names are looked up before any kind is checked
 abbrev pub refusal_to_wait : Desk → List (List ℕ) → Option Refusal
 refusal_to_wait d names =
     if list_all (λ name. is_some (world_of d.fifodirs name)) names then
     (if list_all (λ name. is_some (reports_of d.fifodirs name)) names then None else Some no.Kind)
     else Some no.Name
 
--- `read` says of a `Listen` whether its pattern is read
+-- `read` says for a `Listen` whether its text is a pattern
 abbrev pub own_refusal : Desk → Bool → Request → Option Refusal
 own_refusal d read (Dir name waiting total) = refusal_to_make d name
 own_refusal d read (Svc name waiting total notifies) = refusal_to_make d name
@@ -113,7 +113,7 @@ abbrev pub for_holding : Desk → (Holding → Answer) → Option Holding → An
 for_holding d done None = refused d no.Id
 for_holding d done (Some h) = done h
 
--- what is done for what a listener hears
+-- what is done for a listener's hearing
 abbrev pub for_hearing : Desk → (Hearing → Answer) → Option Hearing → Answer
 for_hearing d done None = refused d no.Id
 for_hearing d done (Some hearing) = done hearing
@@ -123,11 +123,11 @@ limits_by waiting total (yes some_wait) (yes few_wait) (yes some) (yes within) =
     Some (record { waiting = waiting; total = total; ids = 1000000000000; waiting_in_range = (some_wait, few_wait); total_in_range = (some, within); ids_in_range = (lit≤ tt, lit≤ tt) })
 limits_by waiting total a b c d = None
 
--- the limits of a desk's fifodir, where they are in their ranges
+-- the limits of a desk's fifodir, if they are in their ranges
 abbrev pub limits_of : ℕ → ℕ → Option Limits
 limits_of waiting total = limits_by waiting total (dec_le 1 waiting) (dec_le waiting 4096) (dec_le 1 total) (dec_le total 1000000000000)
 
--- where the limits are not in their ranges, which no request is asked with, a number is refused
+-- if the limits aren't in their ranges, a number is refused; no request with such limits is ever asked
 abbrev pub made : Desk → List ℕ → Kind → Option Bool → Option Limits → Answer
 made d name kind reports None = refused d no.Range
 made d name kind reports (Some limits) = record {
@@ -135,7 +135,7 @@ made d name kind reports (Some limits) = record {
   desk = record d { fifodirs = d.fifodirs ++ record { name = name; reports = reports; world = empty_world kind limits } ∷ [] };
 }
 
--- with one more handle, for a plain subscription or for one whose letters are heard so
+-- with one more handle, for a plain subscription or for a listener's
 abbrev pub subscribed : Desk → List ℕ → Option Hearing → World → Result (ℕ × ℕ) SubError → Answer
 subscribed d name hearing w (Err error) = refused d (refusal_of_sub error)
 subscribed d name hearing w (Ok given) = record {
@@ -146,7 +146,7 @@ subscribed d name hearing w (Ok given) = record {
   };
 }
 
--- one that has heard nothing
+-- the hearing of a listener that has heard nothing
 abbrev pub new_hearing : List ℕ → Mode → Hearing
 new_hearing pattern mode = record { listener = unheard pattern Repeat; mode = mode; held = None }
 
@@ -196,20 +196,20 @@ answer_by d None done = done
 abbrev pub answer : Desk → Bool → Request → Answer
 answer d read request = answer_by d (own_refusal d read request) (carried_out d request)
 
--- what may be left where want of memory was met: a desk that is unchanged, but for these two requests
+-- what may be left if memory ran out: an unchanged desk, except for these two requests
 abbrev pub LeftBy : Request → Desk → Desk → Type 0
 LeftBy (Poll id) d new = LeftByPoll d id new
 LeftBy (Wait span want turns names) d new = LeftByWait d want names new
 LeftBy request d new = new ≡ d
 
--- ---- runs of requests, with a yes or no for each `Listen` among them: whether its pattern is read
+-- ---- runs of requests, with a yes or no for each `Listen` among them: whether its text is a pattern
 
--- the pattern that is to be read
+-- the text that may be a pattern
 abbrev pub pattern_in : Request → Option (List ℕ)
 pattern_in (Listen name mode pattern) = Some pattern
 pattern_in request = None
 
--- for a request with this pattern, or with none
+-- the yes or no for a request with this text, or with none
 abbrev pub first_read : Option (List ℕ) → List Bool → Bool
 first_read (Some text) (read ∷ rest) = read
 first_read pattern reads = false
@@ -235,7 +235,7 @@ abbrev pub patterns_in : List Request → List (List ℕ)
 patterns_in [] = []
 patterns_in (request ∷ rest) = option_to_list (pattern_in request) ++ patterns_in rest
 
--- one for each text, and yes only for a pattern
+-- one for each text, and yes only if it is a pattern
 abbrev pub AreReads : List Bool → List (List ℕ) → Type 0
 AreReads [] [] = Unit {0}
 AreReads (true ∷ reads) (text ∷ texts) = IsPattern text × AreReads reads texts

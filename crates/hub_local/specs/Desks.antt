@@ -13,16 +13,17 @@ use Rattle.hub_requests.specs.declared.reply.Refusal.{Refusal}
 
 pub record Fifodir : Type 0 where
   pub name : List ℕ
-  -- whether its service reports readiness, none for a plain one
+  -- whether its service reports readiness; none if it is plain
   pub reports : Option Bool
   pub world : World
 
--- a handle that was given: the subscription that it is for, a listener's with what is heard, and whether it stands
+-- a handle that was given: the subscription that it is for, with the hearing if it is a listener's, and whether it is
+-- current
 pub record Handle : Type 0 where
   pub holding : Holding
   pub stands : Bool
 
--- the handles are those of the numbers 1, 2, 3 in order, cancelled ones too
+-- the handles have the numbers 1, 2, 3, .. in order, cancelled ones too
 pub record Desk : Type 0 where
   pub fifodirs : List Fifodir
   pub handles : List Handle
@@ -36,7 +37,7 @@ abbrev pub world_of : List Fifodir → List ℕ → Option World
 world_of [] name = None
 world_of (f ∷ rest) name = if bytes_eq name f.name then Some f.world else world_of rest name
 
--- whether the service of this name reports readiness, none where there is no such service
+-- whether the service of this name reports readiness; none if there is no such service
 abbrev pub reports_of : List Fifodir → List ℕ → Option Bool
 reports_of [] name = None
 reports_of (f ∷ rest) name = if bytes_eq name f.name then f.reports else reports_of rest name
@@ -48,7 +49,7 @@ with_world (f ∷ rest) name w = if bytes_eq name f.name then record f { world =
 
 -- ---- handles by number
 
--- what the standing handles hold, by their numbers, where the first of the list has the number `from`
+-- what the current handles hold, by their numbers; the first of the list has the number `from`
 abbrev pub standing_from : ℕ → List Handle → List (ℕ × Holding)
 standing_from from [] = []
 standing_from from (h ∷ rest) = if h.stands then (from, h.holding) ∷ standing_from (from + 1) rest else standing_from (from + 1) rest
@@ -56,7 +57,7 @@ standing_from from (h ∷ rest) = if h.stands then (from, h.holding) ∷ standin
 abbrev pub standing : Desk → List (ℕ × Holding)
 standing d = standing_from 1 d.handles
 
--- what the standing handle with this number holds
+-- what the current handle with this number holds
 abbrev pub held : Desk → ℕ → Option Holding
 held d number = lookup (nat_eq number) (standing d)
 
@@ -73,13 +74,13 @@ abbrev pub with_holding_from : ℕ → List Handle → ℕ → Holding → List 
 with_holding_from from [] number h = []
 with_holding_from from (x ∷ rest) number h = if number == from then record x { holding = h } ∷ rest else x ∷ with_holding_from (from + 1) rest number h
 
--- ---- what every desk keeps
+-- ---- what holds for every desk
 
--- the subscription that a handle holds
+-- the subscription of a handle
 abbrev pub subscription_of : List Fifodir → Holding → Option Subscription
 subscription_of fifodirs h = option_and_then (λ w. found w h.id) (world_of fifodirs h.name)
 
--- each standing handle's subscription stands
+-- the subscription of each current handle is current
 abbrev pub AreHeld : List Fifodir → List (ℕ × Holding) → Type 0
 AreHeld fifodirs [] = Unit {0}
 AreHeld fifodirs (e ∷ es) = (is_some (subscription_of fifodirs e.1) ≡ true) × AreHeld fifodirs es
@@ -93,7 +94,7 @@ abbrev pub AreApart : List (ℕ × Holding) → Type 0
 AreApart [] = Unit {0}
 AreApart (e ∷ es) = IsApart e.1 es × AreApart es
 
--- after a hit a listener itself goes on: it is the desk that ends one whose mode is Once
+-- a listener itself goes on after a hit: the desk ends it if its handle's mode is Once
 abbrev pub GoesOn : Option Hearing → Type 0
 GoesOn None = Unit {0}
 GoesOn (Some hearing) = hearing.listener.mode ≡ Repeat
@@ -123,11 +124,11 @@ abbrev pub end_in : List Fifodir → Holding → Option World → List Fifodir
 end_in fifodirs h None = fifodirs
 end_in fifodirs h (Some w) = with_world fifodirs h.name (after_cancel w h.id)
 
--- with the subscription cancelled that a handle holds
+-- with the subscription of a handle cancelled
 abbrev pub without_held : List Fifodir → Holding → List Fifodir
 without_held fifodirs h = end_in fifodirs h (world_of fifodirs h.name)
 
--- with the handle of this number cancelled, and the subscription that it holds
+-- with the handle of this number and its subscription cancelled
 abbrev pub without_handle : Desk → ℕ → Holding → Desk
 without_handle d number h = record { fifodirs = without_held d.fifodirs h; handles = without_from 1 d.handles number }
 
@@ -136,6 +137,6 @@ abbrev pub without_all : List Fifodir → List Holding → List Fifodir
 without_all fifodirs [] = fifodirs
 without_all fifodirs (h ∷ rest) = without_all (without_held fifodirs h) rest
 
--- no handle stands, none is forgotten, and what they held is cancelled
+-- no handle is current, none is forgotten, and their subscriptions are cancelled
 abbrev pub ended : Desk → Desk
 ended d = record { fifodirs = without_all d.fifodirs (values_of (standing d)); handles = map dropped d.handles }

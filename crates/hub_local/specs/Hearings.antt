@@ -1,4 +1,4 @@
--- What a listener hears of the letters that it has still to hear.
+-- What a listener hears of the letters that it still has to hear.
 use Rattle.std.specs.Prelude.{ℕ, ◌≡◌, ◌⊎◌, ◌+◌, ◌<◌, ◌≤◌, true, false, List, [], ◌∷◌, length, take, slice_get, Option, Some, None, Result, Ok, Err}
 use Rattle.hub_listen.specs.Each.{fitting}
 use Rattle.hub_listen.specs.Hit.{IsHit, HasNoHit}
@@ -22,14 +22,14 @@ TakesOne w id (Err Nothing) kept = (behind w id ≡ []) × (w.closed ≡ false) 
 TakesOne w id (Err End) kept = (behind w id ≡ []) × (w.closed ≡ true) × StandsFor kept w
 TakesOne w id (Err heard) kept = ⊥
 
--- the hearing `new` has this listener and this letter held, and the record has given the first n of the letters
+-- the hearing `new` has this listener and this held letter, and the first n of the letters were taken from the record
 pub record IsAt (g : Hearing) (w : World) (id : ℕ) (n : ℕ) (listener : Listening) (held : Option ℕ) (new : Hearing) (kept : Kept) : Type 0 where
   pub listener_is : new.listener ≡ listener
   pub mode_is : new.mode ≡ g.mode
   pub held_is : new.held ≡ held
   pub stands : StandsFor kept (taken_from g w id n)
 
--- the next letter was heard quietly, was a hit, or couldn't be searched for; or there is none
+-- the next letter was heard without a hit, was a hit, or couldn't be searched; or there is none
 abbrev pub HearsOne : Hearing → World → ℕ → Option Heard → Hearing → Kept → Type 0
 HearsOne g w id None new kept = (x : ℕ) × (rest : List ℕ) × (to_hear g w id ≡ x ∷ rest) × Feeds g.listener (x ∷ []) (Ok fed.Quiet) new.listener × IsAt g w id 1 new.listener None new kept
 HearsOne g w id (Some Hit) new kept =

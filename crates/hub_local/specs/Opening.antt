@@ -1,4 +1,4 @@
--- What opening the posts of a wait comes to.
+-- The posts that a wait opens, compared with the model's.
 use Rattle.std.specs.Prelude.{ℕ, Bool, ◌≡◌, ◌≢◌, if◌then◌else◌, List, [], ◌∷◌, ◌++◌, take, Option, Some, None, is_some, Result, Ok, Err}
 use Rattle.std.specs.List.{list_all}
 use Rattle.std.specs.Map.{lookup}
@@ -21,26 +21,26 @@ is_there entries name = is_some (lookup (bytes_eq name) entries)
 abbrev pub is_service : List (List ℕ × LocalFifodir) → List ℕ → Bool
 is_service entries name = is_some (option_and_then (λ f. f.reports) (lookup (bytes_eq name) entries))
 
--- the refusal that stands before those of the posts
+-- the refusal that comes before those of the posts
 abbrev pub refusal_among : List (List ℕ × LocalFifodir) → List (List ℕ) → Option Refusal
 refusal_among entries names =
     if list_all (is_there entries) names then (if list_all (is_service entries) names then None else Some Kind) else Some Name
 
 -- ---- posts
 
--- one more post is the model's; want of memory leaves what was
+-- one more post is the model's; a refusal changes nothing, and is the model's unless memory ran out
 abbrev pub OpensPost : Want → List ℕ → List Fifodir → Result Post Refusal → List (List ℕ × LocalFifodir) → Type 0
 OpensPost want name model (Ok post) new =
     (now : List Fifodir) × AreKept new now × ((posts : List Post) → with_post want (so_far model posts) name ≡ so_far now (posts ++ post ∷ []))
 OpensPost want name model (Err refusal) new =
     AreKept new model × (refusal ≢ Memory → (posts : List Post) → with_post want (so_far model posts) name ≡ stopped model posts refusal)
 
--- the posts that stand are the model's for some of the names, from the first on
+-- the current posts are the model's for some of the names, from the first on
 pub record OpensSome (want : Want) (names : List (List ℕ)) (model now : List Fifodir) (posts : List Post) : Type 0 where
   pub count : ℕ
   pub opened : opened want model (take count names) ≡ so_far now posts
 
--- the posts are the model's; at want of memory they are those for some of the names
+-- the posts are the model's; if memory ran out they are those for some of the names
 abbrev pub OpensAll : Want → List (List ℕ) → List Fifodir → Result (Unit {0}) Refusal → List (List ℕ × LocalFifodir) → List Post → Type 0
 OpensAll want names model (Ok done) new posts = (now : List Fifodir) × AreKept new now × (opened want model names ≡ so_far now posts)
 OpensAll want names model (Err refusal) new posts =

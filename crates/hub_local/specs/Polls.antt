@@ -1,5 +1,5 @@
--- What a poll answers: the letters that a listener has still to hear are heard one at a time up to a hit, for as long
--- as there is room.
+-- What a poll answers: the letters that a listener still has to hear are heard one at a time, until there is a hit or
+-- no room.
 use Rattle.std.specs.Prelude.{ℕ, ◌≡◌, ◌⊎◌, ◌+◌, ◌-◌, ◌<◌, ◌&&◌, if◌then◌else◌, List, [], ◌++◌, length, take, drop, nat_lt, slice_get, option_to_list, Option, Some, None}
 use Rattle.hub_listen.specs.Each.{fitting}
 use Rattle.hub_listen.specs.Hit.{HasNoHit, hit_length}
@@ -18,11 +18,11 @@ abbrev pub waiting_for : World → Option Subscription → List Event
 waiting_for w None = []
 waiting_for w (Some s) = drop s.next w.events
 
--- the letters that a listener has still to hear: the one that it holds, and then those behind the cursor
+-- the letters that a listener still has to hear: the one that it holds, and then those behind the cursor
 abbrev pub to_hear : Hearing → World → ℕ → List ℕ
 to_hear g w id = option_to_list g.held ++ letters (waiting_for w (found w id))
 
--- the world after the first n of them were taken; the one that is held was taken before
+-- the world after the first n of them were taken; the held one was taken before
 abbrev pub taken_from : Hearing → World → ℕ → ℕ → World
 taken_from g w id n = after_take w id (n - length (option_to_list g.held))
 
@@ -34,7 +34,7 @@ heard_to_hit g letters k = record g { listener = after_hit g.listener letters k;
 abbrev pub heard_quietly : Hearing → List ℕ → Hearing
 heard_quietly g letters = record g { listener = after_quiet g.listener letters; held = None }
 
--- with the handle's listener and its world as they are then
+-- with the handle's listener and the fifodir's world as they are afterwards
 abbrev pub heard_on : Desk → ℕ → Holding → Hearing → World → Desk
 heard_on d number h g w = record { fifodirs = with_world d.fifodirs h.name w; handles = with_holding_from 1 d.handles number (record h { hearing = Some g }) }
 
@@ -57,9 +57,9 @@ heard d number h g w letters None = record {
 abbrev pub polled : Desk → ℕ → Holding → Hearing → World → Answer
 polled d number h g w = heard d number h g w (to_hear g w h.id) (hit_length g.listener.pattern g.listener.gathered (to_hear g w h.id))
 
--- ---- want of memory
+-- ---- out of memory
 
--- it was met at the letter after the first n, which had no hit: those are gathered, and that letter is held
+-- memory ran out at the letter after the first n, which had no hit: those are gathered, and that letter is held
 pub record IsStopped (d : Desk) (number : ℕ) (h : Holding) (g : Hearing) (w : World) (n : ℕ) (new : Desk) : Type 0 where
   pub inside : n < fitting g.listener (to_hear g w h.id)
   pub none : HasNoHit g.listener.pattern g.listener.gathered (take n (to_hear g w h.id))
@@ -75,6 +75,6 @@ pub record WasStopped (d : Desk) (number : ℕ) (new : Desk) : Type 0 where
   pub there : world_of d.fifodirs holding.name ≡ Some world
   pub stopped : IsStopped d number holding hearing world count new
 
--- or before anything was taken
+-- memory ran out there, or before anything was taken
 abbrev pub LeftByPoll : Desk → ℕ → Desk → Type 0
 LeftByPoll d number new = (new ≡ d) ⊎ WasStopped d number new

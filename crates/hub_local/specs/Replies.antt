@@ -1,4 +1,4 @@
--- What a record answers as a function of its world.
+-- What a record answers, as a function of its world.
 use Rattle.std.specs.Prelude.{ℕ, ◌≡◌, ◌≢◌, ◌==◌, ◌+◌, Bool, true, false, if◌then◌else◌, List, [], ◌∷◌, ◌++◌, length, nat_le, nat_lt, Option, Some, None, is_some, Result, Ok, Err}
 use Rattle.std.specs.Option.{option_map}
 use Rattle.hub_letters.specs.Stages.{followed}
@@ -20,22 +20,22 @@ subscribe_reply w =
 
 -- ---- publish
 
--- a plain record takes any word, and that of a service those that the stages follow
+-- a plain record takes any word, and a service's takes those that the stages follow
 abbrev pub is_lawful_in : Kind → List ℕ → Bool
 is_lawful_in Plain word = true
 is_lawful_in Service word = is_some (followed Off word)
 
--- the least place of the message such that the word followed by the message up to and with that place isn't lawful
+-- the least place of the message for which the word, followed by the message up to and including it, isn't lawful
 abbrev pub first_unlawful : Kind → List ℕ → List ℕ → Option ℕ
 first_unlawful kind word [] = None
 first_unlawful kind word (letter ∷ rest) =
     if is_lawful_in kind (word ++ letter ∷ []) then option_map (λ place. place + 1) (first_unlawful kind (word ++ letter ∷ []) rest) else Some 0
 
--- a subscription stands, and with n more events more wait than may
+-- a subscription is current, and with n more events more would be pending than the limit
 abbrev pub is_full : World → ℕ → Bool
 is_full w n = if length (standing w) == 0 then false else nat_lt w.limits.waiting (load w + n)
 
--- to a message of n letters that is lawful
+-- the reply to a message of n letters that is lawful
 abbrev pub lawful_reply : World → ℕ → Result ℕ PubError
 lawful_reply w n =
     if nat_lt w.limits.total (length w.events + n) then Err post.Spent else
@@ -52,11 +52,11 @@ publish_reply w message =
 
 -- ---- laws
 
--- the function gives a reply of the record, and it has no other but want of memory
+-- the function gives a reply of the record, and the record has no other unless memory runs out
 abbrev pub SubscribeIsOf : Type 0
 SubscribeIsOf = (w : World) → SubscribeReply w (subscribe_reply w) × ((reply : Result (ℕ × ℕ) SubError) → SubscribeReply w reply → reply ≢ Err sub.Memory → reply ≡ subscribe_reply w)
 
--- the same, where the letters so far are lawful
+-- the same, if the letters so far are lawful
 abbrev pub PublishIsOf : Type 0
 PublishIsOf = (w : World) (message : List ℕ) → IsLawfulIn w.kind (letters w.events)
     → PublishReply w message (publish_reply w message) × ((reply : Result ℕ PubError) → PublishReply w message reply → reply ≡ publish_reply w message)

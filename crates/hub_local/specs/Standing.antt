@@ -14,8 +14,8 @@ use Rattle.hub_requests.specs.declared.reply.Reply.TheVariants.{No}
 use Rattle.hub_requests.specs.declared.reply.Refusal.{Refusal}
 use Rattle.hub_requests.specs.declared.reply.Refusal.TheVariants.{Memory}
 
--- what a contract sees of a `LocalDesk`: the fifodirs by name in the order they were made, what the standing handles
--- hold by number, and how many handles were given
+-- what a contract sees of a `LocalDesk`: the fifodirs by name in the order in which they were made, what the current
+-- handles hold by number, and how many handles were given
 pub record Local : Type 0 where
   pub fifodirs : List (List ℕ × LocalFifodir)
   pub holdings : List (ℕ × Holding)
@@ -26,7 +26,7 @@ pub record IsKept (entry : List ℕ × LocalFifodir) (fifodir : Fifodir) : Type 
   pub reports : entry.1.reports ≡ fifodir.reports
   pub world : StandsFor entry.1.kept fifodir.world
 
--- one after another
+-- each stands for the model's, in the same order
 abbrev pub AreKept : List (List ℕ × LocalFifodir) → List Fifodir → Type 0
 AreKept [] [] = Unit {0}
 AreKept [] (f ∷ fs) = ⊥
@@ -44,28 +44,28 @@ pub record StandsForSome (local : Local) : Type 0 where
   pub desk : Desk
   pub stands : Stands local desk
 
--- the record stands for a world in which the subscription stands
+-- the record stands for a world in which the subscription is current
 pub record HasSubscription (kept : Kept) (id : ℕ) : Type 0 where
   pub world : World
   pub stands : StandsFor kept world
   pub subscribed : is_some (found world id) ≡ true
 
--- ---- what asking does
+-- ---- what a request does
 
--- what a desk answers that refuses by `own` and else does `done`
+-- the answer of a desk that refuses with `own`, and else does `done`
 pub record IsAnswer (local : Local) (desk : Desk) (own : Option Refusal) (done : Answer) (reply : Reply) : Type 0 where
   pub said : reply ≡ (answer_by desk own done).reply
   pub stands : Stands local (answer_by desk own done).desk
 
--- want of memory stands after what the desk itself refuses, and leaves a desk as `left` says
+-- the desk's own refusals come before `no memory`, which leaves a desk as `left` says
 pub record IsLacking (local : Local) (own : Option Refusal) (left : Desk → Type 0) : Type 0 where
   pub unrefused : own ≡ None
   pub desk : Desk
   pub is_left : left desk
   pub stands : Stands local desk
 
--- A request that the desk refuses by `own`, and else carries out as `done` says, is answered so. `grows` says whether it
--- needs memory, and `left` what it may leave where there is none.
+-- A request is refused with `own` if there is one, and else carried out as `done` says. `grows` says whether it needs
+-- memory, and `left` what it may leave if memory runs out.
 pub record Answers (old : Local) (grows : Bool) (own : Desk → Option Refusal) (done : Desk → Answer) (left : Desk → Desk → Type 0) (reply : Reply) (new : Local) : Type 0 where
   pub answered : reply ≢ No Memory → (desk : Desk) → Stands old desk → IsAnswer new desk (own desk) (done desk) reply
   pub grew : reply ≡ No Memory → grows ≡ true
@@ -89,12 +89,12 @@ grows (Wait span want turns names) = true
 abbrev pub Unchanged : Desk → Desk → Type 0
 Unchanged desk new = new ≡ desk
 
--- where `read` says of a `Listen` whether its pattern is read
+-- `read` says for a `Listen` whether its text is a pattern
 abbrev pub AskedWith : Bool → Local → Request → Reply → Local → Type 0
 AskedWith read old request reply new =
     Answers old (grows request) (λ desk. own_refusal desk read request) (λ desk. carried_out desk request) (λ desk left. LeftBy request desk left) reply new
 
--- only a pattern is read; where memory lacked it isn't known whether the text is one
+-- only a pattern is read; if memory ran out it isn't known whether the text is one
 abbrev pub IsReadAs : Bool → Option (List ℕ) → Reply → Type 0
 IsReadAs read None reply = read ≡ false
 IsReadAs read (Some text) reply = read ≡ true → reply ≢ No Memory → IsPattern text
@@ -115,8 +115,8 @@ pub data Runs : Local → List Request → List Reply → Local → Type 0 where
   asked : (old mid new : Local) (request : Request) (requests : List Request) (reply : Reply) (replies : List Reply)
       → Asked old request reply mid → Runs mid requests replies new → Runs old (request ∷ requests) (reply ∷ replies) new
 
--- where no reply of a run is want of memory, the replies are the model's answers, with a yes or no for each pattern, and
--- the desk stands for the model's
+-- if no reply of a run is `no memory`, the replies are the model's answers, with a yes or no for each pattern, and the
+-- desk stands for the model's
 pub record IsModels (desk : Desk) (requests : List Request) (replies : List Reply) (new : Local) : Type 0 where
   pub reads : List Bool
   pub are_reads : AreReads reads (patterns_in requests)

@@ -1,4 +1,4 @@
--- Waits for services: the posts that one opens, what they show, and what it leaves.
+-- Waits for services: the posts that a wait opens, what they show, and what the wait leaves.
 use Rattle.std.specs.Prelude.{ℕ, ◌≡◌, Bool, false, if◌then◌else◌, List, [], ◌∷◌, ◌++◌, length, map, fold, take, Option, Some, None, is_some, unwrap_or, Result, Ok, Err}
 use Rattle.std.specs.List.{list_any}
 use Rattle.hub_letters.specs.Flags.{flags_of}
@@ -29,7 +29,7 @@ status_of w = record { number = length w.events; flags = flags_of (letters w.eve
 abbrev pub watch_over : Want → Option Bool → World → Watching
 watch_over want reports w = started want (unwrap_or reports false) (status_of w)
 
--- The posts that were opened, and the fifodirs with their subscriptions. Where one was refused, none is opened after it.
+-- The posts that were opened, and the fifodirs with their subscriptions. If one is refused, no post is opened after it.
 pub record Opening : Type 0 where
   pub fifodirs : List Fifodir
   pub posts : List Post
@@ -41,7 +41,7 @@ so_far fifodirs posts = record { fifodirs = fifodirs; posts = posts; refusal = N
 abbrev pub stopped : List Fifodir → List Post → Refusal → Opening
 stopped fifodirs posts refusal = record { fifodirs = fifodirs; posts = posts; refusal = Some refusal }
 
--- a post subscribes, and reads what its service shows
+-- a post subscribes, and then reads the status of its service
 abbrev pub opened_by : Want → Opening → List ℕ → World → Result (ℕ × ℕ) SubError → Opening
 opened_by want o name w (Err error) = stopped o.fifodirs o.posts (refusal_of_sub error)
 opened_by want o name w (Ok given) =
@@ -62,23 +62,23 @@ opened want fifodirs names = fold (with_post want) (so_far fifodirs []) names
 
 -- ---- what a wait leaves
 
--- with the subscription cancelled that has this id at the fifodir with this name
+-- with the subscription of this id cancelled at the fifodir with this name
 abbrev pub without_subscription : List Fifodir → List ℕ → ℕ → List Fifodir
 without_subscription fifodirs name id = without_held fifodirs (record { name = name; id = id; hearing = None })
 
--- with the posts given back, which are those of the first names
+-- with the subscriptions of the posts cancelled, which are those of the first names
 abbrev pub without_posts : List Fifodir → List (List ℕ) → List Post → List Fifodir
 without_posts fifodirs [] posts = fifodirs
 without_posts fifodirs (name ∷ names) [] = fifodirs
 without_posts fifodirs (name ∷ names) (post ∷ posts) = without_posts (without_subscription fifodirs name post.id) names posts
 
--- what a wait over these names leaves: all its posts are given back, and their ids stay used
+-- what a wait over these names leaves: the subscriptions of all its posts are cancelled, and their ids stay used
 abbrev pub left_by : Opening → List (List ℕ) → List Fifodir
 left_by o names = without_posts o.fifodirs names o.posts
 
 -- ---- what a wait answers
 
--- a post's number, where it is met
+-- a post's number, if it is met
 abbrev pub number_of : Post → Option ℕ
 number_of post = if is_met_at post.watch then Some post.watch.at else None
 
@@ -88,7 +88,7 @@ shown_by posts (Some verdict.Never) = Never
 shown_by posts (Some verdict.Late) = Late
 shown_by posts None = Late
 
--- the verdict of the posts as they stand, and late where there is none
+-- the verdict of the posts as they are now, or late if there is none
 abbrev pub verdict_shown : Span → List Post → Reply
 verdict_shown span posts = shown_by posts (verdict span (map (λ post. post.watch) posts))
 
@@ -96,21 +96,21 @@ abbrev pub wait_shown : Span → List Post → Option Refusal → Reply
 wait_shown span posts (Some refusal) = No refusal
 wait_shown span posts None = verdict_shown span posts
 
--- a post is opened for each name; all are given back
+-- a post is opened for each name, and all are ended
 abbrev pub waited : Desk → Span → Want → List (List ℕ) → Answer
 waited d span want names =
     let o = opened want d.fifodirs names in
     record { reply = wait_shown span o.posts o.refusal; desk = record d { fifodirs = left_by o names } }
 
--- what may be left where want of memory was met: posts were opened for some of the names, from the first on, and given back
+-- what may be left if memory ran out: posts were opened for some of the names, from the first on, and ended
 pub record LeftByWait (d : Desk) (want : Want) (names : List (List ℕ)) (new : Desk) : Type 0 where
   pub count : ℕ
   pub unrefused : (opened want d.fifodirs (take count names)).refusal ≡ None
   pub left : new ≡ record d { fifodirs = left_by (opened want d.fifodirs (take count names)) names }
 
--- ---- a law: whatever a wait answers, it leaves each fifodir as it was, but for ids that are used
+-- ---- a law: whatever a wait answers, it leaves each fifodir as it was, except for ids that are used
 
--- more ids were given, none of them stands, and nothing else has changed
+-- more ids were given, none of them is current, and nothing else has changed
 pub record HasUsedIds (old new : World) : Type 0 where
   pub used : List Subscription
   pub none_stands : list_any (λ s. s.stands) used ≡ false

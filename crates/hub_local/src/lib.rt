@@ -1,7 +1,7 @@
-//! The desk of one thread.
+//! The desk of one thread: a session over records of its own.
 //!
-//! A [`LocalDesk`] answers the requests of one session over records of its own, so that its replies are a function of
-//! the requests.
+//! The replies of a [`LocalDesk`] are determined by the requests, by which texts are patterns, and by whether memory
+//! runs out. The layers above use it for input that is served alone, such as a script.
 #![tactic(auto)]
 
 mod local_desk;

@@ -1,4 +1,4 @@
-//! The desk of one thread.
+//! The desk of one thread, its state, and its implementation of `Desk`.
 ghost use Rattle.std.specs.Prelude.{◌≡◌, IfOk, Some};
 ghost use Rattle.hub_local.specs.Answers.{limits_of};
 ghost use Rattle.hub_requests.specs.Ranges.{AreLimits};
@@ -19,33 +19,33 @@ mod listeners;
 mod subscriptions;
 mod waits;
 
-/// How many ids each fifodir has.
+/// How many ids each fifodir can give.
 const IDS: u64 = 1_000_000_000_000;
 
-/// A fifodir of the desk's own.
+/// A fifodir that only this desk uses.
 #[derive(Drop)]
 struct LocalFifodir {
     kept: Record,
-    /// Whether its service reports readiness. None for a plain fifodir.
+    /// Whether its service reports readiness. None if the fifodir is plain.
     reports: Option<bool>,
 }
 
-/// What a handle is for: the subscription with this id of the fifodir with this name.
+/// What a handle is for: the subscription with this id at the fifodir with this name.
 #[derive(Drop)]
 struct Holding {
     name: Name,
     id: u64,
-    /// Where it is a listener's.
+    /// The listener, if the handle is a listener's.
     hearing: Option<Hearing>,
 }
 
-/// A listener, which goes on after a hit.
+/// A listener. Its own mode is always `Repeat`: the desk ends it after a hit if `mode` is `Once`.
 #[derive(Drop)]
 struct Hearing {
     listener: Listener,
-    /// Whether its subscription ends with a hit.
+    /// Whether the handle's subscription ends with a hit.
     mode: Mode,
-    /// The letter that was taken for it and is not yet heard, for want of memory.
+    /// A letter that was taken for the listener but not searched, because memory ran out. The next poll hears it first.
     held: Option<Letter>,
 }
 
@@ -53,11 +53,11 @@ struct Hearing {
 #[derive(Drop)]
 pub struct LocalDesk {
     alloc: Global,
-    /// In the order they were made.
+    /// In the order in which they were made.
     fifodirs: IndexMap<Name, LocalFifodir>,
-    /// What the standing handles hold, by number.
+    /// What the current handles hold, by their numbers.
     holdings: IndexMap<u64, Holding>,
-    /// How many handles were given.
+    /// How many handles were given so far.
     given: u64,
 }
 
@@ -75,7 +75,7 @@ impl LocalDesk {
     ghost use Rattle.hub_local.specs.Desks.{new_desk};
     ghost use Rattle.hub_local.specs.Standing.{Stands};
 
-    /// A desk with no fifodir and no handle.
+    /// A desk without fifodirs and handles.
     pub fn new(alloc: Global) -> Result<LocalDesk, AllocError>
         ensures { IfOk result (λ desk. Stands desk new_desk) }
     {

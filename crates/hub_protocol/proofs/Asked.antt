@@ -1,4 +1,4 @@
--- The requests that forms ask for.
+-- The requests of forms.
 use Rattle.std.proofs.Common.{inl, inr, ◌≡◌, ℕ, ◌≤◌, Bool, true, false, refl, sym, ap, arith}
 use Rattle.std.proofs.lemmas.Bool.{cases_eq}
 use Rattle.hub_requests.specs.declared.request.Request.{Request}
@@ -11,7 +11,7 @@ flag_of reports few = elim (cases_eq reports 0) [
   | inr some ↦ (true, omega arith)
 ]
 
--- a form within its ranges asks for a request
+-- a form within its ranges has a request
 pub request_asked : (form : Form) → IsWithin form → (request : Request) × (form_of request ≡ form)
 request_asked (Dir name waiting total) h = (request.Dir name waiting total, refl)
 request_asked (Svc name waiting total reports) h = let (notifies, e) = flag_of reports h.1 in (request.Svc name waiting total notifies, ap (λ r. Svc name waiting total r) e)

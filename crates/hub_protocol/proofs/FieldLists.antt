@@ -83,7 +83,7 @@ text_of_form form h short = record {
   plain = subst (All IsTextByte) (sym (spelling-join form h)) (plain_join (text_of_word (word_of form)) (fields_behind form) (visible_word (word_of form)) (visible_behind form h));
 }
 
--- a line has a form exactly where its fields are the form's
+-- a line has a form exactly if its fields are the form's
 pub fields_of-has_form : (line : List ℕ) (form : Form) → HasForm line form → fields_of line ≡ fields_in form
 fields_of-has_form line form has = ap fields_of has.spelled ∙ fields_of-spelling form has.formed
 
@@ -93,7 +93,7 @@ has_form-fields_of line form h e = record {
   spelled = sym (join_with_byte-slice_split 32 line) ∙ ap (join_with_byte 32) e ∙ sym (spelling-join form h);
 }
 
--- ---- what the parts of a line say of it
+-- ---- what the parts of a line show about it
 
 pub has_form-of_word : (line rest : List ℕ) (word : Word) (form : Form) → fields_of line ≡ text_of_word word ∷ fields_of rest → IsFormOf word (fields_of rest) form → HasForm line form
 has_form-of_word line rest word form e is =
@@ -107,7 +107,7 @@ no_form line word fields e none form has =
     let behind : fields ≡ fields_behind form = cc in
     none form has.formed (same_word (word_of form) word texts) behind
 
--- a form has fields
+-- each form has a field after its word
 pub no_form_alone : (word : Word) → IsNoForm word []
 no_form_alone word (Dir name waiting total) h is e = cc
 no_form_alone word form h is e = cc

@@ -41,7 +41,7 @@ leading_zero n h zero' = elim (cases_order n 0) [
   | inr more ↦ let first : 48 < get_or (decimal n) 0 0 = first_decimal n (omega (arith, more)) (fits n h) in absurd (omega arith)
 ]
 
--- A text of the wrong length, or with a leading zero, is no numeral.
+-- A text of the wrong length, or with a leading zero, isn't a numeral.
 pub no_numeral : (text : List ℕ) → (length text ≡ 0) ⊎ ((13 < length text) ⊎ ((1 < length text) × (get_or text 0 0 ≡ 48))) → IsNumeralOf text None
 no_numeral text bad n h e =
     let nonempty : 0 < length (decimal n) = decimal_nonempty n (fits n h) in

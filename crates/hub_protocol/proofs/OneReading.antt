@@ -126,7 +126,7 @@ one_request line a b h k = same_request a b (one_form line (form_of a) (form_of 
 first_word-form : (line : List ℕ) (form : Form) → HasForm line form → first_word line ≡ text_of_word (word_of form)
 first_word-form line form has = first_word-fields line (text_of_word (word_of form)) (fields_behind form) (fields_of-has_form line form has)
 
--- a line that is too long is read in no other way
+-- a line that is too long is read as nothing else
 pub only_long : (line : List ℕ) (a : Result Request Bad) → 512 < length line → IsReading line a → a ≢ Err Memory → a ≡ Err Long
 only_long line (Ok request) long h memory = let short = h.text.short in absurd (omega arith)
 only_long line (Err Long) long h memory = refl
@@ -148,7 +148,7 @@ only_text line (Err bad.Form) short other h memory = absurd (no_other_byte line 
 only_text line (Err Range) short other h memory = absurd (no_other_byte line h.0 other)
 only_text line (Err Memory) short other h memory = absurd (memory refl)
 
--- Of a text:
+-- For a text of at most 512 bytes of a line:
 only_word : (line : List ℕ) (a : Result Request Bad) → IsText line → ((word : Word) → first_word line ≢ text_of_word word) → IsReading line a → a ≢ Err Memory → a ≡ Err bad.Word
 only_word line (Ok request) text none h memory = absurd (none _ (first_word-form line (form_of request) h.form))
 only_word line (Err Long) text none h memory = let short = text.short in absurd (omega (arith, h))

@@ -1,4 +1,4 @@
--- Words that are spelled alike are one.
+-- Words with the same spelling are one.
 use Rattle.std.proofs.Common.{◌≡◌, ℕ, List, refl, sym, ap, ◌∙◌, codes}
 use Rattle.std.specs.Prelude.{if◌then◌else◌}
 use Rattle.std.specs.Str.{bytes_eq}
@@ -12,7 +12,7 @@ use Rattle.hub_protocol.specs.declared.words.Word.{Word}
 use Rattle.hub_protocol.specs.declared.words.Word.TheVariants as word
 use Rattle.hub_protocol.specs.Spelling.{text_of_word, text_of_mode, text_of_span, text_of_want}
 
--- the word that is spelled so; Wait also where none is
+-- the word with this spelling; Wait too if there is none
 abbrev word_at : List ℕ → Word
 word_at text =
     if bytes_eq text (codes "dir") then word.Dir else if bytes_eq text (codes "svc") then word.Svc
@@ -38,7 +38,7 @@ word_at-text_of_word word.Wait = refl
 pub same_word : (v w : Word) → text_of_word v ≡ text_of_word w → v ≡ w
 same_word v w e = sym (word_at-text_of_word v) ∙ ap word_at e ∙ word_at-text_of_word w
 
--- the mode that is spelled so; Repeat also where none is
+-- the mode with this spelling; Repeat too if there is none
 abbrev mode_at : List ℕ → Mode
 mode_at text = if bytes_eq text (codes "once") then Once else Repeat
 
@@ -49,7 +49,7 @@ mode_at-text_of_mode Repeat = refl
 pub same_mode : (a b : Mode) → text_of_mode a ≡ text_of_mode b → a ≡ b
 same_mode a b e = sym (mode_at-text_of_mode a) ∙ ap mode_at e ∙ mode_at-text_of_mode b
 
--- the span that is spelled so; Any also where none is
+-- the span with this spelling; Any too if there is none
 abbrev span_at : List ℕ → Span
 span_at text = if bytes_eq text (codes "all") then All else Any
 
@@ -60,7 +60,7 @@ span_at-text_of_span Any = refl
 pub same_span : (a b : Span) → text_of_span a ≡ text_of_span b → a ≡ b
 same_span a b e = sym (span_at-text_of_span a) ∙ ap span_at e ∙ span_at-text_of_span b
 
--- the want that is spelled so; Finished also where none is
+-- the want with this spelling; Finished too if there is none
 abbrev want_at : List ℕ → Want
 want_at text =
     if bytes_eq text (codes "up") then Up else if bytes_eq text (codes "ready") then Ready

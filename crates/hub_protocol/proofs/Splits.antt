@@ -34,7 +34,7 @@ whole_at : (text : List ℕ) (i : ℕ) → i < length text → get_or text i 0 �
 whole_at text i below space =
     sym (take-append-drop i text) ∙ ap (λ l. take i text ++ l) (drop_more text i 0 below ∙ ap (λ b. b ∷ drop (i + 1) text) space)
 
--- where the first space stands at i
+-- if the first space is at i
 pub fields_of-at : (text : List ℕ) (i : ℕ) → i < length text → ((k : ℕ) → k < i → get_or text k 0 ≢ 32) → get_or text i 0 ≡ 32
     → fields_of text ≡ take i text ∷ fields_of (take (length text - (i + 1)) (drop (i + 1) text))
 fields_of-at text i below before space =
@@ -51,7 +51,7 @@ same_text a b e = sym (join_with_byte-slice_split 32 a) ∙ ap (join_with_byte 3
 pub some_fields : (text : List ℕ) → 0 < length (fields_of text)
 some_fields text = omega (arith, length-slice_split is_space text)
 
--- a field joined to those behind it
+-- a field joined to those after it
 pub join_before : (field : List ℕ) (fields : List (List ℕ)) → 0 < length fields → join_with_byte 32 (field ∷ fields) ≡ field · join_with_byte 32 fields
 join_before field [] some = absurd (omega arith)
 join_before field (next ∷ fields) some = refl

@@ -1,5 +1,5 @@
--- Names, numerals, letters, words, and what stands between the spaces of a text, are of visible bytes: of bytes that may
--- stand in a line, and are no space.
+-- Names, numerals, letters, words, and the pieces between the spaces of a text, are of visible bytes: bytes that may be
+-- in a line and aren't spaces.
 use Rattle.std.proofs.Common.{◌≡◌, ◌≢◌, ℕ, ◌≤◌, List, [], ◌∷◌, Bool, true, false, cond, not, nat_lt, Option, None, Some, refl, ap, ◌∙◌, codes, arith}
 use Rattle.std.specs.Prelude.{All, MatchOption}
 use Rattle.std.specs.Fmt.{decimal}
@@ -102,13 +102,13 @@ visible_by_test : (t : Bool) (b : ℕ) (fields : List (List ℕ)) → is_space b
 visible_by_test true b fields e range rest = (All-nil IsVisible, rest)
 visible_by_test false b fields e range rest = let other : b ≢ 32 = eqb-false b 32 e in visible_onto b fields (omega (arith, range.0), range.1) rest
 
--- what stands between the spaces of a text is visible
+-- the pieces between the spaces of a text are visible
 pub visible_fields : (text : List ℕ) → All IsTextByte text → AllVisible (fields_of text)
 visible_fields [] plain = (All-nil IsVisible, tt)
 visible_fields (b ∷ bs) plain =
     visible_by_test (is_space b) b (fields_of bs) refl (All-head IsTextByte b bs plain) (visible_fields bs (All-tail IsTextByte b bs plain))
 
--- a text is a numeral where its one field is
+-- a text is a numeral if its one field is
 pub fields_of_numeral : (text : List ℕ) (number : Option ℕ) → IsNumeralOf text number
     → MatchOption number ((n : ℕ) → IsNumeral n → fields_of text ≢ decimal n ∷ []) (λ n. IsNumeral n × (fields_of text ≡ decimal n ∷ []))
 fields_of_numeral text None none = λ n h e. none n h (text_of_one text (decimal n) e)

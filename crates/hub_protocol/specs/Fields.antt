@@ -9,11 +9,11 @@ use Rattle.hub_protocol.specs.Spelling.{Form, Dir, Svc, Sub, Pub, Take, Cancel, 
 abbrev pub is_space : ℕ → Bool
 is_space b = b == 32
 
--- the pieces between the spaces of a text, or the whole text where it has none
+-- the pieces between the spaces of a text, or the whole text if it has none
 abbrev pub fields_of : List ℕ → List (List ℕ)
 fields_of text = slice_split is_space text
 
--- digits after a number that they go on
+-- the number that goes on with these digits
 abbrev pub digits_from : ℕ → List ℕ → Option ℕ
 digits_from n [] = Some n
 digits_from n (b ∷ bs) = if is_ascii_digit b then digits_from (10 * n + (b - 48)) bs else None
@@ -22,7 +22,7 @@ digits_from n (b ∷ bs) = if is_ascii_digit b then digits_from (10 * n + (b - 4
 abbrev pub IsNumeralOf : List ℕ → Option ℕ → Type 0
 IsNumeralOf text number = MatchOption number ((n : ℕ) → IsNumeral n → text ≢ decimal n) (λ n. IsNumeral n × (text ≡ decimal n))
 
--- the fields behind a form's word
+-- the fields after a form's word
 abbrev pub fields_behind : Form → List (List ℕ)
 fields_behind (Dir name waiting total) = name ∷ decimal waiting ∷ decimal total ∷ []
 fields_behind (Svc name waiting total reports) = name ∷ decimal waiting ∷ decimal total ∷ decimal reports ∷ []

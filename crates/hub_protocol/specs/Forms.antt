@@ -22,11 +22,11 @@ form_shown (Listen name mode pattern) = spelled.Listen name.now mode pattern.now
 form_shown (Poll id) = spelled.Poll id
 form_shown (Wait span want turns names) = spelled.Wait span want turns (fields_of names.now)
 
--- the form of the word whose fields stand in the rest of a line, if there is one
+-- the form of the word whose fields are the rest of a line, if there is one
 abbrev pub Finds : Word → List ℕ → Option borrowed.Form → Type 0
 Finds word rest found = MatchOption found (IsNoForm word (fields_of rest)) (λ form. IsFormOf word (fields_of rest) (form_shown form))
 
--- the form that a line has, its numbers in their ranges, or the first rule that the line breaks
+-- the form of a line whose numbers are in their ranges, or the first rule that the line breaks
 abbrev pub IsRead : List ℕ → Result borrowed.Form Bad → Type 0
 IsRead line (Ok form) = HasForm line (form_shown form) × IsWithin (form_shown form)
 IsRead line (Err bad) = IsReading line (Err bad)

@@ -12,16 +12,16 @@ use Rattle.hub_protocol.specs.Spelling.{Form, IsForm, IsWithin, spelling, form_o
 abbrev pub first_word : List ℕ → List ℕ
 first_word line = before_first (λ b. b == 32) line
 
--- a byte that may stand in a line
+-- a byte that may be in a line
 abbrev pub IsTextByte : ℕ → Type 0
 IsTextByte b = (32 ≤ b) × (b ≤ 126)
 
--- at most 512 bytes, each one that may stand in a line
+-- at most 512 bytes, each of which may be in a line
 pub record IsText (line : List ℕ) : Type 0 where
   pub short : length line ≤ 512
   pub plain : All IsTextByte line
 
--- the line is of a form
+-- the line has the form
 pub record HasForm (line : List ℕ) (form : Form) : Type 0 where
   pub formed : IsForm form
   pub spelled : line ≡ spelling form

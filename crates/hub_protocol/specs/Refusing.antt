@@ -1,4 +1,4 @@
--- What a line that is no request is refused by.
+-- The refusal of a line that isn't a request.
 use Rattle.hub_requests.specs.declared.reply.Refusal.{Refusal}
 use Rattle.hub_requests.specs.declared.reply.Refusal.TheVariants as refusal
 use Rattle.hub_protocol.specs.declared.parsing.Bad.{Bad}

@@ -15,7 +15,7 @@ use Rattle.hub_requests.specs.declared.request.Request.TheVariants as request
 use Rattle.hub_protocol.specs.declared.words.Word.{Word}
 use Rattle.hub_protocol.specs.declared.words.Word.TheVariants as word
 
--- what a line of a form says, its numbers not yet held to their ranges
+-- what a line of a form says, before its numbers are checked against their ranges
 pub data Form : Type 0 where
   Dir : (name : List ℕ) (waiting total : ℕ) → Form
   Svc : (name : List ℕ) (waiting total reports : ℕ) → Form
@@ -41,7 +41,7 @@ pub record AreLetters (letters : List ℕ) : Type 0 where
   pub some : 0 < length letters
   pub each : All (λ b. (33 ≤ b) × (b ≤ 126)) letters
 
--- 1 to 200 bytes that may stand in a line
+-- 1 to 200 bytes that may be in a line
 pub record IsPattern (pattern : List ℕ) : Type 0 where
   pub some : 0 < length pattern
   pub short : length pattern ≤ 200
@@ -53,7 +53,7 @@ pub record AreNames (names : List (List ℕ)) : Type 0 where
   pub few : length names ≤ 32
   pub each : All IsName names
 
--- its fields are what the form asks for
+-- the form's fields are what it needs
 abbrev pub IsForm : Form → Type 0
 IsForm (Dir name waiting total) = IsName name × IsNumeral waiting × IsNumeral total
 IsForm (Svc name waiting total reports) = IsName name × IsNumeral waiting × IsNumeral total × IsNumeral reports
@@ -116,7 +116,7 @@ word_of (Listen name mode pattern) = word.Listen
 word_of (Poll id) = word.Poll
 word_of (Wait span want turns names) = word.Wait
 
--- the one line of a form; a space may stand in a pattern, and one stands between two names
+-- the one line of a form; a pattern may have spaces, and there is one space between two names
 abbrev pub spelling : Form → List ℕ
 spelling (Dir name waiting total) = codes "dir" · name · decimal waiting · decimal total
 spelling (Svc name waiting total reports) = codes "svc" · name · decimal waiting · decimal total · decimal reports
@@ -148,7 +148,7 @@ abbrev pub digit_of : Bool → ℕ
 digit_of false = 0
 digit_of true = 1
 
--- the form that asks for a request
+-- the form of a request
 abbrev pub form_of : Request → Form
 form_of (request.Dir name waiting total) = Dir name waiting total
 form_of (request.Svc name waiting total notifies) = Svc name waiting total (digit_of notifies)

@@ -4,7 +4,7 @@ use Rattle.std.specs.declared.alloc.AllocError.{AllocError}
 use Rattle.std.specs.declared.alloc.Global.{Global}
 use Rattle.std.specs.declared.vec.Vec.{Vec}
 
--- the text was appended, or a front of it: all of it where there is room for it
+-- the text was appended, or a prefix of it; all of it if there is room
 pub record Appends (old new : Vec ℕ Global) (result : Result (Unit {0}) AllocError) (text : List ℕ) : Type 0 where
   pub ok : OnOk result (new.items ≡ old.items ++ text)
   pub err : OnErr result (take (length old.items) new.items ≡ old.items)

@@ -1,4 +1,4 @@
-//! The fields of a line.
+//! The fields of a line: the pieces between its spaces.
 ghost use Rattle.std.specs.Prelude.{◌≡◌, ◌<◌, ◌≤◌, ◌↔◌, IsTrue, slice_index, ◌∷◌, [], length, count_by, All, Any, MatchBool, MatchOption};
 ghost use Rattle.hub_protocol.specs.Spelling.{AreLetters, AreNames, IsName, IsPattern};
 ghost use Rattle.hub_protocol.specs.Reading.{IsTextByte};
@@ -6,14 +6,14 @@ ghost use Rattle.hub_protocol.specs.Fields.{is_space, fields_of, digits_from, Is
 
 use hub_requests::Name;
 
-/// A numeral has at most so many digits.
+/// The most digits of a numeral.
 const MOST_DIGITS: usize = 13;
-/// A pattern has at most so many bytes.
+/// The most bytes of a pattern.
 const LONGEST_PATTERN: usize = 200;
-/// One may wait for at most so many services.
+/// The most services of a `wait`.
 const MOST_NAMES: usize = 32;
 
-/// Whether each byte may stand in a line.
+/// Whether each byte may be in a line: it is within 0x20 to 0x7E.
 pub fn is_text(line: &[u8]) -> bool
     ensures { MatchBool result (All IsTextByte line.now) (Any (λ b. IsTextByte b → ⊥) line.now) }
 {
@@ -25,7 +25,7 @@ pub fn is_text(line: &[u8]) -> bool
     true
 }
 
-/// What stands before the first space and what after it; none where there is no space.
+/// The text before the first space, and the text after it. None if there is no space.
 pub fn split_at_space(text: &[u8]) -> Option<(&[u8], &[u8])>
     ensures { MatchOption result
         (fields_of text.now ≡ text.now ∷ [])
@@ -59,7 +59,7 @@ fn has_leading_zero(text: &[u8]) -> bool
     text.len() > 1 && text[0] == b'0'
 }
 
-/// The number whose numeral the text is: its digits, without leading zeros.
+/// The number whose numeral the text is: 1 to 13 digits, without leading zeros. None if the text isn't a numeral.
 pub fn numeral(text: &[u8]) -> Option<u64>
     ensures { IsNumeralOf text.now result }
 {
@@ -69,7 +69,7 @@ pub fn numeral(text: &[u8]) -> Option<u64>
     digits_value(text)
 }
 
-/// Whether the text is letters, one or more.
+/// Whether the text is one or more letters.
 pub fn are_letters(text: &[u8]) -> bool
     ensures { MatchBool result (AreLetters text.now) (AreLetters text.now → ⊥) }
 {
@@ -79,14 +79,15 @@ pub fn are_letters(text: &[u8]) -> bool
     text.iter().all(|b| *b >= b'!' && *b <= b'~')
 }
 
-/// Whether a pattern may be spelled so: whether it is one is for its reader to say.
+/// Whether the text may be the field of a pattern: 1 to 200 bytes of a line. Whether it is a pattern is found out
+/// later, by the desk that is asked.
 pub fn is_pattern(text: &[u8]) -> bool
     ensures { MatchBool result (IsPattern text.now) (IsPattern text.now → ⊥) }
 {
     !text.is_empty() && text.len() <= LONGEST_PATTERN && is_text(text)
 }
 
-/// Whether the fields of the text are names, and not too many.
+/// Whether the fields of the text are 1 to 32 names.
 pub fn are_names(text: &[u8]) -> bool
     ensures { MatchBool result (AreNames (fields_of text.now)) (AreNames (fields_of text.now) → ⊥) }
 {
@@ -100,7 +101,8 @@ fn spaces(text: &[u8]) -> usize
 }
 
 fn fields_are_names(text: &[u8]) -> bool
-    ensures { MatchBool result (All IsName (fields_of text.now)) (All IsName (fields_of text.now) → ⊥) }
+    ensures { MatchBool result (All IsName (fields_of text.now))
+        (All IsName (fields_of text.now) → ⊥) }
 {
     text.split(|b| *b == b' ').all(Name::is_name)
 }

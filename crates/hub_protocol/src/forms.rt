@@ -1,4 +1,4 @@
-//! The forms of lines: for each word, what stands behind it.
+//! The forms of lines: for each word, the fields after it.
 ghost use Rattle.std.specs.Prelude.{◌≡◌};
 ghost use Rattle.hub_protocol.specs.Forms.{Finds};
 
@@ -9,49 +9,59 @@ use crate::parts::{
 use crate::words::Word;
 use hub_letters::{Mode, Span, Want};
 
-/// What a line of a form says, its numbers not yet held to their ranges.
+/// What a line of a form says. Its numbers haven't been checked against their ranges yet. Each variant shows its line.
 #[derive(Clone, Copy)]
 pub enum Form<'a> {
+    /// `dir N W T`
     Dir {
         name: &'a [u8],
         waiting: u64,
         total: u64,
     },
+    /// `svc N W T R`
     Svc {
         name: &'a [u8],
         waiting: u64,
         total: u64,
         reports: u64,
     },
+    /// `sub N`
     Sub {
         name: &'a [u8],
     },
+    /// `pub N LETTERS`
     Pub {
         name: &'a [u8],
         letters: &'a [u8],
     },
+    /// `take ID MAX`
     Take {
         id: u64,
         max: u64,
     },
+    /// `cancel ID`
     Cancel {
         id: u64,
     },
+    /// `close N`
     Close {
         name: &'a [u8],
     },
+    /// `status N`
     Status {
         name: &'a [u8],
     },
+    /// `listen N MODE PATTERN`
     Listen {
         name: &'a [u8],
         mode: Mode,
         pattern: &'a [u8],
     },
+    /// `poll ID`
     Poll {
         id: u64,
     },
-    /// The names as they stand in the line, with one space between two.
+    /// `wait SPAN WANT TURNS N1 .. Nk`. The names are as in the line, with one space between two.
     Wait {
         span: Span,
         want: Want,
@@ -167,7 +177,7 @@ fn wait(rest: &[u8]) -> Option<Form<'_>>
     })
 }
 
-/// The form of the word whose fields are behind it.
+/// The form that the word has with this rest of the line. None if the rest doesn't have the fields of the word.
 pub fn form_of_word(word: Word, rest: &[u8]) -> Option<Form<'_>>
     ensures { Finds word rest.now result }
 {

@@ -1,7 +1,8 @@
-//! Lines to requests, and replies to lines.
+//! The text protocol: reads lines as requests, and writes replies as lines.
 //!
-//! A line either spells one request, or it is refused by the first rule that it breaks. Each request has just one
-//! spelling, and each reply just one text.
+//! [`parse`] reads a line. It either spells one request, or it is refused by the first rule that it breaks. Each
+//! request has exactly one spelling. [`write_reply`] writes the one text of a reply. `docs/requests.md` is the manual
+//! of both.
 #![tactic(auto)]
 
 mod fields;

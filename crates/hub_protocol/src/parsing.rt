@@ -1,4 +1,4 @@
-//! The request that a line spells.
+//! Reads the request that a line spells.
 ghost use Rattle.std.specs.Prelude.{◌≡◌, ◌∷◌, [], IfOk};
 ghost use Rattle.hub_requests.specs.Ranges.{IsInRange};
 ghost use Rattle.hub_protocol.specs.Fields.{fields_of};
@@ -13,23 +13,23 @@ use crate::words::word_spelled;
 use hub_requests::{Refusal, Request};
 use std::alloc::Global;
 
-/// A line has at most so many bytes.
+/// The most bytes of a line, without its LF.
 const LONGEST_LINE: usize = 512;
 
-/// Why a line is no request: the first rule that it breaks, in this order.
+/// Why a line isn't a request: the first rule that it breaks, in this order.
 #[derive(Clone, Copy, Debug, PartialEq, Eq)]
 pub enum Bad {
     /// It has more than 512 bytes.
     Long,
-    /// A byte of it is none from 0x20 to 0x7E.
+    /// A byte of it isn't within 0x20 to 0x7E.
     Text,
-    /// What stands before its first space is no word of a request.
+    /// The text before its first space, or the whole line if it has no space, is not the word of a request.
     Word,
-    /// It hasn't the form that its word asks for.
+    /// It doesn't have the form of its word.
     Form,
     /// A number is outside its range.
     Range,
-    /// It spells a request, and there was no memory for it.
+    /// It spells a request, but memory ran out.
     Memory,
 }
 
@@ -48,7 +48,7 @@ impl From<Bad> for Refusal {
     }
 }
 
-/// The request that a line, without its LF, spells, or the first rule that it breaks.
+/// The request that a line spells, or the first rule that it breaks. The line comes without its LF.
 pub fn parse(alloc: Global, line: &[u8]) -> Result<Request, Bad>
     ensures reading { IsReading line.now result }
     ensures in_range { IfOk result IsInRange }
@@ -85,7 +85,7 @@ fn read_text(line: &[u8]) -> Result<Form<'_>, Bad>
     Ok(form)
 }
 
-// A line of one word has no form.
+// A line without a space has no form, since each form has a field after its word.
 fn refusal_of_word(line: &[u8]) -> Bad
     requires text { IsText line.now }
     requires one { fields_of line.now ≡ line.now ∷ [] }

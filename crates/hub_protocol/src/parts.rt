@@ -1,4 +1,4 @@
-//! What stands first, or last, in the rest of a line.
+//! The first field of the rest of a line, or its last fields.
 ghost use Rattle.std.specs.Prelude.{◌≡◌, ◌≢◌, ◌∷◌, [], ℕ, List, MatchOption};
 ghost use Rattle.std.specs.Fmt.{decimal};
 ghost use Rattle.hub_letters.specs.declared.want.Want.{Want};
@@ -12,7 +12,7 @@ use crate::words::{mode_spelled, span_spelled, want_spelled};
 use hub_letters::{Mode, Span, Want};
 use hub_requests::Name;
 
-/// A name, and what stands behind it.
+/// A name, and the rest after it. None if the first field isn't a name, or is the last.
 pub fn name_first(rest: &[u8]) -> Option<(&[u8], &[u8])>
     ensures { MatchOption result
         ((name field : List ℕ) (more : List (List ℕ)) → IsName name → fields_of rest.now ≢ name ∷ field ∷ more)
@@ -25,7 +25,7 @@ pub fn name_first(rest: &[u8]) -> Option<(&[u8], &[u8])>
     Some((name, rest))
 }
 
-/// A numeral's number, and what stands behind it.
+/// The number of a numeral, and the rest after it. None if the first field isn't a numeral, or is the last.
 pub fn numeral_first(rest: &[u8]) -> Option<(u64, &[u8])>
     ensures { MatchOption result
         ((n : ℕ) (field : List ℕ) (more : List (List ℕ)) → IsNumeral n → fields_of rest.now ≢ decimal n ∷ field ∷ more)
@@ -35,7 +35,7 @@ pub fn numeral_first(rest: &[u8]) -> Option<(u64, &[u8])>
     Some((numeral(number)?, rest))
 }
 
-/// A mode, and what stands behind it.
+/// A mode, and the rest after it. None if the first field isn't a mode, or is the last.
 pub fn mode_first(rest: &[u8]) -> Option<(Mode, &[u8])>
     ensures { MatchOption result
         ((mode : Mode) (text : List ℕ) → fields_of rest.now ≢ text_of_mode mode ∷ fields_of text)
@@ -45,7 +45,7 @@ pub fn mode_first(rest: &[u8]) -> Option<(Mode, &[u8])>
     Some((mode_spelled(mode)?, rest))
 }
 
-/// A span, and what stands behind it.
+/// A span, and the rest after it. None if the first field isn't a span, or is the last.
 pub fn span_first(rest: &[u8]) -> Option<(Span, &[u8])>
     ensures { MatchOption result
         ((span : Span) (field : List ℕ) (more : List (List ℕ)) → fields_of rest.now ≢ text_of_span span ∷ field ∷ more)
@@ -55,7 +55,7 @@ pub fn span_first(rest: &[u8]) -> Option<(Span, &[u8])>
     Some((span_spelled(span)?, rest))
 }
 
-/// A want, and what stands behind it.
+/// A want, and the rest after it. None if the first field isn't a want, or is the last.
 pub fn want_first(rest: &[u8]) -> Option<(Want, &[u8])>
     ensures { MatchOption result
         ((want : Want) (field : List ℕ) (more : List (List ℕ)) → fields_of rest.now ≢ text_of_want want ∷ field ∷ more)
@@ -65,7 +65,7 @@ pub fn want_first(rest: &[u8]) -> Option<(Want, &[u8])>
     Some((want_spelled(want)?, rest))
 }
 
-/// A name, with nothing behind it.
+/// A name, if it is the whole rest.
 pub fn last_name(rest: &[u8]) -> Option<&[u8]>
     ensures { MatchOption result
         ((name : List ℕ) → IsName name → fields_of rest.now ≢ name ∷ [])
@@ -78,7 +78,7 @@ pub fn last_name(rest: &[u8]) -> Option<&[u8]>
     }
 }
 
-/// A numeral's number, with nothing behind it.
+/// The number of a numeral, if it is the whole rest.
 pub fn last_numeral(rest: &[u8]) -> Option<u64>
     ensures { MatchOption result
         ((n : ℕ) → IsNumeral n → fields_of rest.now ≢ decimal n ∷ [])
@@ -87,7 +87,7 @@ pub fn last_numeral(rest: &[u8]) -> Option<u64>
     numeral(rest)
 }
 
-/// Letters, with nothing behind them.
+/// Letters, if they are the whole rest.
 pub fn last_letters(rest: &[u8]) -> Option<&[u8]>
     ensures { MatchOption result
         ((letters : List ℕ) → AreLetters letters → fields_of rest.now ≢ letters ∷ [])
@@ -96,7 +96,7 @@ pub fn last_letters(rest: &[u8]) -> Option<&[u8]>
     if are_letters(rest) { Some(rest) } else { None }
 }
 
-/// A pattern: all of the text, its spaces too.
+/// A pattern: the whole rest, with its spaces.
 pub fn last_pattern(rest: &[u8]) -> Option<&[u8]>
     ensures { MatchOption result
         ((pattern : List ℕ) → IsPattern pattern → fields_of rest.now ≢ fields_of pattern)
@@ -105,7 +105,7 @@ pub fn last_pattern(rest: &[u8]) -> Option<&[u8]>
     if is_pattern(rest) { Some(rest) } else { None }
 }
 
-/// Names, with one space between two and nothing behind the last.
+/// Names: the whole rest, with one space between two.
 pub fn last_names(rest: &[u8]) -> Option<&[u8]>
     ensures { MatchOption result
         ((names : List (List ℕ)) → AreNames names → fields_of rest.now ≢ names)

@@ -1,4 +1,4 @@
-//! The request that a form asks for.
+//! The request of a form.
 ghost use Rattle.std.specs.Prelude.{◌≡◌, MatchBool, IfOk};
 ghost use Rattle.hub_requests.specs.Ranges.{AreLimits};
 ghost use Rattle.hub_protocol.specs.Spelling.{IsName, IsPattern, AreLetters, AreNames, IsForm, IsWithin, form_of};
@@ -19,7 +19,8 @@ fn are_limits(waiting: u64, total: u64) -> bool
 
 /// Whether each number is in its range.
 pub fn is_within(form: &Form<'_>) -> bool
-    ensures { MatchBool result (IsWithin (form_shown form.now)) (IsWithin (form_shown form.now) → ⊥) }
+    ensures { MatchBool result (IsWithin (form_shown form.now))
+        (IsWithin (form_shown form.now) → ⊥) }
 {
     match form {
         Form::Dir { waiting, total, .. } => are_limits(*waiting, *total),
@@ -73,7 +74,7 @@ fn names_of(alloc: Global, text: &[u8]) -> Result<Names, AllocError>
     Ok(Names::of(names))
 }
 
-/// The request that the form asks for.
+/// The request of a form whose numbers are in their ranges. An error says that memory ran out.
 pub fn request_of(alloc: Global, form: Form<'_>) -> Result<Request, AllocError>
     requires formed { IsForm (form_shown form) }
     requires within { IsWithin (form_shown form) }

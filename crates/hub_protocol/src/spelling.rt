@@ -5,22 +5,23 @@ ghost use Rattle.hub_protocol.specs.declared.parsing.Bad.{Bad};
 ghost use Rattle.hub_protocol.specs.Spelling.{Form, IsForm, IsWithin, spelling, form_of, word_of, text_of_word};
 ghost use Rattle.hub_protocol.specs.Reading.{HasForm, Spells, IsReading, first_word};
 
-/// No line spells two forms, hence no two requests.
+/// No line spells two forms, and so no line spells two requests.
 pub fn no_line_is_spelled_twice()
     ensures forms { (line : List ℕ) (a b : Form) → HasForm line a → HasForm line b → a ≡ b }
     ensures requests { (line : List ℕ) (a b : Request) → Spells line a → Spells line b → a ≡ b }
 {}
 
-/// A line is read in one way, want of memory aside.
+/// Unless memory runs out, a line is read in one way.
 pub fn each_line_is_read_in_one_way()
     ensures { (line : List ℕ) (a b : Result Request Bad) → a ≢ Err Bad.Memory → b ≢ Err Bad.Memory
         → IsReading line a → IsReading line b → a ≡ b }
 {}
 
-/// Each form has a line, which begins with its word. Where it isn't too long it is read as the form's request, or as
-/// out of range.
+/// Each form has a line, which begins with its word. If the line isn't too long, it is read as the form's request, or
+/// as out of range.
 pub fn each_form_has_a_line()
-    ensures word { (form : Form) → IsForm form → first_word (spelling form) ≡ text_of_word (word_of form) }
+    ensures word { (form : Form) → IsForm form → first_word (spelling form) ≡ text_of_word
+        (word_of form) }
     ensures within { (request : Request) → IsForm (form_of request) → IsWithin (form_of request)
         → length (spelling (form_of request)) ≤ 512 → Spells (spelling (form_of request)) request }
     ensures beyond { (form : Form) → IsForm form → (IsWithin form → ⊥)

@@ -1,4 +1,4 @@
-//! The words of lines.
+//! The words of lines, and of modes, spans and wants.
 ghost use Rattle.std.specs.Prelude.{◌≡◌, ◌≢◌, MatchOption};
 ghost use Rattle.hub_letters.specs.declared.want.Want.{Want};
 ghost use Rattle.hub_letters.specs.declared.mode.Mode.{Mode};
@@ -8,7 +8,7 @@ ghost use Rattle.hub_protocol.specs.declared.words.Word.{Word};
 
 use hub_letters::{Mode, Span, Want};
 
-/// The words that lines begin with.
+/// The words that lines begin with. Each is spelled as its variant, in lower case.
 #[derive(Clone, Copy, Debug, PartialEq, Eq)]
 pub enum Word {
     Dir,
@@ -24,7 +24,7 @@ pub enum Word {
     Wait,
 }
 
-/// The word that is spelled so.
+/// The word with this spelling.
 pub fn word_spelled(text: &[u8]) -> Option<Word>
     ensures { MatchOption result
         ((word : Word) → text.now ≢ text_of_word word)
@@ -46,7 +46,7 @@ pub fn word_spelled(text: &[u8]) -> Option<Word>
     }
 }
 
-/// The mode that is spelled so.
+/// The mode with this spelling.
 pub fn mode_spelled(text: &[u8]) -> Option<Mode>
     ensures { MatchOption result
         ((mode : Mode) → text.now ≢ text_of_mode mode)
@@ -59,7 +59,7 @@ pub fn mode_spelled(text: &[u8]) -> Option<Mode>
     }
 }
 
-/// The span that is spelled so.
+/// The span with this spelling.
 pub fn span_spelled(text: &[u8]) -> Option<Span>
     ensures { MatchOption result
         ((span : Span) → text.now ≢ text_of_span span)
@@ -72,7 +72,7 @@ pub fn span_spelled(text: &[u8]) -> Option<Span>
     }
 }
 
-/// The want that is spelled so.
+/// The want with this spelling.
 pub fn want_spelled(text: &[u8]) -> Option<Want>
     ensures { MatchOption result
         ((want : Want) → text.now ≢ text_of_want want)

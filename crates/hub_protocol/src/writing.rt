@@ -1,4 +1,4 @@
-//! The text of a reply.
+//! Writes the text of a reply.
 ghost use Rattle.std.specs.Prelude.{◌≡◌, ◌++◌, ◌+◌, ◌∷◌, [], ◌≤◌, length, take, OnOk, OnErr, IsOk, vec_len, vec_capacity, codes};
 ghost use Rattle.std.specs.Fmt.{decimal};
 ghost use Rattle.hub_requests.specs.declared.reply.Reply.{Reply};
@@ -11,11 +11,13 @@ use hub_requests::{Refusal, Reply};
 use itoa::Buffer;
 use std::alloc::AllocError;
 
-/// Appends the text of the reply, with its LF. An `Err` changes nothing.
+/// Appends the text of the reply, with its LF. An error says that memory ran out; `out` then has the same bytes as
+/// before.
 pub fn write_reply(reply: &Reply, out: &mut Vec<u8>) -> Result<(), AllocError>
     ensures ok { OnOk result (out.new.items ≡ out.old.items ++ text_of reply.now) }
     ensures err { OnErr result (out.new.items ≡ out.old.items) }
-    ensures room { vec_len out.old + length (text_of reply.now) ≤ vec_capacity out.old → IsOk result }
+    ensures room { vec_len out.old + length (text_of reply.now) ≤ vec_capacity out.old
+        → IsOk result }
     ensures capacity { vec_capacity out.old ≤ vec_capacity out.new }
 {
     let start = out.len();

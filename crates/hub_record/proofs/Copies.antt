@@ -1,11 +1,11 @@
--- What is copied out of two slices that stand for one list.
+-- What is copied out of two slices that represent one list.
 use Rattle.std.proofs.Common.{ℕ, ◌≡◌, ◌+◌, ◌-◌, ◌<◌, ◌≤◌, min, List, ◌++◌, length, take, drop, sym, ap, ◌∙◌, inl, inr, append_assoc, arith}
 use Rattle.std.proofs.lemmas.List.{length-take-le, drop-drop, drop_at, drop-append-le, drop_all, take_at, take-append-le}
 use Rattle.std.proofs.lemmas.Bool.{cases_lt}
 use Rattle.std.proofs.Math.Seq.{take-add, drop-append-add}
 use Rattle.hub_record.specs.declared.Event.{Event}
 
--- from a place on, where the place is cut between the two
+-- from a place on, if the place is cut between the two
 pub drop-parts : (front back : List Event) (place : ℕ) → drop (min place (length front)) front ++ drop (place - min place (length front)) back ≡ drop place (front ++ back)
 drop-parts front back place = elim (cases_lt (length front) place) [
   | inl past ↦ (let all : min place (length front) ≡ length front = omega arith in
@@ -21,7 +21,7 @@ drop-parts front back place = elim (cases_lt (length front) place) [
       ∙ sym (drop-append-le place front back (omega arith)))
 ]
 
--- f events of the front and b of the back, one after the other, at the start of a slice
+-- f events of the front slice and b of the back one, one after the other, at the beginning of a slice
 pub copied_out : (front back slice one two : List Event) (f b : ℕ) → f ≤ length front → (0 < b → f ≡ length front) → one ≡ take f front → two ≡ take b back
     → take f (one ++ drop f slice) ++ (two ++ drop (f + b - f) (drop f (one ++ drop f slice))) ≡ take (f + b) (front ++ back) ++ drop (f + b) slice
 copied_out front back slice one two f b within whole is_one is_two =

@@ -32,7 +32,7 @@ gathered-push from (x ∷ rest) s id is = ap (λ z. (from, x.gathered) ∷ z) (g
 pub gathered_at_cancel : (w : World) (call : Call) (said : Said) (id : ℕ) → call ≡ Cancel id → gathered_from 1 (after_call w call said).subscriptions ≡ gathered_from 1 w.subscriptions
 gathered_at_cancel w call said id e = ap (λ k. gathered_from 1 (after_call w k said).subscriptions) e ∙ gathered_cancel w id (found w id)
 
--- the same change, where the two functions agree on the standing subscription
+-- the same change, if the two functions agree on the current subscription
 pub changed_alike : (f g : Subscription → Subscription) (from : ℕ) (subs : List Subscription) (id : ℕ) (s : Subscription) → found_from from subs id ≡ Some s → f s ≡ g s → changed_from f from subs id ≡ changed_from g from subs id
 changed_alike f g from [] id s e h = refl
 changed_alike f g from (x ∷ rest) id s e h =
@@ -46,7 +46,7 @@ changed_alike f g from (x ∷ rest) id s e h =
       | inr t ↦ simp t (ap (λ z. x ∷ z) (changed_alike f g (from + 1) rest id s (simp t at e) h))
     ]
 
--- taking as many as wait, or fewer, is taking at most that many
+-- to take as many as are pending, or fewer, is to take at most that many
 pub take_alike : (w : World) (id most most' : ℕ) → ((s : Subscription) → found w id ≡ Some s → taken w s most ≡ taken w s most') → after_take w id most ≡ after_take w id most'
 take_alike w id most most' h = by (found w id) refl
   where
@@ -110,7 +110,7 @@ gathered_take w id most = by (found w id) refl
     by None is = sym (appended_nothing id (gathered_from 1 w.subscriptions))
     by (Some s) is = gathered_moved w most 1 w.subscriptions id s is
 
--- how many were asked for, where at most what waits is asked for
+-- how many are asked for, if at most what is pending is asked for
 pub asks : (w : World) (id max waiting : ℕ) → waiting ≡ unwrap_or (option_map (λ (s : Subscription). length w.events - s.next) (found w id)) 0 → (s : Subscription) → found w id ≡ Some s → taken w s (min waiting max) ≡ taken w s max
 asks w id max waiting e s is =
     let k = e ∙ ap (λ o. unwrap_or (option_map (λ (s : Subscription). length w.events - s.next) o) 0) is in omega arith

@@ -1,4 +1,4 @@
--- What a backlog keeps beside, after each change.
+-- What a backlog keeps to find the least cursor, after each change.
 use Rattle.std.proofs.Common.{ℕ, suc, ◌≡◌, ◌+◌, ◌-◌, ◌<◌, ◌≤◌, Bool, false, List, [], ◌∷◌, ◌++◌, Some, None, Ok, min, length, take, drop, All, nat_eq, refl, sym, ap, subst, ◌∙◌, arith}
 use Rattle.std.proofs.lemmas.Bool.{ne_eqb}
 use Rattle.std.proofs.lemmas.List.{length-drop, map-append}
@@ -46,7 +46,7 @@ kept_grown number standing end more given cs k some l small = record {
   small = small;
 }
 
--- a cursor moves on, and the base and the count are those of the cursors then
+-- a cursor moves on; the base and the count are those of the cursors afterwards
 pub kept_set_value : (number standing end given number' standing' end' w : ℕ) (test : ℕ → Bool) (cs after : List (ℕ × ℕ)) → IsKept number standing end given cs → w ≤ end → after ≡ set_value test cs w → number' ≡ least end after → standing' ≡ standing_at number' after → end' ≡ end → IsKept number' standing' end' given after
 kept_set_value number standing end given number' standing' end' w test cs after k l is low counted same =
     let small = k.small in
@@ -72,7 +72,7 @@ kept_remove_entry number standing end given number' standing' end' test cs after
 end_after_cut : (number number' : ℕ) (items : List Event) → number ≤ number' → number' ≤ number + length items → number' + length (drop (number' - number) items) ≡ number + length items
 end_after_cut number number' items l m = let k = length-drop (number' - number) items in omega arith
 
--- what is held where the ring was cut at a new base, and where the base stayed
+-- what is held if the ring was cut at a new base, or if the base stayed
 pub cut_held : (number number' room given : ℕ) (items : List Event) (cs cs' entries : List (ℕ × ℕ)) (ring : Buffer Event) → number ≡ least (number + length items) cs → number' ≡ least (number + length items) entries → entries ≡ cs' → least (number + length items) cs ≤ least (number + length items) cs' → ring ≡ buffer (drop (number' - number) items) room
     → record { room = ring.capacity; end = number' + length ring.items; events = ring.items; given = given; cursors = entries } ≡ with_cursors (record { room = room; end = number + length items; events = items; given = given; cursors = cs }) cs'
 cut_held number number' room given items cs cs' entries ring low low' is more cut =

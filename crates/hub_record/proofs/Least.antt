@@ -1,4 +1,4 @@
--- The least of the cursors and how many stand there, after a change of one.
+-- The least of the cursors and how many are there, after a change of one cursor.
 use Rattle.std.proofs.Common.{ℕ, ◌≡◌, ◌==◌, ◌+◌, ◌<◌, ◌≤◌, min, Bool, cond, List, [], ◌∷◌, ◌++◌, Some, count_by, All, refl, ap, ◌∙◌, inl, inr, arith}
 use Rattle.std.proofs.lemmas.Bool.{cases_Bool, cases_eq, cases_lt, eq-eqb, ne_eqb}
 use Rattle.std.proofs.lemmas.List.{map-append}
@@ -23,7 +23,7 @@ least_bound_at d test (c ∷ cs) v e =
       | inr t ↦ (let k = least_bound_at d test cs v (simp t at e) in omega arith)
     ]
 
--- a number at which a cursor stands
+-- a number at which there is a cursor
 pub least_bound_standing : (d n : ℕ) (cs : List (ℕ × ℕ)) → 0 < standing_at n cs → least d cs ≤ n
 least_bound_standing d n [] h = absurd (omega arith)
 least_bound_standing d n (c ∷ cs) h = elim (cases_eq c.1 n) [
@@ -76,13 +76,13 @@ least-remove_entry_above d test (c ∷ cs) v e h =
           ])
     ]
 
--- with more events the least cursor stays, where there is one
+-- with more events the least cursor stays, if there is one
 pub least_grown : (d e : ℕ) (cs : List (ℕ × ℕ)) → (cs ≡ [] → ⊥) → d ≤ e → All (λ n. n ≤ d) (values_of cs) → least e cs ≡ least d cs
 least_grown d e [] some l h = absurd (some refl)
 least_grown d e (c ∷ []) some l h = let k = All-head (λ n. n ≤ d) c.1 [] h in omega arith
 least_grown d e (c ∷ (x ∷ cs)) some l h = ap (min c.1) (least_grown d e (x ∷ cs) (λ (z : (x ∷ cs) ≡ []). cc) l (All-tail (λ n. n ≤ d) c.1 (values_of (x ∷ cs)) h))
 
--- ---- how many stand at a number
+-- ---- how many cursors are at a number
 
 -- what one cursor counts
 abbrev one_at : ℕ → ℕ → ℕ

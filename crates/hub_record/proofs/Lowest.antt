@@ -1,4 +1,4 @@
--- The least of the cursors and how many stand there, found in one pass.
+-- The least of the cursors and how many are there, found in one pass.
 use Rattle.std.proofs.Common.{ℕ, ◌≡◌, ◌==◌, ◌+◌, ◌<◌, ◌≤◌, min, cond, List, [], ◌∷◌, length, fold, count_by, refl, sym, ap, subst, ◌∙◌, arith}
 use Rattle.std.proofs.lemmas.Bool.{eq-eqb, ne_eqb}
 use Rattle.std.proofs.lemmas.List.Sums.{sum_by-cons}
@@ -15,7 +15,7 @@ least-values_of d (c ∷ cs) = least-values_of (min d c.1) cs ∙ least_min d c.
     least_min d n [] = omega arith
     least_min d n (c ∷ cs) = let k = least_min d n cs in omega arith
 
--- `least` is the least so far and `standing` of the cursors stand there; `rest` are the cursors to come
+-- `least` is the least so far and `standing` of the cursors are at it; `rest` are the cursors to come
 pub record IsSoFar (least standing : ℕ) (rest : List ℕ) (lowest all size : ℕ) : Type 0 where
   pub leads : fold (λ m n. min m n) least rest ≡ lowest
   pub here : least ≡ lowest → standing + count_by (λ n. n == lowest) rest ≡ all

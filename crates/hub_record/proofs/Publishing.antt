@@ -54,7 +54,7 @@ letters_stamped who (l ∷ ls) = ap (λ z. l ∷ z) (letters_stamped who ls)
 letters_after : (events : List Event) (who : ℕ) (message : List ℕ) → letters (events ++ stamped who message) ≡ letters events ++ message
 letters_after events who message = map-append (λ (e : Event). e.letter) events (stamped who message) ∙ ap (λ z. letters events ++ z) (letters_stamped who message)
 
--- the base with more events: the same, or the end where no subscription stands
+-- the base with more events: the same, or the end if no subscription is current
 grown : (w : World) (n : ℕ) (cs : List (ℕ × ℕ)) → standing w ≡ cs → IsWorld w → HasRoom w n → (length w.events + n) - least (length w.events + n) cs ≤ w.limits.waiting
 grown w n [] is i room = omega arith
 grown w n (c ∷ cs) is i (inl none) = cc
@@ -122,7 +122,7 @@ may_publish r w message s o l t room =
     let k = ap (λ z. z.total) s.limits in
     record { is_open = sym s.closed ∙ o; lawful = l; within = omega arith; room = room }
 
--- what following the message from the record's stage tells
+-- what it means that the stages follow the message from the record's stage
 pub follows : (r : Kept) (w : World) (message : List ℕ) (t : Stage) → StandsFor r w → ((word : List ℕ) → IsLawfulIn r.kind word → stage_in r.kind word ≡ r.stage → IsLawfulIn r.kind (word ++ message) × (t ≡ stage_in r.kind (word ++ message))) → IsLawfulIn w.kind (letters w.events ++ message) × (t ≡ stage_in w.kind (letters w.events ++ message))
 follows r w message t s h =
     subst (λ k. IsLawfulIn k (letters w.events ++ message) × (t ≡ stage_in k (letters w.events ++ message))) s.kind

@@ -36,7 +36,7 @@ lawful_before a b l = by (follow_by (Some Off) a) refl
         let n = sym (follow_none b) ∙ ap (λ o. follow_by o b) (sym is) ∙ whole in
         cc
 
--- a word whose front isn't lawful isn't
+-- a word with an unlawful prefix is unlawful
 unlawful_whole : (kind : Kind) (word message : List ℕ) (i : ℕ) → IsUnlawfulIn kind word message i → IsLawfulIn kind (word ++ message) → ⊥
 unlawful_whole Plain word message i u l = u
 unlawful_whole Service word message i u l =

@@ -18,7 +18,7 @@ after-push w [] (x ∷ rest) call said r = absurd r
 after-push w (c ∷ calls) [] call said r = absurd r
 after-push w (c ∷ calls) (x ∷ rest) call said r = after-push (after_call w c x) calls rest call said r.1
 
--- the run so far with one more call, where the calls so far are the first i
+-- the run so far with one more call; the calls so far are the first i
 pub stepped : (w : World) (all : List Call) (i : ℕ) (replies replies' : List Said) (call : Call) (said : Said) → i < length all → call ≡ get_or all i call → IsRun w (take i all) replies → SaidTo (world_after w (take i all) replies) call said → replies' ≡ replies ++ said ∷ [] → IsRun w (take (i + 1) all) replies'
 stepped w all i replies replies' call said h at run told is =
     let more : take (i + 1) all ≡ take i all ++ call ∷ [] = take_more all i call h ∙ ap (λ z. take i all ++ z ∷ []) (sym at) in

@@ -1,4 +1,4 @@
--- What every run of the model keeps: each event since a mark once and in order, and each publisher's letters.
+-- What every run of the model keeps: each event since a mark, once and in order, and each publisher's letters.
 use Rattle.std.proofs.Common.{ℕ, ◌≡◌, ◌==◌, ◌+◌, ◌-◌, ◌≤◌, Bool, if◌then◌else◌, List, [], ◌∷◌, ◌++◌, length, map, filter, take, drop, Option, Some, None, Result, Ok, Err, nat_eq, refl, sym, ap, ◌∙◌, inl, inr, append_assoc, append-nil, arith}
 use Rattle.std.proofs.lemmas.Bool.{cases_Bool}
 use Rattle.std.proofs.lemmas.List.{map-append, length-append, take-append-drop, drop-drop, drop-append-le, take_at, length-drop}
@@ -15,7 +15,7 @@ use Rattle.hub_record.specs.Runs.{after_call, world_after, Follows, EachFollows,
 
 -- ---- since
 
--- what comes first of the events since the mark, up to the cursor
+-- the events since the mark up to the cursor
 between : (events : List Event) (s : Subscription) → s.mark ≤ s.next → s.next ≤ length events → drop s.mark events ≡ s.gathered ++ drop s.next events → s.gathered ≡ take (s.next - s.mark) (drop s.mark events)
 between events s b e since =
     let a = ap length since in

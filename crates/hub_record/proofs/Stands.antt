@@ -9,7 +9,7 @@ use Rattle.hub_record.specs.Backlog.{Held, with_cursors}
 use Rattle.hub_record.specs.Kept.{Kept, StandsFor, IsSound}
 use Rattle.hub_record.proofs.Cursors.{lookup_standing}
 
--- what a record holds, with so much room, and a record that holds something else
+-- what a record holds, with this much room; and a record that holds something else
 abbrev pub held_of : Kept → ℕ → Held
 held_of r room = record { room = room; end = r.end; events = r.events; given = r.given; cursors = r.cursors }
 

@@ -5,7 +5,7 @@ use Rattle.hub_record.specs.declared.Event.{Event}
 use Rattle.hub_record.specs.declared.NoId.{NoId}
 use Rattle.hub_record.specs.World.{least}
 
--- the events from the least cursor on, and the cursors of the standing ids in the order of the ids
+-- the events from the least cursor on, and the cursors of the current ids in the order of the ids
 pub record Held : Type 0 where
   pub room : ℕ
   pub end : ℕ
@@ -24,11 +24,11 @@ lowest h = least h.end h.cursors
 abbrev pub next_of : Held → ℕ → Option ℕ
 next_of h id = lookup (nat_eq id) h.cursors
 
--- with a cursor of a new id at the end
+-- with a cursor at the end for a new id
 abbrev pub with_new_id : Held → Held
 with_new_id h = record h { given = h.given + 1; cursors = h.cursors ++ (h.given + 1, h.end) ∷ [] }
 
--- more events are kept only where a cursor waits for them
+-- more events are kept only if there is a cursor
 abbrev pub kept_with : List (ℕ × ℕ) → List Event → List Event → List Event
 kept_with [] events more = []
 kept_with (c ∷ cs) events more = events ++ more
@@ -45,7 +45,7 @@ HasRoomFor h n = (h.cursors ≡ []) ⊎ (length h.events + n ≤ h.room)
 
 -- ---- take
 
--- n events are moved to the front of a slice
+-- n events are moved to the beginning of a slice
 pub record Takes (before after : Held) (id n : ℕ) (slice filled : List Event) : Type 0 where
   pub next : ℕ
   pub stood : next_of before id ≡ Some next
@@ -54,7 +54,7 @@ pub record Takes (before after : Held) (id n : ℕ) (slice filled : List Event) 
   pub moved : after ≡ with_cursors before (set_value (nat_eq id) before.cursors (next + n))
   pub copied : filled ≡ take n (drop (next - lowest before) before.events) ++ drop n slice
 
--- by the answer: no such cursor, nothing behind it, or how many were moved
+-- for each answer: no such cursor, nothing behind it, or how many were moved
 abbrev pub TakesBy : Held → Held → ℕ → List Event → List Event → Result (Option ℕ) NoId → Type 0
 TakesBy before after id slice filled (Err no_id) = (next_of before id ≡ None) × (after ≡ before) × (filled ≡ slice)
 TakesBy before after id slice filled (Ok None) = (next_of before id ≡ Some before.end) × (after ≡ before) × (filled ≡ slice)
@@ -62,14 +62,14 @@ TakesBy before after id slice filled (Ok (Some n)) = Takes before after id n sli
 
 -- ---- remove
 
--- by the answer: the cursor is gone, or there was none
+-- for each answer: the cursor is removed, or there was none
 abbrev pub RemovesBy : Held → Held → ℕ → Result (Unit {0}) NoId → Type 0
 RemovesBy before after id (Ok done) = IsSome (next_of before id) × (after ≡ with_cursors before (remove_entry (nat_eq id) before.cursors))
 RemovesBy before after id (Err no_id) = (next_of before id ≡ None) × (after ≡ before)
 
--- ---- what is kept beside, to find the least cursor without a look at all of them
+-- ---- what is also kept, so that the least cursor is found without a look at all of them
 
--- how many cursors stand at a number
+-- how many cursors are at a number
 abbrev pub standing_at : ℕ → List (ℕ × ℕ) → ℕ
 standing_at number cursors = count_by (λ n. n == number) (values_of cursors)
 

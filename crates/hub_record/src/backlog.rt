@@ -1,4 +1,4 @@
-//! The events that wait, and the cursors into them.
+//! The pending events, and the cursors into them.
 ghost use Rattle.std.specs.Prelude.{◌≡◌, ◌≤◌, ◌<◌, ◌↔◌, ◌+◌, ◌-◌, length, IfOk, OnErr, IsTrue, option_map, drop};
 ghost use Rattle.circular_buffer.specs.Buffer.{buffer};
 ghost use Rattle.hub_record.specs.World.{least, stamped};
@@ -12,22 +12,22 @@ use indexmap::IndexMap;
 use std::alloc::{AllocError, Global};
 use std::marker::Model;
 
-/// The number of the first event that is kept, and how many cursors stand there.
+/// The number of the first event that is kept, and how many cursors are at it.
 #[derive(Clone, Copy)]
 struct Base {
     number: u64,
     standing: u64,
 }
 
-/// The events from the least cursor on. A call looks at one cursor alone, until the last one at the base moves on.
+/// The events from the least cursor on. A call looks at one cursor only, unless the last cursor at the base moves on.
 #[derive(Drop)]
 pub struct Backlog {
-    /// The events from the number of the base on.
+    /// The events from the base's number on.
     ring: HeapCircularBuffer<Event>,
     base: Base,
-    /// How many ids were given.
+    /// How many ids were given so far.
     given: u64,
-    /// The number that each standing id takes next, in the order of the ids.
+    /// The number of the event that each current id takes next, in the order of the ids.
     cursors: IndexMap<u64, u64>,
 }
 
@@ -49,7 +49,7 @@ impl Model for Backlog {
 }
 
 impl Backlog {
-    /// Room for so many events, and no cursor.
+    /// A backlog without events and cursors, with room for this many events.
     pub fn new(alloc: Global, room: usize) -> Result<Backlog, AllocError>
         ensures { IfOk result (λ b. b ≡ nothing_held room) }
     {
@@ -64,6 +64,7 @@ impl Backlog {
         })
     }
 
+    /// The number of the next event.
     pub fn end(&self) -> u64
         ensures end { result ≡ self.now.end }
         ensures small { result ≤ 1000000000000 }
@@ -71,25 +72,28 @@ impl Backlog {
         self.base.number + self.ring.len() as u64
     }
 
+    /// The least cursor, or `end()` if there is none.
     pub fn base(&self) -> u64
         ensures { result ≡ lowest self.now }
     {
         self.base.number
     }
 
+    /// How many ids were given so far.
     pub fn given(&self) -> u64
         ensures { result ≡ self.now.given }
     {
         self.given
     }
 
+    /// How many cursors there are.
     pub fn standing(&self) -> usize
         ensures { result ≡ length self.now.cursors }
     {
         self.cursors.len()
     }
 
-    /// How many events wait behind a cursor.
+    /// How many events are pending behind the cursor of an id. None if the id has no cursor.
     pub fn waiting(&self, id: u64) -> Option<u64>
         ensures { result ≡ option_map (λ next. self.now.end - next) (next_of self.now id) }
     {
@@ -99,7 +103,7 @@ impl Backlog {
         }
     }
 
-    /// Whether so many events more may be added. Without a cursor nothing is kept, so all may.
+    /// Whether this many more events may be added. If there is no cursor nothing is kept, so any number may.
     pub fn has_room(&self, more: usize) -> bool
         ensures { IsTrue result ↔ HasRoomFor self.now more }
     {
@@ -109,7 +113,7 @@ impl Backlog {
         more <= self.ring.capacity() - self.ring.len()
     }
 
-    /// Gives the next id a cursor at the end, and answers both.
+    /// Gives the next id a cursor at the end. Returns the id and its cursor.
     pub fn stand(&mut self) -> Result<(u64, u64), AllocError>
         requires few { length self.old.cursors < 1024 }
         requires left { self.old.given < 1000000000000 }
@@ -129,7 +133,7 @@ impl Backlog {
         Ok((id, end))
     }
 
-    /// Adds the letters as events of a publisher.
+    /// Adds the letters as events of a publisher. They are kept only if there is a cursor.
     pub fn push(&mut self, who: u64, letters: &[Letter])
         requires room { HasRoomFor self.old (length letters.now) }
         requires small { self.old.end + length letters.now ≤ 1000000000000 }
@@ -142,7 +146,7 @@ impl Backlog {
         push_in(&mut self.ring, who, letters);
     }
 
-    /// Moves what waits behind a cursor into the slice, as far as that goes. None where nothing waits.
+    /// Moves what is pending behind a cursor into the slice, as far as it fits. None if nothing is pending.
     pub fn take(&mut self, id: u64, out: &mut [Event]) -> Result<Option<usize>, NoId>
         ensures { TakesBy self.old self.new id out.old out.new result }
     {
@@ -166,7 +170,7 @@ impl Backlog {
         Ok(Some(count))
     }
 
-    /// Takes the cursor of an id away, and lets go of what waited for it alone.
+    /// Removes the cursor of an id, and releases what was pending for it alone.
     pub fn remove(&mut self, id: u64) -> Result<(), NoId>
         ensures { RemovesBy self.old self.new id result }
     {
@@ -181,14 +185,16 @@ impl Backlog {
     }
 }
 
-/// The base once a cursor has left it. Where it was the last one there, the ring is cut at the least of the others.
+/// The base after a cursor has left it. If it was the last one there, the ring is cut at the least of the others.
 fn base_left(base: Base, ring: &mut HeapCircularBuffer<Event>, cursors: &IndexMap<u64, u64>) -> Base
     requires counted { base.standing ≡ standing_at base.number cursors.now.entries + 1 }
     requires least { base.number ≤ least (base.number + length ring.old.items) cursors.now.entries }
     requires small { base.number + length ring.old.items ≤ 1000000000000 }
-    ensures number { result.number ≡ least (base.number + length ring.old.items) cursors.now.entries }
+    ensures number { result.number ≡ least (base.number + length ring.old.items)
+        cursors.now.entries }
     ensures standing { result.standing ≡ standing_at result.number cursors.now.entries }
-    ensures cut { ring.new ≡ buffer (drop (result.number - base.number) ring.old.items) ring.old.capacity }
+    ensures cut { ring.new ≡ buffer (drop (result.number - base.number) ring.old.items)
+        ring.old.capacity }
 {
     if base.standing > 1 {
         return Base {
@@ -201,7 +207,7 @@ fn base_left(base: Base, ring: &mut HeapCircularBuffer<Event>, cursors: &IndexMa
     lowest
 }
 
-/// The least cursor and how many stand there, or the end and none.
+/// The least cursor and how many cursors are at that number, or the end and zero.
 fn lowest_of(end: u64, cursors: &IndexMap<u64, u64>) -> Base
     ensures number { result.number ≡ least end cursors.now.entries }
     ensures standing { result.standing ≡ standing_at result.number cursors.now.entries }

@@ -1,10 +1,10 @@
-//! A list of letters, owned.
+//! An owned list of letters.
 ghost use Rattle.std.specs.Prelude.{◌≡◌};
 
 use hub_letters::Letter;
 use std::marker::Model;
 
-/// A list of letters. Contracts see it as the list of their bytes.
+/// A list of letters. In contracts it is the list of their bytes.
 #[derive(Drop)]
 pub struct Letters {
     letters: Vec<Letter>,
@@ -19,14 +19,14 @@ impl Model for Letters {
 }
 
 impl Letters {
-    /// Takes no memory.
+    /// Wraps the vector, without an allocation.
     pub fn of(letters: Vec<Letter>) -> Letters
         ensures { result ≡ letters.items }
     {
         Letters { letters }
     }
 
-    /// The letters, lent.
+    /// The letters, borrowed.
     pub fn items(&self) -> &[Letter]
         ensures { result.now ≡ self.now }
     {

@@ -1,22 +1,22 @@
-//! The record of a fifodir, without threads.
+//! The record of a fifodir, as a value without threads: numbered events, and a cursor for each subscription.
 //!
-//! In s6 a fifodir is a directory in which a notifier meets its listeners: each listener has a named pipe there, and
+//! In s6 a fifodir is a directory in which a notifier meets its listeners. Each listener has a named pipe there, and
 //! `s6-ftrig-notify` writes each letter of a message to every pipe (s6's pages "fifodir" and "s6-ftrig-notify"). Here
 //! the meeting point is a value: one list of numbered events, and for each subscription a cursor, the number of the
 //! event that it takes next.
 //!
-//! **Who gets what.** A subscription gets the events from its mark on, which is the number of events there were when
-//! it subscribed: each once, in their order, and none that was there before.
+//! **Delivery.** The mark of a subscription is the number of events that there were when it subscribed. A subscription
+//! gets the events from its mark on, each once and in order, and no earlier event.
 //!
-//! **A slow listener.** A pipe that nobody reads loses letters in silence. Here nothing that a subscription waits for
-//! is let go. The events from the least cursor on stand in a ring that is made with the record, and a message that
-//! doesn't fit is refused whole: `PubError::Full`. Room comes back where the slowest subscription takes or is
-//! cancelled. Where no subscription stands nothing is kept, and no message is too long for the ring.
+//! **A slow subscriber.** A pipe that nobody reads loses letters silently. Here no event is dropped that is pending for
+//! a subscription. The events from the least cursor on are in a ring that is made with the record. A message that
+//! doesn't fit is refused whole (`PubError::Full`), and there is room again after the slowest subscription takes or is
+//! cancelled. If no subscription is current nothing is kept, and no message is too long for the ring.
 //!
-//! **Closing.** A closed record takes no event and no subscription any more. What waits may still be taken, and then
-//! a take answers `Taken::End`.
+//! **Closing.** A closed record takes no event and no subscription any more. Pending events can still be taken; after
+//! them a take reports `Taken::End`.
 //!
-//! Each call is the model's call on one list of all events (`specs/World.antt`); `specs/Kept.antt` says when a record
+//! Each call is the model's call on one list of all events (`specs/World.antt`). `specs/Kept.antt` says when a record
 //! stands for a world of the model.
 #![tactic(auto)]
 
@@ -40,10 +40,11 @@ use thiserror::Error;
 pub struct Event {
     /// The number of the publisher.
     pub who: u64,
+    /// Its letter.
     pub letter: Letter,
 }
 
-/// Whose letters a record takes.
+/// Which letters a record takes.
 #[derive(Clone, Copy, Debug, PartialEq, Eq)]
 pub enum Kind {
     /// Any letters in any order, as in a fifodir that a user makes by `s6-mkfifodir`.
@@ -52,49 +53,49 @@ pub enum Kind {
     Service,
 }
 
-/// What a take did.
+/// The answer to a take.
 #[derive(Clone, Copy, Debug, PartialEq, Eq)]
 pub enum Taken {
-    /// So many events fill the front of the slice. None at all where the slice is empty and something waits.
+    /// This many events fill the beginning of the slice. It is 0 if the slice is empty and events are pending.
     Got(usize),
-    /// Nothing waits now.
+    /// Nothing is pending now.
     Nothing,
-    /// Nothing waits, and nothing will: the record is closed.
+    /// Nothing is pending, and nothing will be: the record is closed.
     End,
 }
 
-/// Why there is no new subscription. An earlier one stands before a later one.
+/// Why there is no new subscription. If several reasons hold, the first in this order is reported.
 #[derive(Clone, Copy, Debug, PartialEq, Eq, Error)]
 pub enum SubError {
     /// The record is closed.
     #[error("the fifodir is closed")]
     Closed,
-    /// 1,024 subscriptions stand. One that is cancelled makes room.
+    /// 1,024 subscriptions are current. There is room again after one of them is cancelled.
     #[error("too many subscriptions stand")]
     Many,
-    /// The last id was given. Ids are never given again.
+    /// The last id was given. An id is never given again.
     #[error("no id is left")]
     Spent,
-    /// There was no memory for the cursor.
+    /// There was no memory for the cursor. The same call may succeed later.
     #[error("out of memory")]
     Memory,
 }
 
-/// Why no letter of a message was added. An earlier one stands before a later one.
+/// Why no letter of a message was added. If several reasons hold, the first in this order is reported.
 #[derive(Clone, Copy, Debug, PartialEq, Eq, Error)]
 pub enum PubError {
     /// The record is closed.
     #[error("the fifodir is closed")]
     Closed,
-    /// A service can't send the letter at this place of the message, counted from 0, after its letters so far and
-    /// those before it in the message.
+    /// A service can't send the letter at this place of the message, counted from 0, after its letters so far and the
+    /// letters before it in the message.
     #[error("letter {0} is unlawful")]
     Unlawful(u64),
-    /// The record would have more events than it may have in all.
+    /// The record would have more events than its limits allow in all.
     #[error("no number is left")]
     Spent,
-    /// The slowest subscription would have more events waiting than may wait. It is free to go on after a take or a
-    /// cancel.
+    /// More events would be pending for the slowest subscription than the limits allow. The publisher retries after a
+    /// take or a cancel makes room.
     #[error("too many events wait")]
     Full,
 }
@@ -109,13 +110,13 @@ pub struct NoId;
 #[error("closed already")]
 pub struct Closed;
 
-/// What a fifodir shows at one moment.
+/// The status of a fifodir at one moment.
 #[derive(Clone, Copy, Debug, PartialEq, Eq)]
 pub struct Status {
     /// How many events its record has.
     pub number: u64,
     /// What its letters say of the service.
     pub flags: Flags,
-    /// Whether it is closed.
+    /// Whether the record is closed.
     pub closed: bool,
 }

@@ -1,4 +1,4 @@
-//! Any list of calls on a record of its own, with the replies and what each id gathered.
+//! Any list of calls on a new record, with the replies and what each id gathered.
 ghost use Rattle.std.specs.Prelude.{◌≡◌, ◌≤◌, ◌+◌, ◌-◌, ◌++◌, ◌∷◌, [], List, ℕ, None, IfOk, OnOk, OnErr, length, map, nat_eq};
 ghost use Rattle.std.specs.Map.{lookup};
 ghost use Rattle.hub_record.specs.World.{World as Modelled, empty_world};
@@ -13,41 +13,55 @@ use std::alloc::{AllocError, Global};
 /// A call on a record.
 #[derive(Drop)]
 pub enum Call {
+    /// Subscribes; the next id is given.
     Subscribe,
+    /// Publishes a message as the publisher `who`.
     Publish { who: u64, letters: Letters },
-    /// Takes what waits behind the cursor of an id, and at most `max`.
+    /// Takes what is pending behind the cursor of an id, at most `max` events.
     Take { id: u64, max: usize },
+    /// Ends the subscription of an id.
     Cancel { id: u64 },
+    /// Closes the record.
     Close,
 }
 
-/// The reply to a call, by the call.
+/// The reply to a call, one variant for each kind of call.
 #[derive(Clone, Copy, Debug, PartialEq, Eq)]
 pub enum Said {
+    /// The id and its mark.
     Subscribed(Result<(u64, u64), SubError>),
+    /// The number of the first event.
     Published(Result<u64, PubError>),
+    /// How many events were taken, or why none was.
     Took(Result<Taken, NoId>),
+    /// Whether the id had a subscription.
     Cancelled(Result<(), NoId>),
+    /// Whether the record was open.
     Shut(Result<(), Closed>),
 }
 
-/// What a run leaves.
+/// The result of a run.
 #[derive(Drop)]
 pub struct World {
     /// The record after all calls.
     pub state: Record,
     /// One reply for each call.
     pub replies: Vec<Said>,
-    /// What each id that was given took, cancelled ones too, in the order of the ids.
+    /// What each given id took, cancelled ones too, in the order of the ids.
     pub gathered: IndexMap<u64, Vec<Event>>,
 }
 
 impl World {
-    /// Carries out one call. After an error the world is to be let go.
+    /// Carries out one call. After an error the world is inconsistent and must be dropped.
     fn answer(&mut self, alloc: Global, call: &Call) -> Result<Said, AllocError>
-        ensures said { (w : Modelled) → StandsFor self.old.state w → IfOk result (λ said. SaidTo w call.now said) }
-        ensures after { (w : Modelled) → StandsFor self.old.state w → IfOk result (λ said. StandsFor self.new.state (after_call w call.now said)) }
-        ensures gathered { (w : Modelled) → StandsFor self.old.state w → lists_of self.old.gathered.entries ≡ gathered_from 1 w.subscriptions → IfOk result (λ said. lists_of self.new.gathered.entries ≡ gathered_from 1 (after_call w call.now said).subscriptions) }
+        ensures said { (w : Modelled) → StandsFor self.old.state w
+            → IfOk result (λ said. SaidTo w call.now said) }
+        ensures after { (w : Modelled) → StandsFor self.old.state w
+            → IfOk result (λ said. StandsFor self.new.state (after_call w call.now said)) }
+        ensures gathered { (w : Modelled) → StandsFor self.old.state w
+            → lists_of self.old.gathered.entries ≡ gathered_from 1 w.subscriptions
+            → IfOk result (λ said. lists_of self.new.gathered.entries ≡ gathered_from 1
+            (after_call w call.now said).subscriptions) }
         ensures replies { self.new.replies ≡ self.old.replies }
     {
         match call {
@@ -79,13 +93,14 @@ impl World {
     }
 }
 
-/// Adds events behind those of an id.
+/// Appends events to the list of an id.
 fn append(
     gathered: &mut IndexMap<u64, Vec<Event>>,
     id: u64,
     more: &[Event],
 ) -> Result<(), AllocError>
-    ensures { OnOk result (lists_of gathered.new.entries ≡ appended id more.now (lists_of gathered.old.entries)) }
+    ensures { OnOk result (lists_of gathered.new.entries ≡ appended id more.now
+        (lists_of gathered.old.entries)) }
 {
     let Some(list) = gathered.get_mut(&id) else {
         return Ok(());
@@ -96,7 +111,8 @@ fn append(
 
 /// Adds an empty list for a new id.
 fn begin(alloc: Global, gathered: &mut IndexMap<u64, Vec<Event>>, id: u64) -> Result<(), AllocError>
-    ensures { OnOk result (lookup (nat_eq id) (lists_of gathered.old.entries) ≡ None → lists_of gathered.new.entries ≡ lists_of gathered.old.entries ++ (id, []) ∷ []) }
+    ensures { OnOk result (lookup (nat_eq id) (lists_of gathered.old.entries) ≡ None
+        → lists_of gathered.new.entries ≡ lists_of gathered.old.entries ++ (id, []) ∷ []) }
 {
     match gathered.insert(id, Vec::new(alloc)) {
         Ok(_) => return Ok(()),
@@ -104,7 +120,7 @@ fn begin(alloc: Global, gathered: &mut IndexMap<u64, Vec<Event>>, id: u64) -> Re
     }
 }
 
-/// Makes the calls in order on a new record. A growth that is refused ends the run.
+/// Makes the calls in order on a new record. The run ends if memory runs out.
 pub fn replay(
     alloc: Global,
     kind: Kind,
@@ -112,10 +128,15 @@ pub fn replay(
     calls: &[Call],
 ) -> Result<World, AllocError>
     ensures replies { IfOk result (λ r. IsRun (empty_world kind limits) calls.now r.replies.items) }
-    ensures state { IfOk result (λ r. StandsFor r.state (world_after (empty_world kind limits) calls.now r.replies.items)) }
-    ensures gathered { IfOk result (λ r. lists_of r.gathered.entries ≡ gathered_from 1 (world_after (empty_world kind limits) calls.now r.replies.items).subscriptions) }
-    ensures since { IfOk result (λ r. AllFollow (world_after (empty_world kind limits) calls.now r.replies.items)) }
-    ensures own { IfOk result (λ r. (p : ℕ) → by p (world_after (empty_world kind limits) calls.now r.replies.items).events ≡ published p calls.now r.replies.items) }
+    ensures state { IfOk result (λ r. StandsFor r.state
+        (world_after (empty_world kind limits) calls.now r.replies.items)) }
+    ensures gathered { IfOk result (λ r. lists_of r.gathered.entries ≡ gathered_from 1
+        (world_after (empty_world kind limits) calls.now r.replies.items).subscriptions) }
+    ensures since { IfOk result (λ r. AllFollow
+        (world_after (empty_world kind limits) calls.now r.replies.items)) }
+    ensures own { IfOk result (λ r. (p : ℕ) → by p
+        (world_after (empty_world kind limits) calls.now r.replies.items).events ≡ published p
+        calls.now r.replies.items) }
 {
     let mut world = World {
         state: Record::new(alloc, kind, limits)?,

@@ -24,7 +24,7 @@ numbers_text-push [] number = ap (λ (t : List ℕ). 32 ∷ t) (append-nil (numb
 numbers_text-push (x ∷ xs) number =
     ap (λ (t : List ℕ). 32 ∷ (number_or_dash x ++ t)) (numbers_text-push xs number) ∙ ap (λ (t : List ℕ). 32 ∷ t) (sym (append_assoc (number_or_dash x) (numbers_text xs) (32 ∷ number_or_dash number)))
 
--- one number more
+-- one more number
 pub short_push : (numbers : List (Option ℕ)) (number : Option ℕ) (count : ℕ) → length (numbers_text numbers) ≤ 21 * count → length (number_or_dash number) ≤ 20
     → length (numbers_text (numbers ++ number ∷ [])) ≤ 21 * (count + 1)
 short_push numbers number count h k = simp (numbers_text-push, length-append) (omega arith)
@@ -53,7 +53,7 @@ short_place : (kind : Kind) (word message : List ℕ) (place : ℕ) → IsUnlawf
 short_place Plain word message place h = absurd h
 short_place Service word message place h = h.inside
 
--- an unlawful place is one of the message
+-- the place of an unlawful letter is below the length of the message
 pub short_unlawful : (kind : Kind) (word message : List ℕ) (place : ℕ) → IsUnlawfulIn kind word message place → length message < 2 ^ 64 → length (text_of (No (Unlawful place))) ≤ 4101
 short_unlawful kind word message place h n =
     let l = short_place kind word message place h in

@@ -2,7 +2,7 @@
 use Rattle.std.specs.Prelude.{ℕ, List, length, nat_lt, Bool, ◌&&◌, ◌||◌, not, ◌==◌}
 use Rattle.std.specs.List.{list_all}
 
--- the byte is one from low to high
+-- the byte is within low to high
 abbrev pub within : ℕ → ℕ → ℕ → Bool
 within low high b = not (nat_lt b low) && not (nat_lt high b)
 
@@ -10,6 +10,6 @@ within low high b = not (nat_lt b low) && not (nat_lt high b)
 abbrev pub is_name_byte : ℕ → Bool
 is_name_byte b = within 65 90 b || within 97 122 b || within 48 57 b || b == 95 || b == 46 || b == 45
 
--- 1 to 32 bytes of a name
+-- 1 to 32 bytes that names may have
 abbrev pub is_name : List ℕ → Bool
 is_name bytes = nat_lt 0 (length bytes) && nat_lt (length bytes) 33 && list_all is_name_byte bytes

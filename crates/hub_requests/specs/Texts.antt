@@ -7,7 +7,7 @@ use Rattle.hub_requests.specs.declared.reply.Reply.TheVariants.{Done, Number, St
 use Rattle.hub_requests.specs.declared.reply.Refusal.{Refusal}
 use Rattle.hub_requests.specs.declared.reply.Refusal.TheVariants.{Long, Text, Word, Form, Range, Name, Exists, Kind, Id, Many, Spent, Closed, Unlawful, Full, Pattern, Overlong, Memory}
 
--- how a refusal is named
+-- the name of a refusal
 abbrev pub word_of : Refusal → List ℕ
 word_of Long = codes "long"
 word_of Text = codes "text"
@@ -32,7 +32,7 @@ abbrev pub openness : Bool → List ℕ
 openness false = codes "open"
 openness true = codes "closed"
 
--- the number, or a dash where there is none
+-- the number, or a dash if there is none
 abbrev pub number_or_dash : Option ℕ → List ℕ
 number_or_dash None = codes "-"
 number_or_dash (Some n) = decimal n

@@ -1,4 +1,4 @@
-//! What answers requests.
+//! The trait of a desk.
 ghost use Rattle.std.specs.Prelude.{◌≤◌, length};
 ghost use Rattle.hub_requests.specs.Ranges.{IsInRange};
 ghost use Rattle.hub_requests.specs.Texts.{text_of};
@@ -9,21 +9,23 @@ use crate::reply::Reply;
 use crate::request::Request;
 use std::sync::Wait;
 
-/// What answers the requests of one session, each by what the requests before it left.
+/// A desk answers the requests of one session, each by what the requests before it have left.
 pub trait Desk {
-    /// `asks old request reply new`: a desk as `old` may answer the request so and go on as `new`.
+    /// `asks old request reply new`: a desk in the state `old` may answer the request with this reply, and is then in
+    /// the state `new`.
     ghost asks: { Self → Request → Reply → Self → Type 0 };
 
-    /// `ends old new`: ending a desk as `old` may leave it as `new`.
+    /// `ends old new`: the end of a desk in the state `old` may leave it in the state `new`.
     ghost ends: { Self → Self → Type 0 };
 
-    /// Answers a request whose numbers are in their ranges.
+    /// Answers a request whose numbers are in their ranges. The text of the reply has at most 4,101 bytes.
     fn ask<H: Wait>(&mut self, rt: &H, request: &Request) -> Reply
         requires { IsInRange request.now }
         ensures step { asks self.old request.now result self.new }
         ensures short { length (text_of result) ≤ 4101 };
 
-    /// Gives back all that the session holds. The fifodirs stay, and the desk, which then has no handles, serves on.
+    /// Releases all that the session holds. The fifodirs stay. The desk has no handles afterwards, and can be used
+    /// again.
     fn end<H: Wait>(&mut self, rt: &H)
         ensures { ends self.old self.new };
 }

@@ -1,10 +1,10 @@
-//! What clients ask a hub for, and what they are answered.
+//! The vocabulary of a hub: what clients ask for, and what they are answered.
 //!
-//! A [`Request`] is what a client asks for and a [`Reply`] what it is answered. Whatever answers requests is a
-//! [`Desk`], one for each session. It keeps what the session holds: its subscriptions and listeners, each under a
-//! handle, a number that is given once and never again. Ending a desk gives back all that it holds; the fifodirs stay.
+//! A client sends a [`Request`], and gets a [`Reply`]. A [`Desk`] answers the requests of one session. It keeps what
+//! the session holds: its subscriptions and listeners, each under a handle, a number that is never given twice. The end
+//! of a desk releases all that it holds; the fifodirs stay.
 //!
-//! This is the vocabulary alone: the layers that read lines and write replies stand on it, and so do the desks.
+//! This crate has the vocabulary alone. The layers above read lines, write replies and implement the desks with it.
 #![tactic(auto)]
 
 mod desk;

@@ -9,7 +9,7 @@ use std::alloc::{AllocError, Global};
 use std::hash::{Hash, Hasher};
 use std::marker::Model;
 
-/// The name of a fifodir: 1 to 32 bytes, each a letter or digit of ASCII, `_`, `.` or `-`. Contracts see its bytes.
+/// The name of a fifodir: 1 to 32 bytes, each an ASCII letter or digit, `_`, `.` or `-`. In contracts it is its bytes.
 #[derive(Debug, Drop)]
 pub struct Name {
     bytes: Vec<u8>,
@@ -24,9 +24,10 @@ impl Model for Name {
 }
 
 impl Name {
-    /// The name with this text; none where the text is no name.
+    /// The name with this text. None if the text isn't a name. An error says that memory ran out.
     pub fn of(alloc: Global, text: &[u8]) -> Result<Option<Name>, AllocError>
-        ensures ok { IfOk result (λ named. MatchOption named (is_name text.now ≡ false) (λ name. (is_name text.now ≡ true) × (name ≡ text.now))) }
+        ensures ok { IfOk result (λ named. MatchOption named (is_name text.now ≡ false)
+            (λ name. (is_name text.now ≡ true) × (name ≡ text.now))) }
         ensures err { OnErr result (is_name text.now ≡ true) }
     {
         if !Name::is_name(text) {
@@ -36,7 +37,7 @@ impl Name {
         Ok(Some(Name { bytes }))
     }
 
-    /// Whether the text is a name.
+    /// Whether the text is 1 to 32 bytes of a name.
     pub fn is_name(text: &[u8]) -> bool
         ensures { result ≡ is_name text.now }
     {
@@ -46,13 +47,14 @@ impl Name {
         has_name_bytes(text)
     }
 
+    /// The bytes of the name, borrowed.
     pub fn bytes(&self) -> &[u8]
         ensures { result.now ≡ self.now }
     {
         self.bytes.as_slice()
     }
 
-    /// The same name again.
+    /// A copy of the name. An error says that memory ran out.
     pub fn copy(&self) -> Result<Name, AllocError>
         ensures { IfOk result (λ name. name ≡ self.now) }
     {

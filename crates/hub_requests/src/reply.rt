@@ -1,45 +1,46 @@
-//! What a client is answered.
+//! The answers to clients.
 
 use crate::texts::Numbers;
 use hub_record::{Letters, PubError, Status, SubError};
 
-/// What a client is answered, one reply to each line.
+/// The answer to one line.
 #[derive(Drop)]
 pub enum Reply {
-    /// It was done.
+    /// The request was carried out.
     Done,
     /// A handle (to `sub` and `listen`) or the number of a message's first event (to `pub`).
     Number(u64),
-    /// What a fifodir shows.
+    /// The status of a fifodir.
     State(Status),
     /// The letters of the events that were taken.
     Got(Letters),
     /// The letters of a listener's hit.
     Hit(Letters),
-    /// No event waits, or none that brings a hit.
+    /// No event is pending, or none that completes a hit.
     Nothing,
-    /// No event waits, and none will come: the fifodir is closed.
+    /// No event is pending, and none will be: the fifodir is closed.
     End,
-    /// The services are as wanted.
+    /// All of the services are as wanted, or at least one of them for `any`. Each has its number of events here, or
+    /// none if it isn't as wanted.
     Yes(Numbers),
-    /// They aren't, and can't be hoped to be.
+    /// What was wanted doesn't hold, and can't hold any more.
     Never,
-    /// Neither was known at the end of the wait.
+    /// Neither was known when the wait ended.
     Late,
-    /// It was refused, and nothing has changed, but for what a `wait` or `poll` had done until then.
+    /// The request was refused. Nothing has changed, except what a `wait` or a `poll` had done until then.
     No(Refusal),
 }
 
-/// Why a line was refused.
+/// Why a line was refused. `docs/requests.md` has the order in which reasons are checked.
 #[derive(Clone, Copy, Debug, PartialEq, Eq)]
 pub enum Refusal {
     /// The line has more than 512 bytes.
     Long,
-    /// A byte of the line is none from 0x20 to 0x7E.
+    /// A byte of the line isn't within 0x20 to 0x7E.
     Text,
-    /// The line begins with no word of a request.
+    /// The line doesn't begin with the word of a request.
     Word,
-    /// The line hasn't the form that its word asks for.
+    /// The line doesn't have the form of its word.
     Form,
     /// A number is outside its range.
     Range,
@@ -47,25 +48,25 @@ pub enum Refusal {
     Name,
     /// A fifodir has this name already.
     Exists,
-    /// A service is waited for, and the fifodir of this name is plain.
+    /// A `wait` names a plain fifodir, and needs a service's.
     Kind,
-    /// No handle of this session has this number and is of the sort that was asked for.
+    /// This session has no handle with this number, or it isn't of the sort that the request needs.
     Id,
-    /// As many stand already as may: names, handles or subscriptions.
+    /// The limit of names, handles, subscriptions or publishers that may exist at one time is reached.
     Many,
-    /// No number is left: of handles, of ids, or of events.
+    /// No number is left for a handle, a subscription, a publisher or an event.
     Spent,
     /// The fifodir is closed.
     Closed,
-    /// The letter at this place of the message (from 0) is unlawful there.
+    /// The letter at this place of the message, from 0, is unlawful there.
     Unlawful(u64),
-    /// More events would wait behind the slowest subscription than may.
+    /// More events would be pending for the slowest subscription than the fifodir's limit. The publisher retries.
     Full,
-    /// The text is no pattern, or one that is too large.
+    /// The text isn't a pattern, or the pattern is too large.
     Pattern,
-    /// The listener has gathered as many letters without a hit as it may.
+    /// The listener has gathered 4,096 letters without a hit.
     Overlong,
-    /// There is no memory for it.
+    /// Memory ran out.
     Memory,
 }
 

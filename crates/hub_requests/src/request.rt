@@ -1,21 +1,21 @@
-//! What a client asks for.
+//! The requests of clients.
 
 use crate::name::Name;
 use crate::texts::{Names, PatternText};
 use hub_letters::{Mode, Span, Want};
 use hub_record::Letters;
 
-/// What a client asks for. Each is spelled by one line, whose word is the variant's.
+/// A request. Each variant has a line of its own form, which begins with the variant's word.
 #[derive(Drop)]
 pub enum Request {
-    /// Make a plain fifodir. At most `waiting` events wait behind its slowest subscription (1 to 4,096), and it takes
-    /// `total` events in its life (1 to 10^12).
+    /// Makes a plain fifodir. At most `waiting` events may be pending for its slowest subscription (1 to 4,096), and it
+    /// takes `total` events in its life (1 to 10^12).
     Dir {
         name: Name,
         waiting: u64,
         total: u64,
     },
-    /// Make the fifodir of a service, which takes only letters in their lawful order. `notifies` says whether the
+    /// Makes the fifodir of a service, which takes only letters in their lawful order. `notifies` says whether the
     /// service reports its readiness.
     Svc {
         name: Name,
@@ -23,44 +23,45 @@ pub enum Request {
         total: u64,
         notifies: bool,
     },
-    /// Subscribe to all events from now on.
+    /// Subscribes to all events from now on.
     Sub {
         name: Name,
     },
-    /// Publish letters as events, in order, all or none.
+    /// Publishes letters as events, in order: all of them, or none.
     Pub {
         name: Name,
         letters: Letters,
     },
-    /// Take at most `max` events (1 to 256) that wait for a subscription.
+    /// Takes at most `max` events (1 to 256) that are pending for a subscription.
     Take {
         id: u64,
         max: u64,
     },
-    /// End a subscription or a listener.
+    /// Ends a subscription or a listener.
     Cancel {
         id: u64,
     },
-    /// Close a fifodir for events and subscriptions.
+    /// Closes a fifodir for good: it takes no event and no subscription any more.
     Close {
         name: Name,
     },
-    /// What a fifodir shows now.
+    /// Reports the status of a fifodir.
     Status {
         name: Name,
     },
-    /// Subscribe a listener: from now on it hears all letters, for hits of the pattern, one or again and again.
+    /// Subscribes a listener. From now on it hears all letters, and has one hit of the pattern or repeated ones, by its
+    /// mode.
     Listen {
         name: Name,
         mode: Mode,
         pattern: PatternText,
     },
-    /// Look for a listener's next hit.
+    /// Looks for a listener's next hit.
     Poll {
         id: u64,
     },
-    /// Wait for at most `turns` turns (0 to 1,000,000) until all of the services named (1 to 32), or any of them, are as
-    /// wanted.
+    /// Waits for at most `turns` turns (0 to 1,000,000) until all of the named services (1 to 32), or any of them, are
+    /// as wanted.
     Wait {
         span: Span,
         want: Want,

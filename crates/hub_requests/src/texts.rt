@@ -1,10 +1,10 @@
-//! What requests and replies carry in lists. Contracts see each as its list; making one and lending it takes no memory.
+//! The lists in requests and replies. In contracts each is its list. Neither `of` nor `items` takes memory.
 ghost use Rattle.std.specs.Prelude.{◌≡◌, string_bytes};
 
 use crate::name::Name;
 use std::marker::Model;
 
-/// The text of a listener's pattern, in the syntax of the crate `regex`. Contracts see its bytes.
+/// The text of a listener's pattern, in the syntax of the crate `regex`. In contracts it is its bytes.
 #[derive(Debug, Drop)]
 pub struct PatternText {
     text: String,
@@ -19,13 +19,14 @@ impl Model for PatternText {
 }
 
 impl PatternText {
+    /// Wraps the text. It needn't be a pattern: a `listen` with another text is refused.
     pub fn of(text: String) -> PatternText
         ensures { result ≡ string_bytes text }
     {
         PatternText { text }
     }
 
-    /// The text, lent.
+    /// The text, borrowed.
     pub fn items(&self) -> &str
         ensures { result.now ≡ self.now }
     {
@@ -33,7 +34,7 @@ impl PatternText {
     }
 }
 
-/// The names of the services that one waits for, in their order. A name may stand more than once.
+/// The names of the services of a wait, in their order. A name may occur more than once.
 #[derive(Debug, Drop)]
 pub struct Names {
     names: Vec<Name>,
@@ -48,13 +49,14 @@ impl Model for Names {
 }
 
 impl Names {
+    /// Wraps the names.
     pub fn of(names: Vec<Name>) -> Names
         ensures { result ≡ names.items }
     {
         Names { names }
     }
 
-    /// The names, lent.
+    /// The names, borrowed.
     pub fn items(&self) -> &[Name]
         ensures { result.now ≡ self.now }
     {
@@ -62,8 +64,8 @@ impl Names {
     }
 }
 
-/// What a wait found of each service, in the order of the names: the number of events at which it was as wanted, none
-/// where it isn't.
+/// What a wait found of each service, in the order of the names: the number of events at which it was as wanted, or
+/// none if it isn't.
 #[derive(Debug, Drop)]
 pub struct Numbers {
     numbers: Vec<Option<u64>>,
@@ -78,13 +80,14 @@ impl Model for Numbers {
 }
 
 impl Numbers {
+    /// Wraps the numbers.
     pub fn of(numbers: Vec<Option<u64>>) -> Numbers
         ensures { result ≡ numbers.items }
     {
         Numbers { numbers }
     }
 
-    /// The numbers, lent.
+    /// The numbers, borrowed.
     pub fn items(&self) -> &[Option<u64>]
         ensures { result.now ≡ self.now }
     {

@@ -5,12 +5,14 @@ use ftrighub::Source;
 use std::io;
 use std::io::Read;
 
+/// The bytes that are still to be read.
 #[derive(Drop)]
 pub struct Dripping<'a> {
     rest: &'a [u8],
 }
 
 impl<'a> Dripping<'a> {
+    /// A reader of these bytes.
     pub fn of(bytes: &'a [u8]) -> Dripping<'a> {
         Dripping { rest: bytes }
     }

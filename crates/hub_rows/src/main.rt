@@ -1,6 +1,8 @@
-//! Runs the rows of examples, which lie in `data/`, through the desks: that of one thread, with the input whole and one
-//! byte a read, and that of a session alone over a hub. It is given the rows' names, and prints that of each whose output
-//! came byte for byte, each time; at the first that didn't it stops.
+//! Runs the rows of examples in `data/` through the desks: the desk of one thread, with the whole input at once and
+//! with one byte a read, and the desk of a session that is alone over a hub.
+//!
+//! Its arguments are the rows' names. It prints the name of each row whose output was byte for byte the same each time,
+//! and stops at the first row whose output wasn't.
 #![tactic(auto)]
 
 mod dripping;
@@ -34,7 +36,7 @@ fn run(rt: &(impl Runtime + AllocGlobal + Wait), alloc: Global) -> Result<()> {
     Ok(())
 }
 
-/// An input, and the output that is wanted of it.
+/// An input, and the output that is expected for it.
 #[derive(Drop)]
 struct Row {
     input: Vec<u8>,
@@ -48,7 +50,7 @@ impl Row {
         Ok(Row { input, output })
     }
 
-    /// Whether each desk gives the output, and the first of them however the input comes.
+    /// Runs each desk, the first one with both forms of the input. An error says that an output was another one.
     fn holds(&self, rt: &(impl Runtime + AllocGlobal + Wait), alloc: Global) -> Result<()> {
         let input = self.input.as_slice();
         self.holds_at(rt, alloc, &mut LocalDesk::new(alloc)?, &mut &*input)?;
@@ -58,7 +60,10 @@ impl Row {
             &mut LocalDesk::new(alloc)?,
             &mut Dripping::of(input),
         )?;
-        self.holds_at(rt, alloc, &mut sharing::alone(alloc)?, &mut &*input)
+        let mut shared = sharing::alone(alloc)?;
+        let held = self.holds_at(rt, alloc, &mut shared, &mut &*input);
+        shared.release(rt);
+        held
     }
 
     fn holds_at<H: Wait, D: Desk, R: Source>(

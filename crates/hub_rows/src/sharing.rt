@@ -4,7 +4,7 @@ use std::alloc::{AllocError, Global};
 use std::sync::{Arc, Wait};
 use std::thread;
 
-/// Lets other threads run.
+/// A pause that only lets other threads run.
 #[derive(Clone, Copy)]
 pub struct Yielding;
 
@@ -15,7 +15,7 @@ impl Pause for Yielding {
     }
 }
 
-/// A session alone over a new hub.
+/// The desk of a session that is alone over a new hub.
 pub fn alone(alloc: Global) -> Result<SharedDesk<Yielding>, AllocError> {
     let hub = Arc::new(alloc, Hub::new(alloc)?)?;
     SharedDesk::new(alloc, hub, Yielding)

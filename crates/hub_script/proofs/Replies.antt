@@ -1,4 +1,4 @@
--- The replies of a run over a local desk are the model's answers, with the refusals in their lines' places.
+-- The replies of a run over a local desk are the model's answers, with the refusals in the places of their lines.
 use Rattle.std.proofs.Common.{◌≡◌, ◌≢◌, ℕ, suc, Bool, List, [], ◌∷◌, length, Option, Result, Ok, Err, refl, sym, ap, subst, ◌∙◌}
 use Rattle.std.specs.Prelude.{All, IfOk, flat_map}
 use Rattle.std.proofs.lemmas.List.Elements.{All-head, All-tail}
@@ -39,7 +39,7 @@ runs_of (request ∷ requests) [] old new asked_all = absurd asked_all
 runs_of (request ∷ requests) (reply ∷ given) old new asked_all =
     let (mid, one, rest) = asked_all in asked old mid new request requests reply given one (runs_of requests given mid new rest)
 
--- the replies of a run over a new desk, where none is for want of memory
+-- the replies of a run over a new desk, if none is `no memory`
 replies_placed : (lines : List (List ℕ)) (replies : List Reply) (old new : Local) → Stands old new_desk
     → AreInPlace Asked old lines replies new → NoneIsMemory replies → (patterns : List Bool) × AreReplies patterns lines replies
 replies_placed lines replies old new stands p none =
@@ -93,7 +93,7 @@ one_output patterns input a b oa ob =
     let reads = same_reads (lines_of input) oa.answered.reads ob.answered.reads oa.answered.readings ob.answered.readings oa.answered.enough ob.answered.enough in
     oa.texts ∙ ap (flat_map text_of) (oa.answered.placed ∙ ap (λ rs. in_place rs (answers new_desk patterns (requests_of rs))) reads ∙ sym ob.answered.placed) ∙ sym ob.texts
 
--- what follows from each value follows where there is one
+-- what follows from each value follows if there is one
 pub if_ok_then : {A X : Type 0} (r : Result A X) (P Q : A → Type 0) → ((a : A) → P a → Q a) → IfOk r P → IfOk r Q
 if_ok_then (Ok a) P Q then h = then a h
 if_ok_then (Err x) P Q then h = h

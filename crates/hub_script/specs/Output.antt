@@ -1,5 +1,5 @@
--- What the program writes: the texts of a new desk's answers to the requests, with the refusals in their lines' places.
--- Whether each pattern of the requests is read stands beside the input.
+-- What a local session writes: the texts of a new desk's answers to the requests, with the refusals in the places of
+-- their lines. Beside the input, it is given for each text of a `listen` whether it is a pattern.
 use Rattle.std.specs.Prelude.{◌≡◌, ◌≢◌, ℕ, Bool, List, All, length, flat_map, Option, Result, Err}
 use Rattle.std.specs.List.{AllZip}
 use Rattle.std.specs.Io.KnownBytes.{Appends, Consumes, IsAtEnd}
@@ -14,7 +14,7 @@ use Rattle.hub_protocol.specs.Reading.{IsReading}
 use Rattle.hub_protocol.specs.declared.parsing.Bad.{Bad}
 use Rattle.hub_protocol.specs.declared.parsing.Bad.TheVariants.{Memory}
 
--- the replies to these lines, with memory enough, where `patterns` says of each pattern in them whether it is read
+-- the replies to these lines, with enough memory; `patterns` says for each text of a `listen` whether it is a pattern
 pub record AreReplies (patterns : List Bool) (lines : List (List ℕ)) (replies : List Reply) : Type 0 where
   pub reads : List (Result Request Bad)
   pub readings : AllZip IsReading lines reads
@@ -29,8 +29,8 @@ pub record IsOutput (patterns : List Bool) (input output : List ℕ) : Type 0 wh
   pub texts : output ≡ flat_map text_of replies
 
 -- What a session over a new desk did that ended with its input: n lines were read, and the texts of as many replies
--- were written. Where none is for want of memory, that is the output of the input. had and has are what the reader had
--- left before and has left after, held and holds what the writer held before and holds after.
+-- were written. If no reply is `no memory`, they are the output of the input. had is what the reader had left before,
+-- and has what it has left after. held is what the writer had before, and holds what it has after.
 pub record Serves (held holds had has : Option (List ℕ)) (n : ℕ) : Type 0 where
   pub input : List ℕ
   pub consumed : Consumes had has input

@@ -1,7 +1,7 @@
-//! One session over a desk of its own.
+//! One local session: a reader's lines, answered by a desk of its own.
 //!
-//! [`script`] serves the lines of a reader until they end. Its output is a function of its input, and that is proved:
-//! of the bytes alone, and of whether each pattern in them is read.
+//! [`script`] serves the lines of a reader until they end. It is proved that its output is a function of its input: of
+//! the bytes, and of which texts in its `listen` lines are patterns.
 #![tactic(auto)]
 
 mod scripting;

@@ -1,4 +1,4 @@
-//! One session, over a desk of its own.
+//! One session over a desk of its own.
 ghost use Rattle.std.specs.Prelude.{◌≡◌, ℕ, Bool, List, Err, IfOk};
 ghost use Rattle.hub_io.specs.Faults.{read_faults, write_faults};
 ghost use Rattle.hub_front.specs.Serving.{ReadsWithin};
@@ -11,22 +11,23 @@ use hub_local::LocalDesk;
 use std::alloc::Global;
 use std::sync::Wait;
 
-/// Serves the lines of the reader until they end, and answers how many they were.
+/// Serves the lines of the reader until they end, and returns how many they were.
 pub fn script<H: Wait, R: Source, W: Sink>(
     rt: &H,
     alloc: Global,
     reader: &mut R,
     writer: &mut W,
 ) -> Result<u64, FrontError>
-    // Where no reply is `no memory`, what is written is the output of the input: a function of its bytes, and of whether
-    // each pattern in them is read, alone.
+    // If no reply is `no memory`, the output of the input is written: a function of the input's bytes, and of which
+    // texts in it are patterns.
     ensures output { IfOk result (λ n. Serves
         (W.contents writer.old) (W.contents writer.new) (R.remaining reader.old) (R.remaining reader.new) n) }
 
-    // Want of memory comes before the first read.
-    ensures memory { result ≡ Err FrontError.Memory → (reader.new ≡ reader.old) × (writer.new ≡ writer.old) }
+    // Memory is allocated before the first read.
+    ensures memory { result ≡ Err FrontError.Memory → (reader.new ≡ reader.old)
+        × (writer.new ≡ writer.old) }
 
-    // It ends by a count of its own, and a fault is answered where it was told, and nowhere else.
+    // It makes at most 10,000,000 reads. An error is reported if its fault was counted, and only then.
     ensures reads { ReadsWithin (R.reads reader.old) (R.reads reader.new) result }
     ensures read_faults { Grows (R.faults reader.old) (R.faults reader.new) (read_faults result) }
     ensures write_faults { Grows (W.faults writer.old) (W.faults writer.new) (write_faults result) }
@@ -37,7 +38,8 @@ pub fn script<H: Wait, R: Source, W: Sink>(
     serve(rt, alloc, &mut desk, reader, writer)
 }
 
-/// A law: an input has one output, where it is known of each of its patterns whether it is read.
+/// A law: an input has one output, if it is given for each text of its `listen` lines whether it is a pattern.
 pub fn input_has_one_output()
-    ensures { (patterns : List Bool) (input a b : List ℕ) → IsOutput patterns input a → IsOutput patterns input b → a ≡ b }
+    ensures { (patterns : List Bool) (input a b : List ℕ) → IsOutput patterns input a
+        → IsOutput patterns input b → a ≡ b }
 {}

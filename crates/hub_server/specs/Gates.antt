@@ -19,20 +19,21 @@ Gave gives old [] new = new ≡ old
 Gave {G} gives old (session ∷ sessions) new =
     (mid : G) × gives old (Session session.0 session.1) mid × Gave gives mid sessions new
 
--- A gate that had given so many sessions where `most` are wanted: it was asked no more, or it failed (`true`), or it was
--- over.
+-- Why a gate that had given `count` of at most `most` sessions gave no more: it wasn't asked again, or it failed
+-- (`true`), or it was over.
 abbrev pub Ends : {G R W : Type 0} → Giving G R W → (most count : ℕ) → G → Bool → G → Type 0
 Ends gives most count old true new = (count < most) × gives old Failed new
 Ends gives most count old false new = ((count ≡ most) × (new ≡ old)) ⊎ ((count < most) × gives old Over new)
 
--- All that a gate was asked for where `most` sessions are wanted: it gave these, and then Ends says why no more.
+-- All that a gate was asked for if at most `most` sessions are wanted: it gave these, and Ends says why it gave no
+-- more.
 pub record IsAsked {G R W : Type 0} (gives : Giving G R W) (most : ℕ) (old : G) (given : List (R × W)) (failed : Bool) (new : G) : Type 0 where
   pub gate : G
   pub gave : Gave gives old given gate
   pub ends : Ends gives most (length given) gate failed new
 
--- What a gate was asked for before an error: at most so many sessions, and no more after it failed or was over. A thread
--- couldn't be started only where the gate had just given the session for it.
+-- What a gate was asked for before an error: at most `most` sessions, and no more after it failed or was over. That a
+-- thread couldn't be started is reported only if the gate had just given the session for it.
 pub record StopsEarly {G R W : Type 0} (gives : Giving G R W) (most : ℕ) (old new : G) (error : ServeError) : Type 0 where
   pub given : List (R × W)
   pub gate : G
@@ -41,7 +42,7 @@ pub record StopsEarly {G R W : Type 0} (gives : Giving G R W) (most : ℕ) (old 
   pub ends : (new ≡ gate) ⊎ (gives gate Failed new ⊎ gives gate Over new)
   pub spawn : error ≡ Spawn → (0 < length given) × (new ≡ gate)
 
--- this held of the gate when it was closed, and after that it was called no more
+-- this held for the gate when it was closed, and after that it wasn't called again
 pub record ThenCloses {G : Type 0} (closes : Closing G) (before : G → Type 0) (new : G) : Type 0 where
   pub last : G
   pub asked : before last

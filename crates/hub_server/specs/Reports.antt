@@ -1,4 +1,4 @@
--- What a report says.
+-- What a report shows.
 use Rattle.std.specs.Prelude.{ℕ, Bool, List, Result}
 use Rattle.std.specs.List.{AllZip}
 use Rattle.hub_front.specs.Serving.{Asking}
@@ -10,8 +10,8 @@ use Rattle.hub_server.specs.Sessions.{Reading, Writing, IsResult}
 abbrev pub AreResults : {D R W : Type 0} → (D → Type 0) → Asking D → (D → D → Type 0) → Reading R → Writing W → List (R × W) → List (Result ℕ FrontError) → Type 0
 AreResults begins asks ends r w = AllZip (λ session result. IsResult begins asks ends r w session.0 session.1 result)
 
--- where `most` sessions are wanted: the sessions that the gate gave have these results, `failed` says whether it failed,
--- and it was closed
+-- if at most `most` sessions are wanted: the sessions that the gate gave have these results, `failed` says whether it
+-- failed, and it was closed
 pub record IsReport {D R W G : Type 0} (begins : D → Type 0) (asks : Asking D) (ends : D → D → Type 0) (r : Reading R) (w : Writing W)
     (gives : Giving G R W) (closes : Closing G) (most : ℕ) (old new : G) (results : List (Result ℕ FrontError)) (failed : Bool) : Type 0 where
   pub given : List (R × W)

@@ -1,4 +1,4 @@
--- What the result of one session says.
+-- What the result of one session shows.
 use Rattle.std.specs.Prelude.{◌≡◌, ◌≢◌, ℕ, List, Option, Result, Err, IfOk, IfErr}
 use Rattle.hub_io.specs.Faults.{read_faults, write_faults}
 use Rattle.hub_front.specs.Serving.{Asking, Finished, Stopped, ReadsWithin}
@@ -6,18 +6,18 @@ use Rattle.hub_io.specs.Telling.{Grows}
 use Rattle.hub_io.specs.declared.fault.FrontError.{FrontError}
 use Rattle.hub_io.specs.declared.fault.FrontError.TheVariants.{Memory}
 
--- what readers tell: what they have left, how many reads were made, and how many of them failed
+-- what is counted of readers: what they have left, how many reads were made, and how many of them failed
 pub record Reading (R : Type 0) : Type 0 where
   pub remaining : R → Option (List ℕ)
   pub reads : R → Option ℕ
   pub faults : R → Option ℕ
 
--- what writers tell: what they hold, and how many writes failed
+-- what is counted of writers: what they have got, and how many writes failed
 pub record Writing (W : Type 0) : Type 0 where
   pub contents : W → Option (List ℕ)
   pub faults : W → Option ℕ
 
--- a desk that begins so served the lines of the reader as far as the result says, and was ended
+-- a desk that begins so has served the lines of the reader as far as the result says, and was ended
 pub record IsServed {D R W : Type 0} (begins : D → Type 0) (asks : Asking D) (ends : D → D → Type 0) (r : Reading R) (w : Writing W)
     (reader read : R) (writer written : W) (result : Result ℕ FrontError) : Type 0 where
   pub old : D
@@ -26,8 +26,8 @@ pub record IsServed {D R W : Type 0} (begins : D → Type 0) (asks : Asking D) (
   pub finished : IfOk result (Finished asks ends old new (w.contents writer) (w.contents written) (r.remaining reader) (r.remaining read))
   pub stopped : IfErr result (Stopped asks ends old new (w.contents writer) (w.contents written) (r.remaining reader) (r.remaining read))
 
--- The result of a session over this reader and this writer. At want of memory nothing was read. A fault is answered
--- where it was told, and nowhere else.
+-- The result of a session over this reader and this writer. If memory ran out nothing was read. An error is reported if
+-- its fault was counted, and only then.
 pub record IsResult {D R W : Type 0} (begins : D → Type 0) (asks : Asking D) (ends : D → D → Type 0) (r : Reading R) (w : Writing W)
     (reader : R) (writer : W) (result : Result ℕ FrontError) : Type 0 where
   pub read : R

@@ -1,27 +1,40 @@
-//! Where the desks of sessions come from.
+//! What serves sessions.
 ghost use Rattle.std.specs.Prelude.{IfOk};
+ghost use Rattle.hub_front.specs.Serving.{Asking};
+ghost use Rattle.hub_server.specs.Sessions.{IsResult};
 
-use hub_requests::Desk;
+use hub_io::{FrontError, Sink, Source};
 use std::alloc::{AllocError, Global};
-use std::os::unix::net::UnixStream;
 use std::sync::Wait;
 
-/// Opens a desk for each session. Each session's thread has a share of it.
+/// Serves each session by a desk of its own. Each session's thread has a share of it.
 pub trait Desks {
-    /// The desk of one session.
-    type Own: Desk + Send;
+    /// A desk, as contracts see it.
+    ghost Own: { Type 0 };
 
-    /// `opens desks desk`: these desks may give a session this desk.
-    ghost opens: { Self → Self.Own → Type 0 };
+    /// `opens desks desk`: a session of these desks may begin with this desk.
+    ghost opens: { Self → Own → Type 0 };
+
+    /// How such a desk answers.
+    ghost asks: { Asking Own };
+
+    /// How such a desk ends.
+    ghost ends: { Own → Own → Type 0 };
 
     /// A share for another thread, which opens such desks too.
     fn share(&self) -> Result<Self, AllocError>
-        ensures { IfOk result (λ other. (desk : Self.Own) → opens other desk → opens self.now desk) };
+        ensures { IfOk result (λ other. (desk : Own) → opens other desk → opens self.now desk) };
 
-    /// The desk of a session. `client` is the connection of its client, if it has one.
-    fn open(&self, alloc: Global, client: Option<UnixStream>) -> Result<Self::Own, AllocError>
-        ensures { IfOk result (opens self.now) };
-
-    /// Releases a desk that has ended.
-    fn release<H: Wait>(&self, rt: &H, desk: Self::Own);
+    /// Serves one session from its first line to its end. Gives the number of its lines.
+    fn serve<H: Wait, R: Source, W: Sink>(
+        &self,
+        rt: &H,
+        alloc: Global,
+        reader: &mut R,
+        writer: &mut W,
+    ) -> Result<u64, FrontError>
+        ensures { IsResult (opens self.now) asks ends
+            (record { remaining = R.remaining; reads = R.reads; faults = R.faults })
+            (record { contents = W.contents; faults = W.faults })
+            reader.old writer.old result };
 }

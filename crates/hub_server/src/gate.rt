@@ -1,31 +1,32 @@
-//! Where sessions come from.
+//! The source of sessions.
 ghost use Rattle.hub_server.specs.declared.gate.Next.{Next};
 
 use std::sync::Wait;
 
-/// What a gate gives.
+/// The answer of a gate.
 #[derive(Drop)]
 pub enum Next<R, W> {
-    /// A session: what it reads, and what it writes to.
+    /// A session: its reader and its writer.
     Session(R, W),
-    /// A session should have come, and the gate failed.
+    /// A session was expected, but the gate failed.
     Failed,
-    /// No session comes any more.
+    /// There are no more sessions.
     Over,
 }
 
-/// Where sessions come from. It waits for each, until it is closed.
+/// A source of sessions, as a listening socket is one. It waits for each session, until it is closed.
 pub trait Gate<R, W> {
-    /// `gives old next new`: a gate as `old` may give this next and go on as `new`.
+    /// `gives old next new`: a gate in the state `old` may give this next, and is then in the state `new`.
     ghost gives: { Self → Next R W → Self → Type 0 };
 
-    /// `closes old new`: a gate as `old` may close and be as `new`.
+    /// `closes old new`: a gate in the state `old` may close, and is then in the state `new`.
     ghost closes: { Self → Self → Type 0 };
 
+    /// Waits for the next session.
     fn next<H: Wait>(&mut self, rt: &H) -> Next<R, W>
         ensures { gives self.old result self.new };
 
-    /// No session comes any more. A client that isn't given by now learns of it at once.
+    /// Closes the gate: it gives no more sessions. A client whose session wasn't given by then learns so at once.
     fn close(&mut self)
         ensures { closes self.old self.new };
 }

@@ -1,9 +1,10 @@
-//! Sessions, each on a thread of its own.
+//! Serves sessions, each on a thread of its own, whatever desks answer them.
 //!
-//! A [`Gate`] gives sessions, each a reader and a writer, as a listening socket does. [`serve_each`] serves each as it
-//! comes, by a desk of its own that [`Desks`] open, so that all of them run at once, and joins them. The [`Report`] has
-//! what each session ended with, in the gate's order. Reader and writer are dropped on the session's own thread: a
-//! connection ends with its session.
+//! A [`Gate`] gives sessions, each with a reader and a writer, as a listening socket does. [`serve_each`] serves each
+//! session as soon as it comes, by a desk of its own that [`Desks`] opens. All sessions run at the same time, and in
+//! the end it joins their threads. The [`Report`] has the result of each session, in the gate's order.
+//!
+//! Reader and writer are dropped on the session's own thread, so a connection ends with its session.
 #![tactic(auto)]
 
 mod desks;

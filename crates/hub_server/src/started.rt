@@ -9,7 +9,7 @@ use std::sync::Arc;
 use std::sync::atomic::{AtomicBool, Ordering};
 use std::thread::{Promise, PromisedHandle, Threads};
 
-/// A thread that was started, and its result once it is joined.
+/// A thread that was started, and its result after it was joined.
 #[derive(Drop)]
 pub(crate) struct Started<T: Drop, P: Promise<T> + Drop> {
     promise: Snapshot<P>,
@@ -17,7 +17,7 @@ pub(crate) struct Started<T: Drop, P: Promise<T> + Drop> {
     thread: Option<PromisedHandle<T, P>>,
     /// What the joined thread returned.
     result: Option<T>,
-    /// The thread sets it when it has nothing left to do.
+    /// The thread sets this when it has nothing left to do.
     is_over: Arc<AtomicBool, Global>,
 }
 
@@ -48,7 +48,7 @@ impl<T: Drop, P: Promise<T> + Drop> Started<T, P> {
         }
     }
 
-    /// Waits until the thread has ended. Its stack is given back then.
+    /// Waits until the thread has ended. Its stack is released then.
     pub(crate) fn join<H: Threads>(&mut self, rt: &H)
         ensures { self.new ≡ self.old }
     {
@@ -66,7 +66,7 @@ impl<T: Drop, P: Promise<T> + Drop> Started<T, P> {
         }
     }
 
-    /// What the thread returned. It waits for that.
+    /// What the thread returned. Waits until it has ended.
     pub(crate) fn end<H: Threads>(self, rt: &H) -> T
         ensures { P.kept_by self result }
     {
@@ -79,7 +79,7 @@ impl<T: Drop, P: Promise<T> + Drop> Started<T, P> {
     }
 }
 
-/// Joins those that have nothing left to do.
+/// Joins the threads that have nothing left to do.
 pub(crate) fn join_over<H: Threads, T: Drop, P: Promise<T> + Drop>(
     rt: &H,
     started: &mut Vec<Started<T, P>>,
@@ -91,7 +91,7 @@ pub(crate) fn join_over<H: Threads, T: Drop, P: Promise<T> + Drop>(
     }
 }
 
-/// Waits until all have ended.
+/// Waits until all threads have ended.
 pub(crate) fn join_all<H: Threads, T: Drop, P: Promise<T> + Drop>(
     rt: &H,
     started: &mut Vec<Started<T, P>>,
@@ -103,7 +103,7 @@ pub(crate) fn join_all<H: Threads, T: Drop, P: Promise<T> + Drop>(
     }
 }
 
-/// What they returned, in order. It waits for that.
+/// What the threads returned, in order. Waits until all have ended.
 pub(crate) fn results_of<H: Threads, T: Drop, P: Promise<T> + Drop>(
     rt: &H,
     alloc: Global,

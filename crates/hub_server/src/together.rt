@@ -10,7 +10,6 @@ use crate::gate::{Gate, Next};
 use crate::promise::Session;
 use crate::report::{Report, ServeError};
 use crate::started::{Started, join_all, join_over, results_of};
-use hub_front::serve;
 use hub_io::{FrontError, Sink, Source};
 use std::alloc::{AllocError, Global};
 use std::snapshot::Snapshot;
@@ -18,13 +17,13 @@ use std::sync::atomic::{AtomicBool, Ordering};
 use std::sync::{Arc, Wait};
 use std::thread::{Builder, Threads};
 
-/// How many bytes of stack a session's thread gets: 2 MiB. The deepest session that was found, a pattern of 199 groups
-/// that don't end, takes 256 KiB.
+/// The bytes of stack of a session's thread: 2 MiB. The deepest session that was found, with a pattern of 200 unclosed
+/// groups, takes 256 KiB.
 pub const STACK_SIZE: usize = 2 << 20;
 
 type Running<R, W, O> = Started<Result<u64, FrontError>, Session<R, W, O>>;
 
-// Serves one session by a desk of its own. Its reader and its writer are dropped here.
+// Serves one session. Its reader and its writer are dropped here.
 fn serve_one<H: Wait + Drop, R: Source + Drop, W: Sink + Drop, O: Desks + Drop>(
     rt: H,
     alloc: Global,
@@ -32,20 +31,15 @@ fn serve_one<H: Wait + Drop, R: Source + Drop, W: Sink + Drop, O: Desks + Drop>(
     mut reader: R,
     mut writer: W,
 ) -> Result<u64, FrontError>
-    ensures { IsResult (O.opens desks) O.Own.asks O.Own.ends
+    ensures { IsResult (O.opens desks) O.asks O.ends
         (record { remaining = R.remaining; reads = R.reads; faults = R.faults })
         (record { contents = W.contents; faults = W.faults })
         reader writer result }
 {
-    let Ok(mut desk) = desks.open(alloc, reader.connection()) else {
-        return Err(FrontError::Memory);
-    };
-    let served = serve(&rt, alloc, &mut desk, &mut reader, &mut writer);
-    desks.release(&rt, desk);
-    served
+    desks.serve(&rt, alloc, &mut reader, &mut writer)
 }
 
-// Starts the thread of one session, which sets `is_over` as the last thing.
+// Starts the thread of one session. The thread sets `is_over` as its last step.
 fn start<H, R, W, O>(
     rt: &H,
     alloc: Global,
@@ -82,8 +76,8 @@ where
     Some(Started::new(began, thread, is_over))
 }
 
-// Starts the sessions that the gate gives, each as it comes, and answers whether the gate failed. Before it asks for one,
-// it joins those that are over.
+// Starts the sessions that the gate gives, each as it comes. Returns whether the gate failed. It joins the threads that
+// are over before it asks for the next session.
 fn start_all<H, R, W, G, O>(
     rt: &H,
     alloc: Global,
@@ -128,7 +122,7 @@ where
     Ok(false)
 }
 
-// The same, and closes the gate as soon as it is asked no more. No session is waited for before that.
+// Does what `start_all` does, and then closes the gate at once. It waits for no session before that.
 fn start_and_close<H, R, W, G, O>(
     rt: &H,
     alloc: Global,
@@ -155,7 +149,7 @@ where
     asked
 }
 
-// Waits until each session has ended, and gives what they ended with, in order.
+// Waits until each session has ended, and returns the results in order.
 fn end_all<H, R, W, O>(
     rt: &H,
     alloc: Global,
@@ -167,7 +161,7 @@ where
     W: Sink + Drop,
     O: Desks,
     ensures { (desks : O) → AreOver O.opens desks started.items → IfOk result (λ results. AreResults
-        (O.opens desks) O.Own.asks O.Own.ends
+        (O.opens desks) O.asks O.ends
         (record { remaining = R.remaining; reads = R.reads; faults = R.faults })
         (record { contents = W.contents; faults = W.faults })
         (streams_of started.items) results.items) }
@@ -176,8 +170,8 @@ where
     results_of(rt, alloc, started)
 }
 
-/// Asks the gate for at most so many sessions, and serves each on a thread of its own, by a desk of its own. All run at the
-/// same time. When it returns, all have ended. At an error their results are lost.
+/// Asks the gate for at most this many sessions, and serves each on a thread of its own, by a desk of its own. All run
+/// at the same time, and all have ended when it returns. At an error their results are lost.
 pub fn serve_each<H, R, W, G, O>(
     rt: &H,
     alloc: Global,
@@ -191,10 +185,11 @@ where
     W: Sink + Send + Drop + 'static,
     G: Gate<R, W>,
     O: Desks + Send + Drop + 'static,
-    // The gate is asked no more after it failed or was over, and closed once after the last asking. Each session that it
-    // gave has a result, in its order, that is one of serving just that session's reader and writer.
+    // The gate isn't asked again after it failed or was over, and is closed once after the last asking. Each session
+    // that it gave has a result, in the gate's order. The result is one of serving exactly that session's reader and
+    // writer.
     ensures report { IfOk result (λ report. IsReport
-        (O.opens desks.now) O.Own.asks O.Own.ends
+        (O.opens desks.now) O.asks O.ends
         (record { remaining = R.remaining; reads = R.reads; faults = R.faults })
         (record { contents = W.contents; faults = W.faults })
         G.gives G.closes sessions gate.old gate.new report.results.items report.gate_failed) }

@@ -17,7 +17,10 @@ fn is_served<H>(rt: &H, alloc: Global) -> bool
 where
     H: Files + Net + Clock + Threads + Wait + Copy + Send + 'static,
 {
-    serve(rt, alloc, SOCKET, 1).is_ok_and(|report| report.is_clean())
+    match serve(rt, alloc, SOCKET, 1) {
+        Ok(report) => report.is_clean(),
+        Err(_) => false,
+    }
 }
 
 /// Calls as soon as a server listens. Nothing of the input is read before.
@@ -28,11 +31,10 @@ fn call_when_it_listens<H: Net + Wait + Clock>(
     output: &mut Vec<u8>,
 ) -> Result<u64, Fault> {
     for _ in 0..1_000 {
-        let called = call(rt, alloc, SOCKET, &mut input, output);
-        if called != Err(Fault::Connect) {
-            return called;
+        match call(rt, alloc, SOCKET, &mut input, output) {
+            Err(Fault::Connect) => thread::sleep(rt, Duration::from_millis(10)),
+            called => return called,
         }
-        thread::sleep(rt, Duration::from_millis(10));
     }
     Err(Fault::Connect)
 }

@@ -1,73 +1,86 @@
+//! The lines of faults on standard error.
 use hub_client::RelayError;
 use hub_commands::{Fault, tell_faults};
 use hub_io::FrontError;
 use hub_server::{Report, ServeError};
+use std::alloc::Global;
+use std::process::Abort;
 use std::test::Fail;
 
-#[test]
-fn each_fault_has_its_line(rt: HostRuntime) -> Result<(), Fail> {
-    for (fault, line) in [
-        (Fault::Listen, "ftrighub: cannot listen\n"),
-        (Fault::Accept, "ftrighub: cannot accept\n"),
-        (Fault::Connect, "ftrighub: cannot connect\n"),
-        (Fault::Memory, "ftrighub: out of memory\n"),
-        (Fault::from(FrontError::Turns), "ftrighub: too many reads\n"),
-        (
-            Fault::from(ServeError::Spawn),
-            "ftrighub: cannot start a session\n",
-        ),
-        (Fault::from(ServeError::Memory), "ftrighub: out of memory\n"),
-        (Fault::from(RelayError::Input), "ftrighub: read failed\n"),
-        (Fault::from(RelayError::Output), "ftrighub: write failed\n"),
-        (Fault::from(RelayError::Send), "ftrighub: send failed\n"),
-        (
-            Fault::from(RelayError::Receive),
-            "ftrighub: receive failed\n",
-        ),
-        (
-            Fault::from(RelayError::Ended),
-            "ftrighub: connection ended\n",
-        ),
-        (Fault::from(RelayError::Turns), "ftrighub: too many reads\n"),
-        (Fault::from(RelayError::Memory), "ftrighub: out of memory\n"),
-    ] {
-        let mut told: Vec<u8> = Vec::new(rt.alloc());
-        fault.tell(rt.alloc(), &mut told);
-        assert_eq!(rt; told.as_slice(), line.as_bytes());
-    }
-    Ok(())
+static OWN: [(Fault, &str); 4] = [
+    (Fault::Listen, "ftrighub: cannot listen\n"),
+    (Fault::Accept, "ftrighub: cannot accept\n"),
+    (Fault::Connect, "ftrighub: cannot connect\n"),
+    (Fault::Memory, "ftrighub: out of memory\n"),
+];
+
+static OF_SERVING: [(ServeError, &str); 2] = [
+    (ServeError::Spawn, "ftrighub: cannot start a session\n"),
+    (ServeError::Memory, "ftrighub: out of memory\n"),
+];
+
+static OF_RELAYING: [(RelayError, &str); 7] = [
+    (RelayError::Input, "ftrighub: read failed\n"),
+    (RelayError::Output, "ftrighub: write failed\n"),
+    (RelayError::Send, "ftrighub: send failed\n"),
+    (RelayError::Receive, "ftrighub: receive failed\n"),
+    (RelayError::Ended, "ftrighub: connection ended\n"),
+    (RelayError::Turns, "ftrighub: too many reads\n"),
+    (RelayError::Memory, "ftrighub: out of memory\n"),
+];
+
+fn expect_line(rt: &impl Abort, alloc: Global, fault: Fault, line: &str) {
+    let mut told: Vec<u8> = Vec::new(alloc);
+    fault.tell(alloc, &mut told);
+    assert_eq!(rt; told.as_slice(), line.as_bytes());
 }
 
 #[test]
+fn each_fault_has_its_line(rt: HostRuntime) {
+    for (fault, line) in &OWN {
+        expect_line(&rt, rt.alloc(), *fault, line);
+    }
+    let turns = Fault::from(FrontError::Turns);
+    expect_line(&rt, rt.alloc(), turns, "ftrighub: too many reads\n");
+    for (fault, line) in &OF_SERVING {
+        expect_line(&rt, rt.alloc(), Fault::from(*fault), line);
+    }
+    for (fault, line) in &OF_RELAYING {
+        expect_line(&rt, rt.alloc(), Fault::from(*fault), line);
+    }
+}
+
+/// What four sessions ended with, whether the gate failed, and the lines.
+static REPORTS: [([Result<u64, FrontError>; 4], bool, &str); 4] = [
+    ([Ok(4), Ok(0), Ok(1), Ok(2)], false, ""),
+    (
+        [Ok(4), Ok(0), Ok(1), Ok(2)],
+        true,
+        "ftrighub: cannot accept\n",
+    ),
+    (
+        [
+            Err(FrontError::Memory),
+            Err(FrontError::Turns),
+            Ok(3),
+            Err(FrontError::Read),
+        ],
+        false,
+        "ftrighub: session 1: out of memory\nftrighub: session 2: too many reads\nftrighub: session 4: read failed\n",
+    ),
+    (
+        [Ok(0), Err(FrontError::Write), Ok(0), Ok(0)],
+        true,
+        "ftrighub: session 2: write failed\nftrighub: cannot accept\n",
+    ),
+];
+
+#[test]
 fn faults_in_the_order_of_acceptance(rt: HostRuntime) -> Result<(), Fail> {
-    for (results, gate_failed, lines) in [
-        ([Ok(4), Ok(0), Ok(1), Ok(2)], false, ""),
-        (
-            [Ok(4), Ok(0), Ok(1), Ok(2)],
-            true,
-            "ftrighub: cannot accept\n",
-        ),
-        (
-            [
-                Err(FrontError::Memory),
-                Err(FrontError::Turns),
-                Ok(3),
-                Err(FrontError::Read),
-            ],
-            false,
-            "ftrighub: session 1: out of memory\n\
-            ftrighub: session 2: too many reads\n\
-            ftrighub: session 4: read failed\n",
-        ),
-        (
-            [Ok(0), Err(FrontError::Write), Ok(0), Ok(0)],
-            true,
-            "ftrighub: session 2: write failed\nftrighub: cannot accept\n",
-        ),
-    ] {
+    for (results, gate_failed, lines) in &REPORTS {
         let report = Report {
-            results: Vec::from_array(rt.alloc(), results)?,
-            gate_failed,
+            results: Vec::from_array(rt.alloc(), *results)?,
+            gate_failed: *gate_failed,
         };
         let mut told: Vec<u8> = Vec::new(rt.alloc());
         tell_faults(rt.alloc(), &report, &mut told);

@@ -8,11 +8,11 @@ use std::sync::{Arc, Wait};
 /// Gives its sessions, the last one first, and then fails or is over.
 #[derive(Drop)]
 pub struct Listed<R, W> {
-    pub sessions: Vec<(R, W)>,
-    pub fails: bool,
+    sessions: Vec<(R, W)>,
+    fails: bool,
     pub asked: u64,
     /// How often it was asked when it was closed, once for each time that it was.
-    pub closed: Vec<u64>,
+    closed: Vec<u64>,
 }
 
 impl<R, W> Listed<R, W> {
@@ -23,6 +23,11 @@ impl<R, W> Listed<R, W> {
             asked: 0,
             closed: Vec::new(alloc),
         }
+    }
+
+    /// Whether it was closed once, after it was asked so often.
+    pub fn was_closed_once_at(&self, asked: u64) -> bool {
+        self.closed.as_slice() == [asked].as_slice()
     }
 }
 

@@ -9,6 +9,7 @@ use std::alloc::Global;
 use std::fs::Files;
 use std::net::Net;
 use std::os::unix::net::{UnixListener, UnixStream};
+use std::process::Abort;
 use std::rt::Clock;
 use std::sync::{Arc, Wait};
 use std::test::Fail;
@@ -45,26 +46,20 @@ where
     }
 }
 
+/// What clients do.
+#[derive(Clone, Copy)]
+enum Talk {
+    EndOneOfTwo,
+    SendWithoutEnd,
+    CutOffOneOfTwo,
+}
+
 /// A session that has ended, while another goes on.
 fn end_one_of_two(mut first: Client, mut second: Client) -> io::Result<bool> {
     first.ask(b"dir web 64 1000")?;
     first.finish()?;
     let hung_up = first.rest()?.is_empty();
     Ok(hung_up && !second.ask(b"status web")?.is_empty())
-}
-
-#[test]
-fn a_connection_ends_with_its_session(rt: HostRuntime) -> Result<(), Fail> {
-    let (door, mut clients) = open(&rt, rt.alloc(), "ends.sock", 2)?;
-    let second = clients.pop().ok_or("two")?;
-    let first = clients.pop().ok_or("two")?;
-    let asking: JoinHandle<bool> = thread::spawn(&rt, move || {
-        end_one_of_two(first, second).unwrap_or(false)
-    })?;
-    let report = serve_door(&rt, rt.alloc(), door, 2)?;
-    assert!(rt; asking.join(&rt));
-    assert_eq!(rt; report.results.as_slice(), [Ok(1), Ok(1)].as_slice());
-    Ok(())
 }
 
 /// A line of ten million bytes that doesn't end.
@@ -75,20 +70,6 @@ fn send_without_end(alloc: Global, mut client: Client) -> io::Result<bool> {
     }
     client.finish()?;
     Ok(client.rest()? == b"no long\n".as_slice())
-}
-
-#[test]
-fn a_line_of_ten_million_bytes(rt: HostRuntime) -> Result<(), Fail> {
-    let alloc: Global = rt.alloc();
-    let (door, mut clients) = open(&rt, alloc, "long.sock", 1)?;
-    let client = clients.pop().ok_or("one")?;
-    let sending: JoinHandle<bool> = thread::spawn(&rt, move || {
-        send_without_end(alloc, client).unwrap_or(false)
-    })?;
-    let report = serve_door(&rt, alloc, door, 1)?;
-    assert!(rt; sending.join(&rt));
-    assert_eq!(rt; report.results.as_slice(), [Ok(1)].as_slice());
-    Ok(())
 }
 
 /// One client holds a full fifodir's only subscription and is cut off in mid-line; the other publishes as soon as it
@@ -110,16 +91,53 @@ fn cut_off_one_of_two(mut first: Client, mut second: Client) -> io::Result<bool>
     Ok(false)
 }
 
+/// Whether all went as it has to.
+fn went_well(alloc: Global, talk: Talk, mut clients: Vec<Client>) -> io::Result<bool> {
+    match (talk, clients.pop(), clients.pop()) {
+        (Talk::EndOneOfTwo, Some(second), Some(first)) => end_one_of_two(first, second),
+        (Talk::CutOffOneOfTwo, Some(second), Some(first)) => cut_off_one_of_two(first, second),
+        (Talk::SendWithoutEnd, Some(client), None) => send_without_end(alloc, client),
+        _ => Ok(false),
+    }
+}
+
+/// Serves so many clients while they talk.
+fn serve_while<H>(
+    rt: &H,
+    alloc: Global,
+    path: &'static str,
+    talk: Talk,
+    count: usize,
+) -> Result<Report, Fail>
+where
+    H: Abort + Files + Net + Clock + Threads + Wait + Copy + Send + 'static,
+{
+    let (door, clients) = open(rt, alloc, path, count)?;
+    let talking: JoinHandle<bool> = thread::spawn(rt, move || {
+        went_well(alloc, talk, clients).unwrap_or(false)
+    })?;
+    let report = serve_door(rt, alloc, door, count as u64)?;
+    assert!(rt; talking.join(rt));
+    Ok(report)
+}
+
+#[test]
+fn a_connection_ends_with_its_session(rt: HostRuntime) -> Result<(), Fail> {
+    let report = serve_while(&rt, rt.alloc(), "ends.sock", Talk::EndOneOfTwo, 2)?;
+    assert_eq!(rt; report.results.as_slice(), [Ok(1), Ok(1)].as_slice());
+    Ok(())
+}
+
+#[test]
+fn a_line_of_ten_million_bytes(rt: HostRuntime) -> Result<(), Fail> {
+    let report = serve_while(&rt, rt.alloc(), "long.sock", Talk::SendWithoutEnd, 1)?;
+    assert_eq!(rt; report.results.as_slice(), [Ok(1)].as_slice());
+    Ok(())
+}
+
 #[test]
 fn a_client_that_is_cut_off_holds_nobody_up(rt: HostRuntime) -> Result<(), Fail> {
-    let (door, mut clients) = open(&rt, rt.alloc(), "cut.sock", 2)?;
-    let second = clients.pop().ok_or("two")?;
-    let first = clients.pop().ok_or("two")?;
-    let asking: JoinHandle<bool> = thread::spawn(&rt, move || {
-        cut_off_one_of_two(first, second).unwrap_or(false)
-    })?;
-    let report = serve_door(&rt, rt.alloc(), door, 2)?;
-    assert!(rt; asking.join(&rt));
+    let report = serve_while(&rt, rt.alloc(), "cut.sock", Talk::CutOffOneOfTwo, 2)?;
     assert_eq!(rt; report.results.len(), 2);
     Ok(())
 }

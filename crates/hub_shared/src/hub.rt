@@ -127,12 +127,17 @@ impl Named {
         limits: Limits,
         notifies: bool,
     ) -> Result<(), HubError>
-        ensures exists { is_some (get bytes_eq self.old.fifodirs name.now) ≡ true → result ≡ Err HubError.Exists }
-        ensures many { is_some (get bytes_eq self.old.fifodirs name.now) ≡ false → 256 ≤ index_map_len self.old.fifodirs → result ≡ Err HubError.Many }
-        ensures exists_only { result ≡ Err HubError.Exists → is_some (get bytes_eq self.old.fifodirs name.now) ≡ true }
+        ensures exists { is_some (get bytes_eq self.old.fifodirs name.now) ≡ true
+            → result ≡ Err HubError.Exists }
+        ensures many { is_some (get bytes_eq self.old.fifodirs name.now) ≡ false
+            → 256 ≤ index_map_len self.old.fifodirs → result ≡ Err HubError.Many }
+        ensures exists_only { result ≡ Err HubError.Exists
+            → is_some (get bytes_eq self.old.fifodirs name.now) ≡ true }
         ensures many_only { result ≡ Err HubError.Many → 256 ≤ index_map_len self.old.fifodirs }
-        ensures ok { OnOk result (HasMade kind limits notifies (get bytes_eq self.new.fifodirs name.now)) }
-        ensures others { OnOk result ((other : List ℕ) → bytes_eq name.now other ≡ false → get bytes_eq self.new.fifodirs other ≡ get bytes_eq self.old.fifodirs other) }
+        ensures ok { OnOk result (HasMade kind limits notifies
+            (get bytes_eq self.new.fifodirs name.now)) }
+        ensures others { OnOk result ((other : List ℕ) → bytes_eq name.now other ≡ false
+            → get bytes_eq self.new.fifodirs other ≡ get bytes_eq self.old.fifodirs other) }
         ensures err { OnErr result (self.new.fifodirs.entries ≡ self.old.fifodirs.entries) }
     {
         if self.fifodirs.contains_key(name) {
@@ -153,7 +158,8 @@ impl Named {
     }
 
     fn find(&self, name: &Name) -> Result<Option<Made>, AllocError>
-        ensures { IfOk result (λ made. option_map shown made ≡ option_map shown (get bytes_eq self.now.fifodirs name.now)) }
+        ensures { IfOk result (λ made. option_map shown made ≡ option_map shown
+            (get bytes_eq self.now.fifodirs name.now)) }
     {
         match self.fifodirs.get(name) {
             Some(made) => Ok(Some(made.copy()?)),

@@ -5,8 +5,8 @@
 //! by the pass that the session keeps, and so by the one record behind it. What other sessions do meanwhile shows only
 //! there.
 //!
-//! A session that ends, however it ends, gives back all that it holds, so that no subscription of its own keeps others
-//! from publishing.
+//! A session that ends, however it ends, releases all that it holds, so that no subscription of its own keeps others from
+//! publishing. A desk, a publisher and a post aren't `Drop`, so code that drops one doesn't compile.
 #![tactic(auto)]
 
 mod hub;

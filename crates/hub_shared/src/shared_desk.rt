@@ -28,9 +28,8 @@ const IDS: u64 = 1_000_000_000_000;
 /// first `pub`, `close` or `status` of that name; `status` is one load through that publisher and waits for nobody.
 /// Each wait begins with a copy of the pause.
 ///
-/// A desk that is let go without `end` leaves its subscriptions standing, and what waits behind them fills the
-/// fifodirs.
-#[derive(Drop)]
+/// A desk that was dropped would keep its subscriptions, and the events that are pending for them would fill the
+/// fifodirs. So it isn't `Drop`, and only `release` takes it.
 pub struct SharedDesk<P: Pause + Copy> {
     hub: Arc<Hub, Global>,
     pause: P,
@@ -67,6 +66,19 @@ impl<P: Pause + Copy> SharedDesk<P> {
         ensures client { self.new.client ≡ client }
     {
         self.client = client;
+    }
+
+    /// Ends all that the session still holds, and frees the desk.
+    pub fn release<H: Wait>(self, rt: &H) {
+        let SharedDesk {
+            hub: _,
+            pause: _,
+            client: _,
+            fifodirs,
+            handles,
+        } = self;
+        handles.release(rt);
+        fifodirs.release(rt);
     }
 
     fn make<H: Wait>(

@@ -44,7 +44,7 @@ AreKept-trans a b c f g = record {
   each = λ k d h. IsKept-trans _ _ _ (f.each k d h) (g.each k d (subst (λ n. k < n) (sym f.count) h));
 }
 
--- one post more is kept
+-- one more post is kept
 pub AreKept-set : (old posts : List Post) (i : ℕ) (now was : Post) → i < length old → AreKept old posts → IsKept (get_or posts i was) now → AreKept old (slice_set posts i now)
 AreKept-set old posts i now was below f one = let inside : i < length posts = subst (λ n. i < n) (sym f.count) below in record {
   count = length-set posts i now ∙ f.count;

@@ -70,13 +70,13 @@ flags_of-word_of false false true false = refl
 flags_of-word_of false false false true = refl
 flags_of-word_of false false false false = refl
 
--- what holds after whatever word had the flags is what the letters alone make of them
+-- what holds after every word with these flags is determined by the letters alone
 flags_after_from_words : (f g : Flags) (letters : List ℕ) → ((word : List ℕ) → flags_of word ≡ f → g ≡ flags_of (word ++ letters)) → g ≡ flags_after f letters
 flags_after_from_words f g letters h =
     let is = flags_of-word_of f.up f.settled f.supervised f.failed in
     h (word_of f) is ∙ sym (flags_after-flags_of (word_of f) letters) ∙ ap (λ z. flags_after z letters) is
 
--- what a step writes where it is given letters past those that are known
+-- what a step writes if it gets letters past those that are known
 pub stepped_past : (v w : Watching) (letters : List ℕ) (first : ℕ) (g : Flags) → v ≡ w → first ≤ w.at → v.at - first < length letters
     → ((word : List ℕ) → flags_of word ≡ v.flags → g ≡ flags_of (word ++ take (length letters - (v.at - first)) (drop (v.at - first) letters)))
     → record v { at = first + length letters; flags = g } ≡ stepped w first letters

@@ -1,4 +1,4 @@
--- A watch beside its ticket, after a take.
+-- A watch and its ticket, after a take.
 use Rattle.std.proofs.Common.{◌≡◌, ◌≢◌, ℕ, ◌+◌, ◌-◌, ◌≤◌, List, ◌++◌, take, drop, length, true, sym, ap, subst, ◌∙◌, arith}
 use Rattle.std.proofs.lemmas.List.{take-append-le, length-append, length-take-le, length-drop, length-map, drop-take, take-take, drop-map, take-map, map-append}
 use Rattle.hub_letters.specs.Flags.{flags_of}
@@ -14,7 +14,7 @@ use Rattle.hub_wait.specs.Histories.{Follows, IsSlice}
 use Rattle.hub_wait.specs.Reading.{Reads}
 use Rattle.hub_wait.proofs.Steps.{Follows-stepped}
 
--- a history that goes on is followed still
+-- a watch follows a history that goes on
 pub Follows-append : (w : Watching) (seen longer : List Event) → StartsWith longer seen → Follows w (letters seen) → Follows w (letters longer)
 Follows-append w seen longer on f =
     let rest = on.0 in
@@ -26,7 +26,7 @@ Follows-append w seen longer on f =
       flags = f.flags ∙ ap flags_of (sym (take-append-le w.at (letters seen) (letters rest) inside) ∙ ap (take w.at) (sym is));
     }
 
--- the letters of events that lie in the history from number a on are a slice of it
+-- the letters of events from number a on are a slice of the history
 length-slice : (seen : List Event) (a n : ℕ) → a + n ≤ length seen → length (letters (take n (drop a seen))) ≡ n
 length-slice seen a n h = length-map (take n (drop a seen)) _ ∙ length-take-le n (drop a seen) (omega (arith, length-drop a seen, h))
 
@@ -39,7 +39,7 @@ IsSlice-slice seen a n h =
       same = sym (take-map _ n (drop a seen)) ∙ ap (take n) (sym (drop-map _ a seen)) ∙ sym (drop-take a n (letters seen)) ∙ ap (λ k. drop a (take (a + k) (letters seen))) (sym many);
     }
 
--- what a take has put into the front of the slice
+-- what a take has put into the beginning of the slice
 front_of_filled : (seen out : List Event) (a n : ℕ) → a + n ≤ length seen → take n (slice a (a + n) seen ++ drop n out) ≡ take n (drop a seen)
 front_of_filled seen out a n h =
     let count : a + n - a ≡ n = omega arith in
@@ -72,7 +72,7 @@ Reads-stepped_there old new w most n out r grows mark took =
           (subst (λ z. z.closed ≢ 0) (sym same) was.0, omega (arith, here, at, many, within));
     }
 
--- after a take that gave events, to which the watch was stepped
+-- after a take of some events, along which the watch was stepped
 pub Reads-stepped : (old new : Ticket) (w v : Watching) (most n first : ℕ) (out events : List Event) → Reads old w → Grows (ticket_sight old) (ticket_sight new) → new.mark ≡ old.mark
     → HasTaken old most (Got n) new → events ≡ filled old (Got n) new out → first ≡ old.next → v ≡ stepped w first (letters (take n events)) → Reads new v
 Reads-stepped old new w v most n first out events r grows mark took fill begin is =
@@ -80,7 +80,7 @@ Reads-stepped old new w v most n first out events r grows mark took fill begin i
     (sym (is ∙ ap (λ k. stepped w k (letters (take n events))) begin ∙ ap (λ z. stepped w old.next (letters (take n z))) fill))
     (Reads-stepped_there old new w most n out r grows mark took)
 
--- after a take that gave none
+-- after a take of none
 pub Reads-kept : (old new : Ticket) (w : Watching) → Reads old w → Grows (ticket_sight old) (ticket_sight new) → new.mark ≡ old.mark → new.next ≡ old.next → Reads new w
 Reads-kept old new w r grows mark next =
     let marked = r.marked in let reached = r.reached in
@@ -94,14 +94,14 @@ Reads-kept old new w r grows mark next =
           (subst (λ z. z.closed ≢ 0) (sym same) was.0, was.1 ∙ ap (λ z. length z.seen) (sym same));
     }
 
--- a watch whose ticket has taken all that it has seen has come to its end
+-- if a ticket has taken all that it has seen, its watch is at the end
 pub at_end : (new : Ticket) (w : Watching) → Reads new w → new.next ≡ length (ticket_seen new) → w.at ≡ length (ticket_seen new)
 at_end new w r all =
     let reached = r.reached in
     let inside : w.at ≤ length (ticket_seen new) = subst (λ k. w.at ≤ k) (length-map (ticket_seen new) _) r.follows.within in
     omega (arith, all, reached, inside)
 
--- after a take that told of the close
+-- after a take that reported the close
 pub Reads-ended : (new : Ticket) (w : Watching) → Reads new w → new.next ≡ length (ticket_seen new) → ticket_closed new ≢ 0 → Reads new (record w { ended = true })
 Reads-ended new w r all closed = record {
   follows = record { within = r.follows.within; flags = r.follows.flags };

@@ -1,4 +1,4 @@
--- A watch along the history of its service: the word of all its letters.
+-- A watch along its service's history, which is the word of all its letters.
 use Rattle.std.specs.Prelude.{ℕ, ◌≡◌, ◌+◌, ◌≤◌, max, Bool, true, false, ◌||◌, List, [], ◌∷◌, length, take, drop}
 use Rattle.std.specs.List.{list_any}
 use Rattle.hub_letters.specs.Flags.{flags_of}
@@ -14,10 +14,10 @@ pub record IsSlice (history : List ℕ) (first : ℕ) (letters : List ℕ) : Typ
   pub within : first + length letters ≤ length history
   pub same : letters ≡ drop first (take (first + length letters) history)
 
--- what becomes of a watch
+-- what happens to a watch
 pub data Move : Type 0 where
-  Step : ℕ → List ℕ → Move  -- it is given letters, numbered from the first number
-  End : Move  -- it is told that no more will come
+  Step : ℕ → List ℕ → Move  -- it gets letters, numbered from the first number
+  End : Move  -- it learns that no more will come
 
 abbrev pub moved : Watching → Move → Watching
 moved w (Step first letters) = stepped w first letters
@@ -58,7 +58,7 @@ pub record HasMoved (history : List ℕ) (moves : List Move) (old new : Watching
   pub notifies : new.notifies ≡ old.notifies
   pub ended : new.ended ≡ (old.ended || list_any is_end moves)
 
--- A watch that follows a history and is given slices of it, cut anywhere and overlapping, follows it as far as the
+-- A watch that follows a history, and gets slices of it that are cut anywhere and overlap, follows it up to the
 -- greatest of their ends.
 abbrev pub FollowAnySlices : Type 0
 FollowAnySlices = (history : List ℕ) (moves : List Move) (watch : Watching) → Follows watch history → AreMovesAlong history watch.at moves

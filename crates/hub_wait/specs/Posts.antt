@@ -1,4 +1,4 @@
--- What the calls on a post leave it with.
+-- What the calls on a post make of it.
 use Rattle.std.specs.Prelude.{ℕ, ◌≡◌, ◌≢◌, ◌+◌, ◌≤◌, ◌⊎◌, Bool, true, false, List, length}
 use Rattle.std.specs.Arc.{arc_value}
 use Rattle.hub_letters.specs.declared.want.Want.{Want}
@@ -20,7 +20,7 @@ fifodir_of p = arc_value p.fifodir
 abbrev pub seen_of : Post → List Event
 seen_of p = ticket_seen p.ticket
 
--- 0, or the number of the publisher that closed, as far as its ticket has seen
+-- 0, or the number of the publisher that closed it, as far as its ticket has seen
 abbrev pub closed_of : Post → ℕ
 closed_of p = ticket_closed p.ticket
 
@@ -31,7 +31,7 @@ status_of p = record { number = length (seen_of p); flags = flags_of (letters (s
 abbrev pub mark_of : Post → ℕ
 mark_of p = p.ticket.mark
 
--- the number of the next event that it takes
+-- the number of the event that it takes next
 abbrev pub next_of : Post → ℕ
 next_of p = p.ticket.next
 
@@ -43,7 +43,7 @@ pub record HasOpened (fifodir : Fifodir) (want : Want) (notifies : Bool) (post :
   pub watch : watch_of post ≡ started want notifies (status_of post)
   pub marked : mark_of post ≤ (watch_of post).at
 
--- it waits for what it did, has gone back in nothing, and shows the flags of what it has seen, as far as its number
+-- it waits for the same, has lost nothing that it had seen, and shows the flags of what it has seen, up to its number
 pub record IsKept (old new : Post) : Type 0 where
   pub fifodir : fifodir_of new ≡ fifodir_of old
   pub mark : mark_of new ≡ mark_of old
@@ -55,13 +55,14 @@ pub record IsKept (old new : Post) : Type 0 where
   pub seen : StartsWith (seen_of new) (seen_of old)
   pub follows : Follows (watch_of new) (letters (seen_of new))
 
--- it has come to the end of what it has seen, but for 4,096 events; and it knows of the close, where it has come so far
+-- its watch knows all that was seen, or it took 4,096 events; it is ended only at the end of a closed record, and it is
+-- ended if it took nothing and has seen the close
 pub record HasCaughtUp (old new : Post) : Type 0 where
   pub all : ((watch_of new).at ≡ length (seen_of new)) ⊎ (next_of new ≡ next_of old + 4096)
   pub ended_only : (watch_of new).ended ≡ true → (closed_of new ≢ 0) × ((watch_of new).at ≡ length (seen_of new))
   pub ended : closed_of new ≢ 0 → next_of new ≡ next_of old → (watch_of new).ended ≡ true
 
--- a slice was whole, or there is no more
+-- the slice was full, or the watch knows all that was seen; and it is ended if nothing was taken and the close was seen
 pub record HasTakenSlice (old : Post) (whole : Bool) (new : Post) : Type 0 where
   pub more : whole ≡ true → next_of new ≡ next_of old + 256
   pub all : whole ≡ false → (watch_of new).at ≡ length (seen_of new)

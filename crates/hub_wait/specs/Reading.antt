@@ -1,4 +1,4 @@
--- A watch beside the ticket that feeds it.
+-- A watch and the ticket that feeds it.
 use Rattle.std.specs.Prelude.{◌≡◌, ◌≢◌, ◌≤◌, true, length}
 use Rattle.hub_record.specs.World.{letters}
 use Rattle.hub_fifodir.specs.declared.ticket.Ticket.{Ticket}
@@ -6,8 +6,8 @@ use Rattle.hub_fifodir.specs.Passes.{ticket_seen, ticket_closed}
 use Rattle.hub_wait.specs.Watching.{Watching}
 use Rattle.hub_wait.specs.Histories.{Follows}
 
--- The watch shows what the ticket has seen, as far as its number, which is behind neither the ticket's mark nor its
--- cursor. It is ended only where the close is seen, and no event past its number.
+-- The watch shows what the ticket has seen, up to its number. This number isn't below the ticket's mark or its next.
+-- The watch is ended only if the close is seen, and no event is past its number.
 pub record Reads (ticket : Ticket) (watch : Watching) : Type 0 where
   pub follows : Follows watch (letters (ticket_seen ticket))
   pub marked : ticket.mark ≤ watch.at

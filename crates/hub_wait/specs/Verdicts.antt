@@ -7,12 +7,12 @@ use Rattle.hub_wait.specs.declared.tally.Verdict.{Verdict}
 use Rattle.hub_wait.specs.declared.tally.Verdict.TheVariants.{Yes, Never}
 use Rattle.hub_wait.specs.Watching.{Watching, is_met_at, is_lost_at}
 
--- it bars that all are met
+-- the watch rules out that all are met
 abbrev pub is_bar : Watching → Bool
 is_bar w = not (is_met_at w) && is_lost_at w
 
--- All: yes where every one is met, else never where one is unmet and lost. Any: yes where one is met, else never where
--- every one is lost.
+-- All: yes if every one is met, else never if one is unmet and lost. Any: yes if one is met, else never if every one is
+-- lost.
 abbrev pub verdict : Span → List Watching → Option Verdict
 verdict All watches = if list_all is_met_at watches then Some Yes else if list_any is_bar watches then Some Never else None
 verdict Any watches = if list_any is_met_at watches then Some Yes else if list_all is_lost_at watches then Some Never else None

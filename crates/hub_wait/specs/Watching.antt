@@ -7,7 +7,7 @@ use Rattle.hub_letters.specs.Flags.{up_by, settled_by}
 use Rattle.hub_letters.specs.Wants.{is_met, is_hopeless}
 use Rattle.hub_record.specs.declared.Status.{Status}
 
--- what is wanted of a service, the number of its events that are known, their flags, and whether no more will come
+-- what is wanted of a service, how many of its events are known, their flags, and whether no more will come
 pub record Watching : Type 0 where
   pub want : Want
   pub notifies : Bool
@@ -18,7 +18,7 @@ pub record Watching : Type 0 where
 abbrev pub started : Want → Bool → Status → Watching
 started want notifies status = record { want = want; notifies = notifies; at = status.number; flags = status.flags; ended = status.closed }
 
--- a flag by the last letter that bears on it, or as it was where none does
+-- a flag by the last letter that bears on it, or unchanged if none does
 abbrev pub flag_after : Bool → (Option Mark → Bool) → Option Mark → Bool
 flag_after before by None = before
 flag_after before by (Some m) = by (Some m)
@@ -31,17 +31,17 @@ flags_after_marks f ms = record {
   failed = flag_after f.failed is_gave_up (last_among is_hope ms);
 }
 
--- the flags after more letters: each by the last of these that bears on it, or as it was where none does
+-- the flags after more letters: each by the last of these that bears on it, or unchanged if none does
 abbrev pub flags_after : Flags → List ℕ → Flags
 flags_after f letters = flags_after_marks f (map mark letters)
 
--- after letters that are numbered from `first`: those below `at` are passed over
+-- after letters that are numbered from `first`; those below `at` are skipped
 abbrev pub stepped : Watching → ℕ → List ℕ → Watching
 stepped w first letters = record w { at = max w.at (first + length letters); flags = flags_after w.flags (drop (w.at - first) letters) }
 
 abbrev pub is_met_at : Watching → Bool
 is_met_at w = is_met w.want w.flags w.notifies
 
--- nothing more is to be hoped for
+-- no further event can bring what is wanted
 abbrev pub is_lost_at : Watching → Bool
 is_lost_at w = is_hopeless w.want w.flags || w.ended

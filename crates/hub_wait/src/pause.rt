@@ -9,33 +9,34 @@ use std::time::Duration;
 /// Whether a wait goes on after a pause.
 #[derive(Clone, Copy, Debug, PartialEq, Eq)]
 pub enum Go {
-    /// It takes what came meanwhile, and looks again.
+    /// It takes what has come meanwhile, and looks again.
     Again,
-    /// Its patience is at an end.
+    /// It ends now, since its time is over.
     Expired,
 }
 
-/// What a wait does between two looks. A caller that has a deadline answers `Expired` from there on.
+/// What a wait does between two looks. A pause with a deadline returns `Expired` once the deadline has passed.
 pub trait Pause {
+    /// Pauses, and says whether the wait goes on.
     fn pause<R: Wait>(&mut self, rt: &R) -> Go;
 }
 
-/// How many turns of a wait pass before a `Backoff` sleeps.
+/// How many turns of a wait a `Backoff` makes before it sleeps.
 pub const BRIEF_TURNS: u32 = 32;
 
-/// A pause for programs, without a deadline. At first it only lets other threads run, since what is waited for may be
-/// about to happen; after `BRIEF_TURNS` turns it also sleeps about a millisecond a turn, so that a long wait uses
-/// hardly
-/// any of a processor. A copy of a new one begins each wait.
+/// A pause without a deadline. At first it only lets other threads run, since the change may be about to happen. After
+/// `BRIEF_TURNS` turns it also sleeps about a millisecond in each turn, so a long wait uses hardly any processor time.
+/// Each wait starts with a copy of a new one.
 #[derive(Clone, Copy, Debug)]
 pub struct Backoff<C> {
-    /// What it sleeps by.
+    /// The clock by which it sleeps.
     pub clock: C,
-    /// The turns made so far, and at most `BRIEF_TURNS`.
+    /// The number of turns so far, up to `BRIEF_TURNS`.
     pub turns: u32,
 }
 
 impl<C> Backoff<C> {
+    /// A pause that has made no turn.
     pub fn new(clock: C) -> Backoff<C>
         ensures { result ≡ record { clock = clock; turns = 0 } }
     {

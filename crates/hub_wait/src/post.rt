@@ -19,9 +19,9 @@ const SLICE: usize = 256;
 /// How many takes one `catch_up` makes.
 const SLICES: u64 = 16;
 
-/// A subscription to a service's events, and what is known of the service by it. It is given back by `end`; one that is
-/// let go otherwise leaves its subscription standing, and what waits behind it fills the fifodir.
-#[derive(Drop)]
+/// A subscription to a service's events, and what is known of the service by it. A post that was dropped would keep its
+/// subscription, and the events that are pending for it would fill the fifodir. So a post isn't `Drop`, and only `end`
+/// takes it.
 pub struct Post {
     fifodir: Arc<Fifodir, Global>,
     ticket: Ticket,
@@ -101,7 +101,7 @@ impl Post {
         }
     }
 
-    /// Gives the subscription back.
+    /// Ends the subscription.
     pub fn end<R: Wait>(self, rt: &R) {
         let Post {
             fifodir,

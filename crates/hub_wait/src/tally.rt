@@ -10,13 +10,13 @@ use std::marker::Model;
 pub enum Verdict {
     /// What was wanted holds.
     Yes,
-    /// It doesn't, and can't be hoped for.
+    /// What was wanted doesn't hold, and can't hold any more.
     Never,
-    /// Neither was known when the patience was at its end.
+    /// Neither was known when the wait ended.
     Late,
 }
 
-/// The watches looked at so far.
+/// What the watches that were added so far show.
 #[derive(Clone, Copy, Debug)]
 pub struct Tally {
     span: Span,
@@ -38,6 +38,7 @@ impl Tally {
     ghost use Rattle.hub_wait.specs.Watching.{Watching};
     ghost use Rattle.hub_wait.specs.Verdicts.{tally_of, verdict};
 
+    /// A tally of no watches.
     #[tactic(auto, unfolding(crate::specs::Verdicts::tally_of))]
     pub fn new(span: Span) -> Tally
         ensures { result ≡ tally_of span [] }
@@ -49,9 +50,10 @@ impl Tally {
         }
     }
 
-    /// Adds a watch as it stands.
+    /// Adds a watch, as it is now.
     pub fn add(&mut self, watch: &Watch)
-        ensures { (span : Span) (watches : List Watching) → self.old ≡ tally_of span watches → self.new ≡ tally_of span (watches ++ watch.now ∷ []) }
+        ensures { (span : Span) (watches : List Watching) → self.old ≡ tally_of span watches
+            → self.new ≡ tally_of span (watches ++ watch.now ∷ []) }
     {
         let met = watch.met();
         let lost = watch.lost();
@@ -67,11 +69,12 @@ impl Tally {
         }
     }
 
-    /// The verdict over the watches that were added; none where one may still come. Over no watch at all it is Yes for
+    /// The verdict over the watches that were added. None if a verdict may still come. Over no watches it is Yes for
     /// `All` and Never for `Any`.
     #[tactic(auto, unfolding(crate::specs::Verdicts::tally_of))]
     pub fn answer(&self) -> Option<Verdict>
-        ensures { (span : Span) (watches : List Watching) → self.now ≡ tally_of span watches → result ≡ verdict span watches }
+        ensures { (span : Span) (watches : List Watching) → self.now ≡ tally_of span watches
+            → result ≡ verdict span watches }
     {
         if self.yes {
             Some(Verdict::Yes)

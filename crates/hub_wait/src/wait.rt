@@ -7,9 +7,9 @@ ghost use Rattle.hub_wait.specs.Waits.{AreKept, IsAnswer, watches_of};
 use crate::{Go, Pause, Post, Span, Tally, Verdict};
 use std::sync::Wait;
 
-/// Waits for the services of the posts, as `s6-svwait` does, for as many turns: a pause, and then each post takes what
-/// came meanwhile. It looks before the first turn and after each; `Late` is answered where the turns or the pause's
-/// patience are at an end without a verdict. The posts stay subscribed.
+/// Waits for the services of the posts, as `s6-svwait` does. In each turn it pauses, and then each post takes what has
+/// come meanwhile. It looks before the first turn and after each turn. It answers `Late` if the turns are over or the
+/// pause has expired without a verdict. The posts stay subscribed.
 pub fn svwait<R: Wait, P: Pause>(
     rt: &R,
     posts: &mut [Post],
@@ -33,8 +33,8 @@ pub fn svwait<R: Wait, P: Pause>(
     look(span, posts).unwrap_or(Verdict::Late)
 }
 
-/// Runs `act`, and then waits for what it leads to, as `s6-svlisten` does: the posts are subscribed before it runs, so
-/// no change that it makes is missed.
+/// Runs `act`, and then waits for its effects, as `s6-svlisten` does. The posts are subscribed before `act` runs, so
+/// the wait misses no change that it makes.
 pub fn svlisten<R: Wait, P: Pause, T, F: FnOnce(&[Post]) -> T>(
     rt: &R,
     posts: &mut [Post],
@@ -54,7 +54,7 @@ pub fn svlisten<R: Wait, P: Pause, T, F: FnOnce(&[Post]) -> T>(
     (acted, verdict)
 }
 
-/// The verdict of the posts as they stand.
+/// The verdict of the posts as they are now.
 fn look(span: Span, posts: &[Post]) -> Option<Verdict>
     ensures { result ≡ verdict span (watches_of posts.now) }
 {

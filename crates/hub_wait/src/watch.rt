@@ -1,11 +1,11 @@
-//! What is known of one service.
+//! What a wait knows of one service.
 ghost use Rattle.std.specs.Prelude.{◌≡◌, ◌+◌, ◌≤◌, ◌^◌, length, true};
 
 use hub_letters::{Flags, Letter, Want};
 use hub_record::Status;
 use std::marker::Model;
 
-/// What a waiter knows of a service, and what it wants of it.
+/// What a wait wants of a service, and what it knows of it.
 #[derive(Clone, Copy, Debug, PartialEq, Eq)]
 pub struct Watch {
     want: Want,
@@ -43,7 +43,7 @@ impl Watch {
         }
     }
 
-    /// Applies letters that are numbered from `first`. Those below `at()` are told already and passed over.
+    /// Follows letters that are numbered from `first`. Letters below `at()` are known already and are skipped.
     pub fn step(&mut self, first: u64, letters: &[Letter])
         requires overlaps { first ≤ self.old.at }
         requires small { first + length letters.now ≤ 10 ^ 12 }
@@ -56,20 +56,21 @@ impl Watch {
         }
     }
 
-    /// Notes that the fifodir is closed and no event is left to take.
+    /// Notes that the fifodir is closed and no event is pending.
     pub fn end(&mut self)
         ensures { self.new ≡ record self.old { ended = true } }
     {
         self.ended = true;
     }
 
-    /// How many of the service's events the flags tell of.
+    /// How many of the service's events the watch knows.
     pub fn at(&self) -> u64
         ensures { result ≡ self.now.at }
     {
         self.at
     }
 
+    /// The flags of those events.
     pub fn flags(&self) -> Flags
         ensures { result ≡ self.now.flags }
     {
@@ -83,28 +84,28 @@ impl Watch {
         self.want.met(self.flags, self.notifies)
     }
 
-    /// Whether the service has failed for good, where that bars what is wanted.
+    /// Whether the service has failed for good, if that rules out what is wanted.
     pub fn hopeless(&self) -> bool
         ensures { result ≡ is_hopeless self.now.want self.now.flags }
     {
         self.want.hopeless(self.flags)
     }
 
-    /// Whether the fifodir is closed and no event is left to take.
+    /// Whether the fifodir is closed and no event is pending.
     pub fn ended(&self) -> bool
         ensures { result ≡ self.now.ended }
     {
         self.ended
     }
 
-    /// Whether nothing more is to be hoped for.
+    /// Whether no further event can bring what is wanted: it is hopeless or ended.
     pub(crate) fn lost(&self) -> bool
         ensures { result ≡ is_lost_at self.now }
     {
         self.hopeless() || self.ended
     }
 
-    /// A law: a watch shows the flags of its service's history as far as it has come, however that is cut.
+    /// A law: a watch shows the flags of its service's history up to its number, however the history is cut.
     pub fn follow_any_slices()
         ensures { FollowAnySlices }
     {}

@@ -1,4 +1,4 @@
-//! What is asked of a fifodir: to make one, publish to it, close it and show it.
+//! The requests about a fifodir: make one, publish to it, close it, and report its status.
 ghost use Rattle.std.specs.Prelude.{◌≤◌, Some, length, false, true};
 ghost use Rattle.hub_local.specs.Answers.{made, refusal_to_make};
 ghost use Rattle.hub_local.specs.Standing.{Answers, AskedWith, Unchanged};
@@ -9,9 +9,10 @@ use crate::local_desk::{LocalDesk, LocalFifodir};
 use hub_record::{Closed, Kind, Letters, Limits, Record, Status};
 use hub_requests::{Name, Refusal, Reply};
 
+/// How many fifodirs a desk may have.
 const NAMES: usize = 256;
 
-/// The number that a desk's own records have of their only publisher.
+/// The publisher's number in a desk's own records.
 const PUBLISHER: u64 = 1;
 
 impl LocalDesk {
@@ -22,7 +23,8 @@ impl LocalDesk {
         reports: Option<bool>,
         limits: Limits,
     ) -> Reply
-        ensures step { Answers self.old true (λ desk. refusal_to_make desk name.now) (λ desk. made desk name.now kind reports (Some limits)) Unchanged result self.new }
+        ensures step { Answers self.old true (λ desk. refusal_to_make desk name.now)
+            (λ desk. made desk name.now kind reports (Some limits)) Unchanged result self.new }
         ensures short { length (text_of result) ≤ 4101 }
     {
         if self.fifodirs.contains_key(name) {

@@ -1,4 +1,4 @@
-//! What is asked of a listener: to begin one and to look for its next hit.
+//! The requests about a listener: begin one, and look for its next hit.
 ghost use Rattle.std.specs.Prelude.{◌≡◌, ◌≢◌, ◌≤◌, ◌<◌, Some, length, false};
 ghost use Rattle.hub_listen.specs.Listening.{is_spent};
 ghost use Rattle.hub_record.specs.Kept.{StandsFor};
@@ -14,17 +14,17 @@ use hub_listen::{Feed, FeedError, ListenError, Listener, Mode};
 use hub_record::{Event, Letters, Record, Taken};
 use hub_requests::{Name, PatternText, Refusal, Reply};
 
-/// How many letters a listener gathers at most.
+/// The most letters that a listener gathers.
 const ROOM: usize = 4096;
 
-/// What letters led to that a listener heard.
+/// What a listener's look at its letters came to.
 enum Heard {
     Hit,
-    /// No hit in those that there were or that it had room for.
+    /// There was no hit in the letters that were pending, or in those that there was room for.
     Nothing,
-    /// No hit, and no letter will come.
+    /// There was no hit, and no letter will come.
     End,
-    /// The next letter couldn't be searched for want of memory. It is held.
+    /// Memory ran out in the search of the next letter, which is held.
     Lacking,
 }
 
@@ -87,12 +87,13 @@ impl LocalDesk {
     }
 }
 
-/// Hears what waits, letter by letter up to a hit, for as long as there is room.
+/// Hears the pending letters one by one, until there is a hit or no room.
 fn hear(hearing: &mut Hearing, kept: &mut Record, id: u64) -> Heard
     requires stands { HasSubscription kept.old id }
     requires unspent { is_spent hearing.old.listener ≡ false }
     requires room { length hearing.old.listener.gathered < 4096 }
-    ensures { (w : World) (s : Subscription) → StandsFor kept.old w → found w id ≡ Some s → Hears hearing.old w id result hearing.new kept.new }
+    ensures { (w : World) (s : Subscription) → StandsFor kept.old w → found w id ≡ Some s
+        → Hears hearing.old w id result hearing.new kept.new }
 {
     for _ in hearing.listener.text().len()..ROOM {
         match hear_one(hearing, kept, id) {
@@ -103,12 +104,13 @@ fn hear(hearing: &mut Hearing, kept: &mut Record, id: u64) -> Heard
     Heard::Nothing
 }
 
-/// Hears the letter that is held, or else the next one that waits. None where it brings no hit.
+/// Hears the letter that is held, or else the next pending one. None if it completes no hit.
 fn hear_one(hearing: &mut Hearing, kept: &mut Record, id: u64) -> Option<Heard>
     requires stands { HasSubscription kept.old id }
     requires unspent { is_spent hearing.old.listener ≡ false }
     requires room { length hearing.old.listener.gathered < 4096 }
-    ensures { (w : World) (s : Subscription) → StandsFor kept.old w → found w id ≡ Some s → HearsOne hearing.old w id result hearing.new kept.new }
+    ensures { (w : World) (s : Subscription) → StandsFor kept.old w → found w id ≡ Some s
+        → HearsOne hearing.old w id result hearing.new kept.new }
 {
     let letter = match hearing.held {
         Some(letter) => letter,
@@ -132,10 +134,11 @@ fn hear_one(hearing: &mut Hearing, kept: &mut Record, id: u64) -> Option<Heard>
     }
 }
 
-/// Takes the next event that waits, for its letter.
+/// Takes the next pending event, and returns its letter.
 fn take_one(kept: &mut Record, id: u64) -> Result<Letter, Heard>
     requires { HasSubscription kept.old id }
-    ensures { (w : World) (s : Subscription) → StandsFor kept.old w → found w id ≡ Some s → TakesOne w id result kept.new }
+    ensures { (w : World) (s : Subscription) → StandsFor kept.old w → found w id ≡ Some s
+        → TakesOne w id result kept.new }
 {
     let least = Event {
         who: 0,

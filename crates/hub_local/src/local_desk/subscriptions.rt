@@ -1,4 +1,4 @@
-//! What is asked of a subscription: to begin one, take from it and end it.
+//! The requests about a subscription: begin one, take from it, and end it.
 ghost use Rattle.std.specs.Prelude.{◌≡◌, ◌≤◌, List, length, None, false, true, IfOk, IfSome, OnOk, OnErr, vec_capacity, vec_len};
 ghost use Rattle.indexmap.specs.IndexMap.{values};
 ghost use Rattle.hub_record.specs.Kept.{StandsFor};
@@ -19,10 +19,10 @@ use hub_requests::{Name, Refusal, Reply};
 use indexmap::IndexMap;
 use std::alloc::{AllocError, Global};
 
-/// How many handles may stand.
+/// How many handles may be current at one time.
 const HANDLES: usize = 256;
 
-/// How many handles may be given.
+/// How many handles may be given in all.
 const NUMBERS: u64 = 1_000_000;
 
 impl LocalDesk {
@@ -36,9 +36,10 @@ impl LocalDesk {
         }
     }
 
-    /// Why there can be no further handle for a subscription to the fifodir of this name.
+    /// Why there can be no further handle for a subscription to the fifodir of this name. None if there can.
     pub(super) fn refusal_to_hold(&self, name: &Name) -> Option<Refusal>
-        ensures own { (desk : Desk) → Stands self.now desk → result ≡ refusal_to_hold desk name.now }
+        ensures own { (desk : Desk) → Stands self.now desk
+            → result ≡ refusal_to_hold desk name.now }
         ensures short { IfSome result (λ refusal. length (text_of (No refusal)) ≤ 4101) }
     {
         if !self.fifodirs.contains_key(name) {
@@ -55,9 +56,12 @@ impl LocalDesk {
 
     /// Subscribes, and gives the subscription the next handle.
     pub(super) fn hold(&mut self, name: &Name, hearing: Option<Hearing>) -> Reply
-        requires unrefused { (desk : Desk) → Stands self.old desk → refusal_to_hold desk name.now ≡ None }
+        requires unrefused { (desk : Desk) → Stands self.old desk
+            → refusal_to_hold desk name.now ≡ None }
         requires goes_on { GoesOn hearing }
-        ensures step { Answers self.old true (λ desk. refusal_to_hold desk name.now) (λ desk. in_world desk (λ w. subscribed desk name.now hearing w (subscribe_reply w)) (world_of desk.fifodirs name.now)) Unchanged result self.new }
+        ensures step { Answers self.old true (λ desk. refusal_to_hold desk name.now)
+            (λ desk. in_world desk (λ w. subscribed desk name.now hearing w (subscribe_reply w))
+            (world_of desk.fifodirs name.now)) Unchanged result self.new }
         ensures short { length (text_of result) ≤ 4101 }
     {
         let Ok(key) = name.copy() else {
@@ -116,34 +120,39 @@ impl LocalDesk {
     }
 }
 
-/// Cancels the subscription that is held, where it stands.
+/// Cancels the subscription of a handle, if it is current.
 fn release(fifodirs: &mut IndexMap<Name, LocalFifodir>, holding: &Holding)
-    ensures { (model : List Fifodir) → AreKept fifodirs.old.entries model → AreKept fifodirs.new.entries (without_held model holding.now) }
+    ensures { (model : List Fifodir) → AreKept fifodirs.old.entries model
+        → AreKept fifodirs.new.entries (without_held model holding.now) }
 {
     if let Some(fifodir) = fifodirs.get_mut(&holding.name) {
         let _ = fifodir.kept.cancel(holding.id);
     }
 }
 
-/// Cancels each subscription that is held, where it stands.
+/// Cancels the subscription of each of these handles, if it is current.
 pub(super) fn release_all(
     fifodirs: &mut IndexMap<Name, LocalFifodir>,
     holdings: &IndexMap<u64, Holding>,
 )
-    ensures { (model : List Fifodir) → AreKept fifodirs.old.entries model → AreKept fifodirs.new.entries (without_all model (values holdings.now)) }
+    ensures { (model : List Fifodir) → AreKept fifodirs.old.entries model
+        → AreKept fifodirs.new.entries (without_all model (values holdings.now)) }
 {
     for holding in holdings.values() {
         release(fifodirs, holding);
     }
 }
 
-/// Takes what waits for a subscription, at most so much, through room for just that. Want of memory is met before
-/// anything is taken.
+/// Takes what is pending for a subscription, at most `most` events, through a buffer with room for exactly those. If
+/// memory runs out, nothing was taken.
 fn take_waiting(alloc: Global, kept: &mut Record, id: u64, most: usize) -> Result<Reply, AllocError>
     requires stands { HasSubscription kept.old id }
     requires few { most ≤ 256 }
-    ensures reply { (w : World) → StandsFor kept.old w → IfOk result (λ reply. reply ≡ take_shown (letters (take_events w id most)) (take_reply w id most)) }
-    ensures after { (w : World) → StandsFor kept.old w → OnOk result (StandsFor kept.new (after_take w id most)) }
+    ensures reply { (w : World) → StandsFor kept.old w
+        → IfOk result (λ reply. reply ≡ take_shown (letters (take_events w id most))
+        (take_reply w id most)) }
+    ensures after { (w : World) → StandsFor kept.old w
+        → OnOk result (StandsFor kept.new (after_take w id most)) }
     ensures short { IfOk result (λ reply. length (text_of reply) ≤ 4101) }
     ensures err { OnErr result (kept.new ≡ kept.old) }
 {
@@ -158,7 +167,7 @@ fn take_waiting(alloc: Global, kept: &mut Record, id: u64, most: usize) -> Resul
     take_letters(alloc, kept, id, &mut room)
 }
 
-/// Takes what waits for a subscription, as far as the room goes. Want of memory is met before anything is taken.
+/// Takes what is pending for a subscription, as far as it fits. If memory runs out, nothing was taken.
 fn take_letters(
     alloc: Global,
     kept: &mut Record,
@@ -167,8 +176,11 @@ fn take_letters(
 ) -> Result<Reply, AllocError>
     requires stands { HasSubscription kept.old id }
     requires few { length room.old ≤ 256 }
-    ensures reply { (w : World) → StandsFor kept.old w → IfOk result (λ reply. reply ≡ take_shown (letters (take_events w id (length room.old))) (take_reply w id (length room.old))) }
-    ensures after { (w : World) → StandsFor kept.old w → OnOk result (StandsFor kept.new (after_take w id (length room.old))) }
+    ensures reply { (w : World) → StandsFor kept.old w
+        → IfOk result (λ reply. reply ≡ take_shown (letters (take_events w id (length room.old)))
+        (take_reply w id (length room.old))) }
+    ensures after { (w : World) → StandsFor kept.old w
+        → OnOk result (StandsFor kept.new (after_take w id (length room.old))) }
     ensures short { IfOk result (λ reply. length (text_of reply) ≤ 4101) }
     ensures err { OnErr result (kept.new ≡ kept.old) }
 {
@@ -181,7 +193,7 @@ fn take_letters(
     }
 }
 
-/// The events' letters, in a list that has room for them.
+/// The letters of the events, in a list that has room for them.
 fn letters_of(events: &[Event], mut room: Vec<Letter>) -> Letters
     requires empty { vec_len room ≡ 0 }
     requires fits { length events.now ≤ vec_capacity room }

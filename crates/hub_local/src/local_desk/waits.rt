@@ -1,4 +1,4 @@
-//! What is asked of several services at once: whether they are as wanted.
+//! The request about several services at once: whether they are as wanted.
 ghost use Rattle.std.specs.Prelude.{◌≡◌, ◌≤◌, ◌<◌, ◌^◌, List, length, IfErr, IfSome, true, vec_len, vec_capacity};
 ghost use Rattle.std.specs.List.{list_all};
 ghost use Rattle.hub_local.specs.Answers.{refusal_to_wait};
@@ -16,7 +16,8 @@ use hub_requests::{Name, Names, Numbers, Refusal, Reply};
 use hub_wait::{Span, Tally, Verdict, Watch};
 use indexmap::IndexMap;
 
-/// What a wait opens at a service: a subscription, which stands while the wait looks, and what it knows of the service.
+/// What a wait opens at a service: a subscription, which is current while the wait looks, and what it knows of the
+/// service.
 #[derive(Drop)]
 struct Post {
     id: u64,
@@ -24,10 +25,12 @@ struct Post {
 }
 
 impl LocalDesk {
-    /// Nothing can change while it waits, so it answers at once.
+    /// Answers at once, since nothing can change during a wait of the only session.
     pub(super) fn wait(&mut self, span: Span, want: Want, names: &Names) -> Reply
         requires { length names.now ≤ 32 }
-        ensures step { Answers self.old true (λ desk. refusal_to_wait desk names.now) (λ desk. waited desk span want names.now) (λ desk left. LeftByWait desk want names.now left) result self.new }
+        ensures step { Answers self.old true (λ desk. refusal_to_wait desk names.now)
+            (λ desk. waited desk span want names.now)
+            (λ desk left. LeftByWait desk want names.now left) result self.new }
         ensures short { length (text_of result) ≤ 4101 }
     {
         let names = names.items();
@@ -49,7 +52,7 @@ impl LocalDesk {
     }
 }
 
-/// The first refusal that stands before those of the posts: a name that isn't there, or else a plain fifodir.
+/// The first refusal that comes before those of the posts: a name without a fifodir, or else a plain fifodir.
 fn refusal_by_names(fifodirs: &IndexMap<Name, LocalFifodir>, names: &[Name]) -> Option<Refusal>
     ensures { result ≡ refusal_among fifodirs.now.entries names.now }
 {
@@ -83,13 +86,14 @@ fn is_service(fifodirs: &IndexMap<Name, LocalFifodir>, name: &Name) -> bool
     }
 }
 
-/// Subscribes, and then reads what the service shows.
+/// Subscribes, and then reads the status of the service.
 fn open(
     fifodirs: &mut IndexMap<Name, LocalFifodir>,
     name: &Name,
     want: Want,
 ) -> Result<Post, Refusal>
-    ensures opens { (model : List Fifodir) → AreKept fifodirs.old.entries model → OpensPost want name.now model result fifodirs.new.entries }
+    ensures opens { (model : List Fifodir) → AreKept fifodirs.old.entries model
+        → OpensPost want name.now model result fifodirs.new.entries }
     ensures short { IfErr result (λ refusal. length (text_of (No refusal)) ≤ 4101) }
 {
     let Some(fifodir) = fifodirs.get_mut(name) else {
@@ -118,7 +122,8 @@ fn open_all(
 ) -> Result<(), Refusal>
     requires empty { vec_len posts.old ≡ 0 }
     requires fits { length names.now ≤ vec_capacity posts.old }
-    ensures opens { (model : List Fifodir) → AreKept fifodirs.old.entries model → OpensAll want names.now model result fifodirs.new.entries posts.new.items }
+    ensures opens { (model : List Fifodir) → AreKept fifodirs.old.entries model
+        → OpensAll want names.now model result fifodirs.new.entries posts.new.items }
     ensures few { vec_len posts.new ≤ length names.now }
     ensures short { IfErr result (λ refusal. length (text_of (No refusal)) ≤ 4101) }
 {
@@ -129,26 +134,28 @@ fn open_all(
     Ok(())
 }
 
-/// Cancels the subscription of this id, where it stands.
+/// Cancels the subscription of this id, if it is current.
 fn cancel_at(fifodirs: &mut IndexMap<Name, LocalFifodir>, name: &Name, id: u64)
-    ensures { (model : List Fifodir) → AreKept fifodirs.old.entries model → AreKept fifodirs.new.entries (without_subscription model name.now id) }
+    ensures { (model : List Fifodir) → AreKept fifodirs.old.entries model
+        → AreKept fifodirs.new.entries (without_subscription model name.now id) }
 {
     if let Some(fifodir) = fifodirs.get_mut(name) {
         let _ = fifodir.kept.cancel(id);
     }
 }
 
-/// Gives the posts back, which were opened for the first of these names.
+/// Ends the posts, which were opened for the first of these names.
 fn give_back(fifodirs: &mut IndexMap<Name, LocalFifodir>, names: &[Name], posts: &[Post])
     requires { length posts.now ≤ length names.now }
-    ensures { (model : List Fifodir) → AreKept fifodirs.old.entries model → AreKept fifodirs.new.entries (without_posts model names.now posts.now) }
+    ensures { (model : List Fifodir) → AreKept fifodirs.old.entries model
+        → AreKept fifodirs.new.entries (without_posts model names.now posts.now) }
 {
     for i in 0..posts.len() {
         cancel_at(fifodirs, &names[i], posts[i].id);
     }
 }
 
-/// The number of the post, where it is met.
+/// The number of events that the post knows, if it is met.
 fn number_of(post: &Post) -> Option<u64>
     ensures number { result ≡ number_of post.now }
     ensures small { IfSome result (λ number. number < 2 ^ 64) }
@@ -160,7 +167,7 @@ fn number_of(post: &Post) -> Option<u64>
     }
 }
 
-/// The verdict of the posts as they stand. The list for their numbers is empty and has room for them.
+/// The verdict of the posts as they are now. The list for their numbers is empty and has room for them.
 fn verdict_shown(span: Span, posts: &[Post], mut numbers: Vec<Option<u64>>) -> Reply
     requires empty { vec_len numbers ≡ 0 }
     requires fits { length posts.now ≤ vec_capacity numbers }

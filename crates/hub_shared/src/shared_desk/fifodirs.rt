@@ -14,7 +14,8 @@ use std::mem;
 use std::sync::Wait;
 
 /// The fifodirs that a session found. Each is kept under the name that it was first found by.
-#[derive(Drop)]
+///
+/// They aren't `Drop`, and only `release` takes them.
 pub struct Fifodirs {
     pub(super) alloc: Global,
     by_name: IndexMap<Name, Joined>,
@@ -51,8 +52,15 @@ impl Fifodirs {
             return Err(Refusal::Memory);
         };
         match self.by_name.insert(key, Joined::new(found)) {
-            Ok(_) => Ok(()),
-            Err(_) => Err(Refusal::Memory),
+            Ok(replaced) => {
+                let None = replaced else { unreachable!() };
+                Ok(())
+            }
+            Err(refused) => {
+                let (_, joined) = refused.value;
+                joined.leave(rt);
+                Err(Refusal::Memory)
+            }
         }
     }
 
@@ -74,7 +82,8 @@ impl Fifodirs {
     }
 
     pub fn publish<H: Wait>(&mut self, rt: &H, hub: &Hub, name: &Name, letters: &Letters) -> Reply
-        ensures step { AsksByName hub.now (says_published letters.now) self.old name.now result self.new }
+        ensures step { AsksByName hub.now (says_published letters.now) self.old name.now result
+            self.new }
         ensures short { length (text_of result) ≤ 4101 }
     {
         if let Err(refusal) = self.join(rt, hub, name) {
@@ -112,13 +121,21 @@ impl Fifodirs {
         joined.status(rt)
     }
 
-    /// Gives all publishers back.
+    /// Ends all publishers.
     pub fn leave<H: Wait>(&mut self, rt: &H)
         ensures { self.new.by_name.entries ≡ [] }
     {
-        let left = mem::replace(&mut self.by_name, IndexMap::new(self.alloc));
-        for (_, joined) in left {
+        let mut left = mem::replace(&mut self.by_name, IndexMap::new(self.alloc));
+        while let Some((_, joined)) = left.pop() {
             joined.leave(rt);
         }
+        left.destroy_empty();
+    }
+
+    /// Ends all publishers, and frees what is left.
+    pub fn release<H: Wait>(mut self, rt: &H) {
+        self.leave(rt);
+        let Fifodirs { alloc: _, by_name } = self;
+        by_name.destroy_empty();
     }
 }

@@ -10,10 +10,11 @@ use crate::Found;
 use hub_fifodir::{PassError, Publisher};
 use hub_record::{Closed, Letters};
 use hub_requests::{Refusal, Reply};
+use std::mem;
 use std::sync::Wait;
 
-/// A fifodir that a session found, with the session's publisher there once it was made. It is given back by `leave`.
-#[derive(Drop)]
+/// A fifodir that a session found, with the session's publisher there once it was made. It isn't `Drop`, and only `leave`
+/// takes it.
 pub struct Joined {
     found: Found,
     publisher: Option<Publisher>,
@@ -44,13 +45,25 @@ impl Joined {
         ensures found { self.new.found ≡ self.old.found }
         ensures silent { self.new.publisher ≡ None }
         ensures of { IfOk result (λ p. IsPublisherOf (arc_value self.old.found.dir) p) }
-        ensures ok { IfOk result (λ p. IsSpeaker (arc_value self.old.found.dir) self.old.publisher p) }
+        ensures ok { IfOk result (λ p. IsSpeaker
+            (arc_value self.old.found.dir) self.old.publisher p) }
         ensures err { OnErr result (self.old.publisher ≡ None) }
     {
         match self.publisher.take() {
             Some(publisher) => Ok(publisher),
             None => self.found.dir.publisher(rt),
         }
+    }
+
+    /// Keeps the publisher that was taken out.
+    fn keep(&mut self, publisher: Publisher)
+        requires silent { self.old.publisher ≡ None }
+        requires of { IsPublisherOf (arc_value self.old.found.dir) publisher }
+        ensures found { self.new.found ≡ self.old.found }
+        ensures kept { self.new.publisher ≡ Some publisher }
+    {
+        let before = mem::replace(&mut self.publisher, Some(publisher));
+        let None = before else { unreachable!() };
     }
 
     pub fn publish<H: Wait>(&mut self, rt: &H, letters: &Letters) -> Reply
@@ -62,7 +75,7 @@ impl Joined {
             Err(error) => return Reply::No(refusal_of_pass(error)),
         };
         let published = self.found.dir.publish(rt, &mut publisher, letters.items());
-        self.publisher = Some(publisher);
+        self.keep(publisher);
         match published {
             Ok(first) => Reply::Number(first),
             Err(error) => Reply::No(Refusal::from(error)),
@@ -78,7 +91,7 @@ impl Joined {
             Err(error) => return Reply::No(refusal_of_pass(error)),
         };
         let closed = self.found.dir.close(rt, &mut publisher);
-        self.publisher = Some(publisher);
+        self.keep(publisher);
         match closed {
             Ok(()) => Reply::Done,
             Err(Closed) => Reply::No(Refusal::Closed),
@@ -94,11 +107,11 @@ impl Joined {
             Err(error) => return Reply::No(refusal_of_pass(error)),
         };
         let status = self.found.dir.status(&mut publisher);
-        self.publisher = Some(publisher);
+        self.keep(publisher);
         Reply::State(status)
     }
 
-    /// Gives the publisher back.
+    /// Ends the publisher, if there is one.
     pub fn leave<H: Wait>(self, rt: &H) {
         let Joined { found, publisher } = self;
         if let Some(publisher) = publisher {

@@ -13,8 +13,8 @@ use hub_requests::{Name, Numbers, Refusal, Reply};
 use hub_wait::{Pause, Post, Span, Verdict, svwait};
 use std::sync::Wait;
 
-/// The posts of one wait, with room for the numbers that it may be answered. They are given back by `settle`.
-#[derive(Drop)]
+/// The posts of one wait, with room for the numbers that it may be answered. They aren't `Drop`, and only `settle`
+/// takes them.
 pub struct Posts {
     posts: Vec<Post>,
     numbers: Vec<Option<u64>>,
@@ -37,7 +37,8 @@ impl Fifodirs {
     ) -> Result<Posts, Refusal>
         requires { length names.now ≤ 32 }
         ensures services { OnOk result (AreSeen self.new names.now false) }
-        ensures opened { IfOk result (λ opened. ArePosts self.new want names.now opened.posts.items) }
+        ensures opened { IfOk result (λ opened. ArePosts self.new want names.now
+            opened.posts.items) }
         ensures refused { IfErr result (IsWaitRefused self.new names.now) }
         ensures kept { KeepsAll hub.now self.old self.new }
         ensures brief { IfErr result IsBrief }
@@ -45,10 +46,10 @@ impl Fifodirs {
         if self.has_plain(rt, hub, names)? {
             return Err(Refusal::Kind);
         }
-        let Ok(mut posts) = Vec::with_capacity(self.alloc, names.len()) else {
+        let Ok(numbers) = Vec::with_capacity(self.alloc, names.len()) else {
             return Err(Refusal::Memory);
         };
-        let Ok(numbers) = Vec::with_capacity(self.alloc, names.len()) else {
+        let Ok(mut posts) = Vec::with_capacity(self.alloc, names.len()) else {
             return Err(Refusal::Memory);
         };
         match self.open_each(rt, hub, want, names, &mut posts) {
@@ -106,7 +107,7 @@ impl Fifodirs {
 }
 
 impl Posts {
-    /// Waits, and gives the posts back.
+    /// Waits, and ends the posts.
     pub fn settle<H: Wait, P: Pause + Drop>(
         self,
         rt: &H,
@@ -151,9 +152,10 @@ fn number_met(post: &Post) -> Option<u64>
     if watch.met() { Some(watch.at()) } else { None }
 }
 
-/// Gives the posts back.
-fn end_each<H: Wait>(rt: &H, posts: Vec<Post>) {
-    for post in posts {
+/// Ends the posts.
+fn end_each<H: Wait>(rt: &H, mut posts: Vec<Post>) {
+    while let Some(post) = posts.pop() {
         post.end(rt);
     }
+    posts.destroy_empty();
 }

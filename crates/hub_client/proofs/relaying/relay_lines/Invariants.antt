@@ -4,7 +4,7 @@ use Rattle.hub_client.specs.Pending.{pending}
 use Rattle.hub_client.specs.UnderWay.{IsUnderWay}
 use Rattle.hub_client.proofs.relaying.relay_lines.Given as goal
 
--- as many replies were written as lines were sent, and no fault was told
+-- as many replies were written as lines were sent, and there was no fault
 abbrev pub invariant-turns : goal.invariant-turns
 invariant-turns g l = record {
   under_way : IsUnderWay (g.R.Read.remaining l.fn.input) (g.R.Read.remaining l.input) (g.SW.Write.contents l.fn.sender) (g.SW.Write.contents l.sender)

@@ -3,7 +3,7 @@ use Rattle.hub_io.specs.Telling.{Grows}
 use Rattle.hub_front.specs.Pieces.{IsUnderWay}
 use Rattle.hub_front.proofs.serving.serve_reads.Given as goal
 
--- the lines that end in the input so far were served, each read gave a byte at least, and no fault was told
+-- the lines that end within the input so far were served, each read gave at least one byte, and there was no fault
 abbrev pub invariant-reads : goal.invariant-reads
 invariant-reads g l = record {
   chunk : length l.chunk ≡ 65536;

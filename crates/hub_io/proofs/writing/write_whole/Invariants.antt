@@ -3,7 +3,7 @@ use Rattle.std.specs.Io.KnownBytes.{Appends}
 use Rattle.hub_io.specs.Telling.{Grows}
 use Rattle.hub_io.proofs.writing.write_whole.Given as goal
 
--- the bytes so far were written, and no fault was told
+-- the bytes so far were written, and there was no fault
 abbrev pub invariant-parts : goal.invariant-parts
 invariant-parts g l = record {
   within : l.written ≤ length l.bytes;

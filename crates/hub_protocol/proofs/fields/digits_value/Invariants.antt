@@ -2,7 +2,7 @@ use Rattle.std.proofs.Common.{◌≡◌, ◌<◌, ◌^◌, drop}
 use Rattle.hub_protocol.specs.Fields.{digits_from}
 use Rattle.hub_protocol.proofs.fields.digits_value.Given as goal
 
--- the digits so far stand for value
+-- the digits so far have this value
 abbrev pub invariant-loop-b : goal.invariant-loop-b
 invariant-loop-b l = record {
   small : l.value < 10 ^ l.b-index;

@@ -5,7 +5,7 @@ use Rattle.hub_protocol.specs.Spelling.{Svc, IsNumeral}
 use Rattle.hub_protocol.specs.Fields.{fields_of, IsNoForm}
 use Rattle.hub_protocol.proofs.forms.svc.Goals as goal
 
--- no number stands third
+-- the third field isn't a number
 no_third : (name : List ℕ) (waiting : ℕ) (rest : List (List ℕ))
     → ((n : ℕ) (field : List ℕ) (more : List (List ℕ)) → IsNumeral n → rest ≢ decimal n ∷ field ∷ more)
     → IsNoForm word.Svc (name ∷ decimal waiting ∷ rest)

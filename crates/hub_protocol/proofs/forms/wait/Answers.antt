@@ -7,7 +7,7 @@ use Rattle.hub_protocol.specs.Spelling.{Wait, IsNumeral, text_of_span, text_of_w
 use Rattle.hub_protocol.specs.Fields.{fields_of, IsNoForm}
 use Rattle.hub_protocol.proofs.forms.wait.Goals as goal
 
--- no number stands third, with a name behind it
+-- the third field isn't a number with a field after it
 no_turns : (span : Span) (want : Want) (rest : List (List ℕ))
     → ((n : ℕ) (field : List ℕ) (more : List (List ℕ)) → IsNumeral n → rest ≢ decimal n ∷ field ∷ more)
     → IsNoForm word.Wait (text_of_span span ∷ text_of_want want ∷ rest)

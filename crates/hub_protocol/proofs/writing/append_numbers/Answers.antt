@@ -4,7 +4,7 @@ use Rattle.hub_requests.specs.Texts.{number_or_dash, numbers_text}
 use Rattle.hub_protocol.proofs.Numbers.{numbers_text-more, length-numbers_text-take}
 use Rattle.hub_protocol.proofs.writing.append_numbers.Goals as goal
 
--- what stood first still does, where more had been appended to it
+-- what came first still does after more was appended to it
 still_there : (old mid new text : List ℕ) → mid ≡ old ++ text → take (length mid) new ≡ mid → take (length old) new ≡ old
 still_there old mid new text appended kept =
     let within : length old ≤ length mid = omega (arith, ap length appended, length-append old text) in

@@ -4,7 +4,7 @@ use Rattle.hub_client.specs.Pending.{pending}
 use Rattle.hub_client.specs.Passing.{has_lf, Moves}
 use Rattle.hub_client.proofs.buffer.Buffer.gather.Given as goal
 
--- what is pending is at the buffer's front and has no LF, and no fault was told
+-- the pending bytes are at the beginning of the buffer and have no LF, and there was no fault
 abbrev pub invariant-reads : goal.invariant-reads
 invariant-reads g l = record {
   moved : Moves (g.R.Read.remaining l.fn.reader) (g.R.Read.remaining l.reader) (g.R.Source.reads l.fn.reader) (g.R.Source.reads l.reader)

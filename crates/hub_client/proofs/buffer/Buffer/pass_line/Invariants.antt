@@ -4,7 +4,7 @@ use Rattle.hub_client.specs.Pending.{pending}
 use Rattle.hub_client.specs.Passing.{IsOnItsWay}
 use Rattle.hub_client.proofs.buffer.Buffer.pass_line.Given as goal
 
--- the pieces so far have no LF, they were written, and no fault was told
+-- the pieces so far have no LF, they were written, and there was no fault
 abbrev pub invariant-pieces : goal.invariant-pieces
 invariant-pieces g l = record {
   on_its_way : IsOnItsWay (g.R.Read.remaining l.fn.reader) (g.R.Read.remaining l.reader) (g.W.Write.contents l.fn.writer) (g.W.Write.contents l.writer)

@@ -4,7 +4,7 @@ use Rattle.hub_io.specs.Telling.{Grows}
 use Rattle.hub_front.specs.Serving.{Served}
 use Rattle.hub_front.proofs.session.Session.take_bytes.Given as goal
 
--- the lines that end in the bytes so far were served
+-- the lines that end within the bytes so far were served
 abbrev pub invariant-loop-byte : goal.invariant-loop-byte
 invariant-loop-byte g l =
     let so_far = take l.byte-index l.bytes in

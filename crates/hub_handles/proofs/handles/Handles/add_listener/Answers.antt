@@ -10,7 +10,7 @@ use Rattle.hub_handles.proofs.handles.Handles.add_listener.Goals as goal
 
 pub returns-clause-ok : goal.returns-clause-ok
 returns-clause-ok g c =
-    let put = rw c.unwrap.ensures at c.insert.ensures.updates in
+    let put = rw c.unwrap-replaced.ensures at c.insert.ensures.updates in
     let made = c.new-hearing.ensures in
     adds_listener c.args.self.now _ _ _ _ c.new-hearing.result c.in_ok-has_room.ensures.ok
     (subst (λ (s : Subscription). Begins (arc_value c.args.dir) s) (sym made.subscription) c.in_ok-subscription.ensures)

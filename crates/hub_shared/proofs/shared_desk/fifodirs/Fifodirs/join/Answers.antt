@@ -7,8 +7,8 @@ use Rattle.hub_shared.proofs.shared_desk.fifodirs.Fifodirs.join.Goals as goal
 pub returns-then-contains_key-clause-ok : goal.returns-then-contains_key-clause-ok
 returns-then-contains_key-clause-ok g c = joins_known c.args.hub.now c.args.self.now c.args.name.now (sym c.contains_key.ensures ∙ c.if-contains_key.true)
 
-pub returns-in-Ok-insert-clause-ok : goal.returns-in-Ok-insert-clause-ok
-returns-in-Ok-insert-clause-ok g c =
+pub returns-in-None-clause-ok : goal.returns-in-None-clause-ok
+returns-in-None-clause-ok g c =
     let from = IsFoundIn c.args.hub.now c.args.name.now in
     let here : from c.in-Some.found = subst (λ (o : Option Found). IfSome o from) c.in-Some.is c.in-Ok.ensures in
     let put = c.in-Ok-insert.ensures.updates in

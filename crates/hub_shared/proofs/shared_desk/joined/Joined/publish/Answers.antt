@@ -1,4 +1,4 @@
-use Rattle.std.proofs.Common.{ℕ, List, ◌≤◌, length, refl, subst, sym, arith}
+use Rattle.std.proofs.Common.{ℕ, List, ◌≤◌, length, subst, sym, arith, ◌∙◌}
 use Rattle.hub_requests.specs.Texts.{text_of}
 use Rattle.hub_requests.specs.declared.reply.Refusal.{Refusal}
 use Rattle.hub_requests.specs.declared.reply.Reply.TheVariants.{No}
@@ -12,14 +12,14 @@ pub returns-in-Ok-published-clause-step : goal.returns-in-Ok-published-clause-st
 returns-in-Ok-published-clause-step g c =
     let own = c.in-Ok-published.ensures in
     spoke _ _ _ _ c.in-Ok.publisher c.publish-published.new.me
-    (record { found = c.speaker.ensures.found; speaker = c.in-Ok.ensures.ok; kept = refl; same = own.pass.1; seen = own.seen })
+    (record { found = c.keep.ensures.found ∙ c.speaker.ensures.found; speaker = c.in-Ok.ensures.ok; kept = c.keep.ensures.kept; same = own.pass.1; seen = own.seen })
     (subst (λ (m : List ℕ). HasPublished c.in-Ok.publisher m c.in-Ok-published.first c.publish-published.new.me) c.items.ensures own.ok)
 
 pub returns-in-Err-published-clause-step : goal.returns-in-Err-published-clause-step
 returns-in-Err-published-clause-step g c =
     let own = c.in-Err-published.ensures in
     spoke _ _ _ _ c.in-Ok.publisher c.publish-published.new.me
-    (record { found = c.speaker.ensures.found; speaker = c.in-Ok.ensures.ok; kept = refl; same = own.pass.1; seen = own.seen })
+    (record { found = c.keep.ensures.found ∙ c.speaker.ensures.found; speaker = c.in-Ok.ensures.ok; kept = c.keep.ensures.kept; same = own.pass.1; seen = own.seen })
     (c.in-Err-published.error, c.from.ensures, subst (λ (m : List ℕ). IsRefusedAt c.publish-published.new.me m c.in-Err-published.error) c.items.ensures own.refused, own.err, own.own)
 
 pub returns-in-Ok-published-clause-short : goal.returns-in-Ok-published-clause-short

@@ -1,4 +1,4 @@
-use Rattle.std.proofs.Common.{refl, ap, arith}
+use Rattle.std.proofs.Common.{ap, arith, ◌∙◌}
 use Rattle.hub_fifodir.specs.Steps.{mine_of}
 use Rattle.hub_requests.proofs.ShortReplies.{short_state}
 use Rattle.hub_shared.proofs.Speakers.{spoke, same_number, knew}
@@ -8,7 +8,7 @@ pub returns-clause-step : goal.returns-clause-step
 returns-clause-step g c =
     let own = c.status-status.ensures in
     spoke _ _ _ _ c.in-Ok.publisher c.status-status.new.me
-    (record { found = c.speaker.ensures.found; speaker = c.in-Ok.ensures.ok; kept = refl; same = same_number _ _ own.pass.2; seen = own.seen.0 })
+    (record { found = c.keep.ensures.found ∙ c.speaker.ensures.found; speaker = c.in-Ok.ensures.ok; kept = c.keep.ensures.kept; same = same_number _ _ own.pass.2; seen = own.seen.0 })
     (own.status, knew c.in-Ok.publisher c.status-status.new.me own.seen.1 (same_number _ _ own.pass.2), ap mine_of own.pass.1)
 
 pub returns-clause-short : goal.returns-clause-short

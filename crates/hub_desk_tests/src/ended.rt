@@ -1,0 +1,74 @@
+//! Sessions one after the other: what one held when it ended holds the next one up in nothing.
+
+use crate::desks::{Session, new_hub, session};
+use hub_fakes::{Dripping, Narrow};
+use hub_front::serve;
+use hub_io::FrontError;
+use std::alloc::Global;
+use std::sync::Wait;
+
+/// Its subscription is the only one, and what waits for it fills the fifodir.
+const FIRST: &[u8] = b"dir web 2 100\nsub web\npub web ab\npub web c\n";
+
+const SECOND: &[u8] = b"pub web c\nstatus web\n";
+
+/// The replies to the second session.
+const ROOM: &[u8] = b"ok 2\nok 3 0 open\n";
+
+/// Serves a session, of which a test knows nothing.
+fn serve_once<H: Wait>(
+    rt: &H,
+    alloc: Global,
+    desk: &mut Session,
+    reader: &mut Dripping<'_>,
+    writer: &mut Narrow,
+) -> Result<u64, FrontError> {
+    serve(rt, alloc, desk, reader, writer)
+}
+
+/// The read or the write of the first session that fails, 0 for none, what the session ends with, and its replies.
+static FIRSTS: [(&str, u64, u64, Result<u64, FrontError>, &str); 3] = [
+    (
+        "ended with its input",
+        0,
+        0,
+        Ok(4),
+        "ok\nok 1\nok 0\nno full\n",
+    ),
+    (
+        "its read failed",
+        2,
+        0,
+        Err(FrontError::Read),
+        "ok\nok 1\nok 0\nno full\n",
+    ),
+    (
+        "its fourth reply was not written",
+        0,
+        4,
+        Err(FrontError::Write),
+        "ok\nok 1\nok 0\n",
+    ),
+];
+
+#[test]
+fn the_next_session_finds_room(rt: HostRuntime) {
+    for (name, read, write, result, written) in &FIRSTS {
+        let hub = new_hub(&rt);
+        let mut first = session(&rt, &hub);
+        let mut reader = Dripping::new(FIRST, 64, *read);
+        let mut writer = Narrow::new(64, *write);
+        let ended = serve_once(&rt, rt.alloc(), &mut first, &mut reader, &mut writer);
+        assert_eq!(rt; ended, *result, "{name}");
+        assert_eq!(rt; writer.held(), written.as_bytes(), "{name}");
+
+        let mut second = session(&rt, &hub);
+        let mut reader = Dripping::new(SECOND, 64, 0);
+        let mut writer = Narrow::new(64, 0);
+        let ended = serve_once(&rt, rt.alloc(), &mut second, &mut reader, &mut writer);
+        assert_eq!(rt; ended, Ok(2), "{name}");
+        assert_eq!(rt; writer.held(), ROOM, "{name}");
+        second.release(&rt);
+        first.release(&rt);
+    }
+}

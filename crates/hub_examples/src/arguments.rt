@@ -1,0 +1,13 @@
+// crates.txt: YOURS: hub_arguments
+use hub_arguments::{Plan, read_words, status_of};
+use std::alloc::Global;
+
+/// The socket that the words name, if they name one. The first word is the program's name. At an error, the status to
+/// end with.
+pub fn socket_of<'a>(alloc: Global, words: &'a [String]) -> Result<Option<&'a str>, u8> {
+    match read_words(alloc, words) {
+        Ok(Plan::Serve { socket, .. } | Plan::Call { socket }) => Ok(Some(socket)),
+        Ok(Plan::Script) => Ok(None),
+        Err(error) => Err(status_of(&error)),
+    }
+}

@@ -1,0 +1,19 @@
+// crates.txt: YOURS: hub_commands
+use hub_commands::{Fault, serve, tell_faults};
+use std::alloc::Global;
+use std::fs::Files;
+use std::io::Stderr;
+use std::net::Net;
+use std::rt::Clock;
+use std::sync::Wait;
+use std::thread::Threads;
+
+/// Serves 8 connections at a socket, and writes a line for each that stopped. Answers whether none did.
+pub fn serve_at<H>(rt: &H, alloc: Global, socket: &str, errors: &mut Stderr) -> Result<bool, Fault>
+where
+    H: Files + Net + Clock + Threads + Wait + Copy + Send + 'static,
+{
+    let report = serve(rt, alloc, socket, 8)?;
+    tell_faults(alloc, &report, errors);
+    Ok(report.is_clean())
+}

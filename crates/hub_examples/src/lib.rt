@@ -1,0 +1,23 @@
+//! One caller of each library crate. Each module is the example of a crate's README, and `tests/callers` compares the two.
+#![tactic(auto)]
+
+pub mod arguments;
+pub mod client;
+pub mod commands;
+pub mod desk;
+pub mod fakes;
+pub mod fifodir;
+pub mod front;
+pub mod ftrighub;
+pub mod handles;
+pub mod io;
+pub mod letters;
+pub mod listen;
+pub mod local;
+pub mod protocol;
+pub mod record;
+pub mod requests;
+pub mod script;
+pub mod server;
+pub mod shared;
+pub mod wait;

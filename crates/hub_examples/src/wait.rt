@@ -1,0 +1,21 @@
+// crates.txt: YOURS: hub_wait hub_fifodir hub_record hub_letters
+use hub_fifodir::Fifodir;
+use hub_letters::Want;
+use hub_record::SubError;
+use hub_wait::{Backoff, Post, Span, Verdict, svwait};
+use std::alloc::Global;
+use std::rt::Clock;
+use std::sync::{Arc, Wait};
+
+/// Waits until a service is ready, for at most 5,000 turns. After the first 32, a turn takes about a millisecond.
+pub fn wait_until_ready<H: Clock + Wait + Copy>(
+    rt: &H,
+    service: Arc<Fifodir, Global>,
+) -> Result<Verdict, SubError> {
+    let mut pause = Backoff::new(*rt);
+    let mut posts = [Post::open(rt, service, Want::Ready, true)?];
+    let verdict = svwait(rt, &mut posts, Span::All, 5_000, &mut pause);
+    let [post] = posts;
+    post.end(rt);
+    Ok(verdict)
+}

@@ -1,0 +1,215 @@
+//! Lines and what they are read as.
+
+use crate::relay_sizes::text_of;
+use crate::told::told;
+use hub_protocol::{Bad, parse};
+use hub_requests::Request;
+use std::alloc::Global;
+use std::process::Abort;
+use std::test::Fail;
+
+/// A line, of which a test knows nothing.
+fn read_once(alloc: Global, line: &[u8]) -> Result<Request, Bad> {
+    parse(alloc, line)
+}
+
+// One growth may be refused in a test, so want of memory isn't met twice.
+fn read(alloc: Global, line: &[u8]) -> Result<Request, Bad> {
+    match read_once(alloc, line) {
+        Err(Bad::Memory) => read_once(alloc, line),
+        answer => answer,
+    }
+}
+
+/// Lines, and the requests that they spell, in words.
+static GOOD: [(&str, &str); 24] = [
+    ("dir web 64 1000", "make web: 64 may wait, 1000 in all"),
+    ("dir w 1 1", "make w: 1 may wait, 1 in all"),
+    (
+        "dir w 4096 1000000000000",
+        "make w: 4096 may wait, 1000000000000 in all",
+    ),
+    (
+        "svc v 4 10 0",
+        "make service v: 4 may wait, 10 in all, reports false",
+    ),
+    (
+        "svc v 4 10 1",
+        "make service v: 4 may wait, 10 in all, reports true",
+    ),
+    ("sub A-Z_a.z09", "subscribe to A-Z_a.z09"),
+    (
+        "sub abcdefghijklmnopqrstuvwxyz012345",
+        "subscribe to abcdefghijklmnopqrstuvwxyz012345",
+    ),
+    ("pub web !~x", "publish !~x to web"),
+    ("take 1 256", "take 256 of 1"),
+    ("take 0 1", "take 1 of 0"),
+    ("cancel 9999999999999", "cancel 9999999999999"),
+    ("close dir", "close dir"),
+    ("status -", "show -"),
+    (
+        "listen web repeat u.*U",
+        "listen to web again and again, for [u.*U]",
+    ),
+    ("listen web once (", "listen to web once, for [(]"),
+    ("listen w once  ", "listen to w once, for [ ]"),
+    (
+        "listen w repeat  a  b ",
+        "listen to w again and again, for [ a  b ]",
+    ),
+    ("poll 1", "look after 1"),
+    ("poll 9999999999999", "look after 9999999999999"),
+    (
+        "wait all up 0 web web",
+        "for 0 turns, until up is each of web web",
+    ),
+    (
+        "wait any ready 2 b a",
+        "for 2 turns, until ready is one of b a",
+    ),
+    (
+        "wait any down 1000000 v",
+        "for 1000000 turns, until down is one of v",
+    ),
+    (
+        "wait all finished 3 web",
+        "for 3 turns, until finished is each of web",
+    ),
+    (
+        "wait any up 1 a b c d e f g h i j k l m n o p q r s t u v w x y z 1 2 3 4 5 6",
+        "for 1 turns, until up is one of a b c d e f g h i j k l m n o p q r s t u v w x y z 1 2 3 4 5 6",
+    ),
+];
+
+fn expect_request(rt: &impl Abort, alloc: Global, line: &str, want: &str) {
+    let request = read(alloc, line.as_bytes());
+    assert!(rt; request.is_ok(), "{line}");
+    if let Ok(request) = request {
+        if let Ok(told) = told(alloc, &request) {
+            assert_eq!(rt; told.as_str(), want);
+        }
+    }
+}
+
+#[test]
+fn good_lines_spell_requests(rt: HostRuntime) {
+    for (line, want) in &GOOD {
+        expect_request(&rt, rt.alloc(), line, want);
+    }
+}
+
+/// Lines, and the first rule that each breaks.
+static BAD: [(&str, Bad); 65] = [
+    ("dir web 0 10", Bad::Range),
+    ("dir web 4097 10", Bad::Range),
+    ("dir web 04 10", Bad::Form),
+    ("dir we+b 4 10", Bad::Form),
+    ("DIR web 4 10", Bad::Word),
+    ("take 1 257", Bad::Range),
+    ("pub web", Bad::Form),
+    ("", Bad::Word),
+    ("sub\tweb", Bad::Text),
+    // Spaces.
+    (" sub web", Bad::Word),
+    (" ", Bad::Word),
+    ("sub ", Bad::Form),
+    ("sub", Bad::Form),
+    ("sub  web", Bad::Form),
+    ("sub web ", Bad::Form),
+    ("dir web  4 10", Bad::Form),
+    ("pub web a b", Bad::Form),
+    ("pub web ", Bad::Form),
+    // Other bytes, and their place among the rules.
+    ("sub web\r", Bad::Text),
+    ("sub web\x7f", Bad::Text),
+    ("nonsense\n", Bad::Text),
+    ("nonsense", Bad::Word),
+    ("dirs web 4 10", Bad::Word),
+    ("di web 4 10", Bad::Word),
+    ("dir we+b 0 0", Bad::Form),
+    ("dir web 0 10 1", Bad::Form),
+    // Numerals.
+    ("cancel 00", Bad::Form),
+    ("cancel 01", Bad::Form),
+    ("cancel +1", Bad::Form),
+    ("cancel 1a", Bad::Form),
+    ("cancel 10000000000000", Bad::Form),
+    ("take 1 9999999999999", Bad::Range),
+    // Ranges.
+    ("take 1 0", Bad::Range),
+    ("dir web 4 0", Bad::Range),
+    ("dir web 4 1000000000001", Bad::Range),
+    ("svc v 4 10 2", Bad::Range),
+    ("svc v 0 10 1", Bad::Range),
+    // A name has at most 32 bytes.
+    ("sub abcdefghijklmnopqrstuvwxyz0123456", Bad::Form),
+    // Listeners.
+    ("listen", Bad::Form),
+    ("listen w", Bad::Form),
+    ("listen w once", Bad::Form),
+    ("listen w once ", Bad::Form),
+    ("listen w  once u", Bad::Form),
+    ("listen w twice u", Bad::Form),
+    ("listen w+ once u", Bad::Form),
+    ("listen w once u\t", Bad::Text),
+    ("listens w once u", Bad::Word),
+    ("poll", Bad::Form),
+    ("poll 1 1", Bad::Form),
+    ("poll 10000000000000", Bad::Form),
+    // Waits.
+    ("wait all up 0", Bad::Form),
+    ("wait all up 0 ", Bad::Form),
+    ("wait all up 0 web ", Bad::Form),
+    ("wait all up 0  web", Bad::Form),
+    ("wait all up 0 a  b", Bad::Form),
+    ("wait both up 0 web", Bad::Form),
+    ("wait all gone 0 web", Bad::Form),
+    ("wait up all 0 web", Bad::Form),
+    ("wait all up 01 web", Bad::Form),
+    (
+        "wait any up 1 a b c d e f g h i j k l m n o p q r s t u v w x y z 1 2 3 4 5 6 7",
+        Bad::Form,
+    ),
+    ("wait all up 1000001 web", Bad::Range),
+    ("wait all up 9999999999999 web", Bad::Range),
+    ("wait all up 10000000000000 web", Bad::Form),
+    ("wait all up 1000001 we+b", Bad::Form),
+    ("wait all up 1000001", Bad::Form),
+];
+
+#[test]
+fn other_lines_are_refused_by_the_first_rule_they_break(rt: HostRuntime) {
+    for (line, want) in &BAD {
+        let answer = read_once(rt.alloc(), line.as_bytes());
+        assert_eq!(rt; answer.err(), Some(*want), "{line}");
+    }
+}
+
+/// The front of a line, how often a letter follows, and the end; then the size of the line, and the rule that it breaks. A
+/// line has at most 512 bytes, and a pattern 200.
+static LONG: [(&str, u8, usize, &str, usize, Option<Bad>); 6] = [
+    ("pub web ", b'a', 504, "", 512, None),
+    ("pub web ", b'a', 505, "", 513, Some(Bad::Long)),
+    ("pub web ", b'a', 503, "\r", 512, Some(Bad::Text)),
+    ("pub web ", b'a', 503, "\ra", 513, Some(Bad::Long)),
+    ("listen w once ", b' ', 200, "", 214, None),
+    ("listen w once ", b' ', 201, "", 215, Some(Bad::Form)),
+];
+
+#[test]
+fn lines_and_patterns_have_their_longest(rt: HostRuntime) -> Result<(), Fail> {
+    for (front, letter, count, end, size, want) in &LONG {
+        let line = match text_of(rt.alloc(), front, *letter, *count, end) {
+            Err(_) => text_of(rt.alloc(), front, *letter, *count, end)?,
+            Ok(line) => line,
+        };
+        let answer = match want {
+            None => read(rt.alloc(), &line),
+            Some(_) => read_once(rt.alloc(), &line),
+        };
+        assert_eq!(rt; line.len(), *size);
+        assert_eq!(rt; answer.err(), *want, "{size} bytes");
+    }
+    Ok(())
+}

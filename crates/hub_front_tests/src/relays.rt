@@ -1,0 +1,265 @@
+//! Relays over memory, with readers that drip and streams that fail.
+ghost use Rattle.std.specs.Prelude.{◌<◌};
+
+use hub_client::{RelayError, relay};
+use hub_fakes::{Dripping, Endless, Narrow, Stuck};
+use hub_io::{Sink, Source};
+use std::alloc::{AllocGlobal, Global};
+use std::process::Abort;
+use std::sync::Wait;
+use std::test::Fail;
+
+/// The relay, of which a test knows nothing.
+pub fn run<H: Wait, R: Source, W: Sink, SR: Source, SW: Sink>(
+    rt: &H,
+    alloc: Global,
+    input: &mut R,
+    output: &mut W,
+    receiver: &mut SR,
+    sender: &mut SW,
+) -> Result<u64, RelayError> {
+    relay(rt, alloc, input, output, receiver, sender)
+}
+
+/// The four streams of a relay.
+#[derive(Drop)]
+struct Streams {
+    input: Dripping<'static>,
+    output: Narrow,
+    receiver: Dripping<'static>,
+    sender: Narrow,
+}
+
+/// What a relay answers, what it sends and what it writes.
+type Outcome = (Result<u64, RelayError>, &'static str, &'static str);
+
+/// Relays. Where that comes to something else, `row` says which row it was.
+fn expect<H: AllocGlobal + Abort + Wait>(rt: &H, streams: Streams, outcome: &Outcome, row: u64) {
+    let Streams {
+        mut input,
+        mut output,
+        mut receiver,
+        mut sender,
+    } = streams;
+    let alloc = rt.alloc();
+    let relayed = run(
+        rt,
+        alloc,
+        &mut input,
+        &mut output,
+        &mut receiver,
+        &mut sender,
+    );
+    assert_eq!(rt; relayed, outcome.0, "row {row}");
+    assert_eq!(rt; sender.held(), outcome.1.as_bytes(), "row {row}");
+    assert_eq!(rt; output.held(), outcome.2.as_bytes(), "row {row}");
+}
+
+/// An input, the peer's replies, and what they come to.
+static CUTS: [(&str, &str, Outcome); 9] = [
+    (
+        "status web",
+        "ok 0 0 open\n",
+        (Ok(1), "status web\n", "ok 0 0 open\n"),
+    ),
+    ("", "ok 0 0 open\n", (Ok(0), "", "")),
+    (
+        "status web",
+        "ok",
+        (Err(RelayError::Ended), "status web\n", ""),
+    ),
+    ("a\nb\n", "x\ny\nz\n", (Ok(2), "a\nb\n", "x\ny\n")),
+    ("a\nb", "xyz\n\n", (Ok(2), "a\nb\n", "xyz\n\n")),
+    ("\n\n", "x\ny\n", (Ok(2), "\n\n", "x\ny\n")),
+    ("a\n\n", "x\n", (Err(RelayError::Ended), "a\n\n", "x\n")),
+    (
+        "a\r\nb",
+        "x\ny",
+        (Err(RelayError::Ended), "a\r\nb\n", "x\n"),
+    ),
+    ("a\nb", "", (Err(RelayError::Ended), "a\n", "")),
+];
+
+#[test]
+fn one_reply_for_each_line_however_it_is_cut(rt: HostRuntime) {
+    for (row, (input, replies, outcome)) in (0u64..).zip(&CUTS) {
+        for (read, written) in [(64, 64), (1, 3)] {
+            let streams = Streams {
+                input: Dripping::new(input.as_bytes(), read, 0),
+                output: Narrow::new(written, 0),
+                receiver: Dripping::new(replies.as_bytes(), read, 0),
+                sender: Narrow::new(written, 0),
+            };
+            expect(&rt, streams, outcome, row);
+        }
+    }
+}
+
+/// The read of the input, the read of the peer's stream, the write to the peer or the write of the output that fails, where
+/// each takes one byte, and what the relay has come to by then. At 0 none fails.
+static FAULTS: [([u64; 4], Outcome); 24] = [
+    ([1, 0, 0, 0], (Err(RelayError::Input), "", "")),
+    ([2, 0, 0, 0], (Err(RelayError::Input), "a", "")),
+    ([3, 0, 0, 0], (Err(RelayError::Input), "ab", "")),
+    ([4, 0, 0, 0], (Err(RelayError::Input), "ab\n", "x\n")),
+    ([5, 0, 0, 0], (Err(RelayError::Input), "ab\nc", "x\n")),
+    ([6, 0, 0, 0], (Ok(2), "ab\nc\n", "x\nyz\n")),
+    ([0, 1, 0, 0], (Err(RelayError::Receive), "ab\n", "")),
+    ([0, 2, 0, 0], (Err(RelayError::Receive), "ab\n", "")),
+    ([0, 3, 0, 0], (Err(RelayError::Receive), "ab\nc\n", "x\n")),
+    ([0, 4, 0, 0], (Err(RelayError::Receive), "ab\nc\n", "x\n")),
+    ([0, 5, 0, 0], (Err(RelayError::Receive), "ab\nc\n", "x\n")),
+    ([0, 6, 0, 0], (Ok(2), "ab\nc\n", "x\nyz\n")),
+    ([0, 0, 1, 0], (Err(RelayError::Send), "", "")),
+    ([0, 0, 2, 0], (Err(RelayError::Send), "a", "")),
+    ([0, 0, 3, 0], (Err(RelayError::Send), "ab", "")),
+    ([0, 0, 4, 0], (Err(RelayError::Send), "ab\n", "x\n")),
+    ([0, 0, 5, 0], (Err(RelayError::Send), "ab\nc", "x\n")),
+    ([0, 0, 6, 0], (Ok(2), "ab\nc\n", "x\nyz\n")),
+    ([0, 0, 0, 1], (Err(RelayError::Output), "ab\n", "")),
+    ([0, 0, 0, 2], (Err(RelayError::Output), "ab\n", "x")),
+    ([0, 0, 0, 3], (Err(RelayError::Output), "ab\nc\n", "x\n")),
+    ([0, 0, 0, 4], (Err(RelayError::Output), "ab\nc\n", "x\ny")),
+    ([0, 0, 0, 5], (Err(RelayError::Output), "ab\nc\n", "x\nyz")),
+    ([0, 0, 0, 6], (Ok(2), "ab\nc\n", "x\nyz\n")),
+];
+
+/// How many bytes a call moves: one at the stream that fails, and as many as there are at the others.
+fn piece(fails_at: u64) -> usize
+    ensures { 0 < result }
+{
+    if fails_at == 0 { 64 } else { 1 }
+}
+
+#[test]
+fn each_stream_fails_in_turn(rt: HostRuntime) {
+    for (row, (fails, outcome)) in (0u64..).zip(&FAULTS) {
+        let [input, receiver, sender, output] = *fails;
+        let streams = Streams {
+            input: Dripping::new(b"ab\nc", piece(input), input),
+            output: Narrow::new(piece(output), output),
+            receiver: Dripping::new(b"x\nyz\n", piece(receiver), receiver),
+            sender: Narrow::new(piece(sender), sender),
+        };
+        expect(&rt, streams, outcome, row);
+    }
+}
+
+/// Relays two lines to a peer whose stream is this one.
+fn expect_replies<H: AllocGlobal + Abort + Wait>(
+    rt: &H,
+    receiver: Dripping<'static>,
+    fault: RelayError,
+    cut: u64,
+) {
+    let streams = Streams {
+        input: Dripping::new(b"a\nb\n", 64, 0),
+        output: Narrow::new(64, 0),
+        receiver,
+        sender: Narrow::new(64, 0),
+    };
+    let (sent, written) = if cut < 6 {
+        ("a\n", "")
+    } else {
+        ("a\nb\n", "yes 1\n")
+    };
+    expect(rt, streams, &(Err(fault), sent, written), cut);
+}
+
+const REPLIES: &[u8] = b"yes 1\nyes 12 7\n";
+
+// The peer's stream ends after each number of its bytes, or fails there. The first reply has 6 bytes, the second 9.
+#[test]
+fn replies_that_are_cut_at_each_byte(rt: HostRuntime) {
+    for (cut, size) in (0u64..15).zip(0usize..15) {
+        let ends = REPLIES.get(..size).unwrap_or(REPLIES);
+        expect_replies(&rt, Dripping::new(ends, 64, 0), RelayError::Ended, cut);
+        let fails = Dripping::new(REPLIES, 1, cut.saturating_add(1));
+        expect_replies(&rt, fails, RelayError::Receive, cut);
+    }
+}
+
+#[test]
+fn writers_that_take_nothing(rt: HostRuntime) {
+    let mut taken = Narrow::new(64, 0);
+    let mut lines = Dripping::new(b"ab\nc", 64, 0);
+    let mut replies = Dripping::new(b"x\nyz\n", 64, 0);
+    let mut stuck = Stuck { writes: 0 };
+    let alloc = rt.alloc();
+    let relayed = run(&rt, alloc, &mut lines, &mut taken, &mut replies, &mut stuck);
+    assert_eq!(rt; relayed, Err(RelayError::Send));
+    assert_eq!(rt; taken.writes, 0);
+
+    let mut lines = Dripping::new(b"ab\nc", 64, 0);
+    let relayed = run(&rt, alloc, &mut lines, &mut stuck, &mut replies, &mut taken);
+    assert_eq!(rt; relayed, Err(RelayError::Output));
+    assert_eq!(rt; taken.held(), b"ab\n".as_slice());
+}
+
+#[test]
+fn a_reply_without_end(rt: HostRuntime) {
+    let mut to_peer = Narrow::new(64, 0);
+    let mut output = Narrow::new(64, 0);
+    let mut lines = Dripping::new(b"status web\n", 1, 0);
+    let mut replies = Endless { reads: 0 };
+    let alloc = rt.alloc();
+    let relayed = run(
+        &rt,
+        alloc,
+        &mut lines,
+        &mut output,
+        &mut replies,
+        &mut to_peer,
+    );
+    assert_eq!(rt; relayed, Err(RelayError::Turns));
+    assert_eq!(rt; lines.reads, 11);
+    assert_eq!(rt; replies.reads, 9_999_989);
+    assert_eq!(rt; to_peer.held(), b"status web\n".as_slice());
+    // 152 buffers of 65,536 bytes filled, each in 1,024 writes of 64 bytes. The 38,517 bytes after them weren't written.
+    assert_eq!(rt; output.writes, 155_648);
+    assert!(rt; output.held().iter().all(|byte| *byte == b'a'));
+    assert_eq!(rt; output.held().len(), 64);
+}
+
+// Passes with ample memory, and with any one growth refused.
+#[test]
+fn a_refused_growth(rt: HostRuntime) {
+    let mut to_peer = Narrow::new(64, 0);
+    let mut output = Narrow::new(64, 0);
+    let mut lines = Dripping::new(b"ab\nc", 1, 0);
+    let mut replies = Dripping::new(b"x\nyz\n", 1, 0);
+    let alloc = rt.alloc();
+    let relayed = run(
+        &rt,
+        alloc,
+        &mut lines,
+        &mut output,
+        &mut replies,
+        &mut to_peer,
+    );
+    let calls = (lines.reads, replies.reads, to_peer.writes, output.writes);
+    if relayed == Err(RelayError::Memory) {
+        assert_eq!(rt; calls, (0, 0, 0, 0));
+    } else {
+        assert_eq!(rt; relayed, Ok(2));
+    }
+}
+
+static TEXTS: [(RelayError, &str); 7] = [
+    (RelayError::Input, "read failed"),
+    (RelayError::Output, "write failed"),
+    (RelayError::Send, "send failed"),
+    (RelayError::Receive, "receive failed"),
+    (RelayError::Ended, "connection ended"),
+    (RelayError::Turns, "too many reads"),
+    (RelayError::Memory, "out of memory"),
+];
+
+#[test]
+fn the_texts_of_the_errors(rt: HostRuntime) -> Result<(), Fail> {
+    for (error, text) in &TEXTS {
+        let shown = format!(in rt.alloc(); "{error}")?;
+        assert_eq!(rt; shown.as_str(), *text);
+    }
+    Ok(())
+}
