@@ -1,7 +1,7 @@
 # Completions of ftrighub for bash. tests/install compares them with `--help`.
 
 _ftrighub() {
-    local word=${COMP_WORDS[COMP_CWORD]} command= words=
+    local word=${COMP_WORDS[COMP_CWORD]} command="" words=""
     ((COMP_CWORD == 1)) || command=${COMP_WORDS[1]}
     case $command:$word in
     :-*) words="-h --help -V --version" ;;
