@@ -1,413 +1,444 @@
-ghost use Rattle.std.specs.Prelude.{◌≡◌, IfOk};
-ghost use Rattle.hub_fifodir.specs.Passes.{IsPublisherOf, IsTicketOf};
-
+use crate::fixtures::{BLANK, are_events, blank, none_is_unlike, word};
+use crate::passes::{Reader, Sender, Shared, open};
 use hub_fifodir::together::{Unsent, send_both, send_on};
-use hub_fifodir::{Fifodir, PassError, Publisher, Ticket, word};
+use hub_fifodir::{Fifodir, PassError, Publisher, Ticket, word as front_word};
 use hub_letters::{Flags, Letter};
 use hub_record::{Closed, Event, Kind, Limits, PubError, Status, SubError, Taken};
 use std::alloc::{AllocError, Global};
 use std::sync::{Arc, Wait};
 use std::test::Fail;
 use std::thread;
-use std::thread::Threads;
 
-fn letter(byte: u8) -> Letter {
-    Letter::of(byte).unwrap_or(Letter::least())
-}
+/// The number, the code of the flags, whether it is closed, and the front word.
+static WORDS: [(u64, u64, bool, u64); 6] = [
+    (0, 0, false, 0),
+    (2, 5, false, 69),
+    (2, 0, true, 80),
+    (3, 7, false, 103),
+    (3, 7, true, 119),
+    (5, 14, false, 174),
+];
 
-fn blank() -> Event {
-    Event {
-        who: 0,
-        letter: Letter::least(),
-    }
-}
-
-fn open(alloc: Global, kind: Kind, waiting: u64, total: u64, ids: u64) -> Result<Fifodir, Fail> {
-    let limits = Limits::of(waiting, total, ids).ok_or("no limits")?;
-    Ok(Fifodir::new(alloc, kind, limits)?)
-}
-
-#[test]
-fn words(rt: HostRuntime) -> Result<(), Fail> {
-    // number, code of the flags, closed, word
-    for (number, code, closed, want) in [
-        (0, 0, false, 0),
-        (2, 5, false, 69),
-        (2, 0, true, 80),
-        (3, 7, false, 103),
-        (3, 7, true, 119),
-        (5, 14, false, 174),
-    ] {
+fn front_words_are_packed() -> bool {
+    for (number, code, closed, want) in WORDS.iter() {
+        let Some(flags) = Flags::of_code(*code) else {
+            return false;
+        };
         let status = Status {
-            number,
-            flags: Flags::of_code(code).ok_or("no flags")?,
-            closed,
+            number: *number,
+            flags,
+            closed: *closed,
         };
-        assert_eq!(rt; word::pack(status), want);
-        assert_eq!(rt; word::unpack(want), status);
-    }
-    Ok(())
-}
-
-#[test]
-fn slowest_leaves(rt: HostRuntime) -> Result<(), Fail> {
-    let fifodir = open(rt.alloc(), Kind::Plain, 2, 100, 10)?;
-    let slow = fifodir.subscribe(&rt)?;
-    let mut fast = fifodir.subscribe(&rt)?;
-    let mut publisher = fifodir.publisher(&rt)?;
-    let mut out = [blank(); 2];
-    let ab = [letter(b'a'), letter(b'b')];
-    let c = [letter(b'c')];
-    let cd = [letter(b'c'), letter(b'd')];
-    assert_eq!(rt; fifodir.publish(&rt, &mut publisher, &ab), Ok(0));
-    assert_eq!(rt; fifodir.take_into(&rt, &mut fast, &mut out), Taken::Got(2));
-    assert_eq!(rt;
-        fifodir.publish(&rt, &mut publisher, &c),
-        Err(PubError::Full)
-    );
-    fifodir.cancel(&rt, slow);
-    assert_eq!(rt; fifodir.publish(&rt, &mut publisher, &cd), Ok(2));
-    assert_eq!(rt; fifodir.take_into(&rt, &mut fast, &mut out), Taken::Got(2));
-    assert_eq!(rt; fifodir.status(&mut fast).number, 4);
-    Ok(())
-}
-
-#[test]
-fn publishers_spent(rt: HostRuntime) -> Result<(), Fail> {
-    let fifodir = open(rt.alloc(), Kind::Plain, 2, 100, 1)?;
-    let publisher = fifodir.publisher(&rt)?;
-    assert_eq!(rt; publisher.number(), 1);
-    fifodir.leave(&rt, publisher);
-    assert!(rt; matches!(fifodir.publisher(&rt), Err(PassError::Spent)));
-    Ok(())
-}
-
-#[test]
-fn met_and_taken(rt: HostRuntime) -> Result<(), Fail> {
-    let fifodir = open(rt.alloc(), Kind::Plain, 64, 1000, 10)?;
-    let mut ticket = fifodir.subscribe(&rt)?;
-    let mut publisher = fifodir.publisher(&rt)?;
-    let mut out = [blank(); 5];
-    let ab = [letter(b'a'), letter(b'b')];
-    let c = [letter(b'c')];
-    assert_eq!(rt; fifodir.publish(&rt, &mut publisher, &ab), Ok(0));
-    fifodir.meet(&rt, &mut publisher, &mut ticket);
-    assert_eq!(rt;
-        fifodir.take_into(&rt, &mut ticket, &mut out),
-        Taken::Got(2)
-    );
-    assert_eq!(rt;
-        out[0],
-        Event {
-            who: 1,
-            letter: letter(b'a')
-        }
-    );
-    assert_eq!(rt;
-        out[1],
-        Event {
-            who: 1,
-            letter: letter(b'b')
-        }
-    );
-    assert_eq!(rt;
-        fifodir.take_into(&rt, &mut ticket, &mut out),
-        Taken::Nothing
-    );
-    assert_eq!(rt; fifodir.close(&rt, &mut publisher), Ok(()));
-    assert_eq!(rt; fifodir.take_into(&rt, &mut ticket, &mut out), Taken::End);
-    assert_eq!(rt;
-        fifodir.publish(&rt, &mut publisher, &c),
-        Err(PubError::Closed)
-    );
-    assert_eq!(rt; fifodir.close(&rt, &mut publisher), Err(Closed));
-    assert!(rt; matches!(fifodir.subscribe(&rt), Err(SubError::Closed)));
-    assert_eq!(rt; (ticket.id(), ticket.mark(), ticket.next()), (1, 0, 2));
-    Ok(())
-}
-
-#[test]
-fn many_passes(rt: HostRuntime) -> Result<(), Fail> {
-    let fifodir = open(rt.alloc(), Kind::Plain, 64, 1000, 1_000_000_000_000)?;
-    // A pass that is let go stands on.
-    for _ in 1..1024 {
-        fifodir.subscribe(&rt)?;
-        fifodir.publisher(&rt)?;
-    }
-    let ticket = fifodir.subscribe(&rt)?;
-    assert_eq!(rt; ticket.id(), 1024);
-    assert!(rt; matches!(fifodir.subscribe(&rt), Err(SubError::Many)));
-    fifodir.cancel(&rt, ticket);
-    assert_eq!(rt; fifodir.subscribe(&rt)?.id(), 1025);
-    let publisher = fifodir.publisher(&rt)?;
-    assert_eq!(rt; publisher.number(), 1024);
-    assert!(rt; matches!(fifodir.publisher(&rt), Err(PassError::Many)));
-    fifodir.leave(&rt, publisher);
-    assert_eq!(rt; fifodir.publisher(&rt)?.number(), 1025);
-    Ok(())
-}
-
-#[test]
-fn status_fresh(rt: HostRuntime) -> Result<(), Fail> {
-    let fifodir = Arc::new(rt.alloc(), open(rt.alloc(), Kind::Service, 64, 1000, 10)?)?;
-    let mut ticket = fifodir.subscribe(&rt)?;
-    let before = fifodir.status(&mut ticket);
-    assert_eq!(rt;
-        (before.number, before.flags.code(), before.closed),
-        (0, 0, false)
-    );
-    let theirs = Arc::try_clone(&fifodir)?;
-    let child = thread::spawn(&rt, move || -> Result<u64, PubError> {
-        let Ok(mut publisher) = theirs.publisher(&rt) else {
-            return Err(PubError::Closed);
-        };
-        theirs.publish(&rt, &mut publisher, &[letter(b's'), letter(b'u')])
-    })?;
-    assert_eq!(rt; child.join(&rt), Ok(0));
-    let started = fifodir.status(&mut ticket);
-    assert_eq!(rt;
-        (started.number, started.flags.code(), started.closed),
-        (2, 5, false)
-    );
-    let mut publisher = fifodir.publisher(&rt)?;
-    assert_eq!(rt;
-        fifodir.publish(&rt, &mut publisher, &[letter(b'U')]),
-        Ok(2)
-    );
-    assert_eq!(rt; fifodir.front(&mut ticket), 3);
-    assert_eq!(rt; fifodir.close(&rt, &mut publisher), Ok(()));
-    let ended = fifodir.status(&mut ticket);
-    assert_eq!(rt;
-        (ended.number, ended.flags.code(), ended.closed),
-        (3, 7, true)
-    );
-    Ok(())
-}
-
-// The letters that a publisher sends, in their order: the alphabet over and over.
-fn nth(first: u8, place: usize) -> Letter {
-    let turn = (place % 26) as u8;
-    letter(first.wrapping_add(turn))
-}
-
-// The messages after the first, of one to three letters each, and how many were sent in all.
-fn send_rest<R: Wait>(rt: &R, fifodir: &Fifodir, me: &mut Publisher, first: u8) -> usize
-    requires { IsPublisherOf fifodir.now me.old }
-    ensures { IsPublisherOf fifodir.now me.new }
-{
-    let mut sent: usize = 1;
-    for message in 1..200 {
-        let next = [
-            nth(first, sent),
-            nth(first, sent.wrapping_add(1)),
-            nth(first, sent.wrapping_add(2)),
-        ];
-        let count: usize = message % 3 + 1;
-        if fifodir.publish(rt, me, &next[..count]).is_ok() {
-            sent = sent.wrapping_add(count);
+        if front_word::pack(status) != *want || front_word::unpack(*want) != status {
+            return false;
         }
     }
-    sent
+    true
 }
 
-// Both publishers send at once, and one closes when both are through.
-fn send_and_close<R: Threads + Wait + Sync>(
-    rt: &R,
-    fifodir: &Fifodir,
-    mut one: Publisher,
-    mut other: Publisher,
-) -> (Publisher, Publisher)
-    requires one { IsPublisherOf fifodir.now one }
-    requires other { IsPublisherOf fifodir.now other }
-    ensures one { IsPublisherOf fifodir.now result.0 }
-    ensures other { IsPublisherOf fifodir.now result.1 }
-{
-    let (mut one, other) = thread::join(
-        rt,
-        move || -> Publisher
-            requires { IsPublisherOf fifodir.now one }
-            ensures { IsPublisherOf fifodir.entry.now result }
-        {
-            send_rest(rt, fifodir, &mut one, b'a');
-            one
-        },
-        move || -> Publisher
-            requires { IsPublisherOf fifodir.now other }
-            ensures { IsPublisherOf fifodir.entry.now result }
-        {
-            send_rest(rt, fifodir, &mut other, b'A');
-            other
-        },
-    );
-    let _ = fifodir.close(rt, &mut one);
-    (one, other)
+/// A call and what it answers. A message is spelled by letters. The publisher is the last that was given, and a ticket
+/// is named by its place among those that are not cancelled.
+#[derive(Clone, Copy)]
+enum Step {
+    Subscribe(Result<(u64, u64), SubError>),
+    Join(Result<u64, PassError>),
+    /// Tickets and publishers that get the numbers from 1 to this one, and are dropped.
+    DropUpTo(u64),
+    Publish(&'static str, Result<u64, PubError>),
+    Close(Result<(), Closed>),
+    Leave,
+    Take(usize, Taken, [(u64, u8); 3]),
+    Cancel(usize),
+    /// The number, the flags' code and whether it is closed, by the ticket's status.
+    Shows(usize, (u64, u64, bool)),
+    /// The ticket's id, mark and next.
+    Ticket(usize, (u64, u64, u64)),
+    /// The number of events, by the publisher.
+    Front(u64),
 }
 
-// What a ticket takes until the end.
-fn gather<R: Wait>(
-    rt: &R,
-    alloc: Global,
-    fifodir: &Fifodir,
-    mut me: Ticket,
-) -> Result<(Ticket, Vec<Event>), AllocError>
-    requires { IsTicketOf fifodir.now me }
-    ensures { IfOk result (λ r. IsTicketOf fifodir.now r.0) }
-{
-    let mut all = Vec::new(alloc);
-    for _ in rt.forever() {
-        let mut out = [blank(); 7];
-        match fifodir.take_into(rt, &mut me, &mut out) {
-            Taken::Got(count) => all.extend_from_slice(&out[..count])?,
-            Taken::Nothing => thread::yield_now(),
-            Taken::End => return Ok((me, all)),
-        }
-    }
-    unreachable!()
+/// A fifodir of this kind, with these limits, answers these calls so.
+struct Row {
+    name: &'static str,
+    kind: Kind,
+    limits: (u64, u64, u64),
+    steps: &'static [Step],
 }
 
-type Gathered = Result<(Ticket, Vec<Event>), AllocError>;
+static ROWS: [Row; 5] = [
+    Row {
+        name: "there is room again when the slowest leaves",
+        kind: Kind::Plain,
+        limits: (2, 100, 10),
+        steps: &[
+            Step::Subscribe(Ok((1, 0))),
+            Step::Subscribe(Ok((2, 0))),
+            Step::Join(Ok(1)),
+            Step::Publish("ab", Ok(0)),
+            Step::Take(1, Taken::Got(2), [(1, b'a'), (1, b'b'), BLANK]),
+            Step::Publish("c", Err(PubError::Full)),
+            Step::Cancel(0),
+            Step::Publish("cd", Ok(2)),
+            Step::Take(0, Taken::Got(2), [(1, b'c'), (1, b'd'), BLANK]),
+            Step::Shows(0, (4, 0, false)),
+        ],
+    },
+    Row {
+        name: "publishers' numbers are spent",
+        kind: Kind::Plain,
+        limits: (2, 100, 1),
+        steps: &[
+            Step::Join(Ok(1)),
+            Step::Leave,
+            Step::Join(Err(PassError::Spent)),
+        ],
+    },
+    Row {
+        name: "what is published is taken, until the end",
+        kind: Kind::Plain,
+        limits: (64, 1000, 10),
+        steps: &[
+            Step::Subscribe(Ok((1, 0))),
+            Step::Join(Ok(1)),
+            Step::Publish("ab", Ok(0)),
+            Step::Take(0, Taken::Got(2), [(1, b'a'), (1, b'b'), BLANK]),
+            Step::Take(0, Taken::Nothing, [BLANK, BLANK, BLANK]),
+            Step::Close(Ok(())),
+            Step::Take(0, Taken::End, [BLANK, BLANK, BLANK]),
+            Step::Publish("c", Err(PubError::Closed)),
+            Step::Close(Err(Closed)),
+            Step::Subscribe(Err(SubError::Closed)),
+            Step::Ticket(0, (1, 0, 2)),
+        ],
+    },
+    Row {
+        name: "a pass that is dropped stays current, up to 1,024",
+        kind: Kind::Plain,
+        limits: (64, 1000, 1_000_000_000_000),
+        steps: &[
+            Step::DropUpTo(1023),
+            Step::Subscribe(Ok((1024, 0))),
+            Step::Subscribe(Err(SubError::Many)),
+            Step::Cancel(0),
+            Step::Subscribe(Ok((1025, 0))),
+            Step::Join(Ok(1024)),
+            Step::Join(Err(PassError::Many)),
+            Step::Leave,
+            Step::Join(Ok(1025)),
+        ],
+    },
+    Row {
+        name: "a status shows each change",
+        kind: Kind::Service,
+        limits: (64, 1000, 10),
+        steps: &[
+            Step::Subscribe(Ok((1, 0))),
+            Step::Shows(0, (0, 0, false)),
+            Step::Join(Ok(1)),
+            Step::Publish("su", Ok(0)),
+            Step::Shows(0, (2, 5, false)),
+            Step::Publish("U", Ok(2)),
+            Step::Front(3),
+            Step::Close(Ok(())),
+            Step::Shows(0, (3, 7, true)),
+        ],
+    },
+];
 
-fn gather_both<R: Threads + Wait + Sync>(
-    rt: &R,
-    alloc: Global,
-    fifodir: &Fifodir,
-    one: Ticket,
-    other: Ticket,
-) -> (Gathered, Gathered)
-    requires one { IsTicketOf fifodir.now one }
-    requires other { IsTicketOf fifodir.now other }
-    ensures one { IfOk result.0 (λ r. IsTicketOf fifodir.now r.0) }
-    ensures other { IfOk result.1 (λ r. IsTicketOf fifodir.now r.0) }
-{
-    thread::join(
-        rt,
-        move || -> Gathered
-            requires { IsTicketOf fifodir.now one }
-            ensures { IfOk result (λ r. IsTicketOf fifodir.entry.now r.0) }
-        { gather(rt, alloc, fifodir, one) },
-        move || -> Gathered
-            requires { IsTicketOf fifodir.now other }
-            ensures { IfOk result (λ r. IsTicketOf fifodir.entry.now r.0) }
-        { gather(rt, alloc, fifodir, other) },
-    )
+/// A fifodir with the passes that were given.
+#[derive(Drop)]
+struct Scene {
+    fifodir: Shared,
+    sender: Option<Sender>,
+    readers: Vec<Reader>,
 }
 
-// How many letters of a publisher stand in the list, where they are its own in their order; otherwise none.
-fn in_order(list: &[Event], who: u64, first: u8) -> usize {
-    let mut count: usize = 0;
-    for event in list {
-        if event.who == who {
-            if event.letter != nth(first, count) {
-                return 0;
+impl Scene {
+    fn subscribe<R: Wait>(&mut self, rt: &R) -> Result<Result<(u64, u64), SubError>, AllocError> {
+        match Reader::of(rt, Arc::try_clone(&self.fifodir)?) {
+            Ok(reader) => {
+                let given = (reader.me.id(), reader.me.mark());
+                self.readers.push(reader)?;
+                Ok(Ok(given))
             }
-            count = count.wrapping_add(1);
+            Err(refusal) => Ok(Err(refusal)),
         }
     }
-    count
+
+    fn join<R: Wait>(&mut self, rt: &R) -> Result<Result<u64, PassError>, AllocError> {
+        match Sender::of(rt, Arc::try_clone(&self.fifodir)?) {
+            Ok(sender) => {
+                let number = sender.me.number();
+                self.sender = Some(sender);
+                Ok(Ok(number))
+            }
+            Err(refusal) => Ok(Err(refusal)),
+        }
+    }
+
+    fn takes<R: Wait>(
+        &mut self,
+        rt: &R,
+        place: usize,
+        answer: Taken,
+        events: &[(u64, u8)],
+    ) -> bool {
+        let mut out = [blank(); 3];
+        match self.readers.get_mut(place) {
+            Some(reader) => reader.take(rt, &mut out) == answer && are_events(&out, events),
+            None => false,
+        }
+    }
+
+    fn cancels<R: Wait>(&mut self, rt: &R, place: usize) -> bool {
+        if place < self.readers.len() {
+            self.readers.remove(place).cancel(rt);
+            return true;
+        }
+        false
+    }
+
+    fn shows(&mut self, place: usize, wanted: (u64, u64, bool)) -> bool {
+        match self.readers.get_mut(place) {
+            Some(reader) => shown(reader) == wanted,
+            None => false,
+        }
+    }
+
+    fn is_ticket(&self, place: usize, wanted: (u64, u64, u64)) -> bool {
+        match self.readers.get(place) {
+            Some(reader) => (reader.me.id(), reader.me.mark(), reader.me.next()) == wanted,
+            None => false,
+        }
+    }
+
+    fn goes_through<R: Wait>(
+        &mut self,
+        rt: &R,
+        alloc: Global,
+        steps: &[Step],
+    ) -> Result<bool, AllocError> {
+        for step in steps {
+            if !self.goes(rt, alloc, *step)? {
+                return Ok(false);
+            }
+        }
+        Ok(true)
+    }
+
+    /// Whether the step goes so.
+    fn goes<R: Wait>(&mut self, rt: &R, alloc: Global, step: Step) -> Result<bool, AllocError> {
+        Ok(match step {
+            Step::Subscribe(answer) => self.subscribe(rt)? == answer,
+            Step::Join(answer) => self.join(rt)? == answer,
+            Step::DropUpTo(last) => are_given_and_dropped(rt, &self.fifodir, last),
+            Step::Take(place, answer, events) => self.takes(rt, place, answer, &events),
+            Step::Cancel(place) => self.cancels(rt, place),
+            Step::Shows(place, wanted) => self.shows(place, wanted),
+            Step::Ticket(place, wanted) => self.is_ticket(place, wanted),
+            Step::Publish(_, _) | Step::Close(_) | Step::Leave | Step::Front(_) => {
+                self.publisher_goes(rt, alloc, step)?
+            }
+        })
+    }
+
+    fn publisher_goes<R: Wait>(
+        &mut self,
+        rt: &R,
+        alloc: Global,
+        step: Step,
+    ) -> Result<bool, AllocError> {
+        let Some(mut sender) = self.sender.take() else {
+            return Ok(false);
+        };
+        let is_so = match step {
+            Step::Publish(text, answer) => sender.send(rt, &word(alloc, text)?) == answer,
+            Step::Close(answer) => sender.close(rt) == answer,
+            Step::Front(number) => sender.front() == number,
+            _ => {
+                sender.leave(rt);
+                return Ok(true);
+            }
+        };
+        self.sender = Some(sender);
+        Ok(is_so)
+    }
 }
 
-type AllSent = ((Publisher, Publisher), (Gathered, Gathered));
+/// The number, the flags' code and whether it is closed.
+fn shown(reader: &mut Reader) -> (u64, u64, bool) {
+    let status = reader.status();
+    (status.number, status.flags.code(), status.closed)
+}
 
-fn send_and_gather<R: Threads + Wait + Sync>(
-    rt: &R,
-    alloc: Global,
-    fifodir: &Fifodir,
-    publishers: (Publisher, Publisher),
-    tickets: (Ticket, Ticket),
-) -> AllSent
-    requires publishers { IsPublisherOf fifodir.now publishers.0 × IsPublisherOf fifodir.now publishers.1 }
-    requires tickets { IsTicketOf fifodir.now tickets.0 × IsTicketOf fifodir.now tickets.1 }
-    ensures publishers { IsPublisherOf fifodir.now result.0.0 × IsPublisherOf fifodir.now result.0.1 }
-    ensures tickets { IfOk result.1.0 (λ r. IsTicketOf fifodir.now r.0) × IfOk result.1.1 (λ r. IsTicketOf fifodir.now r.0) }
-{
-    let (one, other) = publishers;
-    let (early, late) = tickets;
-    thread::join(
-        rt,
-        move || -> (Publisher, Publisher)
-            requires { IsPublisherOf fifodir.now one × IsPublisherOf fifodir.now other }
-            ensures { IsPublisherOf fifodir.entry.now result.0 × IsPublisherOf fifodir.entry.now result.1 }
-        { send_and_close(rt, fifodir, one, other) },
-        move || -> (Gathered, Gathered)
-            requires { IsTicketOf fifodir.now early × IsTicketOf fifodir.now late }
-            ensures { IfOk result.0 (λ r. IsTicketOf fifodir.entry.now r.0) × IfOk result.1 (λ r. IsTicketOf fifodir.entry.now r.0) }
-        { gather_both(rt, alloc, fifodir, early, late) },
-    )
+fn ticket_is<R: Wait>(rt: &R, fifodir: &Fifodir, id: u64) -> bool {
+    match fifodir.subscribe(rt) {
+        Ok(ticket) => ticket.id() == id,
+        Err(_) => false,
+    }
+}
+
+fn publisher_is<R: Wait>(rt: &R, fifodir: &Fifodir, number: u64) -> bool {
+    match fifodir.publisher(rt) {
+        Ok(publisher) => publisher.number() == number,
+        Err(_) => false,
+    }
+}
+
+fn are_given_and_dropped<R: Wait>(rt: &R, fifodir: &Fifodir, last: u64) -> bool {
+    for before in 0..last {
+        if !ticket_is(rt, fifodir, before + 1) || !publisher_is(rt, fifodir, before + 1) {
+            return false;
+        }
+    }
+    true
+}
+
+fn goes_so<R: Wait>(rt: &R, alloc: Global, row: &Row) -> Result<bool, Fail> {
+    let mut scene = Scene {
+        fifodir: open(alloc, row.kind, row.limits)?,
+        sender: None,
+        readers: Vec::new(alloc),
+    };
+    Ok(scene.goes_through(rt, alloc, row.steps)?)
+}
+
+/// The name of the first row that goes otherwise.
+fn first_unlike<R: Wait>(rt: &R, alloc: Global) -> Result<Option<&'static str>, Fail> {
+    for row in ROWS.iter() {
+        if !goes_so(rt, alloc, row)? {
+            return Ok(Some(row.name));
+        }
+    }
+    Ok(None)
 }
 
 #[test]
-fn threads_one_list(rt: HostRuntime) -> Result<(), Fail> {
-    let fifodir = open(rt.alloc(), Kind::Plain, 4096, 10_000, 10)?;
-    let mut one = fifodir.publisher(&rt)?;
-    let early = fifodir.subscribe(&rt)?;
-    assert_eq!(rt; (one.number(), early.id()), (1, 1));
-    let mut other = fifodir.publisher(&rt)?;
-    assert_eq!(rt; fifodir.publish(&rt, &mut one, &[letter(b'a')]), Ok(0));
-    let late = fifodir.subscribe(&rt)?;
-    assert_eq!(rt; late.mark(), 1);
-    assert_eq!(rt; fifodir.publish(&rt, &mut other, &[letter(b'A')]), Ok(1));
-    let ((mut one, mut other), (early, late)) = send_and_gather(
-        &rt,
-        rt.alloc(),
-        &fifodir,
-        (one, other),
-        (early, late),
-    );
-    let (mut early, all) = early?;
-    let (mut late, some) = late?;
-    fifodir.meet(&rt, &mut one, &mut other);
-    fifodir.meet(&rt, &mut one, &mut early);
-    fifodir.meet(&rt, &mut early, &mut late);
-    assert_eq!(rt; fifodir.front(&mut other), 798);
-    assert_eq!(rt; all.len(), 798);
-    assert_eq!(rt; some.len(), 797);
-    assert!(rt; all.as_slice().ends_with(some.as_slice()));
-    assert_eq!(rt; in_order(all.as_slice(), 1, b'a'), 399);
-    assert_eq!(rt; in_order(all.as_slice(), 2, b'A'), 399);
-    assert_eq!(rt; (early.next(), late.next()), (798, 798));
-    fifodir.cancel(&rt, early);
-    fifodir.cancel(&rt, late);
+fn fifodirs_by_rows(rt: HostRuntime) -> Result<(), Fail> {
+    assert!(rt; front_words_are_packed(), "front words");
+    none_is_unlike(&rt, first_unlike(&rt, rt.alloc())?);
     Ok(())
 }
 
+/// Whether two publishers and two tickets that meet in turn know of the event that one of them published.
+fn all_meet<R: Wait>(rt: &R, fifodir: &Fifodir) -> Result<bool, Fail> {
+    let mut one = fifodir.publisher(rt)?;
+    let mut other = fifodir.publisher(rt)?;
+    let mut early = fifodir.subscribe(rt)?;
+    let mut late = fifodir.subscribe(rt)?;
+    let published = fifodir.publish(rt, &mut one, &[Letter::least()]);
+    fifodir.meet(rt, &mut one, &mut other);
+    fifodir.meet(rt, &mut other, &mut early);
+    fifodir.meet(rt, &mut early, &mut late);
+    Ok(
+        published == Ok(0)
+            && fifodir.front(&mut one) == 1
+            && fifodir.front(&mut other) == 1
+            && fifodir.front(&mut early) == 1
+            && fifodir.front(&mut late) == 1,
+    )
+}
+
+fn letters_go_on<R: Wait>(rt: &R, alloc: Global) -> Result<bool, Fail> {
+    let from = open(alloc, Kind::Plain, (64, 1000, 10))?;
+    let mut ticket = Reader::of(rt, Arc::try_clone(&from)?)?;
+    let mut source = Sender::of(rt, from)?;
+    let mut sink = Sender::of(rt, open(alloc, Kind::Plain, (64, 1, 10))?)?;
+    let published = source.send(rt, &word(alloc, "ab")?);
+    Ok(published == Ok(0) && second_is_refused(rt, &mut ticket, &mut sink))
+}
+
+fn goes_on<R: Wait>(rt: &R, from: &mut Reader, to: &mut Sender) -> Result<Taken, Unsent> {
+    send_on(rt, &from.fifodir, &mut from.me, &to.fifodir, &mut to.me)
+}
+
+/// Whether the first letter goes on, and the second, one more than the total, comes back.
+fn second_is_refused<R: Wait>(rt: &R, from: &mut Reader, to: &mut Sender) -> bool {
+    let event = Event {
+        who: 1,
+        letter: Letter::of(b'b').unwrap_or(Letter::least()),
+    };
+    let why = PubError::Spent;
+    goes_on(rt, from, to) == Ok(Taken::Got(1))
+        && goes_on(rt, from, to) == Err(Unsent { event, why })
+        && goes_on(rt, from, to) == Ok(Taken::Nothing)
+        && to.front() == 1
+}
+
+#[test]
+fn passes_meet_and_letters_go_on(rt: HostRuntime) -> Result<(), Fail> {
+    let fifodir = open(rt.alloc(), Kind::Plain, (64, 1000, 10))?;
+    assert!(rt;
+        all_meet(&rt, &fifodir)?,
+        "two publishers and two tickets meet"
+    );
+    assert!(rt;
+        letters_go_on(&rt, rt.alloc())?,
+        "letters go on to another fifodir"
+    );
+    Ok(())
+}
+
+#[test]
+fn a_status_is_fresh_after_a_thread_published(rt: HostRuntime) -> Result<(), Fail> {
+    let fifodir = open(rt.alloc(), Kind::Service, (64, 1000, 10))?;
+    let mut ticket = Reader::of(&rt, Arc::try_clone(&fifodir)?)?;
+    let before = shown(&mut ticket);
+    let letters = word(rt.alloc(), "su")?;
+    let child = thread::spawn(&rt, move || -> Result<u64, PubError> {
+        match Sender::of(&rt, fifodir) {
+            Ok(mut sender) => sender.send(&rt, &letters),
+            Err(_) => Err(PubError::Closed),
+        }
+    })?;
+    let sent = child.join(&rt);
+    assert!(rt; before == (0, 0, false) && sent == Ok(0) && shown(&mut ticket) == (2, 5, false));
+    Ok(())
+}
+
+/// Whether two messages that are sent at once are both whole.
 #[test]
 fn two_send_at_once(rt: HostRuntime) -> Result<(), Fail> {
-    let fifodir = open(rt.alloc(), Kind::Plain, 64, 1000, 10)?;
+    let fifodir = open(rt.alloc(), Kind::Plain, (64, 1000, 10))?;
     let one = fifodir.publisher(&rt)?;
     let other = fifodir.publisher(&rt)?;
-    let a = [letter(b'a'); 100];
-    let b = [letter(b'b'); 100];
+    let a = [Letter::of(b'a').unwrap_or(Letter::least()); 100];
+    let b = [Letter::of(b'b').unwrap_or(Letter::least()); 100];
     let ((mut one, first), (other, second)) = send_both(&rt, &fifodir, one, other, &a, &b);
-    assert!(rt; matches!((first, second), (Ok(0), Ok(100)) | (Ok(100), Ok(0))));
-    assert_eq!(rt; fifodir.front(&mut one), 200);
+    let is_so = matches!((first, second), (Ok(0), Ok(100)) | (Ok(100), Ok(0)));
+    assert!(rt;
+        is_so && fifodir.front(&mut one) == 200,
+        "two messages of a hundred letters"
+    );
     fifodir.leave(&rt, one);
     fifodir.leave(&rt, other);
     Ok(())
 }
 
-#[test]
-fn letters_go_on(rt: HostRuntime) -> Result<(), Fail> {
-    let from = open(rt.alloc(), Kind::Plain, 64, 1000, 10)?;
-    let to = open(rt.alloc(), Kind::Plain, 64, 1, 10)?;
-    let mut ticket = from.subscribe(&rt)?;
-    let mut source = from.publisher(&rt)?;
-    let mut sink = to.publisher(&rt)?;
-    let ab = [letter(b'a'), letter(b'b')];
-    assert_eq!(rt; from.publish(&rt, &mut source, &ab), Ok(0));
-    let first = send_on(&rt, &from, &mut ticket, &to, &mut sink);
-    assert_eq!(rt; first, Ok(Taken::Got(1)));
-    // The second letter is one more than the total.
-    let event = Event {
-        who: 1,
-        letter: letter(b'b'),
-    };
-    let why = PubError::Spent;
-    let second = send_on(&rt, &from, &mut ticket, &to, &mut sink);
-    assert_eq!(rt; second, Err(Unsent { event, why }));
-    let third = send_on(&rt, &from, &mut ticket, &to, &mut sink);
-    assert_eq!(rt; third, Ok(Taken::Nothing));
-    assert_eq!(rt; to.front(&mut sink), 1);
-    Ok(())
+/// A ticket's id. If a growth is refused, no ticket is given, and the call is made again.
+fn ticket_at_last<R: Wait>(rt: &R, fifodir: &Fifodir) -> Result<Ticket, SubError> {
+    match fifodir.subscribe(rt) {
+        Err(SubError::Memory) => fifodir.subscribe(rt),
+        answer => answer,
+    }
+}
+
+fn publisher_at_last<R: Wait>(rt: &R, fifodir: &Fifodir) -> Result<Publisher, PassError> {
+    match fifodir.publisher(rt) {
+        Err(PassError::Memory) => fifodir.publisher(rt),
+        answer => answer,
+    }
+}
+
+fn a_hundred_are_given<R: Wait>(rt: &R, fifodir: &Fifodir) -> Result<bool, Fail> {
+    for given in 1..101 {
+        let ticket = ticket_at_last(rt, fifodir)?.id();
+        let publisher = publisher_at_last(rt, fifodir)?.number();
+        if ticket != given || publisher != given {
+            return Ok(false);
+        }
+    }
+    Ok(true)
 }
 
 /// With one growth refused, whichever it is, the call that met it gives no pass, and the same call made again goes as
@@ -415,21 +446,14 @@ fn letters_go_on(rt: HostRuntime) -> Result<(), Fail> {
 #[test]
 fn a_refused_growth_gives_nothing(rt: HostRuntime) -> Result<(), Fail> {
     let limits = Limits::of(4, 100, 1000).ok_or("no limits")?;
-    let fifodir = match Fifodir::new(rt.alloc(), Kind::Plain, limits) {
-        Ok(fifodir) => fifodir,
-        Err(_) => Fifodir::new(rt.alloc(), Kind::Plain, limits)?,
-    };
-    for given in 1..101 {
-        let ticket = match fifodir.subscribe(&rt) {
-            Err(SubError::Memory) => fifodir.subscribe(&rt)?,
-            answer => answer?,
-        };
-        assert_eq!(rt; ticket.id(), given);
-        let publisher = match fifodir.publisher(&rt) {
-            Err(PassError::Memory) => fifodir.publisher(&rt)?,
-            answer => answer?,
-        };
-        assert_eq!(rt; publisher.number(), given);
-    }
+    let fifodir = Fifodir::new(rt.alloc(), Kind::Plain, limits).or_else(|_| Fifodir::new(
+        rt.alloc(),
+        Kind::Plain,
+        limits,
+    ))?;
+    assert!(rt;
+        a_hundred_are_given(&rt, &fifodir)?,
+        "a hundred tickets and publishers"
+    );
     Ok(())
 }
