@@ -1,7 +1,8 @@
 //! The texts of `--help`.
 
 /// The program in one line.
-pub const ABOUT: &str = "An event hub for service start-up: event directories (fifodirs) inside one program.";
+pub const ABOUT: &str =
+    "An event hub for service start-up: event directories (fifodirs) inside one program.";
 
 /// The program, for a reader who doesn't know it.
 pub const LONG_ABOUT: &str = "\

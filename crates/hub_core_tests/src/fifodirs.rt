@@ -1,9 +1,10 @@
-ghost use Rattle.std.specs.Prelude.{◌≡◌, []};
-ghost use Rattle.std.specs.Arc.{arc_value};
-ghost use Rattle.hub_fifodir.specs.Passes.{IsPublisherOf, IsTicketOf, mine};
-
+use crate::fixtures::{BLANK, are_events, blank, none_is_unlike, word};
+use crate::passes::{
+    Reader, Sender, Shared, cancel_all, joined, keep_reader, keep_sender, leave_all, open,
+    publisher, subscribed, ticket,
+};
 use hub_fifodir::together::{Unsent, send_both, send_on};
-use hub_fifodir::{Fifodir, PassError, Publisher, Ticket, word};
+use hub_fifodir::{Fifodir, PassError, word as front_word};
 use hub_letters::{Flags, Letter};
 use hub_record::{Closed, Event, Kind, Limits, PubError, Status, SubError, Taken};
 use std::alloc::{AllocError, Global};
@@ -11,526 +12,471 @@ use std::process::Abort;
 use std::sync::{Arc, Wait};
 use std::test::Fail;
 use std::thread;
-use std::thread::Threads;
 
-fn letter(byte: u8) -> Letter {
-    Letter::of(byte).unwrap_or(Letter::least())
-}
+/// The number, the code of the flags, whether it is closed, and the front word.
+static WORDS: [(u64, u64, bool, u64); 6] = [
+    (0, 0, false, 0),
+    (2, 5, false, 69),
+    (2, 0, true, 80),
+    (3, 7, false, 103),
+    (3, 7, true, 119),
+    (5, 14, false, 174),
+];
 
-fn blank() -> Event {
-    Event {
-        who: 0,
-        letter: Letter::least(),
-    }
-}
-
-fn open(alloc: Global, kind: Kind, waiting: u64, total: u64, ids: u64) -> Result<Fifodir, Fail> {
-    let limits = Limits::of(waiting, total, ids).ok_or("no limits")?;
-    Ok(Fifodir::new(alloc, kind, limits)?)
-}
-
-fn ticket<R: Abort + Wait>(rt: &R, fifodir: &Fifodir) -> Ticket
-    ensures { IsTicketOf fifodir.now result }
-{
-    fifodir.subscribe(rt).expect(rt, "a ticket")
-}
-
-fn publisher<R: Abort + Wait>(rt: &R, fifodir: &Fifodir) -> Publisher
-    ensures of { IsPublisherOf fifodir.now result }
-    ensures silent { mine result ≡ [] }
-{
-    fifodir.publisher(rt).expect(rt, "a publisher")
-}
-
-/// Why no ticket is given.
-fn no_ticket<R: Abort + Wait>(rt: &R, fifodir: &Fifodir) -> SubError {
-    match fifodir.subscribe(rt) {
-        Ok(_) => rt.panic("a ticket was given"),
-        Err(error) => error,
-    }
-}
-
-/// Why no publisher is given.
-fn no_publisher<R: Abort + Wait>(rt: &R, fifodir: &Fifodir) -> PassError {
-    match fifodir.publisher(rt) {
-        Ok(_) => rt.panic("a publisher was given"),
-        Err(error) => error,
-    }
-}
-
-#[test]
-fn words(rt: HostRuntime) -> Result<(), Fail> {
-    // number, code of the flags, closed, word
-    for (number, code, closed, want) in [
-        (0, 0, false, 0),
-        (2, 5, false, 69),
-        (2, 0, true, 80),
-        (3, 7, false, 103),
-        (3, 7, true, 119),
-        (5, 14, false, 174),
-    ] {
+fn front_words_are_packed() -> bool {
+    for (number, code, closed, want) in WORDS.iter() {
+        let Some(flags) = Flags::of_code(*code) else {
+            return false;
+        };
         let status = Status {
-            number,
-            flags: Flags::of_code(code).ok_or("no flags")?,
-            closed,
+            number: *number,
+            flags,
+            closed: *closed,
         };
-        assert_eq!(rt; word::pack(status), want);
-        assert_eq!(rt; word::unpack(want), status);
-    }
-    Ok(())
-}
-
-#[test]
-fn slowest_leaves(rt: HostRuntime) -> Result<(), Fail> {
-    let fifodir = open(rt.alloc(), Kind::Plain, 2, 100, 10)?;
-    let slow = ticket(&rt, &fifodir);
-    let mut fast = ticket(&rt, &fifodir);
-    let mut publisher = publisher(&rt, &fifodir);
-    let mut out = [blank(); 2];
-    let ab = [letter(b'a'), letter(b'b')];
-    let c = [letter(b'c')];
-    let cd = [letter(b'c'), letter(b'd')];
-    assert_eq!(rt; fifodir.publish(&rt, &mut publisher, &ab), Ok(0));
-    assert_eq!(rt; fifodir.take_into(&rt, &mut fast, &mut out), Taken::Got(2));
-    assert_eq!(rt;
-        fifodir.publish(&rt, &mut publisher, &c),
-        Err(PubError::Full)
-    );
-    fifodir.cancel(&rt, slow);
-    assert_eq!(rt; fifodir.publish(&rt, &mut publisher, &cd), Ok(2));
-    assert_eq!(rt; fifodir.take_into(&rt, &mut fast, &mut out), Taken::Got(2));
-    assert_eq!(rt; fifodir.status(&mut fast).number, 4);
-    fifodir.cancel(&rt, fast);
-    fifodir.leave(&rt, publisher);
-    Ok(())
-}
-
-#[test]
-fn publishers_spent(rt: HostRuntime) -> Result<(), Fail> {
-    let fifodir = open(rt.alloc(), Kind::Plain, 2, 100, 1)?;
-    let publisher = publisher(&rt, &fifodir);
-    assert_eq!(rt; publisher.number(), 1);
-    fifodir.leave(&rt, publisher);
-    assert_eq!(rt; no_publisher(&rt, &fifodir), PassError::Spent);
-    Ok(())
-}
-
-#[test]
-fn met_and_taken(rt: HostRuntime) -> Result<(), Fail> {
-    let fifodir = open(rt.alloc(), Kind::Plain, 64, 1000, 10)?;
-    let mut ticket = ticket(&rt, &fifodir);
-    let mut publisher = publisher(&rt, &fifodir);
-    let mut out = [blank(); 5];
-    let ab = [letter(b'a'), letter(b'b')];
-    let c = [letter(b'c')];
-    assert_eq!(rt; fifodir.publish(&rt, &mut publisher, &ab), Ok(0));
-    fifodir.meet(&rt, &mut publisher, &mut ticket);
-    assert_eq!(rt;
-        fifodir.take_into(&rt, &mut ticket, &mut out),
-        Taken::Got(2)
-    );
-    assert_eq!(rt;
-        out[0],
-        Event {
-            who: 1,
-            letter: letter(b'a')
-        }
-    );
-    assert_eq!(rt;
-        out[1],
-        Event {
-            who: 1,
-            letter: letter(b'b')
-        }
-    );
-    assert_eq!(rt;
-        fifodir.take_into(&rt, &mut ticket, &mut out),
-        Taken::Nothing
-    );
-    assert_eq!(rt; fifodir.close(&rt, &mut publisher), Ok(()));
-    assert_eq!(rt; fifodir.take_into(&rt, &mut ticket, &mut out), Taken::End);
-    assert_eq!(rt;
-        fifodir.publish(&rt, &mut publisher, &c),
-        Err(PubError::Closed)
-    );
-    assert_eq!(rt; fifodir.close(&rt, &mut publisher), Err(Closed));
-    assert_eq!(rt; no_ticket(&rt, &fifodir), SubError::Closed);
-    assert_eq!(rt; (ticket.id(), ticket.mark(), ticket.next()), (1, 0, 2));
-    fifodir.cancel(&rt, ticket);
-    fifodir.leave(&rt, publisher);
-    Ok(())
-}
-
-/// A ticket and a publisher beside their fifodir.
-struct Held {
-    fifodir: Arc<Fifodir, Global>,
-    ticket: Ticket,
-    publisher: Publisher,
-    ghost of_ticket: { IsTicketOf (arc_value fifodir) ticket },
-    ghost of_publisher: { IsPublisherOf (arc_value fifodir) publisher },
-}
-
-impl Held {
-    fn end<R: Wait>(self, rt: &R) {
-        let Held {
-            fifodir,
-            ticket,
-            publisher,
-        } = self;
-        fifodir.cancel(rt, ticket);
-        fifodir.leave(rt, publisher);
-    }
-}
-
-/// Asks for a ticket and a publisher, and again after want of memory, and keeps them.
-fn hold<R: Abort + Wait>(rt: &R, fifodir: &Arc<Fifodir, Global>, held: &mut Vec<Held>) {
-    let fifodir = match Arc::try_clone(fifodir) {
-        Err(_) => Arc::try_clone(fifodir).expect(rt, "the fifodir"),
-        Ok(own) => own,
-    };
-    let ticket = match fifodir.subscribe(rt) {
-        Err(SubError::Memory) => fifodir.subscribe(rt).expect(rt, "a ticket"),
-        answer => answer.expect(rt, "a ticket"),
-    };
-    let publisher = match fifodir.publisher(rt) {
-        Err(PassError::Memory) => fifodir.publisher(rt).expect(rt, "a publisher"),
-        answer => answer.expect(rt, "a publisher"),
-    };
-    let both = Held {
-        fifodir,
-        ticket,
-        publisher,
-    };
-    if let Err(refused) = held.push(both) {
-        refused.value.end(rt);
-    }
-}
-
-fn end_all<R: Wait>(rt: &R, mut held: Vec<Held>) {
-    while let Some(both) = held.pop() {
-        both.end(rt);
-    }
-    held.destroy_empty();
-}
-
-#[test]
-fn many_passes(rt: HostRuntime) -> Result<(), Fail> {
-    let fifodir = open(rt.alloc(), Kind::Plain, 64, 1000, 1_000_000_000_000)?;
-    let fifodir = Arc::new(rt.alloc(), fifodir)?;
-    let mut held = Vec::with_capacity(rt.alloc(), 1023)?;
-    for _ in 1..1024 {
-        hold(&rt, &fifodir, &mut held);
-    }
-    assert_eq!(rt; held.len(), 1023);
-    let last = ticket(&rt, &fifodir);
-    assert_eq!(rt; last.id(), 1024);
-    assert_eq!(rt; no_ticket(&rt, &fifodir), SubError::Many);
-    fifodir.cancel(&rt, last);
-    let next = ticket(&rt, &fifodir);
-    assert_eq!(rt; next.id(), 1025);
-    fifodir.cancel(&rt, next);
-    let last = publisher(&rt, &fifodir);
-    assert_eq!(rt; last.number(), 1024);
-    assert_eq!(rt; no_publisher(&rt, &fifodir), PassError::Many);
-    fifodir.leave(&rt, last);
-    let next = publisher(&rt, &fifodir);
-    assert_eq!(rt; next.number(), 1025);
-    fifodir.leave(&rt, next);
-    end_all(&rt, held);
-    Ok(())
-}
-
-#[test]
-fn status_fresh(rt: HostRuntime) -> Result<(), Fail> {
-    let fifodir = Arc::new(rt.alloc(), open(rt.alloc(), Kind::Service, 64, 1000, 10)?)?;
-    let theirs = Arc::try_clone(&fifodir)?;
-    let mut ticket = ticket(&rt, &fifodir);
-    let before = fifodir.status(&mut ticket);
-    assert_eq!(rt;
-        (before.number, before.flags.code(), before.closed),
-        (0, 0, false)
-    );
-    let child = thread::spawn(&rt, move || -> Result<u64, PubError> {
-        let Ok(mut publisher) = theirs.publisher(&rt) else {
-            return Err(PubError::Closed);
-        };
-        let sent = theirs.publish(&rt, &mut publisher, &[letter(b's'), letter(b'u')]);
-        theirs.leave(&rt, publisher);
-        sent
-    })
-    .expect(&rt, "a thread");
-    assert_eq!(rt; child.join(&rt), Ok(0));
-    let started = fifodir.status(&mut ticket);
-    assert_eq!(rt;
-        (started.number, started.flags.code(), started.closed),
-        (2, 5, false)
-    );
-    let mut publisher = publisher(&rt, &fifodir);
-    assert_eq!(rt;
-        fifodir.publish(&rt, &mut publisher, &[letter(b'U')]),
-        Ok(2)
-    );
-    assert_eq!(rt; fifodir.front(&mut ticket), 3);
-    assert_eq!(rt; fifodir.close(&rt, &mut publisher), Ok(()));
-    let ended = fifodir.status(&mut ticket);
-    assert_eq!(rt;
-        (ended.number, ended.flags.code(), ended.closed),
-        (3, 7, true)
-    );
-    fifodir.leave(&rt, publisher);
-    fifodir.cancel(&rt, ticket);
-    Ok(())
-}
-
-// The letters that a publisher sends, in their order: the alphabet over and over.
-fn nth(first: u8, place: usize) -> Letter {
-    let turn = (place % 26) as u8;
-    letter(first.wrapping_add(turn))
-}
-
-// The messages after the first, of one to three letters each, and how many were sent in all.
-fn send_rest<R: Wait>(rt: &R, fifodir: &Fifodir, me: &mut Publisher, first: u8) -> usize
-    requires { IsPublisherOf fifodir.now me.old }
-    ensures { IsPublisherOf fifodir.now me.new }
-{
-    let mut sent: usize = 1;
-    for message in 1..200 {
-        let next = [
-            nth(first, sent),
-            nth(first, sent.wrapping_add(1)),
-            nth(first, sent.wrapping_add(2)),
-        ];
-        let count: usize = message % 3 + 1;
-        if fifodir.publish(rt, me, &next[..count]).is_ok() {
-            sent = sent.wrapping_add(count);
+        if front_word::pack(status) != *want || front_word::unpack(*want) != status {
+            return false;
         }
     }
-    sent
+    true
 }
 
-// Both publishers send at once, and one closes when both are through.
-fn send_and_close<R: Threads + Wait + Sync>(
-    rt: &R,
-    fifodir: &Fifodir,
-    one: &mut Publisher,
-    other: &mut Publisher,
-)
-    requires one { IsPublisherOf fifodir.now one.old }
-    requires other { IsPublisherOf fifodir.now other.old }
-    ensures one { IsPublisherOf fifodir.now one.new }
-    ensures other { IsPublisherOf fifodir.now other.new }
-{
-    thread::join_mut(
-        rt,
-        &mut || -> usize
-            requires { IsPublisherOf fifodir.now one.now }
-            ensures { IsPublisherOf fifodir.entry.now one.exit.now }
-        { send_rest(rt, fifodir, one, b'a') },
-        &mut || -> usize
-            requires { IsPublisherOf fifodir.now other.now }
-            ensures { IsPublisherOf fifodir.entry.now other.exit.now }
-        { send_rest(rt, fifodir, other, b'A') },
-    );
-    let _ = fifodir.close(rt, one);
+/// A call and what it answers. A message is spelled by letters. The publisher is the last that was given and hasn't
+/// left, and a ticket is named by its place among those that are not cancelled.
+#[derive(Clone, Copy)]
+enum Step {
+    Subscribe(Result<(u64, u64), SubError>),
+    Join(Result<u64, PassError>),
+    /// Tickets and publishers that get the numbers from 1 to this one.
+    HoldUpTo(u64),
+    Publish(&'static str, Result<u64, PubError>),
+    Close(Result<(), Closed>),
+    Leave,
+    Take(usize, Taken, [(u64, u8); 3]),
+    Cancel(usize),
+    /// The number, the flags' code and whether it is closed, by the ticket's status.
+    Shows(usize, (u64, u64, bool)),
+    /// The ticket's id, mark and next.
+    Ticket(usize, (u64, u64, u64)),
+    /// The number of events, by the publisher.
+    Front(u64),
 }
 
-// What a ticket takes until the end.
-fn gather<R: Wait>(
-    rt: &R,
-    alloc: Global,
-    fifodir: &Fifodir,
-    me: &mut Ticket,
-) -> Result<Vec<Event>, AllocError>
-    requires { IsTicketOf fifodir.now me.old }
-    ensures { IsTicketOf fifodir.now me.new }
-{
-    let mut all = Vec::new(alloc);
-    for _ in rt.forever() {
-        let mut out = [blank(); 7];
-        match fifodir.take_into(rt, me, &mut out) {
-            Taken::Got(count) => all.extend_from_slice(&out[..count])?,
-            Taken::Nothing => thread::yield_now(),
-            Taken::End => return Ok(all),
-        }
-    }
-    unreachable!()
+/// A fifodir of this kind, with these limits, answers these calls so.
+struct Row {
+    name: &'static str,
+    kind: Kind,
+    limits: (u64, u64, u64),
+    steps: &'static [Step],
 }
 
-type Gathered = Result<Vec<Event>, AllocError>;
+static ROWS: [Row; 5] = [
+    Row {
+        name: "there is room again when the slowest leaves",
+        kind: Kind::Plain,
+        limits: (2, 100, 10),
+        steps: &[
+            Step::Subscribe(Ok((1, 0))),
+            Step::Subscribe(Ok((2, 0))),
+            Step::Join(Ok(1)),
+            Step::Publish("ab", Ok(0)),
+            Step::Take(1, Taken::Got(2), [(1, b'a'), (1, b'b'), BLANK]),
+            Step::Publish("c", Err(PubError::Full)),
+            Step::Cancel(0),
+            Step::Publish("cd", Ok(2)),
+            Step::Take(0, Taken::Got(2), [(1, b'c'), (1, b'd'), BLANK]),
+            Step::Shows(0, (4, 0, false)),
+        ],
+    },
+    Row {
+        name: "publishers' numbers are spent",
+        kind: Kind::Plain,
+        limits: (2, 100, 1),
+        steps: &[
+            Step::Join(Ok(1)),
+            Step::Leave,
+            Step::Join(Err(PassError::Spent)),
+        ],
+    },
+    Row {
+        name: "what is published is taken, until the end",
+        kind: Kind::Plain,
+        limits: (64, 1000, 10),
+        steps: &[
+            Step::Subscribe(Ok((1, 0))),
+            Step::Join(Ok(1)),
+            Step::Publish("ab", Ok(0)),
+            Step::Take(0, Taken::Got(2), [(1, b'a'), (1, b'b'), BLANK]),
+            Step::Take(0, Taken::Nothing, [BLANK, BLANK, BLANK]),
+            Step::Close(Ok(())),
+            Step::Take(0, Taken::End, [BLANK, BLANK, BLANK]),
+            Step::Publish("c", Err(PubError::Closed)),
+            Step::Close(Err(Closed)),
+            Step::Subscribe(Err(SubError::Closed)),
+            Step::Ticket(0, (1, 0, 2)),
+        ],
+    },
+    Row {
+        name: "up to 1,024 passes are current at once",
+        kind: Kind::Plain,
+        limits: (64, 1000, 1_000_000_000_000),
+        steps: &[
+            Step::HoldUpTo(1023),
+            Step::Subscribe(Ok((1024, 0))),
+            Step::Subscribe(Err(SubError::Many)),
+            Step::Cancel(1023),
+            Step::Subscribe(Ok((1025, 0))),
+            Step::Join(Ok(1024)),
+            Step::Join(Err(PassError::Many)),
+            Step::Leave,
+            Step::Join(Ok(1025)),
+        ],
+    },
+    Row {
+        name: "a status shows each change",
+        kind: Kind::Service,
+        limits: (64, 1000, 10),
+        steps: &[
+            Step::Subscribe(Ok((1, 0))),
+            Step::Shows(0, (0, 0, false)),
+            Step::Join(Ok(1)),
+            Step::Publish("su", Ok(0)),
+            Step::Shows(0, (2, 5, false)),
+            Step::Publish("U", Ok(2)),
+            Step::Front(3),
+            Step::Close(Ok(())),
+            Step::Shows(0, (3, 7, true)),
+        ],
+    },
+];
 
-fn gather_both<R: Threads + Wait + Sync>(
-    rt: &R,
-    alloc: Global,
-    fifodir: &Fifodir,
-    one: &mut Ticket,
-    other: &mut Ticket,
-) -> (Gathered, Gathered)
-    requires one { IsTicketOf fifodir.now one.old }
-    requires other { IsTicketOf fifodir.now other.old }
-    ensures one { IsTicketOf fifodir.now one.new }
-    ensures other { IsTicketOf fifodir.now other.new }
-{
-    thread::join_mut(
-        rt,
-        &mut || -> Gathered
-            requires { IsTicketOf fifodir.now one.now }
-            ensures { IsTicketOf fifodir.entry.now one.exit.now }
-        { gather(rt, alloc, fifodir, one) },
-        &mut || -> Gathered
-            requires { IsTicketOf fifodir.now other.now }
-            ensures { IsTicketOf fifodir.entry.now other.exit.now }
-        { gather(rt, alloc, fifodir, other) },
-    )
+/// A fifodir with the passes that were given.
+struct Scene {
+    fifodir: Shared,
+    senders: Vec<Sender>,
+    readers: Vec<Reader>,
 }
 
-// How many letters of a publisher stand in the list, where they are its own in their order; otherwise none.
-fn in_order(list: &[Event], who: u64, first: u8) -> usize {
-    let mut count: usize = 0;
-    for event in list {
-        if event.who == who {
-            if event.letter != nth(first, count) {
-                return 0;
+impl Scene {
+    fn subscribe<R: Wait>(&mut self, rt: &R) -> Result<Result<(u64, u64), SubError>, AllocError> {
+        match Reader::of(rt, Arc::try_clone(&self.fifodir)?) {
+            Ok(reader) => {
+                let given = (reader.me.id(), reader.me.mark());
+                keep_reader(rt, &mut self.readers, reader)?;
+                Ok(Ok(given))
             }
-            count = count.wrapping_add(1);
+            Err(refusal) => Ok(Err(refusal)),
         }
     }
-    count
+
+    fn join<R: Wait>(&mut self, rt: &R) -> Result<Result<u64, PassError>, AllocError> {
+        match Sender::of(rt, Arc::try_clone(&self.fifodir)?) {
+            Ok(sender) => {
+                let number = sender.me.number();
+                keep_sender(rt, &mut self.senders, sender)?;
+                Ok(Ok(number))
+            }
+            Err(refusal) => Ok(Err(refusal)),
+        }
+    }
+
+    /// Whether a ticket and a publisher are given this number. If a growth is refused, the call that met it gives none,
+    /// and is made again.
+    fn holds<R: Wait>(&mut self, rt: &R, number: u64) -> Result<bool, AllocError> {
+        let subscribed = match self.subscribe(rt)? {
+            Err(SubError::Memory) => self.subscribe(rt)?,
+            answer => answer,
+        };
+        let joined = match self.join(rt)? {
+            Err(PassError::Memory) => self.join(rt)?,
+            answer => answer,
+        };
+        Ok(subscribed == Ok((number, 0)) && joined == Ok(number))
+    }
+
+    fn holds_up_to<R: Wait>(&mut self, rt: &R, last: u64) -> Result<bool, AllocError> {
+        for before in 0..last {
+            if !self.holds(rt, before + 1)? {
+                return Ok(false);
+            }
+        }
+        Ok(true)
+    }
+
+    fn takes<R: Wait>(
+        &mut self,
+        rt: &R,
+        place: usize,
+        answer: Taken,
+        events: &[(u64, u8)],
+    ) -> bool {
+        let mut out = [blank(); 3];
+        match self.readers.get_mut(place) {
+            Some(reader) => reader.take(rt, &mut out) == answer && are_events(&out, events),
+            None => false,
+        }
+    }
+
+    fn cancels<R: Wait>(&mut self, rt: &R, place: usize) -> bool {
+        if place < self.readers.len() {
+            self.readers.remove(place).cancel(rt);
+            return true;
+        }
+        false
+    }
+
+    fn shows(&mut self, place: usize, wanted: (u64, u64, bool)) -> bool {
+        match self.readers.get_mut(place) {
+            Some(reader) => shown(reader) == wanted,
+            None => false,
+        }
+    }
+
+    fn is_ticket(&self, place: usize, wanted: (u64, u64, u64)) -> bool {
+        match self.readers.get(place) {
+            Some(reader) => (reader.me.id(), reader.me.mark(), reader.me.next()) == wanted,
+            None => false,
+        }
+    }
+
+    fn goes_through<R: Wait>(
+        &mut self,
+        rt: &R,
+        alloc: Global,
+        steps: &[Step],
+    ) -> Result<bool, AllocError> {
+        for step in steps {
+            if !self.goes(rt, alloc, *step)? {
+                return Ok(false);
+            }
+        }
+        Ok(true)
+    }
+
+    /// Whether the step goes so.
+    fn goes<R: Wait>(&mut self, rt: &R, alloc: Global, step: Step) -> Result<bool, AllocError> {
+        Ok(match step {
+            Step::Subscribe(answer) => self.subscribe(rt)? == answer,
+            Step::Join(answer) => self.join(rt)? == answer,
+            Step::HoldUpTo(last) => self.holds_up_to(rt, last)?,
+            Step::Leave => self.leaves(rt),
+            Step::Take(place, answer, events) => self.takes(rt, place, answer, &events),
+            Step::Cancel(place) => self.cancels(rt, place),
+            Step::Shows(place, wanted) => self.shows(place, wanted),
+            Step::Ticket(place, wanted) => self.is_ticket(place, wanted),
+            Step::Publish(_, _) | Step::Close(_) | Step::Front(_) => {
+                self.publisher_goes(rt, alloc, step)?
+            }
+        })
+    }
+
+    fn publisher_goes<R: Wait>(
+        &mut self,
+        rt: &R,
+        alloc: Global,
+        step: Step,
+    ) -> Result<bool, AllocError> {
+        let Some(sender) = self.senders.last_mut() else {
+            return Ok(false);
+        };
+        Ok(match step {
+            Step::Publish(text, answer) => sender.send(rt, &word(alloc, text)?) == answer,
+            Step::Close(answer) => sender.close(rt) == answer,
+            Step::Front(number) => sender.front() == number,
+            _ => false,
+        })
+    }
+
+    fn leaves<R: Wait>(&mut self, rt: &R) -> bool {
+        match self.senders.pop() {
+            Some(sender) => {
+                sender.leave(rt);
+                true
+            }
+            None => false,
+        }
+    }
+
+    fn end<R: Wait>(self, rt: &R) {
+        let Scene {
+            fifodir: _,
+            senders,
+            readers,
+        } = self;
+        leave_all(rt, senders);
+        cancel_all(rt, readers);
+    }
 }
 
-fn send_and_gather<R: Threads + Wait + Sync>(
-    rt: &R,
-    alloc: Global,
-    fifodir: &Fifodir,
-    publishers: (&mut Publisher, &mut Publisher),
-    tickets: (&mut Ticket, &mut Ticket),
-) -> (Gathered, Gathered)
-    requires publishers { IsPublisherOf fifodir.now publishers.0.old
-        × IsPublisherOf fifodir.now publishers.1.old }
-    requires tickets { IsTicketOf fifodir.now tickets.0.old × IsTicketOf fifodir.now tickets.1.old }
-    ensures publishers { IsPublisherOf fifodir.now publishers.0.new
-        × IsPublisherOf fifodir.now publishers.1.new }
-    ensures tickets { IsTicketOf fifodir.now tickets.0.new × IsTicketOf fifodir.now tickets.1.new }
-{
-    let (one, other) = publishers;
-    let (early, late) = tickets;
-    let ((), gathered) = thread::join_mut(
-        rt,
-        &mut ||
-            requires { IsPublisherOf fifodir.now one.now × IsPublisherOf fifodir.now other.now }
-            ensures { IsPublisherOf fifodir.entry.now one.exit.now
-                × IsPublisherOf fifodir.entry.now other.exit.now }
-        { send_and_close(rt, fifodir, one, other) },
-        &mut || -> (Gathered, Gathered)
-            requires { IsTicketOf fifodir.now early.now × IsTicketOf fifodir.now late.now }
-            ensures { IsTicketOf fifodir.entry.now early.exit.now
-                × IsTicketOf fifodir.entry.now late.exit.now }
-        { gather_both(rt, alloc, fifodir, early, late) },
-    );
-    gathered
+/// The number, the flags' code and whether it is closed.
+fn shown(reader: &mut Reader) -> (u64, u64, bool) {
+    let status = reader.status();
+    (status.number, status.flags.code(), status.closed)
+}
+
+fn goes_so<R: Wait>(rt: &R, alloc: Global, row: &Row) -> Result<bool, Fail> {
+    let mut scene = Scene {
+        fifodir: open(alloc, row.kind, row.limits)?,
+        senders: Vec::new(alloc),
+        readers: Vec::new(alloc),
+    };
+    let is_so = scene.goes_through(rt, alloc, row.steps);
+    scene.end(rt);
+    Ok(is_so?)
+}
+
+/// The name of the first row that goes otherwise.
+fn first_unlike<R: Wait>(rt: &R, alloc: Global) -> Result<Option<&'static str>, Fail> {
+    for row in ROWS.iter() {
+        if !goes_so(rt, alloc, row)? {
+            return Ok(Some(row.name));
+        }
+    }
+    Ok(None)
 }
 
 #[test]
-fn threads_one_list(rt: HostRuntime) -> Result<(), Fail> {
-    let fifodir = open(rt.alloc(), Kind::Plain, 4096, 10_000, 10)?;
-    let mut one = publisher(&rt, &fifodir);
-    let mut early = ticket(&rt, &fifodir);
-    assert_eq!(rt; (one.number(), early.id()), (1, 1));
-    let mut other = publisher(&rt, &fifodir);
-    assert_eq!(rt; fifodir.publish(&rt, &mut one, &[letter(b'a')]), Ok(0));
-    let mut late = ticket(&rt, &fifodir);
-    assert_eq!(rt; late.mark(), 1);
-    assert_eq!(rt; fifodir.publish(&rt, &mut other, &[letter(b'A')]), Ok(1));
-    let (all, some) = send_and_gather(
-        &rt,
-        rt.alloc(),
-        &fifodir,
-        (&mut one, &mut other),
-        (&mut early, &mut late),
-    );
-    let all = all.expect(&rt, "what the early one gathered");
-    let some = some.expect(&rt, "what the late one gathered");
-    fifodir.meet(&rt, &mut one, &mut other);
-    fifodir.meet(&rt, &mut one, &mut early);
-    fifodir.meet(&rt, &mut early, &mut late);
-    assert_eq!(rt; fifodir.front(&mut other), 798);
-    assert_eq!(rt; all.len(), 798);
-    assert_eq!(rt; some.len(), 797);
-    assert!(rt; all.as_slice().ends_with(some.as_slice()));
-    assert_eq!(rt; in_order(all.as_slice(), 1, b'a'), 399);
-    assert_eq!(rt; in_order(all.as_slice(), 2, b'A'), 399);
-    assert_eq!(rt; (early.next(), late.next()), (798, 798));
-    fifodir.cancel(&rt, early);
-    fifodir.cancel(&rt, late);
-    fifodir.leave(&rt, one);
-    fifodir.leave(&rt, other);
+fn fifodirs_by_rows(rt: HostRuntime) -> Result<(), Fail> {
+    assert!(rt; front_words_are_packed(), "front words");
+    none_is_unlike(&rt, first_unlike(&rt, rt.alloc())?);
     Ok(())
 }
 
-#[test]
-fn two_send_at_once(rt: HostRuntime) -> Result<(), Fail> {
-    let fifodir = open(rt.alloc(), Kind::Plain, 64, 1000, 10)?;
-    let one = publisher(&rt, &fifodir);
-    let other = publisher(&rt, &fifodir);
-    let a = [letter(b'a'); 100];
-    let b = [letter(b'b'); 100];
-    let ((mut one, first), (other, second)) = send_both(&rt, &fifodir, one, other, &a, &b);
-    assert!(rt; matches!((first, second), (Ok(0), Ok(100)) | (Ok(100), Ok(0))));
-    assert_eq!(rt; fifodir.front(&mut one), 200);
-    fifodir.leave(&rt, one);
-    fifodir.leave(&rt, other);
-    Ok(())
+/// Whether two publishers and two tickets that meet in turn know of the event that one of them published.
+fn all_meet<R: Abort + Wait>(rt: &R, fifodir: &Fifodir) -> bool {
+    let mut one = publisher(rt, fifodir);
+    let mut other = publisher(rt, fifodir);
+    let mut early = ticket(rt, fifodir);
+    let mut late = ticket(rt, fifodir);
+    let published = fifodir.publish(rt, &mut one, &[Letter::least()]);
+    fifodir.meet(rt, &mut one, &mut other);
+    fifodir.meet(rt, &mut other, &mut early);
+    fifodir.meet(rt, &mut early, &mut late);
+    let publishers = (fifodir.front(&mut one), fifodir.front(&mut other));
+    let tickets = (fifodir.front(&mut early), fifodir.front(&mut late));
+    fifodir.leave(rt, one);
+    fifodir.leave(rt, other);
+    fifodir.cancel(rt, early);
+    fifodir.cancel(rt, late);
+    published == Ok(0) && publishers == (1, 1) && tickets == (1, 1)
 }
 
-#[test]
-fn letters_go_on(rt: HostRuntime) -> Result<(), Fail> {
-    let from = open(rt.alloc(), Kind::Plain, 64, 1000, 10)?;
-    let to = open(rt.alloc(), Kind::Plain, 64, 1, 10)?;
-    let mut ticket = ticket(&rt, &from);
-    let mut source = publisher(&rt, &from);
-    let mut sink = publisher(&rt, &to);
-    let ab = [letter(b'a'), letter(b'b')];
-    assert_eq!(rt; from.publish(&rt, &mut source, &ab), Ok(0));
-    let first = send_on(&rt, &from, &mut ticket, &to, &mut sink);
-    assert_eq!(rt; first, Ok(Taken::Got(1)));
-    // The second letter is one more than the total.
+fn letters_go_on<R: Abort + Wait>(rt: &R, alloc: Global) -> Result<bool, Fail> {
+    let letters = word(alloc, "ab")?;
+    let from = open(alloc, Kind::Plain, (64, 1000, 10))?;
+    let to = open(alloc, Kind::Plain, (64, 1, 10))?;
+    let mut ticket = subscribed(rt, &from);
+    let mut source = joined(rt, &from);
+    let mut sink = joined(rt, &to);
+    let published = source.send(rt, &letters);
+    let is_so = published == Ok(0) && second_is_refused(rt, &mut ticket, &mut sink);
+    ticket.cancel(rt);
+    source.leave(rt);
+    sink.leave(rt);
+    Ok(is_so)
+}
+
+fn goes_on<R: Wait>(rt: &R, from: &mut Reader, to: &mut Sender) -> Result<Taken, Unsent> {
+    send_on(rt, &from.fifodir, &mut from.me, &to.fifodir, &mut to.me)
+}
+
+/// Whether the first letter goes on, and the second, one more than the total, comes back.
+fn second_is_refused<R: Wait>(rt: &R, from: &mut Reader, to: &mut Sender) -> bool {
     let event = Event {
         who: 1,
-        letter: letter(b'b'),
+        letter: Letter::of(b'b').unwrap_or(Letter::least()),
     };
     let why = PubError::Spent;
-    let second = send_on(&rt, &from, &mut ticket, &to, &mut sink);
-    assert_eq!(rt; second, Err(Unsent { event, why }));
-    let third = send_on(&rt, &from, &mut ticket, &to, &mut sink);
-    assert_eq!(rt; third, Ok(Taken::Nothing));
-    assert_eq!(rt; to.front(&mut sink), 1);
-    from.cancel(&rt, ticket);
-    from.leave(&rt, source);
-    to.leave(&rt, sink);
+    goes_on(rt, from, to) == Ok(Taken::Got(1))
+        && goes_on(rt, from, to) == Err(Unsent { event, why })
+        && goes_on(rt, from, to) == Ok(Taken::Nothing)
+        && to.front() == 1
+}
+
+#[test]
+fn passes_meet_and_letters_go_on(rt: HostRuntime) -> Result<(), Fail> {
+    let fifodir = open(rt.alloc(), Kind::Plain, (64, 1000, 10))?;
+    assert!(rt;
+        all_meet(&rt, &fifodir),
+        "two publishers and two tickets meet"
+    );
+    assert!(rt;
+        letters_go_on(&rt, rt.alloc())?,
+        "letters go on to another fifodir"
+    );
     Ok(())
+}
+
+#[test]
+fn a_status_is_fresh_after_a_thread_published(rt: HostRuntime) -> Result<(), Fail> {
+    let fifodir = open(rt.alloc(), Kind::Service, (64, 1000, 10))?;
+    let letters = word(rt.alloc(), "su")?;
+    let mut ticket = subscribed(&rt, &fifodir);
+    let before = shown(&mut ticket);
+    let child = thread::spawn(&rt, move || -> Result<u64, PubError> {
+        match Sender::of(&rt, fifodir) {
+            Ok(mut sender) => {
+                let sent = sender.send(&rt, &letters);
+                sender.leave(&rt);
+                sent
+            }
+            Err(_) => Err(PubError::Closed),
+        }
+    })
+    .expect(&rt, "a thread");
+    let sent = child.join(&rt);
+    let after = shown(&mut ticket);
+    ticket.cancel(&rt);
+    assert!(rt; before == (0, 0, false) && sent == Ok(0) && after == (2, 5, false));
+    Ok(())
+}
+
+/// Whether two messages that are sent at once are both whole.
+#[test]
+fn two_send_at_once(rt: HostRuntime) -> Result<(), Fail> {
+    let fifodir = open(rt.alloc(), Kind::Plain, (64, 1000, 10))?;
+    let one = publisher(&rt, &fifodir);
+    let other = publisher(&rt, &fifodir);
+    let a = [Letter::of(b'a').unwrap_or(Letter::least()); 100];
+    let b = [Letter::of(b'b').unwrap_or(Letter::least()); 100];
+    let ((mut one, first), (other, second)) = send_both(&rt, &fifodir, one, other, &a, &b);
+    let is_so = matches!((first, second), (Ok(0), Ok(100)) | (Ok(100), Ok(0)));
+    let number = fifodir.front(&mut one);
+    fifodir.leave(&rt, one);
+    fifodir.leave(&rt, other);
+    assert!(rt; is_so && number == 200, "two messages of a hundred letters");
+    Ok(())
+}
+
+/// A fifodir with these limits. If a growth is refused, it tries once more.
+fn open_at_last(alloc: Global, limits: Limits) -> Result<Shared, AllocError> {
+    let fifodir = Fifodir::new(alloc, Kind::Plain, limits).or_else(|_| Fifodir::new(
+        alloc,
+        Kind::Plain,
+        limits,
+    ))?;
+    match Arc::new(alloc, fifodir) {
+        Ok(fifodir) => Ok(fifodir),
+        Err(refused) => Ok(Arc::new(alloc, refused.value)?),
+    }
+}
+
+fn a_hundred_are_given<R: Wait>(rt: &R, alloc: Global) -> Result<bool, Fail> {
+    let limits = Limits::of(4, 100, 1000).ok_or("no limits")?;
+    let mut scene = Scene {
+        fifodir: open_at_last(alloc, limits)?,
+        senders: Vec::new(alloc),
+        readers: Vec::new(alloc),
+    };
+    let is_so = scene.holds_up_to(rt, 100);
+    scene.end(rt);
+    Ok(is_so?)
 }
 
 /// With one growth refused, whichever it is, the call that met it gives no pass, and the same call made again goes as
 /// with no refusal.
 #[test]
 fn a_refused_growth_gives_nothing(rt: HostRuntime) -> Result<(), Fail> {
-    let limits = Limits::of(4, 100, 1000).ok_or("no limits")?;
-    let fifodir = match Fifodir::new(rt.alloc(), Kind::Plain, limits) {
-        Ok(fifodir) => fifodir,
-        Err(_) => Fifodir::new(rt.alloc(), Kind::Plain, limits)?,
-    };
-    let fifodir = match Arc::new(rt.alloc(), fifodir) {
-        Ok(fifodir) => fifodir,
-        Err(refused) => Arc::new(rt.alloc(), refused.value)?,
-    };
-    let mut held = match Vec::with_capacity(rt.alloc(), 100) {
-        Ok(held) => held,
-        Err(_) => Vec::with_capacity(rt.alloc(), 100)?,
-    };
-    for given in 1..101 {
-        hold(&rt, &fifodir, &mut held);
-        let last = held.last().expect(&rt, "what it holds");
-        assert_eq!(rt; (last.ticket.id(), last.publisher.number()), (given, given));
-    }
-    end_all(&rt, held);
+    let is_so = a_hundred_are_given(&rt, rt.alloc())?;
+    assert!(rt; is_so, "a hundred tickets and publishers");
     Ok(())
 }

@@ -1,152 +1,163 @@
+use crate::fixtures::{none_is_unlike, word};
 use hub_letters::{Flags, Letter, Stage};
 use std::alloc::{AllocError, Global};
 use std::test::Fail;
 
-/// The letters of a text.
-fn word(alloc: Global, text: &str) -> Result<Vec<Letter>, AllocError> {
-    let mut letters = Vec::new(alloc);
-    for byte in text.as_bytes() {
-        if let Some(letter) = Letter::of(*byte) {
-            letters.push(letter)?;
+/// A byte, and whether it is a letter.
+static BYTES: [(u8, bool); 4] = [(0x20, false), (0x21, true), (0x7E, true), (0x7F, false)];
+
+fn letters_are_from_bang_to_tilde() -> bool {
+    for (byte, is_letter) in BYTES.iter() {
+        let is_so = match Letter::of(*byte) {
+            Some(letter) => *is_letter && letter.byte() == *byte,
+            None => !*is_letter,
+        };
+        if !is_so {
+            return false;
         }
     }
-    Ok(letters)
+    Letter::least().byte() == b'!'
 }
 
-fn code_of(alloc: Global, text: &str) -> Result<u64, AllocError> {
-    let letters = word(alloc, text)?;
-    Ok(Flags::none().after_all(letters.as_slice()).code())
-}
+/// The letters of the columns of `NEXT`.
+static LETTERS: [u8; 8] = *b"suUdDOxa";
 
-#[test]
-fn letters_are_the_bytes_from_bang_to_tilde(rt: HostRuntime) -> Result<(), Fail> {
-    for (byte, stands) in [(0x20, false), (0x21, true), (0x7E, true), (0x7F, false)] {
-        assert_eq!(rt; Letter::of(byte).is_some(), stands, "at {byte}");
-    }
-    let tilde = Letter::of(b'~').ok_or("no letter")?;
-    assert_eq!(rt; tilde.byte(), b'~');
-    assert_eq!(rt; Letter::least().byte(), b'!');
-    Ok(())
-}
+const OFF: Option<Stage> = Some(Stage::Off);
 
-#[test]
-fn next_stage_by_stage_and_letter(rt: HostRuntime) -> Result<(), Fail> {
-    let off = Some(Stage::Off);
-    let idle = Some(Stage::Idle);
-    let starting = Some(Stage::Starting);
-    let ready = Some(Stage::Ready);
-    let ending = Some(Stage::Ending);
-    for (stage, row) in [
-        (Stage::Off, [idle, None, None, None, None, None, None, None]),
-        (
-            Stage::Idle,
-            [idle, starting, None, None, None, idle, off, None],
-        ),
-        (
-            Stage::Starting,
-            [idle, None, ready, ending, None, starting, off, None],
-        ),
-        (
-            Stage::Ready,
-            [idle, None, None, ending, None, ready, off, None],
-        ),
-        (
-            Stage::Ending,
-            [idle, None, None, None, idle, ending, off, None],
-        ),
-    ] {
-        for (byte, next) in b"suUdDOxa".iter().zip(row.iter()) {
-            let letter = Letter::of(*byte).ok_or("no letter")?;
-            assert_eq!(rt; stage.next(letter), *next);
+const IDLE: Option<Stage> = Some(Stage::Idle);
+
+const STARTING: Option<Stage> = Some(Stage::Starting);
+
+const READY: Option<Stage> = Some(Stage::Ready);
+
+const ENDING: Option<Stage> = Some(Stage::Ending);
+
+/// By stage, the stage after each letter; none if the letter is unlawful there.
+static NEXT: [(Stage, &[Option<Stage>]); 5] = [
+    (
+        Stage::Off,
+        &[IDLE, None, None, None, None, None, None, None],
+    ),
+    (
+        Stage::Idle,
+        &[IDLE, STARTING, None, None, None, IDLE, OFF, None],
+    ),
+    (
+        Stage::Starting,
+        &[IDLE, None, READY, ENDING, None, STARTING, OFF, None],
+    ),
+    (
+        Stage::Ready,
+        &[IDLE, None, None, ENDING, None, READY, OFF, None],
+    ),
+    (
+        Stage::Ending,
+        &[IDLE, None, None, None, IDLE, ENDING, OFF, None],
+    ),
+];
+
+fn leads_to(stage: Stage, row: &[Option<Stage>]) -> bool {
+    for (byte, next) in LETTERS.iter().zip(row.iter()) {
+        match Letter::of(*byte) {
+            Some(letter) if stage.next(letter) == *next => {}
+            _ => return false,
         }
     }
-    Ok(())
+    row.len() == LETTERS.len()
 }
 
-#[test]
-fn lawful_words_and_the_first_unlawful_place(rt: HostRuntime) -> Result<(), Fail> {
-    for text in ["", "su", "suUdDu", "sOx", "sus", "sux", "sxsu"] {
-        let letters = word(rt.alloc(), text)?;
-        assert!(rt;
-            Stage::Off.follow(letters.as_slice()).is_ok(),
-            "{text} is lawful"
-        );
+fn stages_lead_to_their_next() -> bool {
+    for (stage, row) in NEXT.iter() {
+        if !leads_to(*stage, row) {
+            return false;
+        }
     }
-    for (text, place) in [
-        ("u", 0),
-        ("sU", 1),
-        ("sudu", 3),
-        ("sxO", 2),
-        ("suu", 2),
-        ("sdD", 1),
-    ] {
-        let letters = word(rt.alloc(), text)?;
-        assert_eq!(rt;
-            Stage::Off.follow(letters.as_slice()),
-            Err(place),
-            "at {text}"
-        );
-    }
-    Ok(())
+    true
 }
 
-#[test]
-fn flags_after_words(rt: HostRuntime) -> Result<(), Fail> {
-    for (text, code) in [
-        ("", 0),
-        ("s", 6),
-        ("su", 5),
-        ("suU", 7),
-        ("sud", 4),
-        ("sudD", 6),
-        ("suOdD", 14),
-        ("suO", 13),
-        ("suOdDu", 5),
-        ("susx", 2),
-        ("O", 8),
-    ] {
-        assert_eq!(rt; code_of(rt.alloc(), text)?, code, "at {text}");
-    }
-    Ok(())
-}
-
-/// What `s6-supervise` 2.11.3.2 was seen to send, with the flags' code.
-#[test]
-fn words_of_a_real_supervisor(rt: HostRuntime) -> Result<(), Fail> {
-    for (text, code) in [
-        ("su", 5),
-        ("s", 6),
-        ("suU", 7),
-        ("sudD", 6),
-        ("sudDu", 5),
-        ("suUd", 4),
-        ("suUdDuU", 7),
-        ("suUdOD", 14),
-        ("suUdODuU", 7),
-        ("sx", 2),
-        ("suUx", 3),
-        ("suUsuU", 7),
-    ] {
-        let letters = word(rt.alloc(), text)?;
-        assert!(rt;
-            Stage::Off.follow(letters.as_slice()).is_ok(),
-            "{text} is lawful"
-        );
-        assert_eq!(rt; code_of(rt.alloc(), text)?, code, "at {text}");
-    }
-    Ok(())
-}
-
-#[test]
-fn codes_and_flags_are_one_to_one(rt: HostRuntime) -> Result<(), Fail> {
+fn codes_and_flags_are_one_to_one() -> bool {
     let started = Flags {
         up: true,
         settled: false,
         supervised: true,
         failed: false,
     };
-    assert_eq!(rt; started.code(), 5);
-    assert_eq!(rt; Flags::of_code(5), Some(started));
-    assert_eq!(rt; Flags::of_code(16), None);
+    started.code() == 5 && Flags::of_code(5) == Some(started) && Flags::of_code(16).is_none()
+}
+
+/// A word, the first place with an unlawful letter, and the code of the flags after the word.
+type Row = (&'static str, Option<u64>, u64);
+
+static WORDS: [Row; 22] = [
+    ("", None, 0),
+    ("s", None, 6),
+    ("su", None, 5),
+    ("suU", None, 7),
+    ("sud", None, 4),
+    ("sudD", None, 6),
+    ("suUdDu", None, 5),
+    ("suO", None, 13),
+    ("suOdD", None, 14),
+    ("suOdDu", None, 5),
+    ("sOx", None, 10),
+    ("sus", None, 6),
+    ("sux", None, 1),
+    ("susx", None, 2),
+    ("sxsu", None, 5),
+    ("O", Some(0), 8),
+    ("u", Some(0), 1),
+    ("sU", Some(1), 7),
+    ("sudu", Some(3), 5),
+    ("sxO", Some(2), 10),
+    ("suu", Some(2), 5),
+    ("sdD", Some(1), 6),
+];
+
+/// What `s6-supervise` 2.11.3.2 was seen to send.
+static SENT: [Row; 12] = [
+    ("su", None, 5),
+    ("s", None, 6),
+    ("suU", None, 7),
+    ("sudD", None, 6),
+    ("sudDu", None, 5),
+    ("suUd", None, 4),
+    ("suUdDuU", None, 7),
+    ("suUdOD", None, 14),
+    ("suUdODuU", None, 7),
+    ("sx", None, 2),
+    ("suUx", None, 3),
+    ("suUsuU", None, 7),
+];
+
+/// The first word that isn't as its row says.
+fn first_unlike(alloc: Global, rows: &[Row]) -> Result<Option<&'static str>, AllocError> {
+    for (text, place, code) in rows {
+        let letters = word(alloc, text)?;
+        let unlawful = Stage::Off.follow(letters.as_slice()).err();
+        let flags = Flags::none().after_all(letters.as_slice());
+        if unlawful != *place || flags.code() != *code {
+            return Ok(Some(*text));
+        }
+    }
+    Ok(None)
+}
+
+#[test]
+fn letters_stages_and_flags(rt: HostRuntime) {
+    assert!(rt;
+        letters_are_from_bang_to_tilde(),
+        "letters are the bytes from bang to tilde"
+    );
+    assert!(rt;
+        stages_lead_to_their_next(),
+        "the next stage by stage and letter"
+    );
+    assert!(rt; codes_and_flags_are_one_to_one(), "codes and flags");
+}
+
+#[test]
+fn lawful_words_and_their_flags(rt: HostRuntime) -> Result<(), Fail> {
+    none_is_unlike(&rt, first_unlike(rt.alloc(), &WORDS)?);
+    none_is_unlike(&rt, first_unlike(rt.alloc(), &SENT)?);
     Ok(())
 }

@@ -1,64 +1,49 @@
 //! Worked examples, whose values were found by hand.
-use hub_letters::{Letter, Stage};
+use crate::fixtures::{BLANK, are_events, blank, none_is_unlike, word};
+use hub_letters::Stage;
 use hub_record::{
-    Call, Closed, Event, Kind, Letters, Limits, NoId, PubError, Record, Said, SubError, Taken,
-    World, replay,
+    Call, Closed, Kind, Letters, Limits, NoId, PubError, Record, Said, SubError, Taken, World,
+    replay,
 };
 use std::alloc::{AllocError, Global};
-use std::process::Abort;
 use std::test::Fail;
 
-/// The letters of a text.
-fn word(alloc: Global, text: &str) -> Result<Vec<Letter>, AllocError> {
-    let mut letters = Vec::new(alloc);
-    for byte in text.as_bytes() {
-        if let Some(letter) = Letter::of(*byte) {
-            letters.push(letter)?;
+const MOST: u64 = 1_000_000_000_000;
+
+/// How many may be pending, how many events there may be in all, how many ids, and whether these are limits.
+static LIMITS: [(u64, u64, u64, bool); 8] = [
+    (1, 1, 1, true),
+    (4096, MOST, MOST, true),
+    (0, 1, 1, false),
+    (4097, 1, 1, false),
+    (1, 0, 1, false),
+    (1, MOST + 1, 1, false),
+    (1, 1, 0, false),
+    (1, 1, MOST + 1, false),
+];
+
+/// The number of rows before the first that isn't so; of all, if each is so.
+fn limits_within_their_ranges() -> usize {
+    let mut count: usize = 0;
+    for (waiting, total, ids, are_limits) in LIMITS.iter() {
+        if Limits::of(*waiting, *total, *ids).is_some() != *are_limits {
+            return count;
         }
+        count = count.wrapping_add(1);
     }
-    Ok(letters)
-}
-
-fn event(who: u64, byte: u8) -> Option<Event> {
-    let letter = Letter::of(byte)?;
-    Some(Event { who, letter })
-}
-
-fn filler() -> Event {
-    Event {
-        who: 0,
-        letter: Letter::least(),
-    }
-}
-
-#[test]
-fn limits_are_within_their_ranges(rt: HostRuntime) -> Result<(), Fail> {
-    let most = 1_000_000_000_000;
-    for (waiting, total, ids, stands) in [
-        (1, 1, 1, true),
-        (4096, most, most, true),
-        (0, 1, 1, false),
-        (4097, 1, 1, false),
-        (1, 0, 1, false),
-        (1, most + 1, 1, false),
-        (1, 1, 0, false),
-        (1, 1, most + 1, false),
-    ] {
-        assert_eq!(rt;
-            Limits::of(waiting, total, ids).is_some(),
-            stands,
-            "at {waiting}, {total}, {ids}"
-        );
-    }
-    Ok(())
+    count
 }
 
 /// A call and what it answers. A message and what a take puts into three places are spelled by letters.
 #[derive(Clone, Copy)]
 enum Step {
     Subscribe(Result<(u64, u64), SubError>),
+    /// Subscriptions that get the ids from 1 to the number, each at event 0.
+    SubscribeUpTo(u64),
     Publish(u64, &'static str, Result<u64, PubError>),
     Take(u64, Result<Taken, NoId>, [(u64, u8); 3]),
+    /// So many times a message of one letter, and a take of it by subscription 1.
+    Pass(u64),
     Cancel(u64, Result<(), NoId>),
     Close(Result<(), Closed>),
     /// The end, the base, and how many events wait for subscription 1.
@@ -66,9 +51,6 @@ enum Step {
     /// The stage, the flags' code, and whether it is closed.
     Shows(Stage, u64, bool),
 }
-
-/// What a place has that no take wrote to.
-const BLANK: (u64, u8) = (0, b'!');
 
 /// A record of this kind, with these limits, answers these calls so.
 struct Row {
@@ -78,7 +60,7 @@ struct Row {
     steps: &'static [Step],
 }
 
-static ROWS: [Row; 5] = [
+static ROWS: [Row; 7] = [
     Row {
         name: "ids are never given again",
         kind: Kind::Plain,
@@ -152,29 +134,67 @@ static ROWS: [Row; 5] = [
             Step::Shows(Stage::Idle, 6, false),
         ],
     },
+    Row {
+        name: "a thousand and twenty-four subscriptions at once",
+        kind: Kind::Plain,
+        limits: (2, 100, 2000),
+        steps: &[
+            Step::SubscribeUpTo(1024),
+            Step::Subscribe(Err(SubError::Many)),
+            Step::Cancel(512, Ok(())),
+            Step::Subscribe(Ok((1025, 0))),
+            Step::Subscribe(Err(SubError::Many)),
+        ],
+    },
+    Row {
+        name: "a million letters pass a ring of two",
+        kind: Kind::Plain,
+        limits: (2, 1_000_000, 10),
+        steps: &[
+            Step::Subscribe(Ok((1, 0))),
+            Step::Pass(1_000_000),
+            Step::Counts(1_000_000, 1_000_000, Some(0)),
+            Step::Publish(1, "a", Err(PubError::Spent)),
+            Step::Publish(1, "", Ok(1_000_000)),
+        ],
+    },
 ];
 
-fn are_events(out: &[Event; 3], wanted: &[(u64, u8); 3]) -> bool {
-    out.iter().zip(wanted.iter()).all(|(event, (who, byte))| event.who == *who
-        && event.letter.byte() == *byte)
+fn takes(record: &mut Record, id: u64, answer: Result<Taken, NoId>, wanted: &[(u64, u8)]) -> bool {
+    let mut out = [blank(); 3];
+    record.take_into(id, &mut out) == answer && are_events(&out, wanted)
 }
 
-fn takes(
-    record: &mut Record,
-    id: u64,
-    answer: Result<Taken, NoId>,
-    wanted: [(u64, u8); 3],
-) -> bool {
-    let mut out = [filler(); 3];
-    record.take_into(id, &mut out) == answer && are_events(&out, &wanted)
+fn subscribes_up_to(record: &mut Record, last: u64) -> bool {
+    for before in 0..last {
+        if record.subscribe() != Ok((before + 1, 0)) {
+            return false;
+        }
+    }
+    true
+}
+
+fn passes(alloc: Global, record: &mut Record, times: u64) -> Result<bool, AllocError> {
+    let a = word(alloc, "a")?;
+    let mut out = [blank(); 1];
+    for number in 0..times {
+        if record.publish(1, &a) != Ok(number)
+            || record.take_into(1, &mut out) != Ok(Taken::Got(1))
+        {
+            return Ok(false);
+        }
+    }
+    Ok(true)
 }
 
 /// Whether the record answers so.
 fn answers(alloc: Global, record: &mut Record, step: Step) -> Result<bool, AllocError> {
     Ok(match step {
         Step::Subscribe(answer) => record.subscribe() == answer,
+        Step::SubscribeUpTo(last) => subscribes_up_to(record, last),
         Step::Publish(who, text, answer) => record.publish(who, &word(alloc, text)?) == answer,
-        Step::Take(id, answer, events) => takes(record, id, answer, events),
+        Step::Take(id, answer, events) => takes(record, id, answer, &events),
+        Step::Pass(times) => passes(alloc, record, times)?,
         Step::Cancel(id, answer) => record.cancel(id) == answer,
         Step::Close(answer) => record.close() == answer,
         Step::Counts(end, base, waiting) => {
@@ -186,119 +206,147 @@ fn answers(alloc: Global, record: &mut Record, step: Step) -> Result<bool, Alloc
     })
 }
 
-/// The place of the first step that goes otherwise.
-fn first_unlike(alloc: Global, row: &Row) -> Result<Option<usize>, Fail> {
+fn answers_all(alloc: Global, record: &mut Record, steps: &[Step]) -> Result<bool, AllocError> {
+    for step in steps {
+        if !answers(alloc, record, *step)? {
+            return Ok(false);
+        }
+    }
+    Ok(true)
+}
+
+fn goes_so(alloc: Global, row: &Row) -> Result<bool, AllocError> {
     let (waiting, total, ids) = row.limits;
-    let limits = Limits::of(waiting, total, ids).ok_or("no limits")?;
+    let Some(limits) = Limits::of(waiting, total, ids) else {
+        return Ok(false);
+    };
     let mut record = Record::new(alloc, row.kind, limits)?;
-    for (place, step) in row.steps.iter().enumerate() {
-        if !answers(alloc, &mut record, *step)? {
-            return Ok(Some(place));
+    answers_all(alloc, &mut record, row.steps)
+}
+
+/// The name of the first row that goes otherwise.
+fn first_unlike(alloc: Global) -> Result<Option<&'static str>, AllocError> {
+    for row in ROWS.iter() {
+        if !goes_so(alloc, row)? {
+            return Ok(Some(row.name));
         }
     }
     Ok(None)
 }
 
 #[test]
-fn rows(rt: HostRuntime) -> Result<(), Fail> {
-    for row in ROWS.iter() {
-        assert_eq!(rt; first_unlike(rt.alloc(), row)?, None, "at {}", row.name);
-    }
+fn records_by_rows(rt: HostRuntime) -> Result<(), Fail> {
+    assert_eq!(rt; limits_within_their_ranges(), 8);
+    none_is_unlike(&rt, first_unlike(rt.alloc())?);
     Ok(())
 }
 
-#[test]
-fn a_thousand_and_twenty_four_subscriptions_stand(rt: HostRuntime) -> Result<(), Fail> {
-    let limits = Limits::of(2, 100, 2000).ok_or("no limits")?;
-    let mut record = Record::new(rt.alloc(), Kind::Plain, limits)?;
-    for id in 1..1025 {
-        assert_eq!(rt; record.subscribe(), Ok((id, 0)));
-    }
-    assert_eq!(rt; record.subscribe(), Err(SubError::Many));
-    assert_eq!(rt; record.cancel(512), Ok(()));
-    assert_eq!(rt; record.subscribe(), Ok((1025, 0)));
-    assert_eq!(rt; record.subscribe(), Err(SubError::Many));
-    Ok(())
+/// A call of `replay`. A message is spelled by letters.
+#[derive(Clone, Copy)]
+enum Plan {
+    Subscribe,
+    Publish(u64, &'static str),
+    Take(u64, usize),
+    Cancel(u64),
+    Close,
 }
 
-#[test]
-fn a_million_letters_pass_a_ring_of_two(rt: HostRuntime) -> Result<(), Fail> {
-    let limits = Limits::of(2, 1_000_000, 10).ok_or("no limits")?;
-    let mut record = Record::new(rt.alloc(), Kind::Plain, limits)?;
-    let a = word(rt.alloc(), "a")?;
-    let mut out = [filler(); 1];
-    let mut last = Err(PubError::Full);
-    assert_eq!(rt; record.subscribe(), Ok((1, 0)));
-    for number in 0..1_000_000 {
-        last = record.publish(1, &a);
-        if record.take_into(1, &mut out) != Ok(Taken::Got(1)) {
-            assert_eq!(rt; number, 1_000_000, "not taken");
-        }
-    }
-    assert_eq!(rt; last, Ok(999_999));
-    assert_eq!(rt;
-        (record.end(), record.base(), record.waiting(1)),
-        (1_000_000, 1_000_000, Some(0))
-    );
-    assert_eq!(rt; record.publish(1, &a), Err(PubError::Spent));
-    assert_eq!(rt; record.publish(1, &[]), Ok(1_000_000));
-    Ok(())
+/// Calls, and the reply to each.
+static CALLS: [(Plan, Said); 8] = [
+    (Plan::Subscribe, Said::Subscribed(Ok((1, 0)))),
+    (Plan::Publish(7, "ab"), Said::Published(Ok(0))),
+    (Plan::Publish(9, "c"), Said::Published(Ok(2))),
+    (Plan::Take(1, 2), Said::Took(Ok(Taken::Got(2)))),
+    (Plan::Take(1, 0), Said::Took(Ok(Taken::Got(0)))),
+    (Plan::Cancel(1), Said::Cancelled(Ok(()))),
+    (Plan::Take(1, 1), Said::Took(Err(NoId))),
+    (Plan::Close, Said::Shut(Ok(()))),
+];
+
+fn call_of(alloc: Global, plan: Plan) -> Result<Call, AllocError> {
+    Ok(match plan {
+        Plan::Subscribe => Call::Subscribe,
+        Plan::Publish(who, text) => Call::Publish {
+            who,
+            letters: Letters::of(word(alloc, text)?),
+        },
+        Plan::Take(id, max) => Call::Take { id, max },
+        Plan::Cancel(id) => Call::Cancel { id },
+        Plan::Close => Call::Close,
+    })
 }
 
 fn some_calls(alloc: Global) -> Result<Vec<Call>, AllocError> {
     let mut calls = Vec::new(alloc);
-    calls.push(Call::Subscribe)?;
-    calls.push(Call::Publish {
-        who: 7,
-        letters: Letters::of(word(alloc, "ab")?),
-    })?;
-    calls.push(Call::Publish {
-        who: 9,
-        letters: Letters::of(word(alloc, "c")?),
-    })?;
-    for (id, max) in [(1, 2), (1, 0)] {
-        calls.push(Call::Take { id, max })?;
+    for (plan, _) in CALLS.iter() {
+        calls.push(call_of(alloc, *plan)?)?;
     }
-    calls.push(Call::Cancel { id: 1 })?;
-    calls.push(Call::Take { id: 1, max: 1 })?;
-    calls.push(Call::Close)?;
     Ok(calls)
 }
 
-/// The replies and the state after `some_calls`.
-fn check_run(rt: &impl Abort, world: &World) -> Result<(), Fail> {
-    let replies = [
-        Said::Subscribed(Ok((1, 0))),
-        Said::Published(Ok(0)),
-        Said::Published(Ok(2)),
-        Said::Took(Ok(Taken::Got(2))),
-        Said::Took(Ok(Taken::Got(0))),
-        Said::Cancelled(Ok(())),
-        Said::Took(Err(NoId)),
-        Said::Shut(Ok(())),
-    ];
-    assert_eq!(rt; world.replies.len(), replies.len());
-    for (said, wanted) in world.replies.iter().zip(replies.iter()) {
-        assert_eq!(rt; *said, *wanted);
+fn are_the_replies(replies: &[Said]) -> bool {
+    for (said, (_, wanted)) in replies.iter().zip(CALLS.iter()) {
+        if *said != *wanted {
+            return false;
+        }
     }
-    let gathered = world.gathered.get(&1).ok_or("nothing gathered")?;
-    assert_eq!(rt; (world.gathered.len(), gathered.len()), (1, 2));
-    for (taken, wanted) in gathered.iter().zip([event(7, b'a'), event(7, b'b')].iter()) {
-        assert_eq!(rt; Some(*taken), *wanted);
-    }
-    assert_eq!(rt;
-        (world.state.end(), world.state.base(), world.state.closed()),
-        (3, 3, true)
-    );
-    Ok(())
+    replies.len() == CALLS.len()
+}
+
+/// Whether these are the replies and the state after `some_calls`.
+fn is_after_some_calls(world: &World) -> bool {
+    let has_gathered = match world.gathered.get(&1) {
+        Some(events) => are_events(events.as_slice(), &[(7, b'a'), (7, b'b')]),
+        None => false,
+    };
+    let state = &world.state;
+    has_gathered
+        && world.gathered.len() == 1
+        && (state.end(), state.base(), state.closed()) == (3, 3, true)
+        && are_the_replies(world.replies.as_slice())
+}
+
+fn replays_so(alloc: Global, limits: Limits) -> Result<bool, AllocError> {
+    let calls = some_calls(alloc)?;
+    let world = replay(alloc, Kind::Plain, limits, &calls)?;
+    Ok(is_after_some_calls(&world))
 }
 
 #[test]
 fn replay_gives_the_replies_and_what_was_gathered(rt: HostRuntime) -> Result<(), Fail> {
     let limits = Limits::of(4, 10, 10).ok_or("no limits")?;
-    let calls = some_calls(rt.alloc())?;
-    let world = replay(rt.alloc(), Kind::Plain, limits, &calls)?;
-    check_run(&rt, &world)
+    assert!(rt; replays_so(rt.alloc(), limits)?);
+    Ok(())
+}
+
+/// Whether a subscription gets the id. If its growth is refused, nothing has changed, and it is made again.
+fn subscribes_at_last(record: &mut Record, id: u64) -> bool {
+    let mut given = record.subscribe();
+    if given == Err(SubError::Memory) {
+        if (record.end(), record.base(), record.waiting(id)) != (0, 0, None) {
+            return false;
+        }
+        given = record.subscribe();
+    }
+    given == Ok((id, 0)) && record.waiting(id) == Some(0)
+}
+
+fn a_hundred_subscribe(record: &mut Record) -> bool {
+    for id in 1..101 {
+        if !subscribes_at_last(record, id) {
+            return false;
+        }
+    }
+    true
+}
+
+fn a_new_record_has_a_hundred(alloc: Global, limits: Limits) -> Result<bool, AllocError> {
+    let mut record = Record::new(alloc, Kind::Plain, limits).or_else(|_| Record::new(
+        alloc,
+        Kind::Plain,
+        limits,
+    ))?;
+    Ok(a_hundred_subscribe(&mut record))
 }
 
 /// With one growth refused, whichever it is, the call that met it changes nothing, and the same call made again goes
@@ -306,31 +354,11 @@ fn replay_gives_the_replies_and_what_was_gathered(rt: HostRuntime) -> Result<(),
 #[test]
 fn a_refused_growth_changes_nothing(rt: HostRuntime) -> Result<(), Fail> {
     let limits = Limits::of(4, 10, 1000).ok_or("no limits")?;
-    let mut record = match Record::new(rt.alloc(), Kind::Plain, limits) {
-        Ok(record) => record,
-        Err(_) => Record::new(rt.alloc(), Kind::Plain, limits)?,
-    };
-    for id in 1..101 {
-        let given = match record.subscribe() {
-            Err(SubError::Memory) => {
-                assert_eq!(rt;
-                    (record.end(), record.base(), record.waiting(id)),
-                    (0, 0, None)
-                );
-                record.subscribe()
-            }
-            given => given,
-        };
-        assert_eq!(rt; given, Ok((id, 0)));
-        assert_eq!(rt; record.waiting(id), Some(0));
-    }
-    let calls = match some_calls(rt.alloc()) {
-        Ok(calls) => calls,
-        Err(_) => some_calls(rt.alloc())?,
-    };
-    let world = match replay(rt.alloc(), Kind::Plain, limits, &calls) {
-        Ok(world) => world,
-        Err(_) => replay(rt.alloc(), Kind::Plain, limits, &calls)?,
-    };
-    check_run(&rt, &world)
+    assert!(rt;
+        a_new_record_has_a_hundred(rt.alloc(), limits)?,
+        "each of a hundred subscribes"
+    );
+    let is_so = replays_so(rt.alloc(), limits).or_else(|_| replays_so(rt.alloc(), limits))?;
+    assert!(rt; is_so, "replay gives the replies and what was gathered");
+    Ok(())
 }

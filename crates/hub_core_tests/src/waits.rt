@@ -1,66 +1,27 @@
-ghost use Rattle.std.specs.Prelude.{◌≡◌, IfOk};
-ghost use Rattle.std.specs.Arc.{arc_value};
-ghost use Rattle.hub_fifodir.specs.Passes.{IsPublisherOf};
-
-use hub_fifodir::{Fifodir, PassError, Publisher};
+use crate::fixtures::{none_is_unlike, word};
+use crate::passes::{Sender, Shared, joined, open};
 use hub_letters::{Letter, Want};
-use hub_record::{Kind, Limits, PubError};
+use hub_record::{Kind, PubError};
 use hub_wait::{Backoff, Go, Pause, Post, Span, Verdict, svlisten, svwait};
-use std::alloc::{AllocError, Global};
+use std::alloc::Global;
 use std::process::Abort;
-use std::sync::{Arc, Wait};
+use std::rt::Clock;
+use std::sync::Wait;
 use std::test::Fail;
 
-/// The letters of a text.
-fn word(alloc: Global, text: &str) -> Result<Vec<Letter>, AllocError> {
-    let mut letters = Vec::new(alloc);
-    for byte in text.as_bytes() {
-        if let Some(letter) = Letter::of(*byte) {
-            letters.push(letter)?;
-        }
-    }
-    Ok(letters)
-}
-
-/// A publisher beside the fifodir that made it.
-struct Supervisor {
-    fifodir: Arc<Fifodir, Global>,
-    me: Publisher,
-    ghost of: { IsPublisherOf (arc_value fifodir) me },
-}
-
-impl Supervisor {
-    fn of<R: Wait>(rt: &R, fifodir: Arc<Fifodir, Global>) -> Result<Supervisor, PassError> {
-        let me = fifodir.publisher(rt)?;
-        Ok(Supervisor { fifodir, me })
-    }
-
-    fn send<R: Wait>(&mut self, rt: &R, letters: &[Letter]) -> Result<u64, PubError> {
-        self.fifodir.publish(rt, &mut self.me, letters)
-    }
-
-    fn close<R: Wait>(&mut self, rt: &R) {
-        let _ = self.fifodir.close(rt, &mut self.me);
-    }
-
-    fn leave<R: Wait>(self, rt: &R) {
-        let Supervisor { fifodir, me } = self;
-        fifodir.leave(rt, me);
-    }
-}
-
 /// What a pause does at one of its calls.
-#[derive(Drop)]
+#[derive(Clone, Copy)]
 enum Deed {
-    Send(Vec<Letter>),
+    Send(&'static str),
     Close,
     Expire,
 }
 
 /// A pause that counts its calls, and does its deed at one of them.
 struct Doing {
-    supervisor: Supervisor,
+    supervisor: Sender,
     deed: Deed,
+    letters: Vec<Letter>,
     at_call: u64,
     calls: u64,
 }
@@ -71,13 +32,13 @@ impl Pause for Doing {
         if self.calls != self.at_call {
             return Go::Again;
         }
-        match &self.deed {
-            Deed::Send(letters) => {
-                let _ = self.supervisor.send(rt, letters);
+        match self.deed {
+            Deed::Send(_) => {
+                let _ = self.supervisor.send(rt, &self.letters);
                 Go::Again
             }
             Deed::Close => {
-                self.supervisor.close(rt);
+                let _ = self.supervisor.close(rt);
                 Go::Again
             }
             Deed::Expire => Go::Expired,
@@ -85,136 +46,196 @@ impl Pause for Doing {
     }
 }
 
+impl Doing {
+    /// How many calls it counted. Its supervisor leaves.
+    fn end<R: Wait>(self, rt: &R) -> u64 {
+        let Doing {
+            supervisor,
+            deed: _,
+            letters: _,
+            at_call: _,
+            calls,
+        } = self;
+        supervisor.leave(rt);
+        calls
+    }
+}
+
+/// A wait for readiness of one service with a deed at a call of the pause, for so many turns; then the verdict, the
+/// number of the watch, and how many turns were made.
+struct Row {
+    name: &'static str,
+    deed: Deed,
+    at_call: u64,
+    turns: u64,
+    answer: (Verdict, u64, u64),
+}
+
+static ROWS: [Row; 6] = [
+    Row {
+        name: "ready in the second of five turns",
+        deed: Deed::Send("uU"),
+        at_call: 2,
+        turns: 5,
+        answer: (Verdict::Yes, 3, 2),
+    },
+    Row {
+        name: "ready in the last turn",
+        deed: Deed::Send("uU"),
+        at_call: 2,
+        turns: 2,
+        answer: (Verdict::Yes, 3, 2),
+    },
+    Row {
+        name: "ready after the last turn",
+        deed: Deed::Send("uU"),
+        at_call: 2,
+        turns: 1,
+        answer: (Verdict::Late, 1, 1),
+    },
+    Row {
+        name: "no turns",
+        deed: Deed::Send("uU"),
+        at_call: 1,
+        turns: 0,
+        answer: (Verdict::Late, 1, 0),
+    },
+    Row {
+        name: "closed in the first turn",
+        deed: Deed::Close,
+        at_call: 1,
+        turns: 3,
+        answer: (Verdict::Never, 1, 1),
+    },
+    Row {
+        name: "its patience ends in the first turn",
+        deed: Deed::Expire,
+        at_call: 1,
+        turns: 3,
+        answer: (Verdict::Late, 1, 1),
+    },
+];
+
 /// A service's fifodir whose supervisor has started.
-fn started<R: Abort + Wait>(
-    rt: &R,
-    alloc: Global,
-) -> Result<(Arc<Fifodir, Global>, Supervisor), Fail> {
+fn started<R: Abort + Wait>(rt: &R, alloc: Global) -> Result<(Shared, Sender), Fail> {
     let letters = word(alloc, "s")?;
-    let limits = Limits::of(64, 1000, 10).ok_or("no limits")?;
-    let fifodir = Arc::new(alloc, Fifodir::new(alloc, Kind::Service, limits)?)?;
-    let mut supervisor = Supervisor::of(rt, Arc::try_clone(&fifodir)?)?;
+    let fifodir = open(alloc, Kind::Service, (64, 1000, 10))?;
+    let mut supervisor = joined(rt, &fifodir);
     supervisor.send(rt, &letters).expect(rt, "its first letter");
     Ok((fifodir, supervisor))
 }
 
-/// The verdict of a wait for readiness of one service with a deed at a call of the pause, the number of the watch, and
-/// how many turns were made.
-fn waited<R: Abort + Wait>(
-    rt: &R,
-    alloc: Global,
-    deed: Deed,
-    at_call: u64,
-    turns: u64,
-) -> Result<(Verdict, u64, u64), Fail> {
+/// A post at a fifodir that has room for one more ticket.
+fn opened<R: Abort + Wait>(rt: &R, fifodir: Shared, want: Want, notifies: bool) -> Post {
+    Post::open(rt, fifodir, want, notifies).expect(rt, "a post")
+}
+
+fn letters_of(alloc: Global, deed: Deed) -> Result<Vec<Letter>, Fail> {
+    let text = match deed {
+        Deed::Send(text) => text,
+        Deed::Close | Deed::Expire => "",
+    };
+    Ok(word(alloc, text)?)
+}
+
+fn waits_so<R: Abort + Wait>(rt: &R, alloc: Global, row: &Row) -> Result<bool, Fail> {
+    let letters = letters_of(alloc, row.deed)?;
     let (fifodir, supervisor) = started(rt, alloc)?;
-    let mut posts = [Post::open(rt, fifodir, Want::Ready, true).expect(rt, "a post")];
     let mut pause = Doing {
         supervisor,
-        deed,
-        at_call,
+        deed: row.deed,
+        letters,
+        at_call: row.at_call,
         calls: 0,
     };
-    let verdict = svwait(rt, &mut posts, Span::All, turns, &mut pause);
+    let mut posts = [opened(rt, fifodir, Want::Ready, true)];
+    let verdict = svwait(rt, &mut posts, Span::All, row.turns, &mut pause);
     let at = posts[0].watch().at();
     let [post] = posts;
     post.end(rt);
-    let Doing {
-        supervisor,
-        deed: _,
-        at_call: _,
-        calls,
-    } = pause;
-    supervisor.leave(rt);
-    Ok((verdict, at, calls))
+    Ok((verdict, at, pause.end(rt)) == row.answer)
+}
+
+/// The name of the first row that goes otherwise.
+fn first_unlike<R: Abort + Wait>(rt: &R, alloc: Global) -> Result<Option<&'static str>, Fail> {
+    for row in ROWS.iter() {
+        if !waits_so(rt, alloc, row)? {
+            return Ok(Some(row.name));
+        }
+    }
+    Ok(None)
 }
 
 #[test]
 fn a_wait_goes_on_for_so_many_turns(rt: HostRuntime) -> Result<(), Fail> {
-    let ready = word(rt.alloc(), "uU")?;
-    assert_eq!(rt;
-        waited(&rt, rt.alloc(), Deed::Send(ready.clone()?), 2, 5)?,
-        (Verdict::Yes, 3, 2)
-    );
-    assert_eq!(rt;
-        waited(&rt, rt.alloc(), Deed::Send(ready.clone()?), 2, 2)?,
-        (Verdict::Yes, 3, 2)
-    );
-    assert_eq!(rt;
-        waited(&rt, rt.alloc(), Deed::Send(ready.clone()?), 2, 1)?,
-        (Verdict::Late, 1, 1)
-    );
-    assert_eq!(rt;
-        waited(&rt, rt.alloc(), Deed::Send(ready), 1, 0)?,
-        (Verdict::Late, 1, 0)
-    );
-    assert_eq!(rt;
-        waited(&rt, rt.alloc(), Deed::Close, 1, 3)?,
-        (Verdict::Never, 1, 1)
-    );
-    assert_eq!(rt;
-        waited(&rt, rt.alloc(), Deed::Expire, 1, 3)?,
-        (Verdict::Late, 1, 1)
-    );
+    none_is_unlike(&rt, first_unlike(&rt, rt.alloc())?);
     Ok(())
 }
 
-#[test]
-fn a_wait_for_no_service(rt: HostRuntime) -> Result<(), Fail> {
-    let mut pause = Backoff::new(rt);
-    assert_eq!(rt;
-        svwait(&rt, &mut [], Span::All, 3, &mut pause),
-        Verdict::Yes
-    );
-    assert_eq!(rt;
-        svwait(&rt, &mut [], Span::Any, 3, &mut pause),
-        Verdict::Never
-    );
-    assert_eq!(rt; pause.turns, 0);
-    Ok(())
+fn waits_for_no_service<R: Wait + Clock>(rt: &R, pause: &mut Backoff<R>) -> bool {
+    svwait(rt, &mut [], Span::All, 3, pause) == Verdict::Yes
+        && svwait(rt, &mut [], Span::Any, 3, pause) == Verdict::Never
+        && pause.turns == 0
 }
 
-#[test]
-fn what_an_act_leads_to_is_not_missed(rt: HostRuntime) -> Result<(), Fail> {
-    for (turns, verdict, at) in [(1, Verdict::Yes, 2), (0, Verdict::Late, 1)] {
-        let up = word(rt.alloc(), "u")?;
-        let (fifodir, mut supervisor) = started(&rt, rt.alloc())?;
-        let mut posts = [Post::open(&rt, fifodir, Want::Up, true).expect(&rt, "a post")];
-        let mut pause = Backoff::new(rt);
-        let (acted, answer) = svlisten(&rt, &mut posts, Span::All, turns, &mut pause, |_posts| {
-            supervisor.send(&rt, &up)
-        });
-        assert_eq!(rt; acted, Ok(1));
-        assert_eq!(rt; answer, verdict);
-        assert_eq!(rt; posts[0].watch().at(), at);
-        assert_eq!(rt; posts[0].mark(), 1);
-        let [post] = posts;
-        post.end(&rt);
-        supervisor.leave(&rt);
-    }
-    Ok(())
-}
-
-#[test]
-fn a_long_wait_and_room_after_it(rt: HostRuntime) -> Result<(), Fail> {
-    let limits = Limits::of(2, 100, 10).ok_or("no limits")?;
-    let fifodir = Arc::new(rt.alloc(), Fifodir::new(rt.alloc(), Kind::Plain, limits)?)?;
-    let two = word(rt.alloc(), "ab")?;
-    let mut supervisor = Supervisor::of(&rt, Arc::try_clone(&fifodir)?)?;
-    let mut posts = [Post::open(&rt, fifodir, Want::Up, false).expect(&rt, "a post")];
-    assert_eq!(rt; supervisor.send(&rt, &two), Ok(0));
-    assert_eq!(rt; supervisor.send(&rt, &two), Err(PubError::Full));
-    let mut pause = Backoff::new(rt);
-    assert_eq!(rt;
-        svwait(&rt, &mut posts, Span::Any, 40, &mut pause),
-        Verdict::Late
-    );
-    assert_eq!(rt; pause.turns, 32);
-    assert_eq!(rt; supervisor.send(&rt, &two), Ok(2));
-    assert_eq!(rt; supervisor.send(&rt, &two), Err(PubError::Full));
+/// Whether a wait for so many turns, beside a supervisor that starts the service, ends with the verdict and at the number.
+fn act_is_heard<R: Abort + Wait + Clock + Copy>(
+    rt: &R,
+    alloc: Global,
+    turns: u64,
+    wanted: (Verdict, u64),
+) -> Result<bool, Fail> {
+    let up = word(alloc, "u")?;
+    let (fifodir, mut supervisor) = started(rt, alloc)?;
+    let mut posts = [opened(rt, fifodir, Want::Up, true)];
+    let mut pause = Backoff::new(*rt);
+    let (acted, verdict) = svlisten(rt, &mut posts, Span::All, turns, &mut pause, |_posts| {
+        supervisor.send(rt, &up)
+    });
     let [post] = posts;
-    post.end(&rt);
-    assert_eq!(rt; supervisor.send(&rt, &two), Ok(4));
-    supervisor.leave(&rt);
+    let is_so = acted == Ok(1) && (verdict, post.watch().at()) == wanted && post.mark() == 1;
+    post.end(rt);
+    supervisor.leave(rt);
+    Ok(is_so)
+}
+
+/// Whether two messages of two letters are sent at the number and refused.
+fn sends_one_of_two<R: Wait>(rt: &R, supervisor: &mut Sender, two: &[Letter], number: u64) -> bool {
+    supervisor.send(rt, two) == Ok(number) && supervisor.send(rt, two) == Err(PubError::Full)
+}
+
+fn room_comes_with_a_wait<R: Abort + Wait + Clock + Copy>(
+    rt: &R,
+    alloc: Global,
+) -> Result<bool, Fail> {
+    let two = word(alloc, "ab")?;
+    let fifodir = open(alloc, Kind::Plain, (2, 100, 10))?;
+    let mut supervisor = joined(rt, &fifodir);
+    let mut posts = [opened(rt, fifodir, Want::Up, false)];
+    let mut pause = Backoff::new(*rt);
+    let was_full = sends_one_of_two(rt, &mut supervisor, &two, 0);
+    let verdict = svwait(rt, &mut posts, Span::Any, 40, &mut pause);
+    let is_full = sends_one_of_two(rt, &mut supervisor, &two, 2);
+    let [post] = posts;
+    post.end(rt);
+    let is_sent = supervisor.send(rt, &two) == Ok(4);
+    supervisor.leave(rt);
+    Ok(was_full && verdict == Verdict::Late && pause.turns == 32 && is_full && is_sent)
+}
+
+#[test]
+fn waits_with_a_backoff(rt: HostRuntime) -> Result<(), Fail> {
+    assert!(rt;
+        waits_for_no_service(&rt, &mut Backoff::new(rt)),
+        "a wait for no service"
+    );
+    let heard = act_is_heard(&rt, rt.alloc(), 1, (Verdict::Yes, 2))?;
+    assert!(rt; heard, "what an act leads to is not missed");
+    let late = act_is_heard(&rt, rt.alloc(), 0, (Verdict::Late, 1))?;
+    assert!(rt; late, "what an act leads to, without turns");
+    assert!(rt;
+        room_comes_with_a_wait(&rt, rt.alloc())?,
+        "a long wait, and room after it"
+    );
     Ok(())
 }

@@ -1,19 +1,9 @@
-use hub_letters::{Flags, Letter, Want};
+use crate::fixtures::{none_is_unlike, word};
+use hub_letters::{Flags, Want};
 use hub_record::Status;
 use hub_wait::{Span, Tally, Verdict, Watch};
 use std::alloc::{AllocError, Global};
 use std::test::Fail;
-
-/// The letters of a text.
-fn word(alloc: Global, text: &str) -> Result<Vec<Letter>, AllocError> {
-    let mut letters = Vec::new(alloc);
-    for byte in text.as_bytes() {
-        if let Some(letter) = Letter::of(*byte) {
-            letters.push(letter)?;
-        }
-    }
-    Ok(letters)
-}
 
 /// A watch that begins at an open status.
 fn watch_at(want: Want, number: u64, code: u64) -> Option<Watch> {
@@ -35,60 +25,151 @@ fn give(alloc: Global, watch: &mut Watch, first: u64, text: &str) -> Result<(), 
     Ok(())
 }
 
-#[test]
-fn letters_that_the_status_tells_are_passed_over(rt: HostRuntime) -> Result<(), Fail> {
-    let mut starting = watch_at(Want::Ready, 2, 5).ok_or("no watch")?;
-    assert!(rt; !starting.met());
-    give(rt.alloc(), &mut starting, 0, "suU")?;
-    assert_eq!(rt; starting.at(), 3);
-    assert_eq!(rt; starting.flags().code(), 7);
-    assert!(rt; starting.met());
+/// The first letter's number and the letters, and then the watch's number and the code of its flags.
+type Piece = (u64, &'static str, u64, u64);
 
-    // the subscription's mark is 2, and the letter that came after it was read by the status
-    let mut died = watch_at(Want::Up, 3, 4).ok_or("no watch")?;
-    give(rt.alloc(), &mut died, 2, "d")?;
-    assert_eq!(rt; died.at(), 3);
-    assert_eq!(rt; died.flags().code(), 4);
-    assert!(rt; !died.met());
-    assert!(rt; !died.hopeless());
-    Ok(())
+/// A watch begins at a number and the flags of a code, and hears pieces; then what is wanted is met or not. It is never
+/// hopeless.
+struct Heard {
+    name: &'static str,
+    want: Want,
+    begins: (u64, u64),
+    pieces: &'static [Piece],
+    met: bool,
 }
 
-/// What `s6-supervise` was seen to send, cut into pieces that overlap, with the flags' codes that belong to its fronts.
-#[test]
-fn a_history_in_pieces(rt: HostRuntime) -> Result<(), Fail> {
-    let mut watch = watch_at(Want::Finished, 0, 0).ok_or("no watch")?;
-    for (first, piece, at, code) in [
-        (0, "s", 1, 6),
-        (0, "su", 2, 5),
-        (2, "", 2, 5),
-        (1, "uUd", 4, 4),
-        (2, "U", 4, 4),
-        (3, "dODuU", 8, 7),
-    ] {
-        give(rt.alloc(), &mut watch, first, piece)?;
-        assert_eq!(rt; watch.at(), at, "after {piece}");
-        assert_eq!(rt; watch.flags().code(), code, "after {piece}");
+static HEARD: [Heard; 4] = [
+    Heard {
+        name: "nothing was heard since the status",
+        want: Want::Ready,
+        begins: (2, 5),
+        pieces: &[],
+        met: false,
+    },
+    Heard {
+        name: "letters that the status tells are passed over",
+        want: Want::Ready,
+        begins: (2, 5),
+        pieces: &[(0, "suU", 3, 7)],
+        met: true,
+    },
+    Heard {
+        name: "the mark is 2, and the letter after it was read by the status",
+        want: Want::Up,
+        begins: (3, 4),
+        pieces: &[(2, "d", 3, 4)],
+        met: false,
+    },
+    Heard {
+        name: "what s6-supervise was seen to send, in pieces that overlap",
+        want: Want::Finished,
+        begins: (0, 0),
+        pieces: &[
+            (0, "s", 1, 6),
+            (0, "su", 2, 5),
+            (2, "", 2, 5),
+            (1, "uUd", 4, 4),
+            (2, "U", 4, 4),
+            (3, "dODuU", 8, 7),
+        ],
+        met: false,
+    },
+];
+
+fn hears(alloc: Global, watch: &mut Watch, pieces: &[Piece]) -> Result<bool, AllocError> {
+    for (first, text, at, code) in pieces {
+        give(alloc, watch, *first, text)?;
+        if watch.at() != *at || watch.flags().code() != *code {
+            return Ok(false);
+        }
     }
-    assert!(rt; !watch.ended());
-    watch.end();
-    assert!(rt; watch.ended());
-    assert_eq!(rt; watch.at(), 8);
-    Ok(())
+    Ok(true)
 }
 
-#[test]
-fn a_closed_status_makes_an_ended_watch(rt: HostRuntime) -> Result<(), Fail> {
+/// The name of the first row that isn't so.
+fn first_unlike(alloc: Global) -> Result<Option<&'static str>, AllocError> {
+    for row in HEARD.iter() {
+        let (number, code) = row.begins;
+        let Some(mut watch) = watch_at(row.want, number, code) else {
+            return Ok(Some(row.name));
+        };
+        let hears = hears(alloc, &mut watch, row.pieces)?;
+        if !hears || watch.met() != row.met || watch.hopeless() || !ends(watch) {
+            return Ok(Some(row.name));
+        }
+    }
+    Ok(None)
+}
+
+/// Whether the watch isn't ended, and is after `end`, with the number and the flags that it had.
+fn ends(watch: Watch) -> bool {
+    let mut ended = watch;
+    ended.end();
+    !watch.ended() && ended.ended() && ended.at() == watch.at() && ended.flags() == watch.flags()
+}
+
+fn a_closed_status_makes_an_ended_watch() -> bool {
     let status = Status {
         number: 0,
         flags: Flags::none(),
         closed: true,
     };
-    assert!(rt; Watch::new(Want::Up, false, status).ended());
-    Ok(())
+    Watch::new(Want::Up, false, status).ended()
 }
 
-/// The verdicts, for all and for any, over watches for readiness with these codes of flags, which are ended or not.
+/// Codes of the flags of watches for readiness, and whether each is ended; then the verdicts for all and for any.
+type Row = (
+    &'static str,
+    &'static [(u64, bool)],
+    (Option<Verdict>, Option<Verdict>),
+);
+
+const YES: Option<Verdict> = Some(Verdict::Yes);
+
+const NEVER: Option<Verdict> = Some(Verdict::Never);
+
+const READY: (u64, bool) = (7, false);
+
+const STARTING: (u64, bool) = (5, false);
+
+const FAILED: (u64, bool) = (14, false);
+
+const CLOSED: (u64, bool) = (4, true);
+
+static VERDICTS: [Row; 11] = [
+    ("over none", &[], (YES, NEVER)),
+    ("both ready", &[READY, READY], (YES, YES)),
+    ("one ready", &[READY, STARTING], (None, YES)),
+    ("none yet", &[STARTING, STARTING], (None, None)),
+    ("failed before the wait", &[FAILED, FAILED], (NEVER, NEVER)),
+    (
+        "one failed, the other starting",
+        &[FAILED, STARTING],
+        (NEVER, None),
+    ),
+    (
+        "one failed, the other ready",
+        &[FAILED, READY],
+        (NEVER, YES),
+    ),
+    (
+        "one closed, the other starting",
+        &[STARTING, CLOSED],
+        (NEVER, None),
+    ),
+    (
+        "one closed, the other failed",
+        &[CLOSED, FAILED],
+        (NEVER, NEVER),
+    ),
+    ("ready and then closed", &[(7, true), (7, true)], (YES, YES)),
+    (
+        "ready, and won't be restarted",
+        &[(15, false), READY],
+        (YES, YES),
+    ),
+];
+
 fn verdicts(watches: &[(u64, bool)]) -> (Option<Verdict>, Option<Verdict>) {
     let mut all = Tally::new(Span::All);
     let mut any = Tally::new(Span::Any);
@@ -104,44 +185,27 @@ fn verdicts(watches: &[(u64, bool)]) -> (Option<Verdict>, Option<Verdict>) {
     (all.answer(), any.answer())
 }
 
-#[test]
-fn verdicts_over_several_watches(rt: HostRuntime) -> Result<(), Fail> {
-    let yes = Some(Verdict::Yes);
-    let never = Some(Verdict::Never);
-    assert_eq!(rt; verdicts(&[]), (yes, never), "over none");
-    let ready = (7, false);
-    let starting = (5, false);
-    let failed = (14, false);
-    let closed = (4, true);
-    for (name, watches, verdict) in [
-        ("both ready", [ready, ready], (yes, yes)),
-        ("one ready", [ready, starting], (None, yes)),
-        ("none yet", [starting, starting], (None, None)),
-        ("failed before the wait", [failed, failed], (never, never)),
-        (
-            "one failed, the other starting",
-            [failed, starting],
-            (never, None),
-        ),
-        ("one failed, the other ready", [failed, ready], (never, yes)),
-        (
-            "one closed, the other starting",
-            [starting, closed],
-            (never, None),
-        ),
-        (
-            "one closed, the other failed",
-            [closed, failed],
-            (never, never),
-        ),
-        ("ready and then closed", [(7, true), (7, true)], (yes, yes)),
-        (
-            "ready, and won't be restarted",
-            [(15, false), ready],
-            (yes, yes),
-        ),
-    ] {
-        assert_eq!(rt; verdicts(&watches), verdict, "{name}");
+/// The name of the first row with another verdict.
+fn first_judged_otherwise() -> Option<&'static str> {
+    for (name, watches, wanted) in VERDICTS.iter() {
+        if verdicts(watches) != *wanted {
+            return Some(*name);
+        }
     }
+    None
+}
+
+#[test]
+fn watches_follow_their_letters(rt: HostRuntime) -> Result<(), Fail> {
+    none_is_unlike(&rt, first_unlike(rt.alloc())?);
     Ok(())
+}
+
+#[test]
+fn verdicts_over_several_watches(rt: HostRuntime) {
+    none_is_unlike(&rt, first_judged_otherwise());
+    assert!(rt;
+        a_closed_status_makes_an_ended_watch(),
+        "a closed status makes an ended watch"
+    );
 }

@@ -1,0 +1,151 @@
+//! Publishers and tickets, each beside the fifodir that made it. None of them can be dropped: a publisher leaves, and a
+//! ticket is cancelled.
+ghost use Rattle.std.specs.Arc.{arc_value};
+ghost use Rattle.std.specs.Prelude.{◌≡◌, [], length};
+ghost use Rattle.hub_fifodir.specs.Passes.{HasTaken, IsPublisherOf, IsTicketOf, mine};
+
+use hub_fifodir::{Fifodir, PassError, Publisher, Ticket};
+use hub_letters::Letter;
+use hub_record::{Closed, Event, Kind, Limits, PubError, Status, SubError, Taken};
+use std::alloc::{AllocError, Global};
+use std::process::Abort;
+use std::sync::{Arc, Wait};
+use std::test::Fail;
+
+pub(crate) type Shared = Arc<Fifodir, Global>;
+
+/// A fifodir with these limits: how many may be pending, how many events there may be in all, and how many ids.
+pub(crate) fn open(alloc: Global, kind: Kind, limits: (u64, u64, u64)) -> Result<Shared, Fail> {
+    let (waiting, total, ids) = limits;
+    let limits = Limits::of(waiting, total, ids).ok_or("no limits")?;
+    Ok(Arc::new(alloc, Fifodir::new(alloc, kind, limits)?)?)
+}
+
+pub(crate) struct Sender {
+    pub(crate) fifodir: Shared,
+    pub(crate) me: Publisher,
+    ghost of: { IsPublisherOf (arc_value fifodir) me },
+}
+
+impl Sender {
+    pub(crate) fn of<R: Wait>(rt: &R, fifodir: Shared) -> Result<Sender, PassError> {
+        let me = fifodir.publisher(rt)?;
+        Ok(Sender { fifodir, me })
+    }
+
+    pub(crate) fn send<R: Wait>(&mut self, rt: &R, letters: &[Letter]) -> Result<u64, PubError> {
+        self.fifodir.publish(rt, &mut self.me, letters)
+    }
+
+    pub(crate) fn close<R: Wait>(&mut self, rt: &R) -> Result<(), Closed> {
+        self.fifodir.close(rt, &mut self.me)
+    }
+
+    pub(crate) fn front(&mut self) -> u64 {
+        self.fifodir.front(&mut self.me)
+    }
+
+    pub(crate) fn leave<R: Wait>(self, rt: &R) {
+        let Sender { fifodir, me } = self;
+        fifodir.leave(rt, me);
+    }
+}
+
+/// A publisher of a fifodir that has room for one more.
+pub(crate) fn publisher<R: Abort + Wait>(rt: &R, fifodir: &Fifodir) -> Publisher
+    ensures of { IsPublisherOf fifodir.now result }
+    ensures silent { mine result ≡ [] }
+{
+    fifodir.publisher(rt).expect(rt, "a publisher")
+}
+
+/// The same, beside the fifodir.
+pub(crate) fn joined<R: Abort + Wait>(rt: &R, fifodir: &Shared) -> Sender {
+    let fifodir = Arc::try_clone(fifodir).expect(rt, "the fifodir");
+    Sender::of(rt, fifodir).expect(rt, "a publisher")
+}
+
+/// Puts the publisher into the list. If a growth is refused, it tries once more.
+pub(crate) fn keep_sender<R: Wait>(
+    rt: &R,
+    senders: &mut Vec<Sender>,
+    sender: Sender,
+) -> Result<(), AllocError> {
+    if let Err(refused) = senders.push(sender) {
+        if let Err(refused) = senders.push(refused.value) {
+            refused.value.leave(rt);
+            return Err(AllocError);
+        }
+    }
+    Ok(())
+}
+
+pub(crate) fn leave_all<R: Wait>(rt: &R, mut senders: Vec<Sender>) {
+    while let Some(sender) = senders.pop() {
+        sender.leave(rt);
+    }
+    senders.destroy_empty();
+}
+
+pub(crate) struct Reader {
+    pub(crate) fifodir: Shared,
+    pub(crate) me: Ticket,
+    ghost of: { IsTicketOf (arc_value fifodir) me },
+}
+
+impl Reader {
+    pub(crate) fn of<R: Wait>(rt: &R, fifodir: Shared) -> Result<Reader, SubError> {
+        let me = fifodir.subscribe(rt)?;
+        Ok(Reader { fifodir, me })
+    }
+
+    pub(crate) fn take<R: Wait>(&mut self, rt: &R, out: &mut [Event]) -> Taken
+        ensures { HasTaken self.old.me (length out.old) result self.new.me }
+    {
+        self.fifodir.take_into(rt, &mut self.me, out)
+    }
+
+    pub(crate) fn status(&mut self) -> Status {
+        self.fifodir.status(&mut self.me)
+    }
+
+    pub(crate) fn cancel<R: Wait>(self, rt: &R) {
+        let Reader { fifodir, me } = self;
+        fifodir.cancel(rt, me);
+    }
+}
+
+/// A ticket of a fifodir that has room for one more.
+pub(crate) fn ticket<R: Abort + Wait>(rt: &R, fifodir: &Fifodir) -> Ticket
+    ensures { IsTicketOf fifodir.now result }
+{
+    fifodir.subscribe(rt).expect(rt, "a ticket")
+}
+
+/// The same, beside the fifodir.
+pub(crate) fn subscribed<R: Abort + Wait>(rt: &R, fifodir: &Shared) -> Reader {
+    let fifodir = Arc::try_clone(fifodir).expect(rt, "the fifodir");
+    Reader::of(rt, fifodir).expect(rt, "a ticket")
+}
+
+/// Puts the ticket into the list. If a growth is refused, it tries once more.
+pub(crate) fn keep_reader<R: Wait>(
+    rt: &R,
+    readers: &mut Vec<Reader>,
+    reader: Reader,
+) -> Result<(), AllocError> {
+    if let Err(refused) = readers.push(reader) {
+        if let Err(refused) = readers.push(refused.value) {
+            refused.value.cancel(rt);
+            return Err(AllocError);
+        }
+    }
+    Ok(())
+}
+
+pub(crate) fn cancel_all<R: Wait>(rt: &R, mut readers: Vec<Reader>) {
+    while let Some(reader) = readers.pop() {
+        reader.cancel(rt);
+    }
+    readers.destroy_empty();
+}
