@@ -9,22 +9,22 @@ returns-in_default g c = no_desk _ _ _ _ _ _ _
 
 pub returns : goal.returns
 returns g c = record {
-  read = c.serve.new.reader;
-  written = c.serve.new.writer;
+  read = c.serve-served.new.reader;
+  written = c.serve-served.new.writer;
   served = λ other. record {
     old = c.watch.new.self;
-    new = c.serve.new.desk;
+    new = c.serve-served.new.desk;
     begun = record {
       new = subst (λ fifodirs. IsNewDesk fifodirs c.watch.new.self.handles) (sym c.watch.ensures.fifodirs)
           (subst (IsNewDesk c.in-Ok.desk.fifodirs) (sym c.watch.ensures.handles) c.in-Ok.ensures.new);
       over = ap arc_value (c.watch.ensures.hub ∙ c.in-Ok.ensures.hub);
       waits = c.watch.ensures.pause ∙ c.in-Ok.ensures.pause;
     };
-    finished = c.serve.ensures.finished;
-    stopped = c.serve.ensures.stopped;
+    finished = c.serve-served.ensures.finished;
+    stopped = c.serve-served.ensures.stopped;
   };
-  untouched = c.serve.ensures.memory;
-  reads = c.serve.ensures.reads;
-  read_faults = c.serve.ensures.read_faults;
-  write_faults = c.serve.ensures.write_faults;
+  untouched = c.serve-served.ensures.memory;
+  reads = c.serve-served.ensures.reads;
+  read_faults = c.serve-served.ensures.read_faults;
+  write_faults = c.serve-served.ensures.write_faults;
 }
