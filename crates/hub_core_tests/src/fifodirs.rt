@@ -207,11 +207,11 @@ impl Scene {
         rt: &R,
         place: usize,
         answer: Taken,
-        events: &[(u64, u8)],
+        events: [(u64, u8); 3],
     ) -> bool {
         let mut out = [blank(); 3];
         match self.readers.get_mut(place) {
-            Some(reader) => reader.take(rt, &mut out) == answer && are_events(&out, events),
+            Some(reader) => reader.take(rt, &mut out) == answer && are_events(&out, &events),
             None => false,
         }
     }
@@ -259,7 +259,7 @@ impl Scene {
             Step::Join(answer) => self.join(rt)? == answer,
             Step::HoldUpTo(last) => self.holds_up_to(rt, last)?,
             Step::Leave => self.leaves(rt),
-            Step::Take(place, answer, events) => self.takes(rt, place, answer, &events),
+            Step::Take(place, answer, events) => self.takes(rt, place, answer, events),
             Step::Cancel(place) => self.cancels(rt, place),
             Step::Shows(place, wanted) => self.shows(place, wanted),
             Step::Ticket(place, wanted) => self.is_ticket(place, wanted),

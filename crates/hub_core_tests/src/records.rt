@@ -160,9 +160,14 @@ static ROWS: [Row; 7] = [
     },
 ];
 
-fn takes(record: &mut Record, id: u64, answer: Result<Taken, NoId>, wanted: &[(u64, u8)]) -> bool {
+fn takes(
+    record: &mut Record,
+    id: u64,
+    answer: Result<Taken, NoId>,
+    wanted: [(u64, u8); 3],
+) -> bool {
     let mut out = [blank(); 3];
-    record.take_into(id, &mut out) == answer && are_events(&out, wanted)
+    record.take_into(id, &mut out) == answer && are_events(&out, &wanted)
 }
 
 fn subscribes_up_to(record: &mut Record, last: u64) -> bool {
@@ -193,7 +198,7 @@ fn answers(alloc: Global, record: &mut Record, step: Step) -> Result<bool, Alloc
         Step::Subscribe(answer) => record.subscribe() == answer,
         Step::SubscribeUpTo(last) => subscribes_up_to(record, last),
         Step::Publish(who, text, answer) => record.publish(who, &word(alloc, text)?) == answer,
-        Step::Take(id, answer, events) => takes(record, id, answer, &events),
+        Step::Take(id, answer, events) => takes(record, id, answer, events),
         Step::Pass(times) => passes(alloc, record, times)?,
         Step::Cancel(id, answer) => record.cancel(id) == answer,
         Step::Close(answer) => record.close() == answer,
