@@ -59,7 +59,7 @@ pub(crate) fn publisher<R: Abort + Wait>(rt: &R, fifodir: &Fifodir) -> Publisher
     fifodir.publisher(rt).expect(rt, "a publisher")
 }
 
-/// The same, beside the fifodir.
+/// The same, beside the fifodir that made it.
 pub(crate) fn joined<R: Abort + Wait>(rt: &R, fifodir: &Shared) -> Sender {
     let fifodir = Arc::try_clone(fifodir).expect(rt, "the fifodir");
     Sender::of(rt, fifodir).expect(rt, "a publisher")
@@ -122,7 +122,7 @@ pub(crate) fn ticket<R: Abort + Wait>(rt: &R, fifodir: &Fifodir) -> Ticket
     fifodir.subscribe(rt).expect(rt, "a ticket")
 }
 
-/// The same, beside the fifodir.
+/// The same, beside the fifodir that made it.
 pub(crate) fn subscribed<R: Abort + Wait>(rt: &R, fifodir: &Shared) -> Reader {
     let fifodir = Arc::try_clone(fifodir).expect(rt, "the fifodir");
     Reader::of(rt, fifodir).expect(rt, "a ticket")
