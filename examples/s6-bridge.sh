@@ -117,7 +117,7 @@ publish() {
     done
 }
 
-# agree: where the hub had the service already, it has to report readiness as this one does. That shows as soon as it is up
+# agree: if the hub had the service already, it has to report readiness as this one does. That shows as soon as it is up
 # and not ready.
 agree() {
     local expected=late
@@ -138,8 +138,8 @@ carry() {
     [ "$1$agreed" != u ] || agree
 }
 
-# drop LETTER: s6-supervise writes its status and then sends the letter for it, so the first message after the look may be
-# told already. It is one letter, or `dD` where there is no finish script. No other letter is dropped.
+# drop LETTER: s6-supervise writes its status and then sends the letter for it, so the status that the look found may have
+# the first message already. That is one letter, or `dD` if there is no finish script. No other letter is dropped.
 drop() {
     case $tellable:$1 in
     yes:d) tellable=d ;;

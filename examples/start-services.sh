@@ -28,9 +28,8 @@ fail() {
     exit 1
 }
 
-# start NAME COMMAND..: runs what makes a service ready, and publishes how it goes, as a supervisor does. In one session:
-# the letters are lines of the same connection. A fault of it is told at the end: where this script gives up, its hub ends
-# before the services do.
+# start NAME COMMAND..: runs what makes a service ready, and publishes how it goes, as a supervisor does. All its letters go
+# over one connection. The script reports a fault of it at the end: if it gives up, its hub ends before the services do.
 start() {
     name=$1
     shift
@@ -40,7 +39,7 @@ start() {
     } | "$ftrighub" call "$socket" 2>>"$work/faults" | grep '^no ' >&2 &
 }
 
-"$ftrighub" --help >/dev/null || exit 1 # where the program isn't built yet, this builds it
+"$ftrighub" --help >/dev/null || exit 1 # if the program isn't built yet, this builds it
 
 if [ $# -eq 0 ]; then
     # Four sessions: one makes the services, each of them publishes in one, and one waits.
@@ -48,8 +47,8 @@ if [ $# -eq 0 ]; then
     hub=$!
 fi
 
-# Makes the services. The hub listens a moment after it was started, so this tries until it can connect. The letter `s`
-# is published before the wait begins: it ends whatever the services were before, where the hub is an old one.
+# Makes the services. The hub listens a moment after it was started, so this retries until it can connect. The letter `s`
+# is published before the wait begins: if the hub is an old one, it ends whatever the services were before.
 tries=0
 until made=$(printf 'svc db 64 1000000000000 1\nsvc web 64 1000000000000 1\npub db s\npub web s\n' | "$ftrighub" call "$socket" 2>/dev/null); do
     tries=$((tries + 1))
@@ -62,7 +61,7 @@ refused=$(echo "$made" | grep '^no ' | grep -v -x 'no exists')
 start db sh -c "$db"
 start web sh -c "$web"
 
-# One request subscribes to both services, then looks how they stand, then waits: no change falls between.
+# One request subscribes to both services, then looks at their status, then waits: no change falls between.
 verdict=$(echo "wait all ready $patience db web" | "$ftrighub" call "$socket")
 case $verdict in
 yes\ *) echo "start-services: db and web are ready" ;;
