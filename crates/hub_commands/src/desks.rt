@@ -3,7 +3,7 @@ ghost use Rattle.std.specs.Prelude.{◌≤◌, IfOk, IfErr, vec_len};
 ghost use Rattle.std.specs.Arc.{arc_value};
 ghost use Rattle.hub_server.specs.Gates.{StopsEarly, ThenCloses};
 ghost use Rattle.hub_server.specs.Reports.{IsReport};
-ghost use Rattle.hub_commands.specs.Desks.{Begins};
+ghost use Rattle.hub_shared.specs.Desks.{IsNewDesk};
 ghost use Rattle.hub_shared.specs.declared.shared_desk.SharedDesk.{SharedDesk};
 
 use hub_front::serve;
@@ -26,7 +26,7 @@ struct HubDesks<P: Pause + Copy> {
 impl<P: Pause + Copy> Desks for HubDesks<P> {
     ghost Own = { SharedDesk P };
 
-    ghost opens = { λ desks. Begins (arc_value desks.hub) desks.pause };
+    ghost opens = { λ desks. IsNewDesk (arc_value desks.hub) desks.pause };
 
     ghost asks = { ⟦<SharedDesk<P> as Desk>⟧.asks };
 
@@ -81,7 +81,7 @@ where
     // that it gave has a result, in the gate's order. The result is one of serving exactly that session's reader and
     // writer.
     ensures report { IfOk result (λ report. IsReport
-        (Begins (arc_value hub) pause)
+        (IsNewDesk (arc_value hub) pause)
         ⟦<SharedDesk<P> as Desk>⟧.asks ⟦<SharedDesk<P> as Desk>⟧.ends
         (record { remaining = R.remaining; reads = R.reads; faults = R.faults })
         (record { contents = W.contents; faults = W.faults })

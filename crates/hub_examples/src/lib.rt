@@ -14,6 +14,7 @@ pub mod letters;
 pub mod library;
 pub mod listen;
 pub mod local;
+pub mod names;
 pub mod protocol;
 pub mod record;
 pub mod requests;

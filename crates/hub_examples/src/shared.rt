@@ -1,18 +1,20 @@
-// crates.txt: YOURS: hub_shared hub_requests hub_fifodir hub_record anyhow
-use anyhow::{Result, anyhow};
-use hub_fifodir::Fifodir;
-use hub_record::{Kind, Limits};
-use hub_requests::Name;
-use hub_shared::Hub;
-use std::alloc::Global;
+// crates.txt: YOURS: hub_shared hub_requests hub_wait
+use hub_requests::{Desk, Name, Reply, Request};
+use hub_shared::{Hub, SharedDesk};
+use hub_wait::Pause;
+use std::alloc::{AllocError, Global};
 use std::sync::{Arc, Wait};
 
-/// Makes the fifodir of a service in a hub, so that sessions can ask for it by this name, and returns it.
-pub fn make_service<H: Wait>(rt: &H, hub: &Hub, name: Name) -> Result<Arc<Fifodir, Global>> {
-    let limits = Limits::of(64, 1_000_000, 1_000_000).ok_or_else(|| anyhow!("no limits"))?;
-    hub.make(rt, name.copy()?, Kind::Service, limits, true)?;
-    match hub.find(rt, &name)? {
-        Some(found) => Ok(found.dir),
-        None => Err(anyhow!("no fifodir")),
-    }
+/// Opens a session over the hub, asks it for the status of one fifodir, and ends it.
+pub fn ask_for_status<H: Wait, P: Pause + Copy>(
+    rt: &H,
+    alloc: Global,
+    hub: Arc<Hub, Global>,
+    pause: P,
+    name: Name,
+) -> Result<Reply, AllocError> {
+    let mut desk = SharedDesk::new(alloc, hub, pause)?;
+    let reply = desk.ask(rt, &Request::Status { name });
+    desk.release(rt);
+    Ok(reply)
 }

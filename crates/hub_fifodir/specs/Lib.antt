@@ -6,3 +6,4 @@ pub mod Steps
 pub mod Notes
 pub mod Passes
 pub mod Laws
+pub mod PassNumbers

@@ -1,7 +1,8 @@
 -- What a session holds, by handle.
-use Rattle.std.specs.Prelude.{◌≡◌, ◌+◌, ◌≤◌, ◌<◌, ℕ, Option, None, Some, true, false, nat_eq, is_some, if◌then◌else◌, ◌⊎◌, List}
+use Rattle.std.specs.Prelude.{◌≡◌, ◌+◌, ◌≤◌, ◌<◌, ℕ, Option, None, Some, true, false, nat_eq, is_some, if◌then◌else◌, ◌⊎◌, List, []}
 use Rattle.std.specs.Map.{lookup}
 use Rattle.indexmap.specs.IndexMap.{index_map_len}
+use Rattle.hub_requests.specs.Room.{refusal_of_handle}
 use Rattle.hub_requests.specs.declared.reply.Refusal.{Refusal}
 use Rattle.hub_requests.specs.declared.reply.Refusal.TheVariants as no
 use Rattle.hub_requests.specs.declared.reply.Reply.{Reply}
@@ -16,6 +17,15 @@ use Rattle.hub_handles.specs.declared.subscription.Subscription.{Subscription}
 use Rattle.hub_handles.specs.Taking.{Begins, TakesFrom}
 use Rattle.hub_handles.specs.Hearings.{Polls, ends_by}
 
+-- how many handles were given
+abbrev pub given_of : Handles → ℕ
+given_of hs = hs.given
+
+-- no handle stands
+pub record HoldsNone (hs : Handles) : Type 0 where
+  pub subscriptions : hs.subscriptions.entries ≡ []
+  pub listeners : hs.listeners.entries ≡ []
+
 -- what stands under the number
 abbrev pub subscription_of : Handles → ℕ → Option Subscription
 subscription_of hs id = lookup (nat_eq id) hs.subscriptions.entries
@@ -27,19 +37,13 @@ listener_of hs id = lookup (nat_eq id) hs.listeners.entries
 abbrev pub standing : Handles → ℕ
 standing hs = index_map_len hs.subscriptions + index_map_len hs.listeners
 
--- one more handle may be given
-pub record HasRoom (hs : Handles) : Type 0 where
-  pub few : standing hs < 256
-  pub within : hs.given < 1000000
+-- why no further handle may be given; none if one may
+abbrev pub refusal_of : Handles → Option Refusal
+refusal_of hs = refusal_of_handle (standing hs) (given_of hs)
 
--- why no further handle may be given
-abbrev pub IsFullAs : Handles → Refusal → Type 0
-IsFullAs hs refusal = ((refusal ≡ no.Many) × (256 ≤ standing hs)) ⊎ ((refusal ≡ no.Spent) × (standing hs < 256) × (1000000 ≤ hs.given))
-
--- these refusals come first
-pub record IsInPlace (hs : Handles) (refusal : Refusal) : Type 0 where
-  pub many : 256 ≤ standing hs → refusal ≡ no.Many
-  pub spent : standing hs < 256 → 1000000 ≤ hs.given → refusal ≡ no.Spent
+-- such a refusal comes first
+abbrev pub IsInPlace : Handles → Refusal → Type 0
+IsInPlace hs refusal = (first : Refusal) → refusal_of hs ≡ Some first → refusal ≡ first
 
 -- the same handles stand, and as many were given
 pub record IsStill (old new : Handles) : Type 0 where
@@ -72,6 +76,7 @@ pub record AddsListener (old : Handles) (fifodir : Fifodir) (mode : Mode) (patte
   pub begins : Begins fifodir hearing.subscription
   pub heard : hearing.listener ≡ unheard pattern Repeat
   pub mode_is : hearing.mode ≡ mode
+  pub unheld : hearing.held ≡ None
   pub stands : listener_of new number ≡ Some hearing
   pub others : (other : ℕ) → nat_eq number other ≡ false → listener_of new other ≡ listener_of old other
   pub subscriptions : new.subscriptions.entries ≡ old.subscriptions.entries

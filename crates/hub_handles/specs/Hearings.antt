@@ -4,8 +4,9 @@ use Rattle.hub_requests.specs.declared.reply.Refusal.TheVariants as no
 use Rattle.hub_requests.specs.declared.reply.Reply.{Reply}
 use Rattle.hub_requests.specs.declared.reply.Reply.TheVariants as answer
 use Rattle.hub_fifodir.specs.declared.ticket.Ticket.{Ticket}
+use Rattle.hub_fifodir.specs.PassNumbers.{next_of}
 use Rattle.hub_fifodir.specs.Passes.{got, ticket_seen, ticket_closed}
-use Rattle.hub_listen.specs.Listening.{Feeds}
+use Rattle.hub_listen.specs.Listening.{Feeds, Listening}
 use Rattle.hub_listen.specs.declared.feed.Feed.{Feed}
 use Rattle.hub_listen.specs.declared.feed.Feed.TheVariants.{Hit, Quiet}
 use Rattle.hub_listen.specs.declared.feed.FeedError.{FeedError}
@@ -13,7 +14,18 @@ use Rattle.hub_letters.specs.declared.mode.Mode.{Mode}
 use Rattle.hub_letters.specs.declared.mode.Mode.TheVariants.{Once, Repeat}
 use Rattle.hub_record.specs.World.{letters}
 use Rattle.hub_handles.specs.declared.hearing.Hearing.{Hearing}
+use Rattle.hub_handles.specs.declared.subscription.Subscription.{Subscription}
 use Rattle.hub_handles.specs.Taking.{IsSameTicket}
+
+abbrev pub mode_of : Hearing → Mode
+mode_of h = h.mode
+
+-- a listener that hears this subscription from now on, and holds no letter
+pub record BeginsHearing (subscription : Subscription) (listener : Listening) (mode : Mode) (h : Hearing) : Type 0 where
+  pub subscription_is : h.subscription ≡ subscription
+  pub listener_is : h.listener ≡ listener
+  pub mode_is : h.mode ≡ mode
+  pub unheld : h.held ≡ None
 
 abbrev pub held_letters : Option ℕ → List ℕ
 held_letters None = []
@@ -34,10 +46,10 @@ pub record Hears (old : Hearing) (fed : List ℕ) (heard : Result Feed FeedError
 
 -- nothing waits for it, and the fifodir is open or closed
 abbrev pub IsIdle : Ticket → Type 0
-IsIdle t = (t.next ≡ length (ticket_seen t)) × (ticket_closed t ≡ 0)
+IsIdle t = (next_of t ≡ length (ticket_seen t)) × (ticket_closed t ≡ 0)
 
 abbrev pub IsOver : Ticket → Type 0
-IsOver t = (t.next ≡ length (ticket_seen t)) × (ticket_closed t ≢ 0)
+IsOver t = (next_of t ≡ length (ticket_seen t)) × (ticket_closed t ≢ 0)
 
 -- why no further letter is heard
 abbrev pub Stops : Reply → Hearing → Type 0

@@ -1,4 +1,3 @@
-pub mod Refusals
 pub mod Taking
 pub mod Hearings
 pub mod Handles

@@ -1,27 +1,21 @@
 //! What a session holds, by handle.
-ghost use Rattle.std.specs.Prelude.{◌≡◌, ◌≤◌, ◌<◌, ℕ, None, false, [], length, nat_eq, IfOk, IfErr, OnOk, OnErr};
+ghost use Rattle.std.specs.Prelude.{◌≡◌, ◌≤◌, ◌<◌, ℕ, None, Some, false, length, nat_eq, IfOk, IfErr, OnOk, OnErr};
 ghost use Rattle.std.specs.Arc.{arc_value};
 ghost use Rattle.std.specs.Map.{lookup};
 ghost use Rattle.hub_requests.specs.Ranges.{IsTake};
 ghost use Rattle.hub_requests.specs.Texts.{text_of};
-ghost use Rattle.hub_handles.specs.Refusals.{IsBrief};
+ghost use Rattle.hub_requests.specs.Brief.{IsBrief};
 
 use crate::hearing::Hearing;
 use crate::room::Room;
 use crate::subscription::Subscription;
 use hub_fifodir::Fifodir;
 use hub_listen::{ListenError, Listener, Mode};
-use hub_requests::{PatternText, Refusal, Reply};
+use hub_requests::{PatternText, Refusal, Reply, refusal_of_handle};
 use indexmap::IndexMap;
 use std::alloc::{AllocError, Global};
 use std::mem;
 use std::sync::{Arc, Wait};
-
-/// How many handles may stand.
-const HANDLES: usize = 256;
-
-/// How many handles may be given.
-const NUMBERS: u64 = 1_000_000;
 
 /// What the current handles of a session hold, by number. Subscriptions and listeners are numbered in one sequence.
 ///
@@ -39,12 +33,11 @@ pub struct Handles {
 }
 
 impl Handles {
-    ghost use Rattle.hub_handles.specs.Handles.{Subscribes, Listens, TakesAt, PollsAt, Cancels, IsStill, HasRoom, IsFullAs, IsInPlace, AddsSubscription, AddsListener, listener_of};
+    ghost use Rattle.hub_handles.specs.Handles.{Subscribes, Listens, TakesAt, PollsAt, Cancels, IsStill, IsInPlace, HoldsNone, AddsSubscription, AddsListener, given_of, listener_of, refusal_of};
 
     pub fn new(alloc: Global) -> Result<Handles, AllocError>
-        ensures given { IfOk result (λ handles. handles.given ≡ 0) }
-        ensures subscriptions { IfOk result (λ handles. handles.subscriptions.entries ≡ []) }
-        ensures listeners { IfOk result (λ handles. handles.listeners.entries ≡ []) }
+        ensures given { IfOk result (λ handles. given_of handles ≡ 0) }
+        ensures none { IfOk result HoldsNone }
     {
         let room = Room::new(alloc)?;
         Ok(Handles {
@@ -58,17 +51,15 @@ impl Handles {
 
     /// Whether one more handle may be given.
     fn has_room(&self) -> Result<(), Refusal>
-        ensures ok { OnOk result (HasRoom self.now) }
-        ensures err { IfErr result (IsFullAs self.now) }
+        ensures ok { OnOk result (refusal_of self.now ≡ None) }
+        ensures err { IfErr result (λ refusal. refusal_of self.now ≡ Some refusal) }
         ensures brief { IfErr result IsBrief }
     {
-        if self.subscriptions.len() + self.listeners.len() >= HANDLES {
-            return Err(Refusal::Many);
+        let current = self.subscriptions.len() + self.listeners.len();
+        match refusal_of_handle(current, self.given) {
+            Some(refusal) => Err(refusal),
+            None => Ok(()),
         }
-        if self.given >= NUMBERS {
-            return Err(Refusal::Spent);
-        }
-        Ok(())
     }
 
     /// Begins a subscription, under the next number.
@@ -214,9 +205,8 @@ impl Handles {
 
     /// Ends all subscriptions and listeners.
     pub fn end<H: Wait>(&mut self, rt: &H)
-        ensures given { self.new.given ≡ self.old.given }
-        ensures subscriptions { self.new.subscriptions.entries ≡ [] }
-        ensures listeners { self.new.listeners.entries ≡ [] }
+        ensures given { given_of self.new ≡ given_of self.old }
+        ensures none { HoldsNone self.new }
     {
         let mut subscriptions = mem::replace(&mut self.subscriptions, IndexMap::new(self.alloc));
         while let Some((_, subscription)) = subscriptions.pop() {

@@ -27,13 +27,11 @@ pub struct Hearing {
 }
 
 impl Hearing {
-    ghost use Rattle.hub_handles.specs.Hearings.{Gives, Hears, HearsOne, Polls, Stops, ends_by};
+    ghost use Rattle.hub_handles.specs.Hearings.{BeginsHearing, Gives, Hears, HearsOne, Polls, Stops, ends_by, mode_of};
 
     pub fn new(subscription: Subscription, listener: Listener, mode: Mode) -> Hearing
         requires { listener.mode ≡ Repeat }
-        ensures subscription { result.subscription ≡ subscription }
-        ensures listener { result.listener ≡ listener }
-        ensures mode { result.mode ≡ mode }
+        ensures { BeginsHearing subscription listener mode result }
     {
         Hearing {
             subscription,
@@ -45,7 +43,7 @@ impl Hearing {
 
     /// Whether this was the last reply that it has.
     pub fn ends_with(&self, reply: &Reply) -> bool
-        ensures { result ≡ ends_by self.now.mode reply.now }
+        ensures { result ≡ ends_by (mode_of self.now) reply.now }
     {
         match reply {
             Reply::Hit(_) => self.mode == Mode::Once,

@@ -3,13 +3,12 @@ ghost use Rattle.std.specs.Prelude.{◌≡◌, ◌≤◌, length, vec_len, vec_c
 ghost use Rattle.std.specs.Arc.{arc_value};
 ghost use Rattle.hub_requests.specs.Texts.{text_of};
 ghost use Rattle.hub_fifodir.specs.Passes.{IsTicketOf};
-ghost use Rattle.hub_record.specs.World.{letters};
 
 use crate::room::Room;
 use hub_fifodir::{Fifodir, Ticket};
 use hub_letters::Letter;
-use hub_record::{Event, Letters, SubError, Taken};
-use hub_requests::Reply;
+use hub_record::{Event, SubError, Taken};
+use hub_requests::{Reply, letters_of};
 use std::alloc::Global;
 use std::sync::{Arc, Wait};
 
@@ -89,16 +88,4 @@ impl Subscription {
         let Subscription { dir, ticket } = self;
         dir.cancel(rt, ticket);
     }
-}
-
-/// The events' letters, in a list that has room for them.
-fn letters_of(events: &[Event], mut room: Vec<Letter>) -> Letters
-    requires empty { vec_len room ≡ 0 }
-    requires fits { length events.now ≤ vec_capacity room }
-    ensures { result ≡ letters events.now }
-{
-    for event in events {
-        room.push_reserved(event.letter);
-    }
-    Letters::of(room)
 }

@@ -1,1 +1,3 @@
 pub mod ShortReplies
+pub mod NextHandle
+pub mod BriefRefusals

@@ -2,3 +2,5 @@ pub mod Names
 pub mod Ranges
 pub mod Texts
 pub mod Refusals
+pub mod Room
+pub mod Brief

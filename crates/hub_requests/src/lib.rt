@@ -8,13 +8,17 @@
 #![tactic(auto)]
 
 mod desk;
+mod letters;
 mod name;
 mod reply;
 mod request;
+mod room;
 mod texts;
 
 pub use desk::Desk;
+pub use letters::letters_of;
 pub use name::Name;
 pub use reply::{Refusal, Reply};
 pub use request::Request;
+pub use room::{limits, refusal_of_handle};
 pub use texts::{Names, Numbers, PatternText};

@@ -4,10 +4,10 @@ use Rattle.std.specs.Arc.{arc_value}
 use Rattle.hub_requests.specs.declared.reply.Reply.{Reply}
 use Rattle.hub_fifodir.specs.declared.fifodir.Fifodir.{Fifodir}
 use Rattle.hub_letters.specs.declared.mode.Mode.{Mode}
-use Rattle.hub_shared.specs.declared.hub.Made.{Made}
-use Rattle.hub_shared.specs.declared.shared_desk.fifodirs.Fifodirs.{Fifodirs}
+use Rattle.hub_names.specs.declared.hub.Made.{Made}
+use Rattle.hub_names.specs.declared.fifodirs.Fifodirs.{Fifodirs}
 use Rattle.hub_handles.specs.declared.handles.Handles.{Handles}
-use Rattle.hub_shared.specs.Fifodirs.{IsKeptAs}
+use Rattle.hub_names.specs.Fifodirs.{IsKeptAs}
 use Rattle.hub_handles.specs.Handles.{Subscribes, Listens}
 use Rattle.hub_shared.specs.Desks.{SubscribesTo, ListensTo}
 

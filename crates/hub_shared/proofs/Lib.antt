@@ -1,5 +1,3 @@
-pub mod ShortRefusals
-pub mod Speakers
-pub mod KeptFifodirs
 pub mod WaitedNames
 pub mod Handling
+pub mod NewDesks

@@ -14,10 +14,10 @@ use Rattle.hub_fifodir.specs.declared.fifodir.Fifodir.{Fifodir}
 use Rattle.hub_fifodir.specs.Passes.{kind_of}
 use Rattle.hub_wait.specs.declared.post.Post.{Post}
 use Rattle.hub_wait.specs.Posts.{HasOpened}
-use Rattle.hub_shared.specs.declared.hub.Hub.{Hub}
-use Rattle.hub_shared.specs.declared.hub.Made.{Made}
-use Rattle.hub_shared.specs.declared.shared_desk.fifodirs.Fifodirs.{Fifodirs}
-use Rattle.hub_shared.specs.Fifodirs.{IsKeptAs, KeepsAll}
+use Rattle.hub_names.specs.declared.hub.Hub.{Hub}
+use Rattle.hub_names.specs.declared.hub.Made.{Made}
+use Rattle.hub_names.specs.declared.fifodirs.Fifodirs.{Fifodirs}
+use Rattle.hub_names.specs.Fifodirs.{IsKeptAs, KeepsAll}
 use Rattle.hub_shared.specs.Waits.{IsKnown, IsOfKind, AreSeen, IsPostRefused, IsWaitRefused, IsPostAt, ArePosts}
 
 Any-weaker : {X : Type 0} (P Q : X → Type 0) → ((x : X) → P x → Q x) → (xs : List X) → Any P xs → Any Q xs

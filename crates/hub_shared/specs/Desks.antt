@@ -1,28 +1,23 @@
 -- What a session is answered, and what it leaves.
-use Rattle.std.specs.Prelude.{◌≡◌, ℕ, List, [], Some, ◌⊎◌}
+use Rattle.std.specs.Prelude.{◌≡◌, ℕ, List, Option, Some, ◌⊎◌}
 use Rattle.std.specs.Arc.{arc_value}
+use Rattle.std.specs.declared.net.unix.UnixStream.{UnixStream}
 use Rattle.hub_requests.specs.declared.reply.Refusal.TheVariants as no
 use Rattle.hub_requests.specs.declared.reply.Reply.{Reply}
 use Rattle.hub_requests.specs.declared.reply.Reply.TheVariants.{Done, No}
 use Rattle.hub_requests.specs.declared.request.Request.{Request}
 use Rattle.hub_requests.specs.declared.request.Request.TheVariants.{Dir, Svc, Sub, Pub, Take, Cancel, Close, Status, Listen, Poll, Wait}
-use Rattle.hub_shared.specs.declared.hub.Hub.{Hub}
-use Rattle.hub_shared.specs.declared.shared_desk.fifodirs.Fifodirs.{Fifodirs}
+use Rattle.hub_names.specs.declared.hub.Hub.{Hub}
+use Rattle.hub_names.specs.declared.fifodirs.Fifodirs.{Fifodirs}
 use Rattle.hub_letters.specs.declared.mode.Mode.{Mode}
 use Rattle.hub_handles.specs.declared.handles.Handles.{Handles}
-use Rattle.hub_shared.specs.declared.shared_desk.joined.Joined.{Joined}
+use Rattle.hub_names.specs.declared.joined.Joined.{Joined}
 use Rattle.hub_shared.specs.declared.shared_desk.SharedDesk.{SharedDesk}
-use Rattle.hub_shared.specs.Speaking.{fifodir_of, says_published, says_closed, says_status}
-use Rattle.hub_shared.specs.Fifodirs.{kept, AsksByName, IsMissing, KeepsAll}
-use Rattle.hub_handles.specs.Handles.{Subscribes, Listens, TakesAt, PollsAt, Cancels}
+use Rattle.hub_names.specs.Speaking.{fifodir_of}
+use Rattle.hub_names.specs.Says.{says_published, says_closed, says_status}
+use Rattle.hub_names.specs.Fifodirs.{kept, AsksByName, IsMissing, KeepsAll, KeepsNone}
+use Rattle.hub_handles.specs.Handles.{Subscribes, Listens, TakesAt, PollsAt, Cancels, HoldsNone, given_of}
 use Rattle.hub_shared.specs.Waits.{WaitsFor, IsWaitRefusal}
-
--- no fifodir was found and no handle given
-pub record IsNewDesk (fs : Fifodirs) (hs : Handles) : Type 0 where
-  pub fifodirs : fs.by_name.entries ≡ []
-  pub subscriptions : hs.subscriptions.entries ≡ []
-  pub listeners : hs.listeners.entries ≡ []
-  pub given : hs.given ≡ 0
 
 -- a fifodir was made, or why not
 abbrev pub IsMadeReply : Reply → Type 0
@@ -59,12 +54,28 @@ Answers hub fs hs (Wait span want turns names) reply gs ks = KeepsAll hub fs gs 
 
 -- all is given back: no handle and no publisher is kept, and no number is given again
 pub record Ends (old : Handles) (fs : Fifodirs) (hs : Handles) : Type 0 where
-  pub fifodirs : fs.by_name.entries ≡ []
-  pub subscriptions : hs.subscriptions.entries ≡ []
-  pub listeners : hs.listeners.entries ≡ []
-  pub given : hs.given ≡ old.given
+  pub fifodirs : KeepsNone fs
+  pub handles : HoldsNone hs
+  pub given : given_of hs ≡ given_of old
 
 -- ---- what contracts see of a desk
+
+-- A desk over the hub, with this pause for its waits, that has found no fifodir and given no handle. `over` tells hubs
+-- apart by the mark that each has. No contract says which mark it is, so the marks of two hubs are never shown to be equal.
+pub record IsNewDesk {P : Type 0} (hub : Hub) (pause : P) (desk : SharedDesk P) : Type 0 where
+  pub over : arc_value desk.hub ≡ hub
+  pub waits : desk.pause ≡ pause
+  pub fifodirs : KeepsNone desk.fifodirs
+  pub handles : HoldsNone desk.handles
+  pub given : given_of desk.handles ≡ 0
+
+-- the desk looks at this client from now on, and nothing else has changed
+pub record Watches {P : Type 0} (old : SharedDesk P) (client : Option UnixStream) (new : SharedDesk P) : Type 0 where
+  pub hub : new.hub ≡ old.hub
+  pub pause : new.pause ≡ old.pause
+  pub client_is : new.client ≡ client
+  pub fifodirs : new.fifodirs ≡ old.fifodirs
+  pub handles : new.handles ≡ old.handles
 
 -- the desk answers so and goes on, over the same hub, with the same pause and for the same client
 pub record Asks {P : Type 0} (old : SharedDesk P) (request : Request) (reply : Reply) (new : SharedDesk P) : Type 0 where

@@ -1,6 +1,3 @@
-pub mod Refusals
-pub mod Hubs
-pub mod Speaking
-pub mod Fifodirs
 pub mod Waits
+pub mod OpenPosts
 pub mod Desks

@@ -15,10 +15,10 @@ use Rattle.hub_wait.specs.Waits.{AreKept, IsAnswer, watches_of}
 use Rattle.hub_wait.specs.declared.post.Post.{Post}
 use Rattle.hub_wait.specs.Posts.{HasOpened, watch_of}
 use Rattle.hub_wait.specs.Watching.{is_met_at}
-use Rattle.hub_shared.specs.declared.shared_desk.fifodirs.Fifodirs.{Fifodirs}
-use Rattle.hub_shared.specs.declared.shared_desk.joined.Joined.{Joined}
-use Rattle.hub_shared.specs.Fifodirs.{kept}
-use Rattle.hub_shared.specs.Speaking.{fifodir_of}
+use Rattle.hub_names.specs.declared.fifodirs.Fifodirs.{Fifodirs}
+use Rattle.hub_names.specs.declared.joined.Joined.{Joined}
+use Rattle.hub_names.specs.Fifodirs.{kept}
+use Rattle.hub_names.specs.Speaking.{fifodir_of, notifies_of}
 
 -- the name has a fifodir of this kind
 pub record IsOfKind (fs : Fifodirs) (kind : Kind) (name : List ℕ) : Type 0 where
@@ -53,7 +53,7 @@ IsWaitRefused fs names refusal = IsPostRefused refusal × AreSeen fs names false
 pub record IsPostAt (fs : Fifodirs) (want : Want) (name : List ℕ) (post : Post) : Type 0 where
   pub joined : Joined
   pub kept_is : kept fs name ≡ Some joined
-  pub opened : HasOpened (fifodir_of joined) want joined.found.notifies post
+  pub opened : HasOpened (fifodir_of joined) want (notifies_of joined) post
 
 -- a post for each name, in their order
 abbrev pub ArePosts : Fifodirs → Want → List (List ℕ) → List Post → Type 0

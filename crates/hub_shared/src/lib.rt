@@ -9,8 +9,7 @@
 //! publishing. A desk, a publisher and a post aren't `Drop`, so code that drops one doesn't compile.
 #![tactic(auto)]
 
-mod hub;
 mod shared_desk;
 
-pub use hub::{Found, Hub, HubError};
+pub use hub_names::{Found, Hub, HubError};
 pub use shared_desk::SharedDesk;

@@ -1,28 +1,22 @@
 //! The desk of one session among several.
-ghost use Rattle.std.specs.Prelude.{◌≡◌, ◌≤◌, length, IfOk};
-ghost use Rattle.hub_requests.specs.Ranges.{AreLimits};
+ghost use Rattle.std.specs.Prelude.{◌≤◌, length, IfOk};
+ghost use Rattle.std.specs.Arc.{arc_value};
 ghost use Rattle.hub_requests.specs.Texts.{text_of};
-ghost use Rattle.hub_shared.specs.Desks.{Asks, IsEnded, IsMadeReply, IsNewDesk};
 
-use crate::hub::{Hub, HubError};
 use hub_handles::Handles;
+use hub_names::{Fifodirs, Hub, HubError, Speech};
 use hub_record::{Kind, Limits};
-use hub_requests::{Desk, Name, Refusal, Reply, Request};
+use hub_requests::{Desk, Name, Refusal, Reply, Request, limits};
 use hub_wait::Pause;
 use std::alloc::{AllocError, Global};
 use std::os::unix::net::UnixStream;
 use std::sync::{Arc, Wait};
 
-mod fifodirs;
-mod joined;
 mod waits;
 mod watched;
 
-use fifodirs::Fifodirs;
+use waits::Posts;
 use watched::Watched;
-
-/// How many ids each fifodir has.
-const IDS: u64 = 1_000_000_000_000;
 
 /// One session over a hub. It keeps the fifodir that it first found under a name, and makes its publisher there at its
 /// first `pub`, `close` or `status` of that name; `status` is one load through that publisher and waits for nobody.
@@ -31,6 +25,7 @@ const IDS: u64 = 1_000_000_000_000;
 /// A desk that was dropped would keep its subscriptions, and the events that are pending for them would fill the
 /// fifodirs. So it isn't `Drop`, and only `release` takes it.
 pub struct SharedDesk<P: Pause + Copy> {
+    alloc: Global,
     hub: Arc<Hub, Global>,
     pause: P,
     /// The connection of its client, at which its waits look.
@@ -40,14 +35,15 @@ pub struct SharedDesk<P: Pause + Copy> {
 }
 
 impl<P: Pause + Copy> SharedDesk<P> {
+    ghost use Rattle.hub_shared.specs.Desks.{IsMadeReply, IsNewDesk, Watches};
+
     /// A session that has found no fifodir and has no handle.
     pub fn new(alloc: Global, hub: Arc<Hub, Global>, pause: P) -> Result<SharedDesk<P>, AllocError>
-        ensures new { IfOk result (λ desk. IsNewDesk desk.fifodirs desk.handles) }
-        ensures hub { IfOk result (λ desk. desk.hub ≡ hub) }
-        ensures pause { IfOk result (λ desk. desk.pause ≡ pause) }
+        ensures { IfOk result (IsNewDesk (arc_value hub) pause) }
     {
         let handles = Handles::new(alloc)?;
         Ok(SharedDesk {
+            alloc,
             hub,
             pause,
             client: None,
@@ -59,11 +55,7 @@ impl<P: Pause + Copy> SharedDesk<P> {
     /// From now on a wait answers `late` within about half a second of the end of its client, who reads no reply. Else a session
     /// whose client was killed would hold its subscriptions until the wait is over.
     pub fn watch(&mut self, client: Option<UnixStream>)
-        ensures fifodirs { self.new.fifodirs ≡ self.old.fifodirs }
-        ensures handles { self.new.handles ≡ self.old.handles }
-        ensures hub { self.new.hub ≡ self.old.hub }
-        ensures pause { self.new.pause ≡ self.old.pause }
-        ensures client { self.new.client ≡ client }
+        ensures { Watches self.old client self.new }
     {
         self.client = client;
     }
@@ -71,6 +63,7 @@ impl<P: Pause + Copy> SharedDesk<P> {
     /// Ends all that the session still holds, and frees the desk.
     pub fn release<H: Wait>(self, rt: &H) {
         let SharedDesk {
+            alloc: _,
             hub: _,
             pause: _,
             client: _,
@@ -101,20 +94,9 @@ impl<P: Pause + Copy> SharedDesk<P> {
     }
 }
 
-fn limits(waiting: u64, total: u64) -> Limits
-    requires { AreLimits waiting total }
-    ensures waiting { result.waiting ≡ waiting }
-    ensures total { result.total ≡ total }
-    ensures ids { result.ids ≡ 1000000000000 }
-{
-    Limits {
-        waiting,
-        total,
-        ids: IDS,
-    }
-}
-
 impl<P: Pause + Copy> Desk for SharedDesk<P> {
+    ghost use Rattle.hub_shared.specs.Desks.{Asks, IsEnded};
+
     ghost asks = { Asks };
 
     ghost ends = { IsEnded };
@@ -136,11 +118,14 @@ impl<P: Pause + Copy> Desk for SharedDesk<P> {
                 Ok(found) => self.handles.subscribe(rt, found.dir),
                 Err(refusal) => Reply::No(refusal),
             },
-            Request::Pub { name, letters } => self.fifodirs.publish(rt, &self.hub, name, letters),
+            Request::Pub { name, letters } => {
+                self.fifodirs
+                    .speak(rt, &self.hub, name, Speech::Publish(letters))
+            }
             Request::Take { id, max } => self.handles.take(rt, *id, *max),
             Request::Cancel { id } => self.handles.cancel(rt, *id),
-            Request::Close { name } => self.fifodirs.close(rt, &self.hub, name),
-            Request::Status { name } => self.fifodirs.status(rt, &self.hub, name),
+            Request::Close { name } => self.fifodirs.speak(rt, &self.hub, name, Speech::Close),
+            Request::Status { name } => self.fifodirs.speak(rt, &self.hub, name, Speech::Status),
             Request::Listen {
                 name,
                 mode,
@@ -155,10 +140,14 @@ impl<P: Pause + Copy> Desk for SharedDesk<P> {
                 want,
                 turns,
                 names,
-            } => match self
-                .fifodirs
-                .open_posts(rt, &self.hub, *want, names.items())
-            {
+            } => match Posts::open(
+                rt,
+                self.alloc,
+                &mut self.fifodirs,
+                &self.hub,
+                *want,
+                names.items(),
+            ) {
                 Ok(posts) => posts.settle(
                     rt,
                     *span,

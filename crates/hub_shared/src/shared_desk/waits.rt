@@ -2,15 +2,16 @@
 ghost use Rattle.std.specs.Prelude.{◌≡◌, ◌≤◌, ◌+◌, length, map, vec_len, vec_capacity, IfOk, IfErr, OnOk, false};
 ghost use Rattle.hub_requests.specs.Texts.{number_or_dash, text_of};
 ghost use Rattle.hub_requests.specs.declared.reply.Reply.TheVariants.{Yes};
-ghost use Rattle.hub_handles.specs.Refusals.{IsBrief};
-ghost use Rattle.hub_shared.specs.Waits.{Settles, number_met};
+ghost use Rattle.hub_requests.specs.Brief.{IsBrief};
+ghost use Rattle.hub_names.specs.Fifodirs.{KeepsAll};
+ghost use Rattle.hub_shared.specs.Waits.{ArePosts, AreSeen, IsPostRefused, IsUnseen, number_met};
 
-use crate::Hub;
-use crate::shared_desk::fifodirs::Fifodirs;
 use hub_letters::Want;
+use hub_names::{Fifodirs, Hub};
 use hub_record::Kind;
 use hub_requests::{Name, Numbers, Refusal, Reply};
 use hub_wait::{Pause, Post, Span, Verdict, svwait};
+use std::alloc::Global;
 use std::sync::Wait;
 
 /// The posts of one wait, with room for the numbers that it may be answered. They aren't `Drop`, and only `settle`
@@ -23,36 +24,37 @@ pub struct Posts {
     ghost few: { vec_len posts ≤ 32 },
 }
 
-impl Fifodirs {
-    ghost use Rattle.hub_shared.specs.Fifodirs.{KeepsAll};
-    ghost use Rattle.hub_shared.specs.Waits.{ArePosts, AreSeen, IsPostRefused, IsUnseen, IsWaitRefused};
+impl Posts {
+    ghost use Rattle.hub_shared.specs.OpenPosts.{posts_of};
+    ghost use Rattle.hub_shared.specs.Waits.{IsWaitRefused, Settles};
 
     /// Opens a post for each name, in their order, or none.
-    pub fn open_posts<H: Wait>(
-        &mut self,
+    pub fn open<H: Wait>(
         rt: &H,
+        alloc: Global,
+        fifodirs: &mut Fifodirs,
         hub: &Hub,
         want: Want,
         names: &[Name],
     ) -> Result<Posts, Refusal>
         requires { length names.now ≤ 32 }
-        ensures services { OnOk result (AreSeen self.new names.now false) }
-        ensures opened { IfOk result (λ opened. ArePosts self.new want names.now
-            opened.posts.items) }
-        ensures refused { IfErr result (IsWaitRefused self.new names.now) }
-        ensures kept { KeepsAll hub.now self.old self.new }
+        ensures services { OnOk result (AreSeen fifodirs.new names.now false) }
+        ensures opened { IfOk result (λ opened. ArePosts fifodirs.new want names.now
+            (posts_of opened)) }
+        ensures refused { IfErr result (IsWaitRefused fifodirs.new names.now) }
+        ensures kept { KeepsAll hub.now fifodirs.old fifodirs.new }
         ensures brief { IfErr result IsBrief }
     {
-        if self.has_plain(rt, hub, names)? {
+        if has_plain(rt, fifodirs, hub, names)? {
             return Err(Refusal::Kind);
         }
-        let Ok(numbers) = Vec::with_capacity(self.alloc, names.len()) else {
+        let Ok(numbers) = Vec::with_capacity(alloc, names.len()) else {
             return Err(Refusal::Memory);
         };
-        let Ok(mut posts) = Vec::with_capacity(self.alloc, names.len()) else {
+        let Ok(mut posts) = Vec::with_capacity(alloc, names.len()) else {
             return Err(Refusal::Memory);
         };
-        match self.open_each(rt, hub, want, names, &mut posts) {
+        match open_each(rt, fifodirs, hub, want, names, &mut posts) {
             Ok(()) => Ok(Posts { posts, numbers }),
             Err(refusal) => {
                 end_each(rt, posts);
@@ -61,52 +63,6 @@ impl Fifodirs {
         }
     }
 
-    /// Finds the fifodir of each name, and tells whether one of them is plain.
-    fn has_plain<H: Wait>(&mut self, rt: &H, hub: &Hub, names: &[Name]) -> Result<bool, Refusal>
-        ensures seen { IfOk result (AreSeen self.new names.now) }
-        ensures missing { IfErr result (IsUnseen self.new names.now) }
-        ensures kept { KeepsAll hub.now self.old self.new }
-        ensures brief { IfErr result IsBrief }
-    {
-        let mut plain = false;
-        for name in names {
-            let found = self.find(rt, hub, name)?;
-            match found.dir.kind() {
-                Kind::Plain => plain = true,
-                Kind::Service => (),
-            }
-        }
-        Ok(plain)
-    }
-
-    /// Opens a post for each name until one is refused.
-    fn open_each<H: Wait>(
-        &mut self,
-        rt: &H,
-        hub: &Hub,
-        want: Want,
-        names: &[Name],
-        posts: &mut Vec<Post>,
-    ) -> Result<(), Refusal>
-        requires empty { vec_len posts.old ≡ 0 }
-        requires fits { length names.now ≤ vec_capacity posts.old }
-        requires services { AreSeen self.old names.now false }
-        ensures kept { KeepsAll hub.now self.old self.new }
-        ensures refused { IfErr result IsPostRefused }
-        ensures brief { IfErr result IsBrief }
-        ensures opened { OnOk result (ArePosts self.new want names.now posts.new.items) }
-        ensures few { vec_len posts.new ≤ length names.now }
-    {
-        for name in names {
-            let found = self.find(rt, hub, name)?;
-            let post = Post::open(rt, found.dir, want, found.notifies)?;
-            posts.push_reserved(post);
-        }
-        Ok(())
-    }
-}
-
-impl Posts {
     /// Waits, and ends the posts.
     pub fn settle<H: Wait, P: Pause + Drop>(
         self,
@@ -115,7 +71,7 @@ impl Posts {
         turns: u64,
         mut pause: P,
     ) -> Reply
-        ensures settled { Settles span self.posts.items result }
+        ensures settled { Settles span (posts_of self) result }
         ensures short { length (text_of result) ≤ 4101 }
     {
         let Posts { mut posts, numbers } = self;
@@ -127,6 +83,55 @@ impl Posts {
         end_each(rt, posts);
         reply
     }
+}
+
+/// Finds the fifodir of each name, and tells whether one of them is plain.
+fn has_plain<H: Wait>(
+    rt: &H,
+    fifodirs: &mut Fifodirs,
+    hub: &Hub,
+    names: &[Name],
+) -> Result<bool, Refusal>
+    ensures seen { IfOk result (AreSeen fifodirs.new names.now) }
+    ensures missing { IfErr result (IsUnseen fifodirs.new names.now) }
+    ensures kept { KeepsAll hub.now fifodirs.old fifodirs.new }
+    ensures brief { IfErr result IsBrief }
+{
+    let mut plain = false;
+    for name in names {
+        let found = fifodirs.find(rt, hub, name)?;
+        match found.dir.kind() {
+            Kind::Plain => plain = true,
+            Kind::Service => (),
+        }
+    }
+    Ok(plain)
+}
+
+/// Opens a post for each name until one is refused.
+fn open_each<H: Wait>(
+    rt: &H,
+    fifodirs: &mut Fifodirs,
+    hub: &Hub,
+    want: Want,
+    names: &[Name],
+    posts: &mut Vec<Post>,
+) -> Result<(), Refusal>
+    requires empty { vec_len posts.old ≡ 0 }
+    requires fits { length names.now ≤ vec_capacity posts.old }
+    requires services { AreSeen fifodirs.old names.now false }
+    ensures kept { KeepsAll hub.now fifodirs.old fifodirs.new }
+    ensures refused { IfErr result IsPostRefused }
+    ensures brief { IfErr result IsBrief }
+    ensures opened { OnOk result (ArePosts fifodirs.new want names.now posts.new.items) }
+    ensures few { vec_len posts.new ≤ length names.now }
+{
+    for name in names {
+        let found = fifodirs.find(rt, hub, name)?;
+        let post = Post::open(rt, found.dir, want, found.notifies)?;
+        posts.push_reserved(post);
+    }
+    Ok(())
 }
 
 /// The number of each post that is met.

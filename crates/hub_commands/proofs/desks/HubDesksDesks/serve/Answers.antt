@@ -1,6 +1,7 @@
-use Rattle.std.proofs.Common.{ap, subst, sym, ◌∙◌}
-use Rattle.std.specs.Arc.{arc_value}
+use Rattle.std.proofs.Common.{subst}
+use Rattle.hub_names.specs.declared.hub.Hub.{Hub}
 use Rattle.hub_shared.specs.Desks.{IsNewDesk}
+use Rattle.hub_shared.proofs.NewDesks.{still_new}
 use Rattle.hub_commands.proofs.Results.{no_desk}
 use Rattle.hub_commands.proofs.desks.HubDesksDesks.serve.Goals as goal
 
@@ -17,12 +18,8 @@ returns g c = record {
   served = λ other. record {
     old = c.watch.new.self;
     new = c.serve-served.new.desk;
-    begun = record {
-      new = subst (λ fifodirs. IsNewDesk fifodirs c.watch.new.self.handles) (sym c.watch.ensures.fifodirs)
-          (subst (IsNewDesk c.in-Ok-new.desk.fifodirs) (sym c.watch.ensures.handles) c.in-Ok-new.ensures.new);
-      over = ap arc_value (c.watch.ensures.hub ∙ c.in-Ok-new.ensures.hub) ∙ c.in-Ok.ensures;
-      waits = c.watch.ensures.pause ∙ c.in-Ok-new.ensures.pause;
-    };
+    begun = subst (λ (hub : Hub). IsNewDesk hub c.args.self.now.pause c.watch.new.self) c.in-Ok.ensures
+        (still_new _ _ _ c.in-Ok-new.desk c.watch.new.self c.in-Ok-new.ensures c.watch.ensures);
     finished = c.serve-served.ensures.finished;
     stopped = c.serve-served.ensures.stopped;
   };

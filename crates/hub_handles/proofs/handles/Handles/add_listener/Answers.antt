@@ -1,4 +1,5 @@
-use Rattle.std.proofs.Common.{refl, sym, subst, ap, ◌∙◌, nat_eq, List, ℕ}
+use Rattle.std.proofs.Common.{◌+◌, refl, sym, subst, ap, ◌∙◌, nat_eq, List, ℕ, arith}
+use Rattle.std.proofs.lemmas.Bool.{ne_eqb}
 use Rattle.std.specs.Map.{lookup}
 use Rattle.hub_listen.specs.Listening.{unheard}
 use Rattle.hub_letters.specs.declared.mode.Mode.TheVariants.{Repeat}
@@ -13,6 +14,16 @@ returns-clause-ok g c =
     let put = rw c.unwrap-replaced.ensures at c.insert.ensures.updates in
     let made = c.new-hearing.ensures in
     adds_listener c.args.self.now _ _ _ _ c.new-hearing.result c.in_ok-has_room.ensures.ok
-    (subst (λ (s : Subscription). Begins (arc_value c.args.dir) s) (sym made.subscription) c.in_ok-subscription.ensures)
-    (made.listener ∙ c.in-Ok.ensures.ok ∙ ap (λ (p : List ℕ). unheard p Repeat) c.items.ensures) made.mode refl refl put.1
+    (subst (λ (s : Subscription). Begins (arc_value c.args.dir) s) (sym made.subscription_is) c.in_ok-subscription.ensures)
+    (made.listener_is ∙ c.in-Ok.ensures.ok ∙ ap (λ (p : List ℕ). unheard p Repeat) c.items.ensures) made.mode_is made.unheld refl refl put.1
     (λ other h. put.2 other h ∙ ap (lookup (nat_eq other)) c.reserve.ensures.entries)
+
+pub invariant_of-self-2 : goal.invariant_of-self-2
+invariant_of-self-2 g c =
+    let old = c.args.self.now in
+    let put = rw c.unwrap-replaced.ensures at c.insert.ensures.updates in
+    record {
+      subscribed = λ id above. old.subscribed id (omega arith);
+      listening = λ id above.
+      put.2 id (ne_eqb (old.given + 1) id (λ e. absurd (omega arith))) ∙ ap (lookup (nat_eq id)) c.reserve.ensures.entries ∙ old.listening id (omega arith);
+    }

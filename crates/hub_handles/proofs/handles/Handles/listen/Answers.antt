@@ -1,6 +1,6 @@
 use Rattle.std.proofs.Common.{arith}
 use Rattle.hub_requests.proofs.ShortReplies.{short_number}
-use Rattle.hub_handles.proofs.ShortRefusals.{short_brief}
+use Rattle.hub_requests.proofs.BriefRefusals.{short_brief}
 use Rattle.hub_handles.proofs.handles.Handles.listen.Goals as goal
 
 pub returns-in-Ok-clause-short : goal.returns-in-Ok-clause-short

@@ -1,9 +1,9 @@
 use Rattle.std.proofs.Common.{ℕ, List, inl, refl, subst, sym}
 use Rattle.std.specs.Arc.{arc_value}
 use Rattle.hub_requests.specs.declared.request.Request.{Request}
-use Rattle.hub_shared.specs.declared.hub.Hub.{Hub}
+use Rattle.hub_names.specs.declared.hub.Hub.{Hub}
 use Rattle.hub_shared.specs.Desks.{Answers}
-use Rattle.hub_shared.specs.Fifodirs.{KeepsAll}
+use Rattle.hub_names.specs.Fifodirs.{KeepsAll}
 use Rattle.hub_shared.specs.Waits.{WaitsFor}
 use Rattle.hub_shared.proofs.Handling.{subscribes_to, listens_to}
 use Rattle.hub_shared.proofs.shared_desk.SharedDeskDesk.ask.Goals as goal
@@ -29,13 +29,13 @@ returns-in-Ok-find-clause-step g c = record {
   );
 }
 
-pub returns-in-Ok-open_posts-clause-step : goal.returns-in-Ok-open_posts-clause-step
-returns-in-Ok-open_posts-clause-step g c =
-    let fifodirs = c.open_posts.new.self in
-    let opened = c.in-Ok-open_posts.ensures in
+pub returns-in-Ok-open-clause-step : goal.returns-in-Ok-open-clause-step
+returns-in-Ok-open-clause-step g c =
+    let fifodirs = c.open.new.fifodirs in
+    let opened = c.in-Ok-open.ensures in
     let waits : WaitsFor fifodirs c.in-Wait.span c.in-Wait.want c.items.result.now c.settle.result = record {
       services = opened.services;
-      opened = c.in-Ok-open_posts.posts.posts.items;
+      opened = c.in-Ok-open.posts.posts.items;
       posts = opened.opened;
       settled = c.settle.ensures.settled;
     } in

@@ -1,0 +1,3 @@
+pub mod ShortRefusals
+pub mod Speakers
+pub mod KeptFifodirs

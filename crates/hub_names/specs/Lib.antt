@@ -1,0 +1,5 @@
+pub mod Refusals
+pub mod Hubs
+pub mod Says
+pub mod Speaking
+pub mod Fifodirs

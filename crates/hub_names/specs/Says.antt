@@ -1,0 +1,37 @@
+-- What a publisher is answered.
+use Rattle.std.specs.Prelude.{◌≡◌, ◌≢◌, ℕ, List}
+use Rattle.hub_requests.specs.Refusals.{refusal_of_pub}
+use Rattle.hub_requests.specs.declared.reply.Refusal.TheVariants as no
+use Rattle.hub_requests.specs.declared.reply.Reply.{Reply}
+use Rattle.hub_requests.specs.declared.reply.Reply.TheVariants.{Done, Number, State, No}
+use Rattle.hub_fifodir.specs.declared.publisher.Publisher.{Publisher}
+use Rattle.hub_fifodir.specs.PassNumbers.{number_of}
+use Rattle.hub_fifodir.specs.Passes.{IsStatusOf, IsRefusedAt, HasPublished, KnewOwnClose, closed_mark, mine, publisher_sight}
+use Rattle.hub_record.specs.declared.PubError.{PubError}
+use Rattle.hub_names.specs.declared.speech.Speech.{Speech}
+use Rattle.hub_names.specs.declared.speech.Speech.TheVariants.{Publish, Close, Status}
+
+-- ---- a publisher that was `p` is now `q`
+
+-- a message is accepted whole, or refused by what the publisher has then seen
+abbrev pub says_published : List ℕ → Publisher → Reply → Publisher → Type 0
+says_published letters p (Number n) q = HasPublished p letters n q
+says_published letters p (No refusal) q =
+    (error : PubError) × (refusal ≡ refusal_of_pub error) × IsRefusedAt q letters error × (mine q ≡ mine p) × KnewOwnClose p q
+says_published letters p _ q = ⊥
+
+-- it closes what it hadn't seen closed, or sees who did
+abbrev pub says_closed : Publisher → Reply → Publisher → Type 0
+says_closed p Done q = (closed_mark p ≡ 0) × (closed_mark q ≡ number_of p) × (mine q ≡ mine p)
+says_closed p (No refusal) q = (refusal ≡ no.Closed) × (closed_mark q ≢ 0) × KnewOwnClose p q × (mine q ≡ mine p)
+says_closed p _ q = ⊥
+
+-- the status of what it has then seen
+abbrev pub says_status : Publisher → Reply → Publisher → Type 0
+says_status p (State status) q = IsStatusOf status (publisher_sight q) × KnewOwnClose p q × (mine q ≡ mine p)
+says_status p _ q = ⊥
+
+abbrev pub says : Speech → Publisher → Reply → Publisher → Type 0
+says (Publish letters) = says_published letters.now
+says Close = says_closed
+says Status = says_status

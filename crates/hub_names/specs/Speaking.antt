@@ -1,0 +1,66 @@
+-- What a session's publisher says, and how it is kept.
+use Rattle.std.specs.Prelude.{◌≡◌, ◌≢◌, Bool, [], Option, None, Some, ◌⊎◌}
+use Rattle.std.specs.Arc.{arc_value}
+use Rattle.hub_requests.specs.declared.reply.Reply.{Reply}
+use Rattle.hub_requests.specs.declared.reply.Reply.TheVariants.{No}
+use Rattle.hub_fifodir.specs.declared.PassError.{PassError}
+use Rattle.hub_fifodir.specs.declared.fifodir.Fifodir.{Fifodir}
+use Rattle.hub_fifodir.specs.declared.publisher.Publisher.{Publisher}
+use Rattle.hub_fifodir.specs.PassNumbers.{number_of}
+use Rattle.hub_fifodir.specs.Passes.{IsPublisherOf, closed_mark, mine, publisher_sight}
+use Rattle.hub_fifodir.specs.Steps.{Grows}
+use Rattle.hub_names.specs.declared.hub.Found.{Found}
+use Rattle.hub_names.specs.declared.joined.Joined.{Joined}
+use Rattle.hub_names.specs.Refusals.{refusal_of_pass}
+
+abbrev pub found_of : Joined → Found
+found_of j = j.found
+
+abbrev pub fifodir_of : Joined → Fifodir
+fifodir_of j = arc_value j.found.dir
+
+-- whether its service reports readiness
+abbrev pub notifies_of : Joined → Bool
+notifies_of j = j.found.notifies
+
+-- the session's publisher there, once it was made
+abbrev pub publisher_of : Joined → Option Publisher
+publisher_of j = j.publisher
+
+-- a publisher that the fifodir has just given
+pub record IsNew (dir : Fifodir) (p : Publisher) : Type 0 where
+  pub of : IsPublisherOf dir p
+  pub silent : mine p ≡ []
+  pub unclosed : closed_mark p ≢ number_of p
+
+-- the publisher that is kept speaks, and where none is kept a new one
+abbrev pub IsSpeaker : Fifodir → Option Publisher → Publisher → Type 0
+IsSpeaker dir (Some kept) p = p ≡ kept
+IsSpeaker dir None p = IsNew dir p
+
+-- ---- what is asked of it
+
+-- the publisher spoke: it is the same, of the same fifodir, and has seen no less
+pub record HasSpoken (old : Joined) (p q : Publisher) (new : Joined) : Type 0 where
+  pub found : new.found ≡ old.found
+  pub speaker : IsSpeaker (fifodir_of old) old.publisher p
+  pub kept : new.publisher ≡ Some q
+  pub same : number_of q ≡ number_of p
+  pub seen : Grows (publisher_sight p) (publisher_sight q)
+
+pub record Spoke (says : Publisher → Reply → Publisher → Type 0) (old : Joined) (reply : Reply) (new : Joined) : Type 0 where
+  pub before : Publisher
+  pub after : Publisher
+  pub spoken : HasSpoken old before after new
+  pub said : says before reply after
+
+-- none was kept, and none was given
+pub record IsUnmade (old : Joined) (reply : Reply) (new : Joined) : Type 0 where
+  pub unmade : old.publisher ≡ None
+  pub found : new.found ≡ old.found
+  pub still : new.publisher ≡ None
+  pub error : PassError
+  pub refused : reply ≡ No (refusal_of_pass error)
+
+abbrev pub Asked : (Publisher → Reply → Publisher → Type 0) → Joined → Reply → Joined → Type 0
+Asked says old reply new = Spoke says old reply new ⊎ IsUnmade old reply new

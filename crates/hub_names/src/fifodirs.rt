@@ -1,0 +1,116 @@
+//! The fifodirs that a session found, by name.
+ghost use Rattle.std.specs.Prelude.{◌≡◌, ◌≤◌, None, length, IfErr, OnOk, IfOk};
+ghost use Rattle.hub_requests.specs.Brief.{IsBrief};
+ghost use Rattle.hub_requests.specs.Texts.{text_of};
+ghost use Rattle.hub_names.specs.Says.{says};
+
+use crate::hub::{Hub, Made};
+use crate::joined::Joined;
+use crate::speech::Speech;
+use hub_requests::{Name, Refusal, Reply};
+use indexmap::IndexMap;
+use std::alloc::Global;
+use std::mem;
+use std::sync::Wait;
+
+/// The fifodirs that a session found. Each is kept under the name that it was first found by, and from then on a request
+/// looks its name up here once and never in the hub.
+///
+/// They aren't `Drop`, and only `release` takes them.
+pub struct Fifodirs {
+    alloc: Global,
+    by_name: IndexMap<Name, Joined>,
+}
+
+impl Fifodirs {
+    ghost use Rattle.hub_names.specs.Fifodirs.{AsksByName, IsKeptAs, KeepsAll, KeepsNone, Joins, IsFinding, IsMissing, kept};
+
+    pub fn new(alloc: Global) -> Fifodirs
+        ensures { KeepsNone result }
+    {
+        Fifodirs {
+            alloc,
+            by_name: IndexMap::new(alloc),
+        }
+    }
+
+    /// Finds the fifodir of a name that isn't known yet.
+    fn join<H: Wait>(&mut self, rt: &H, hub: &Hub, name: &Name) -> Result<(), Refusal>
+        requires { kept self.old name.now ≡ None }
+        ensures ok { OnOk result (Joins hub.now self.old name.now self.new) }
+        ensures err { IfErr result (IsFinding self.old name.now self.new) }
+    {
+        let Ok(found) = hub.find(rt, name) else {
+            return Err(Refusal::Memory);
+        };
+        let Some(found) = found else {
+            return Err(Refusal::Name);
+        };
+        let Ok(key) = name.copy() else {
+            return Err(Refusal::Memory);
+        };
+        match self.by_name.insert(key, Joined::new(found)) {
+            Ok(replaced) => {
+                let None = replaced else { unreachable!() };
+                Ok(())
+            }
+            Err(refused) => {
+                let (_, joined) = refused.value;
+                joined.leave(rt);
+                Err(Refusal::Memory)
+            }
+        }
+    }
+
+    /// The fifodir of this name, to be kept beside a pass.
+    pub fn find<H: Wait>(&mut self, rt: &H, hub: &Hub, name: &Name) -> Result<Made, Refusal>
+        ensures ok { IfOk result (λ found. IsKeptAs self.new name.now found) }
+        ensures kept { KeepsAll hub.now self.old self.new }
+        ensures missing { IfErr result (IsMissing self.new name.now) }
+        ensures brief { IfErr result IsBrief }
+    {
+        if let Some(joined) = self.by_name.get(name) {
+            return joined.copy();
+        }
+        self.join(rt, hub, name)?;
+        let Some(joined) = self.by_name.get(name) else {
+            unreachable!()
+        };
+        joined.copy()
+    }
+
+    /// Answers by the session's publisher at the fifodir of this name.
+    pub fn speak<H: Wait>(&mut self, rt: &H, hub: &Hub, name: &Name, speech: Speech<'_>) -> Reply
+        ensures step { AsksByName hub.now (says speech.entry) self.old name.now result self.new }
+        ensures short { length (text_of result) ≤ 4101 }
+    {
+        if let Some(joined) = self.by_name.get_mut(name) {
+            return joined.speak(rt, speech);
+        }
+        if let Err(refusal) = self.join(rt, hub, name) {
+            return Reply::No(refusal);
+        }
+        let Some(joined) = self.by_name.get_mut(name) else {
+            unreachable!()
+        };
+        joined.speak(rt, speech)
+    }
+
+    /// Ends all publishers.
+    pub fn leave<H: Wait>(&mut self, rt: &H)
+        ensures { KeepsNone self.new }
+    {
+        let mut left = mem::replace(&mut self.by_name, IndexMap::new(self.alloc));
+        while let Some((_, joined)) = left.pop() {
+            joined.leave(rt);
+        }
+        left.destroy_empty();
+    }
+
+    /// Ends all publishers, and frees what is left.
+    pub fn release<H: Wait>(mut self, rt: &H) {
+        self.leave(rt);
+        let Fifodirs { alloc: _, by_name } = self;
+        by_name.destroy_empty();
+    }
+}

@@ -1,0 +1,229 @@
+//! The fifodirs that sessions share, by name.
+ghost use Rattle.std.specs.Prelude.{◌≡◌, ◌≤◌, ℕ, List, true, false, is_some, option_map, IfOk, IfSome, OnOk, OnErr, Err};
+ghost use Rattle.std.specs.Arc.{arc_value};
+ghost use Rattle.std.specs.Str.{bytes_eq};
+ghost use Rattle.indexmap.specs.IndexMap.{get, index_map_len};
+
+use hub_fifodir::Fifodir;
+use hub_record::{Kind, Limits};
+use hub_requests::Name;
+use indexmap::IndexMap;
+use std::alloc::{AllocError, Global};
+use std::snapshot::Snapshot;
+use std::sync::{Arc, RwLock, Wait};
+use thiserror::Error;
+
+/// How many names a hub may have.
+const NAMES: usize = 256;
+
+/// Why no fifodir was made.
+#[derive(Clone, Copy, Debug, PartialEq, Eq, Hash, Error)]
+pub enum HubError {
+    /// A fifodir has this name already.
+    #[error("a fifodir has this name")]
+    Exists,
+    /// 256 fifodirs have names.
+    #[error("too many fifodirs")]
+    Many,
+    #[error("out of memory")]
+    Memory,
+}
+
+impl From<AllocError> for HubError {
+    ghost use Rattle.std.specs.Prelude.{◌≡◌};
+    ghost use Rattle.hub_names.specs.declared.hub.HubError.TheVariants.{Memory};
+
+    ghost from_gives = { λ _ error. error ≡ Memory };
+
+    fn from(_: AllocError) -> HubError {
+        HubError::Memory
+    }
+}
+
+/// A fifodir that has a name.
+#[derive(Drop)]
+pub struct Made {
+    pub dir: Arc<Fifodir, Global>,
+    /// Whether its service reports readiness.
+    pub notifies: bool,
+}
+
+impl Made {
+    ghost use Rattle.hub_names.specs.Hubs.{shown};
+
+    /// The same fifodir, to be kept once more.
+    fn copy(&self) -> Result<Made, AllocError>
+        ensures { IfOk result (λ made. shown made ≡ shown self.now) }
+    {
+        let dir = Arc::try_clone(&self.dir)?;
+        Ok(Made {
+            dir,
+            notifies: self.notifies,
+        })
+    }
+}
+
+/// A fifodir that was found, with what it was found by. Only [`Hub::find`] makes one.
+#[derive(Drop)]
+pub struct Found {
+    pub dir: Arc<Fifodir, Global>,
+    /// Whether its service reports readiness.
+    pub notifies: bool,
+    /// The hub, as contracts see it.
+    hub: Snapshot<Hub>,
+    /// The name that the hub had it under.
+    name: Snapshot<Name>,
+    /// The fifodir that the hub gave.
+    given: Snapshot<Arc<Fifodir, Global>>,
+    ghost is_given: { arc_value dir ≡ arc_value given.value },
+}
+
+impl Found {
+    ghost use Rattle.hub_names.specs.Hubs.{IsFoundIn};
+
+    /// What the hub has under the name.
+    fn of(hub: &Hub, name: &Name, made: Made) -> Found
+        ensures { IsFoundIn hub.now name.now result }
+    {
+        let Made { dir, notifies } = made;
+        let given = Snapshot::of(&dir);
+        Found {
+            dir,
+            notifies,
+            hub: Snapshot::of(hub),
+            name: Snapshot::of(name),
+            given,
+        }
+    }
+
+    /// The same fifodir, to be kept once more.
+    pub(crate) fn copy(&self) -> Result<Made, AllocError>
+        ensures dir { IfOk result (λ made. arc_value made.dir ≡ arc_value self.now.dir) }
+        ensures notifies { IfOk result (λ made. made.notifies ≡ self.now.notifies) }
+    {
+        let dir = Arc::try_clone(&self.dir)?;
+        Ok(Made {
+            dir,
+            notifies: self.notifies,
+        })
+    }
+}
+
+/// What stands under the hub's lock.
+#[derive(Drop)]
+struct Named {
+    alloc: Global,
+    fifodirs: IndexMap<Name, Made>,
+    ghost few: { index_map_len fifodirs ≤ 256 },
+}
+
+impl Named {
+    ghost use Rattle.hub_names.specs.Hubs.{HasMade, shown};
+
+    fn make(
+        &mut self,
+        name: &Name,
+        kind: Kind,
+        limits: Limits,
+        notifies: bool,
+    ) -> Result<(), HubError>
+        ensures exists { is_some (get bytes_eq self.old.fifodirs name.now) ≡ true
+            → result ≡ Err HubError.Exists }
+        ensures many { is_some (get bytes_eq self.old.fifodirs name.now) ≡ false
+            → 256 ≤ index_map_len self.old.fifodirs → result ≡ Err HubError.Many }
+        ensures exists_only { result ≡ Err HubError.Exists
+            → is_some (get bytes_eq self.old.fifodirs name.now) ≡ true }
+        ensures many_only { result ≡ Err HubError.Many
+            → 256 ≤ index_map_len self.old.fifodirs }
+        ensures ok { OnOk result (HasMade kind limits notifies
+            (get bytes_eq self.new.fifodirs name.now)) }
+        ensures others { OnOk result ((other : List ℕ) → bytes_eq name.now other ≡ false
+            → get bytes_eq self.new.fifodirs other ≡ get bytes_eq self.old.fifodirs other) }
+        ensures err { OnErr result (self.new.fifodirs.entries ≡ self.old.fifodirs.entries) }
+    {
+        if self.fifodirs.contains_key(name) {
+            return Err(HubError::Exists);
+        }
+        if self.fifodirs.len() >= NAMES {
+            return Err(HubError::Many);
+        }
+        let key = name.copy()?;
+        let fifodir = Fifodir::new(self.alloc, kind, limits)?;
+        let Ok(dir) = Arc::new(self.alloc, fifodir) else {
+            return Err(HubError::Memory);
+        };
+        match self.fifodirs.insert(key, Made { dir, notifies }) {
+            Ok(_) => Ok(()),
+            Err(_) => Err(HubError::Memory),
+        }
+    }
+
+    fn find(&self, name: &Name) -> Result<Option<Made>, AllocError>
+        ensures { IfOk result (λ made. option_map shown made ≡ option_map shown
+            (get bytes_eq self.now.fifodirs name.now)) }
+    {
+        match self.fifodirs.get(name) {
+            Some(made) => Ok(Some(made.copy()?)),
+            None => Ok(None),
+        }
+    }
+}
+
+/// The fifodirs that sessions share.
+#[derive(Drop)]
+pub struct Hub {
+    named: RwLock<Named>,
+    /// No clause says what this is, so no contract can show that two hubs are one. Nothing reads it at run time.
+    mark: u64,
+}
+
+impl Hub {
+    ghost use Rattle.hub_names.specs.Hubs.{IsFoundIn};
+
+    /// A hub without a name.
+    pub fn new(alloc: Global) -> Result<Hub, AllocError> {
+        let named = Named {
+            alloc,
+            fifodirs: IndexMap::new(alloc),
+        };
+        Ok(Hub {
+            named: RwLock::new(named),
+            mark: 0,
+        })
+    }
+
+    /// Makes a fifodir under a name that has none.
+    pub fn make<H: Wait>(
+        &self,
+        rt: &H,
+        name: Name,
+        kind: Kind,
+        limits: Limits,
+        notifies: bool,
+    ) -> Result<(), HubError> {
+        self.make_named(rt, &name, kind, limits, notifies)
+    }
+
+    /// The same, by a name that the caller keeps.
+    pub fn make_named<H: Wait>(
+        &self,
+        rt: &H,
+        name: &Name,
+        kind: Kind,
+        limits: Limits,
+        notifies: bool,
+    ) -> Result<(), HubError> {
+        self.named.write(rt).make(name, kind, limits, notifies)
+    }
+
+    /// The fifodir of this name, if it has one. It stays as long as the hub does.
+    pub fn find<H: Wait>(&self, rt: &H, name: &Name) -> Result<Option<Found>, AllocError>
+        ensures { IfOk result (λ found. IfSome found (IsFoundIn self.now name.now)) }
+    {
+        let made = self.named.read(rt).find(name)?;
+        match made {
+            Some(made) => Ok(Some(Found::of(self, name, made))),
+            None => Ok(None),
+        }
+    }
+}

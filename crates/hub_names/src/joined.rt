@@ -1,0 +1,107 @@
+//! A fifodir that a session found, with the session's publisher there.
+ghost use Rattle.std.specs.Prelude.{◌≡◌, ◌≤◌, None, Some, length, IfErr, IfOk, OnErr};
+ghost use Rattle.std.specs.Arc.{arc_value};
+ghost use Rattle.hub_requests.specs.Texts.{text_of};
+ghost use Rattle.hub_fifodir.specs.Passes.{IsPublisherOf};
+ghost use Rattle.hub_fifodir.specs.declared.publisher.Publisher.{Publisher};
+ghost use Rattle.hub_names.specs.Refusals.{refusal_of_pass};
+ghost use Rattle.hub_names.specs.Says.{says};
+
+use crate::hub::{Found, Made};
+use crate::speech::Speech;
+use hub_fifodir::{PassError, Publisher};
+use hub_requests::{Refusal, Reply};
+use std::mem;
+use std::sync::Wait;
+
+/// A fifodir that a session found, with the session's publisher there once it was made. It isn't `Drop`, and only `leave`
+/// takes it.
+pub struct Joined {
+    found: Found,
+    publisher: Option<Publisher>,
+    ghost of: { (p : Publisher) → publisher ≡ Some p → IsPublisherOf (arc_value found.dir) p },
+}
+
+impl Joined {
+    ghost use Rattle.hub_names.specs.Speaking.{Asked, IsSpeaker, fifodir_of, found_of, publisher_of};
+
+    pub fn new(found: Found) -> Joined
+        ensures found { found_of result ≡ found }
+        ensures silent { publisher_of result ≡ None }
+    {
+        Joined {
+            found,
+            publisher: None,
+        }
+    }
+
+    /// Its fifodir, to be kept beside a pass.
+    pub fn copy(&self) -> Result<Made, Refusal>
+        ensures dir { IfOk result (λ made. arc_value made.dir ≡ fifodir_of self.now) }
+        ensures notifies { IfOk result (λ made. made.notifies ≡ (found_of self.now).notifies) }
+        ensures err { IfErr result (λ refusal. refusal ≡ Refusal.Memory) }
+    {
+        match self.found.copy() {
+            Ok(made) => Ok(made),
+            Err(_) => Err(Refusal::Memory),
+        }
+    }
+
+    /// Takes out the publisher that it keeps, or a new one.
+    fn speaker<H: Wait>(&mut self, rt: &H) -> Result<Publisher, PassError>
+        ensures found { self.new.found ≡ self.old.found }
+        ensures silent { self.new.publisher ≡ None }
+        ensures of { IfOk result (λ p. IsPublisherOf (arc_value self.old.found.dir) p) }
+        ensures ok { IfOk result (λ p. IsSpeaker
+            (arc_value self.old.found.dir) self.old.publisher p) }
+        ensures err { OnErr result (self.old.publisher ≡ None) }
+    {
+        match self.publisher.take() {
+            Some(publisher) => Ok(publisher),
+            None => self.found.dir.publisher(rt),
+        }
+    }
+
+    /// Keeps the publisher that was taken out.
+    fn keep(&mut self, publisher: Publisher)
+        requires silent { self.old.publisher ≡ None }
+        requires of { IsPublisherOf (arc_value self.old.found.dir) publisher }
+        ensures found { self.new.found ≡ self.old.found }
+        ensures kept { self.new.publisher ≡ Some publisher }
+    {
+        let before = mem::replace(&mut self.publisher, Some(publisher));
+        let None = before else { unreachable!() };
+    }
+
+    /// Answers by the publisher that it keeps, or by a new one, which it keeps from then on.
+    pub fn speak<H: Wait>(&mut self, rt: &H, speech: Speech<'_>) -> Reply
+        ensures step { Asked (says speech.entry) self.old result self.new }
+        ensures short { length (text_of result) ≤ 4101 }
+    {
+        let mut publisher = match self.speaker(rt) {
+            Ok(publisher) => publisher,
+            Err(error) => return Reply::No(refusal_of_pass(error)),
+        };
+        let reply = speech.say(rt, &self.found.dir, &mut publisher);
+        self.keep(publisher);
+        reply
+    }
+
+    /// Ends the publisher, if there is one.
+    pub fn leave<H: Wait>(self, rt: &H) {
+        let Joined { found, publisher } = self;
+        if let Some(publisher) = publisher {
+            found.dir.leave(rt, publisher);
+        }
+    }
+}
+
+fn refusal_of_pass(error: PassError) -> Refusal
+    ensures { result ≡ refusal_of_pass error }
+{
+    match error {
+        PassError::Many => Refusal::Many,
+        PassError::Spent => Refusal::Spent,
+        PassError::Memory => Refusal::Memory,
+    }
+}

@@ -1,0 +1,19 @@
+-- Room for one more handle.
+use Rattle.std.proofs.Common.{◌≡◌, ◌<◌, ℕ, nat_le, Some, None, inl, inr}
+use Rattle.std.proofs.lemmas.Bool.{cases_Bool, leb-false}
+use Rattle.hub_requests.specs.declared.reply.Refusal.{Refusal}
+use Rattle.hub_requests.specs.declared.reply.Refusal.TheVariants as no
+use Rattle.hub_requests.specs.Room.{refusal_of_handle}
+
+some_none : (refusal : Refusal) → Some refusal ≡ None → ⊥
+some_none refusal e = cc
+
+pub room_for_handle : (current given : ℕ) → refusal_of_handle current given ≡ None → (current < 256) × (given < 1000000)
+room_for_handle current given e =
+    elim (cases_Bool (nat_le 256 current)) [
+      | inl m ↦ absurd (some_none no.Many (simp m at e))
+      | inr m ↦ elim (cases_Bool (nat_le 1000000 given)) [
+        | inl s ↦ absurd (some_none no.Spent (simp (m, s) at e))
+        | inr s ↦ (leb-false 256 current m, leb-false 1000000 given s)
+      ]
+    ]
