@@ -8,7 +8,7 @@ use Rattle.hub_requests.specs.declared.reply.Reply.TheVariants.{Done, Number, St
 use Rattle.hub_fifodir.specs.declared.PassError.{PassError}
 use Rattle.hub_fifodir.specs.declared.fifodir.Fifodir.{Fifodir}
 use Rattle.hub_fifodir.specs.declared.publisher.Publisher.{Publisher}
-use Rattle.hub_fifodir.specs.Passes.{IsPublisherOf, IsStatusOf, IsRefusedAt, HasPublished, KnewOwnClose, closed_mark, mine, publisher_sight}
+use Rattle.hub_fifodir.specs.Passes.{IsPublisherOf, IsStatusOf, IsRefusedAt, HasPublished, KnewOwnClose, closed_mark, mine, publisher_number, publisher_sight}
 use Rattle.hub_fifodir.specs.Steps.{Grows}
 use Rattle.hub_record.specs.declared.PubError.{PubError}
 use Rattle.hub_shared.specs.declared.shared_desk.joined.Joined.{Joined}
@@ -21,7 +21,7 @@ fifodir_of j = arc_value j.found.dir
 pub record IsNew (dir : Fifodir) (p : Publisher) : Type 0 where
   pub of : IsPublisherOf dir p
   pub silent : mine p ≡ []
-  pub unclosed : closed_mark p ≢ p.number
+  pub unclosed : closed_mark p ≢ publisher_number p
 
 -- the publisher that is kept speaks, and where none is kept a new one
 abbrev pub IsSpeaker : Fifodir → Option Publisher → Publisher → Type 0
@@ -39,7 +39,7 @@ says_published letters p _ q = ⊥
 
 -- it closes what it hadn't seen closed, or sees who did
 abbrev pub says_closed : Publisher → Reply → Publisher → Type 0
-says_closed p Done q = (closed_mark p ≡ 0) × (closed_mark q ≡ p.number) × (mine q ≡ mine p)
+says_closed p Done q = (closed_mark p ≡ 0) × (closed_mark q ≡ publisher_number p) × (mine q ≡ mine p)
 says_closed p (No refusal) q = (refusal ≡ no.Closed) × (closed_mark q ≢ 0) × KnewOwnClose p q × (mine q ≡ mine p)
 says_closed p _ q = ⊥
 
@@ -55,7 +55,7 @@ pub record HasSpoken (old : Joined) (p q : Publisher) (new : Joined) : Type 0 wh
   pub found : new.found ≡ old.found
   pub speaker : IsSpeaker (fifodir_of old) old.publisher p
   pub kept : new.publisher ≡ Some q
-  pub same : q.number ≡ p.number
+  pub same : publisher_number q ≡ publisher_number p
   pub seen : Grows (publisher_sight p) (publisher_sight q)
 
 pub record Spoke (says : Publisher → Reply → Publisher → Type 0) (old : Joined) (reply : Reply) (new : Joined) : Type 0 where

@@ -12,14 +12,14 @@ pub returns-in-Ok-published-clause-step : goal.returns-in-Ok-published-clause-st
 returns-in-Ok-published-clause-step g c =
     let own = c.in-Ok-published.ensures in
     spoke _ _ _ _ c.in-Ok.publisher c.publish-published.new.me
-    (record { found = c.keep.ensures.found ∙ c.speaker.ensures.found; speaker = c.in-Ok.ensures.ok; kept = c.keep.ensures.kept; same = own.pass.1; seen = own.seen })
+    (record { found = c.keep.ensures.found ∙ c.speaker.ensures.found; speaker = c.in-Ok.ensures.ok; kept = c.keep.ensures.kept; same = own.remains.number; seen = own.remains.seen })
     (subst (λ (m : List ℕ). HasPublished c.in-Ok.publisher m c.in-Ok-published.first c.publish-published.new.me) c.items.ensures own.ok)
 
 pub returns-in-Err-published-clause-step : goal.returns-in-Err-published-clause-step
 returns-in-Err-published-clause-step g c =
     let own = c.in-Err-published.ensures in
     spoke _ _ _ _ c.in-Ok.publisher c.publish-published.new.me
-    (record { found = c.keep.ensures.found ∙ c.speaker.ensures.found; speaker = c.in-Ok.ensures.ok; kept = c.keep.ensures.kept; same = own.pass.1; seen = own.seen })
+    (record { found = c.keep.ensures.found ∙ c.speaker.ensures.found; speaker = c.in-Ok.ensures.ok; kept = c.keep.ensures.kept; same = own.remains.number; seen = own.remains.seen })
     (c.in-Err-published.error, c.from.ensures, subst (λ (m : List ℕ). IsRefusedAt c.publish-published.new.me m c.in-Err-published.error) c.items.ensures own.refused, own.err, own.own)
 
 pub returns-in-Ok-published-clause-short : goal.returns-in-Ok-published-clause-short
