@@ -10,8 +10,9 @@ use Rattle.hub_fifodir.specs.declared.views.Sight.{Sight}
 use Rattle.hub_fifodir.specs.declared.views.View.{View}
 use Rattle.hub_fifodir.specs.Events.{is_closed}
 use Rattle.hub_fifodir.specs.Rule.{book_of, IsBehind, IsSound, IsNumbered, sight}
-use Rattle.hub_fifodir.specs.Steps.{M, Front, Grows, GrowsIfAny, Renews, IsIdle, Looks, with_note}
-use Rattle.hub_fifodir.specs.Passes.{Learns}
+use Rattle.hub_fifodir.specs.Steps.{M, Front, Grows, GrowsIfAny, KnowsOwnClose, Renews, IsIdle, Looks, with_note}
+use Rattle.hub_fifodir.specs.declared.fifodir.Fifodir.{Fifodir}
+use Rattle.hub_fifodir.specs.Passes.{PassView, IsOf, HasSoundSight, Remains, OnlyLooks}
 use Rattle.hub_fifodir.proofs.Logs.{starts_self, starts_through, starts_whole}
 
 pub grows_self : (s : Sight) → Grows s s
@@ -31,16 +32,35 @@ joined_look m m1 m' n h e r out =
       r'.met,
     )
 
-pub learns_self : (r : Role) (s : Sight) → Learns r s s
-learns_self r s = (grows_self s, λ n a b c. refl)
+own_through : (r r' : Role) (s t u : Sight) → r' ≡ r → KnowsOwnClose r s t → KnowsOwnClose r' t u → KnowsOwnClose r s u
+own_through r r' s t u same p q n is marked some_mark =
+    let late : t ≡ u = q n (subst (IsNumbered n) (sym same) is) marked some_mark in
+    p n is (ap (λ (x : Sight). x.closed) late ∙ marked) some_mark ∙ late
 
-pub learns_through : (r r' : Role) (s t u : Sight) → r' ≡ r → Learns r s t → Learns r' t u → Learns r s u
-learns_through r r' s t u same p q = (
-  grows_through s t u p.0 q.0,
-  λ n is marked some_mark.
-      let late : t ≡ u = q.1 n (subst (IsNumbered n) (sym same) is) marked some_mark in
-      p.1 n is (ap (λ (x : Sight). x.closed) late ∙ marked) some_mark ∙ late,
-)
+pub looks_self : (p : PassView) → OnlyLooks p p
+looks_self p = record { table = refl; rules = refl; number = refl; place = refl; role = refl; own = λ n a b c. refl }
+
+pub looks_through : (a b c : PassView) → OnlyLooks a b → OnlyLooks b c → OnlyLooks a c
+looks_through a b c p q = record {
+  table = q.table ∙ p.table;
+  rules = q.rules ∙ p.rules;
+  number = q.number ∙ p.number;
+  place = q.place ∙ p.place;
+  role = q.role ∙ p.role;
+  own = own_through a.role b.role a.sight b.sight c.sight p.role p.own q.own;
+}
+
+pub looks_still : (old mid new : PassView) → OnlyLooks old mid → new ≡ mid → OnlyLooks old new
+looks_still old mid new p e = subst (λ (x : PassView). OnlyLooks old x) (sym e) p
+
+pub grows_still : (s t u : Sight) → Grows s t → u ≡ t → Grows s u
+grows_still s t u p e = subst (λ (x : Sight). Grows s x) (sym e) p
+
+pub remains_still : (f : Fifodir) (old mid new : PassView) → Remains f old mid → new ≡ mid → Remains f old new
+remains_still f old mid new p e = subst (λ (x : PassView). Remains f old x) (sym e) p
+
+pub remains : (f : Fifodir) (old new : PassView) → IsOf f old → OnlyLooks old new → Grows old.sight new.sight → HasSoundSight new → Remains f old new
+remains f old new of looks seen sound = record { of = (looks.table ∙ of.0, looks.rules ∙ of.1); number = looks.number; sound = sound; seen = seen }
 
 -- ---- the same front word, for a prefix
 

@@ -6,4 +6,3 @@ pub mod Steps
 pub mod Notes
 pub mod Passes
 pub mod Laws
-pub mod PassNumbers

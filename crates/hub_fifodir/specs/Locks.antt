@@ -2,10 +2,21 @@
 use Rattle.std.specs.Prelude.{◌≡◌, ℕ, ◌+◌, ◌<◌, ◌≤◌, Bool, true, false, cond, List, length, Result, Ok, Err, nat_eq}
 use Rattle.std.specs.List.{list_any}
 use Rattle.hub_record.specs.World.{World}
-use Rattle.hub_record.specs.Kept.{StandsFor}
+use Rattle.hub_record.specs.Kept.{Kept, StandsFor}
 use Rattle.hub_fifodir.specs.declared.PassError.{PassError}
 use Rattle.hub_fifodir.specs.declared.PassError.TheVariants as pass
 use Rattle.hub_fifodir.specs.declared.locked.Locked.{Locked}
+
+-- what a contract sees of its record
+abbrev pub record_of : Locked → Kept
+record_of b = b.kept
+
+-- the numbers of the current publishers, and how many numbers were given
+abbrev pub numbers_of : Locked → List ℕ
+numbers_of b = b.standing.keys
+
+abbrev pub given_by : Locked → ℕ
+given_by b = b.given
 
 -- its record stands for the world
 pub record Stands (b : Locked) (w : World) : Type 0 where

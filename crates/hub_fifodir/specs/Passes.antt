@@ -1,5 +1,5 @@
 -- What contracts say about a fifodir and its passes.
-use Rattle.std.specs.Prelude.{◌≡◌, ◌≢◌, ℕ, ◌+◌, ◌-◌, ◌<◌, ◌≤◌, ◌++◌, min, length, drop, List, []}
+use Rattle.std.specs.Prelude.{◌≡◌, ◌≢◌, ℕ, ◌+◌, ◌-◌, ◌<◌, ◌≤◌, ◌++◌, min, length, drop, List, [], Option, Some, None}
 use Rattle.atomic_table.specs.Seated.{TableId}
 use Rattle.hub_letters.specs.Flags.{flags_of}
 use Rattle.hub_record.specs.declared.Event.{Event}
@@ -35,60 +35,105 @@ kind_of f = f.rules.kind
 abbrev pub limits_of : Fifodir → Limits
 limits_of f = f.rules.limits
 
+-- ---- passes
+
+-- what a contract sees of a publisher or a ticket
+pub record PassView : Type 0 where
+  -- the table of its fifodir, and that fifodir's kind and limits
+  pub table : TableId
+  pub rules : Rules
+  -- a publisher's number, or a ticket's id
+  pub number : ℕ
+  -- a ticket's mark, and the number of the event that it takes next
+  pub place : Option (ℕ × ℕ)
+  -- what it has done as a publisher or a ticket
+  pub role : Role
+  -- what it has seen of the record
+  pub sight : Sight
+
 -- this fifodir made the pass, and the pass has its kind and limits
-abbrev pub IsOf : Fifodir → TableId → Rules → Type 0
-IsOf f table rules = (table ≡ f.table.shared.table_id) × (rules ≡ f.rules)
+abbrev pub IsOf : Fifodir → PassView → Type 0
+IsOf f p = (p.table ≡ table_of f) × (p.rules ≡ rules_of f)
+
+-- what it has seen is within the total, and is lawful if the fifodir is a service's
+abbrev pub HasSoundSight : PassView → Type 0
+HasSoundSight p = IsSound p.rules p.sight.seen
+
+-- after each call of a fifodir on a pass
+pub record Remains (f : Fifodir) (old new : PassView) : Type 0 where
+  pub of : IsOf f new
+  pub number : new.number ≡ old.number
+  pub sound : HasSoundSight new
+  pub seen : Grows old.sight new.sight
+
+-- it is the same pass, which did nothing but look; if it closed the record itself, it had seen that before
+pub record OnlyLooks (old new : PassView) : Type 0 where
+  pub table : new.table ≡ old.table
+  pub rules : new.rules ≡ old.rules
+  pub number : new.number ≡ old.number
+  pub place : new.place ≡ old.place
+  pub role : new.role ≡ old.role
+  pub own : KnowsOwnClose old.role old.sight new.sight
 
 -- ---- publishers
 
+abbrev pub publisher_number : Publisher → ℕ
+publisher_number p = p.number
+
+abbrev pub publisher_view : Publisher → PassView
+publisher_view p = record { table = p.seat.table_id; rules = p.seat.me.0.rules; number = p.number; place = None; role = p.seat.me.0.role; sight = p.seat.me.0.sight }
+
 abbrev pub IsPublisherOf : Fifodir → Publisher → Type 0
-IsPublisherOf f p = IsOf f p.seat.table_id p.seat.me.0.rules
+IsPublisherOf f p = IsOf f (publisher_view p)
 
 abbrev pub publisher_sight : Publisher → Sight
-publisher_sight p = p.seat.me.0.sight
+publisher_sight p = (publisher_view p).sight
 
 abbrev pub seen : Publisher → List Event
-seen p = p.seat.me.0.sight.seen
+seen p = (publisher_sight p).seen
 
 -- 0, or the number of the publisher that closed
 abbrev pub closed_mark : Publisher → ℕ
-closed_mark p = p.seat.me.0.sight.closed
+closed_mark p = (publisher_sight p).closed
 
 abbrev pub mine : Publisher → List ℕ
-mine p = mine_of p.seat.me.0.role
-
--- what it has seen is within the total, and is lawful if the fifodir is a service's
-abbrev pub IsPublisherSound : Publisher → Type 0
-IsPublisherSound p = IsSound p.seat.me.0.rules p.seat.me.0.sight.seen
+mine p = mine_of (publisher_view p).role
 
 -- ---- tickets
 
+abbrev pub ticket_id : Ticket → ℕ
+ticket_id t = t.id
+
+-- the number of events when it subscribed
+abbrev pub ticket_mark : Ticket → ℕ
+ticket_mark t = t.mark
+
+-- the number of the event that it takes next
+abbrev pub ticket_next : Ticket → ℕ
+ticket_next t = t.next
+
+abbrev pub ticket_view : Ticket → PassView
+ticket_view t = record { table = t.seat.table_id; rules = t.seat.me.0.rules; number = t.id; place = Some (t.mark, t.next); role = t.seat.me.0.role; sight = t.seat.me.0.sight }
+
 abbrev pub IsTicketOf : Fifodir → Ticket → Type 0
-IsTicketOf f t = IsOf f t.seat.table_id t.seat.me.0.rules
+IsTicketOf f t = IsOf f (ticket_view t)
 
 abbrev pub ticket_sight : Ticket → Sight
-ticket_sight t = t.seat.me.0.sight
+ticket_sight t = (ticket_view t).sight
 
 abbrev pub ticket_seen : Ticket → List Event
-ticket_seen t = t.seat.me.0.sight.seen
+ticket_seen t = (ticket_sight t).seen
 
 abbrev pub ticket_closed : Ticket → ℕ
-ticket_closed t = t.seat.me.0.sight.closed
+ticket_closed t = (ticket_sight t).closed
 
 abbrev pub got : Ticket → List Event
-got t = got_of t.seat.me.0.role
+got t = got_of (ticket_view t).role
 
 abbrev pub ticket_rules : Ticket → Rules
-ticket_rules t = t.seat.me.0.rules
-
-abbrev pub IsTicketSound : Ticket → Type 0
-IsTicketSound t = IsSound t.seat.me.0.rules t.seat.me.0.sight.seen
+ticket_rules t = (ticket_view t).rules
 
 -- ---- what a pass has seen after a call
-
--- it has seen at least as much as before, and if it closed the record itself, it had seen that before
-abbrev pub Learns : Role → Sight → Sight → Type 0
-Learns r s t = Grows s t × KnowsOwnClose r s t
 
 -- the status of what it has seen
 abbrev pub IsStatusOf : Status → Sight → Type 0
@@ -96,12 +141,12 @@ IsStatusOf s t = (s.number ≡ length t.seen) × (s.flags ≡ flags_of (letters 
 
 -- if the publisher itself had closed the record, it had seen that before
 abbrev pub KnewOwnClose : Publisher → Publisher → Type 0
-KnewOwnClose old new = closed_mark new ≡ new.number → closed_mark old ≢ 0
+KnewOwnClose old new = closed_mark new ≡ publisher_number new → closed_mark old ≢ 0
 
 -- a message was accepted: it is last in what is seen now
 abbrev pub HasPublished : Publisher → List ℕ → ℕ → Publisher → Type 0
 HasPublished old message n new = (closed_mark new ≡ 0) × (n + length message ≡ length (seen new)) × (mine new ≡ mine old ++ message)
-    × ((others : List Event) × (seen new ≡ (seen old ++ others) ++ stamped old.number message))
+    × ((others : List Event) × (seen new ≡ (seen old ++ others) ++ stamped (publisher_number old) message))
 
 -- why a message was refused, by what the publisher has then seen
 abbrev pub IsRefusedBy : Rules → Sight → List ℕ → PubError → Type 0
@@ -112,27 +157,27 @@ IsRefusedBy rules s message post.Full = (s.closed ≡ 0) × IsLawfulIn rules.kin
     × (0 < length message) × (rules.limits.waiting < length s.seen + length message)
 
 abbrev pub IsRefusedAt : Publisher → List ℕ → PubError → Type 0
-IsRefusedAt p message e = IsRefusedBy p.seat.me.0.rules p.seat.me.0.sight message e
+IsRefusedAt p message e = IsRefusedBy (publisher_view p).rules (publisher_sight p) message e
 
 -- a ticket begins at the end of what it has seen
 abbrev pub HasSubscribed : Ticket → Type 0
-HasSubscribed t = (t.mark ≡ length (ticket_seen t)) × (t.next ≡ t.mark) × (got t ≡ [])
+HasSubscribed t = (ticket_mark t ≡ length (ticket_seen t)) × (ticket_next t ≡ ticket_mark t) × (got t ≡ [])
 
 -- what a take into this many places reports, by what the ticket has then seen
 abbrev pub HasTaken : Ticket → ℕ → Taken → Ticket → Type 0
-HasTaken old most (Got n) new = (old.next < length (ticket_seen new)) × (n ≡ min most (length (ticket_seen new) - old.next)) × (new.next ≡ old.next + n)
-    × (got new ≡ got old ++ slice old.next (old.next + n) (ticket_seen new))
-HasTaken old most Nothing new = (old.next ≡ length (ticket_seen new)) × (ticket_closed new ≡ 0) × (new.next ≡ old.next) × (got new ≡ got old)
-HasTaken old most End new = (old.next ≡ length (ticket_seen new)) × (ticket_closed new ≢ 0) × (new.next ≡ old.next) × (got new ≡ got old)
+HasTaken old most (Got n) new = (ticket_next old < length (ticket_seen new)) × (n ≡ min most (length (ticket_seen new) - ticket_next old)) × (ticket_next new ≡ ticket_next old + n)
+    × (got new ≡ got old ++ slice (ticket_next old) (ticket_next old + n) (ticket_seen new))
+HasTaken old most Nothing new = (ticket_next old ≡ length (ticket_seen new)) × (ticket_closed new ≡ 0) × (ticket_next new ≡ ticket_next old) × (got new ≡ got old)
+HasTaken old most End new = (ticket_next old ≡ length (ticket_seen new)) × (ticket_closed new ≢ 0) × (ticket_next new ≡ ticket_next old) × (got new ≡ got old)
 
 -- the slice after that take
 abbrev pub filled : Ticket → Taken → Ticket → List Event → List Event
-filled old (Got n) new out = slice old.next (old.next + n) (ticket_seen new) ++ drop n out
+filled old (Got n) new out = slice (ticket_next old) (ticket_next old + n) (ticket_seen new) ++ drop n out
 filled old Nothing new out = out
 filled old End new out = out
 
 -- the letters of what was taken
 abbrev pub sent_on : Ticket → Taken → Ticket → List ℕ
-sent_on old (Got n) new = letters (slice old.next (old.next + n) (ticket_seen new))
+sent_on old (Got n) new = letters (slice (ticket_next old) (ticket_next old + n) (ticket_seen new))
 sent_on old Nothing new = []
 sent_on old End new = []

@@ -1,10 +1,9 @@
 //! The fifodir, and what a pass reads of it without the lock.
 ghost use Rattle.std.specs.Prelude.{◌≡◌, length, IfOk};
 ghost use Rattle.hub_fifodir.specs.Notes.{IsSized};
-ghost use Rattle.hub_fifodir.specs.Rule.{IsSound};
 
 use crate::locked::Locked;
-use crate::pass::Pass;
+use crate::pass::{Pass, Seated};
 use crate::rule::{Board, OneHistory};
 use crate::views::{Rules, View};
 use crate::word;
@@ -26,7 +25,7 @@ pub struct Fifodir {
 }
 
 impl Fifodir {
-    ghost use Rattle.hub_fifodir.specs.Passes.{IsOf, IsStatusOf, Learns, table_of, kind_of, limits_of};
+    ghost use Rattle.hub_fifodir.specs.Passes.{IsOf, IsStatusOf, OnlyLooks, Remains, table_of, rules_of, kind_of, limits_of};
 
     /// An open fifodir without events and passes.
     pub fn new(alloc: Global, kind: Kind, limits: Limits) -> Result<Fifodir, AllocError>
@@ -54,7 +53,7 @@ impl Fifodir {
 
     pub(crate) fn board(&self) -> &Board
         ensures { (result.now.table_id ≡ table_of self.now) × IsSized result.now.table_id
-            × (result.now.key ≡ self.now.rules) }
+            × (result.now.key ≡ rules_of self.now) }
     {
         &self.table.shared
     }
@@ -66,24 +65,20 @@ impl Fifodir {
     /// The number of events, the flags and whether it is closed, all of one moment. It is one load of the front word,
     /// and never waits for the lock.
     pub fn status<A: Pass>(&self, me: &mut A) -> Status
-        requires { IsOf self.now (A.table me.old) (A.rules me.old) }
-        ensures pass { IsOf self.now (A.table me.new) (A.rules me.new)
-            × (A.role me.new ≡ A.role me.old) × (A.numbers me.new ≡ A.numbers me.old) }
-        ensures sound { IsSound (A.rules me.new) (A.sight me.new).seen }
-        ensures seen { Learns (A.role me.old) (A.sight me.old) (A.sight me.new) }
-        ensures status { IsStatusOf result (A.sight me.new) }
+        requires { IsOf self.now (A.view me.old) }
+        ensures remains { Remains self.now (A.view me.old) (A.view me.new) }
+        ensures looks { OnlyLooks (A.view me.old) (A.view me.new) }
+        ensures status { IsStatusOf result (A.view me.new).sight }
     {
         word::unpack(me.look(self.board()))
     }
 
     /// The number of events. It is one load of the front word, and never waits for the lock.
     pub fn front<A: Pass>(&self, me: &mut A) -> u64
-        requires { IsOf self.now (A.table me.old) (A.rules me.old) }
-        ensures pass { IsOf self.now (A.table me.new) (A.rules me.new)
-            × (A.role me.new ≡ A.role me.old) × (A.numbers me.new ≡ A.numbers me.old) }
-        ensures sound { IsSound (A.rules me.new) (A.sight me.new).seen }
-        ensures seen { Learns (A.role me.old) (A.sight me.old) (A.sight me.new) }
-        ensures number { result ≡ length (A.sight me.new).seen }
+        requires { IsOf self.now (A.view me.old) }
+        ensures remains { Remains self.now (A.view me.old) (A.view me.new) }
+        ensures looks { OnlyLooks (A.view me.old) (A.view me.new) }
+        ensures number { result ≡ length (A.view me.new).sight.seen }
     {
         self.status(me).number
     }
@@ -91,16 +86,13 @@ impl Fifodir {
     /// Brings two passes together: afterwards both have seen the same record. It takes no lock, and looks again until
     /// the front word was the same before and after.
     pub fn meet<R: Wait, A: Pass, B: Pass>(&self, rt: &R, one: &mut A, other: &mut B)
-        requires one { IsOf self.now (A.table one.old) (A.rules one.old) }
-        requires other { IsOf self.now (B.table other.old) (B.rules other.old) }
-        ensures one { IsOf self.now (A.table one.new) (A.rules one.new)
-            × (A.role one.new ≡ A.role one.old) × (A.numbers one.new ≡ A.numbers one.old) }
-        ensures other { IsOf self.now (B.table other.new) (B.rules other.new)
-            × (B.role other.new ≡ B.role other.old) × (B.numbers other.new ≡ B.numbers other.old) }
-        ensures sound { IsSound (A.rules one.new) (A.sight one.new).seen }
-        ensures one_seen { Learns (A.role one.old) (A.sight one.old) (A.sight one.new) }
-        ensures other_seen { Learns (B.role other.old) (B.sight other.old) (B.sight other.new) }
-        ensures same { B.sight other.new ≡ A.sight one.new }
+        requires one { IsOf self.now (A.view one.old) }
+        requires other { IsOf self.now (B.view other.old) }
+        ensures one { Remains self.now (A.view one.old) (A.view one.new) }
+        ensures other { Remains self.now (B.view other.old) (B.view other.new) }
+        ensures one_looks { OnlyLooks (A.view one.old) (A.view one.new) }
+        ensures other_looks { OnlyLooks (B.view other.old) (B.view other.new) }
+        ensures same { (B.view other.new).sight ≡ (A.view one.new).sight }
     {
         let board = self.board();
         for _ in rt.forever() {

@@ -1,8 +1,9 @@
 //! Laws: facts without code, which hold for every table under the rule and for every pass.
 ghost use Rattle.std.specs.Prelude.{◌≡◌, ◌≤◌, ◌++◌, drop, length};
 ghost use Rattle.hub_record.specs.Runs.{by};
-ghost use Rattle.hub_fifodir.specs.Laws.{TicketsDiffer, PublishersDiffer, SeatsAgree, RecordIsHistory, TicketsHaveCursors, CursorsHaveTickets, StandingHavePublishers, BaseIsBehind};
-ghost use Rattle.hub_fifodir.specs.Passes.{seen, mine, ticket_seen, ticket_rules, got};
+ghost use Rattle.hub_fifodir.specs.Laws.{TicketsDiffer, PublishersDiffer, SeatsAgree, RecordIsHistory};
+ghost use Rattle.hub_fifodir.specs.Laws.{TicketsHaveCursors, CursorsHaveTickets, StandingHavePublishers, BaseIsBehind};
+ghost use Rattle.hub_fifodir.specs.Passes.{publisher_number, seen, mine, ticket_mark, ticket_next, ticket_seen, ticket_rules, got};
 
 use crate::publisher::Publisher;
 use crate::ticket::Ticket;
@@ -50,13 +51,13 @@ pub fn base_is_behind()
 /// What a ticket took, followed by what is pending behind its cursor, is the record since it subscribed, each event
 /// once and in order.
 pub fn takes_each_once(_ticket: &Ticket)
-    ensures { got _ticket.now ++ drop _ticket.now.next
-        (ticket_seen _ticket.now) ≡ drop _ticket.now.mark (ticket_seen _ticket.now) }
+    ensures { got _ticket.now ++ drop (ticket_next _ticket.now) (ticket_seen _ticket.now)
+        ≡ drop (ticket_mark _ticket.now) (ticket_seen _ticket.now) }
 {}
 
 /// The record has exactly those events of a publisher that it published, in their order.
 pub fn publishes_each_once(_publisher: &Publisher)
-    ensures { by _publisher.now.number (seen _publisher.now) ≡ mine _publisher.now }
+    ensures { by (publisher_number _publisher.now) (seen _publisher.now) ≡ mine _publisher.now }
 {}
 
 /// A record never has more events than the total of its limits.

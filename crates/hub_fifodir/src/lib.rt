@@ -16,11 +16,11 @@ pub mod laws;
 mod locked;
 mod pass;
 mod publisher;
-pub mod rule;
+mod rule;
 mod steps;
 mod ticket;
 pub mod together;
-pub mod views;
+mod views;
 pub mod word;
 
 pub use fifodir::Fifodir;

@@ -1,7 +1,9 @@
 //! The value behind the lock.
 ghost use Rattle.std.specs.Prelude.{◌≡◌, ◌++◌, [], length, drop, IfOk, OnErr, OnOk};
-ghost use Rattle.hub_record.specs.World.{World, empty_world, SubscribeReply, after_subscribe, PublishReply, after_publish, take_reply, take_events, after_take, cancel_reply, after_cancel, close_reply, after_close};
-ghost use Rattle.hub_fifodir.specs.Locks.{Stands, PublisherReply, IsAfterPublisher, HasLeft, KeepsPublishers, KeepsRecord};
+ghost use Rattle.hub_record.specs.World.{World, empty_world, SubscribeReply, after_subscribe, PublishReply, after_publish};
+ghost use Rattle.hub_record.specs.World.{take_reply, take_events, after_take, cancel_reply, after_cancel, close_reply, after_close};
+ghost use Rattle.hub_fifodir.specs.Locks.{Stands, record_of, numbers_of, given_by};
+ghost use Rattle.hub_fifodir.specs.Locks.{PublisherReply, IsAfterPublisher, HasLeft, KeepsPublishers, KeepsRecord};
 
 use crate::PassError;
 use hub_letters::Letter;
@@ -25,8 +27,8 @@ pub struct Locked {
 impl Locked {
     /// An open record without events, and no publisher.
     pub fn new(alloc: Global, kind: Kind, limits: Limits) -> Result<Locked, AllocError>
-        ensures { IfOk result (λ b. Stands b (empty_world kind limits) × (b.standing.keys ≡ [])
-            × (b.given ≡ 0)) }
+        ensures { IfOk result (λ b. Stands b (empty_world kind limits) × (numbers_of b ≡ [])
+            × (given_by b ≡ 0)) }
     {
         Ok(Locked {
             kept: Record::new(alloc, kind, limits)?,
@@ -125,8 +127,9 @@ impl Locked {
 
     /// The number of events, the flags and whether the record is closed.
     pub fn status(&self) -> Status
-        ensures { (result.number ≡ self.now.kept.end) × (result.flags ≡ self.now.kept.flags)
-            × (result.closed ≡ self.now.kept.closed) }
+        ensures { (result.number ≡ (record_of self.now).end)
+            × (result.flags ≡ (record_of self.now).flags)
+            × (result.closed ≡ (record_of self.now).closed) }
     {
         Status {
             number: self.kept.end(),
@@ -137,7 +140,7 @@ impl Locked {
 
     /// The number of events so far.
     pub fn front(&self) -> u64
-        ensures { result ≡ self.now.kept.end }
+        ensures { result ≡ (record_of self.now).end }
     {
         self.kept.end()
     }

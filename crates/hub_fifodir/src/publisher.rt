@@ -1,9 +1,9 @@
 //! Publishers, and the calls of a fifodir that take one.
-ghost use Rattle.std.specs.Prelude.{◌≡◌, ◌≢◌, ◌<◌, [], ◌∷◌, IfOk, IfErr, OnErr, OnOk};
-ghost use Rattle.hub_fifodir.specs.Steps.{IsWriter, Grows};
+ghost use Rattle.std.specs.Prelude.{◌≡◌, ◌≢◌, ◌<◌, [], IfOk, IfErr, OnErr, OnOk};
+ghost use Rattle.hub_fifodir.specs.Steps.{IsWriter};
 
 use crate::fifodir::Fifodir;
-use crate::pass::Pass;
+use crate::pass::{Pass, Seated};
 use crate::rule::{Board, Seat};
 use crate::{PassError, steps, word};
 use hub_letters::Letter;
@@ -20,25 +20,28 @@ pub struct Publisher {
 }
 
 impl Publisher {
+    ghost use Rattle.hub_fifodir.specs.Passes.{publisher_number};
+
     /// The number that its events carry.
     pub fn number(&self) -> u64
-        ensures { result ≡ self.now.number }
+        ensures { result ≡ publisher_number self.now }
     {
         self.number
     }
 }
 
 impl Fifodir {
-    ghost use Rattle.hub_fifodir.specs.Passes.{IsPublisherOf, IsPublisherSound, publisher_sight, closed_mark, mine, KnewOwnClose, HasPublished, IsRefusedAt};
+    ghost use Rattle.hub_fifodir.specs.Passes.{IsPublisherOf, Remains, HasSoundSight, publisher_number, publisher_view};
+    ghost use Rattle.hub_fifodir.specs.Passes.{closed_mark, mine, KnewOwnClose, HasPublished, IsRefusedAt};
 
     /// A new publisher, which has published nothing. A closed fifodir gives publishers too.
     pub fn publisher<R: Wait>(&self, rt: &R) -> Result<Publisher, PassError>
-        ensures { IfOk result (λ p. IsPublisherOf self.now p × IsPublisherSound p × (mine p ≡ [])
-            × (closed_mark p ≢ p.number)) }
+        ensures { IfOk result (λ p. IsPublisherOf self.now p × HasSoundSight (publisher_view p)
+            × (mine p ≡ []) × (closed_mark p ≢ publisher_number p)) }
     {
         let board = self.board();
         let mut seat = steps::enter(board);
-        let mut held = steps::take_turn(rt, board, self.sleepers(), &mut seat);
+        let mut held = self.lock(rt, &mut seat);
         match held.locked.publisher() {
             Ok(number) => {
                 steps::rest_as_publisher(board, &mut seat, held);
@@ -59,16 +62,14 @@ impl Fifodir {
         letters: &[Letter],
     ) -> Result<u64, PubError>
         requires { IsPublisherOf self.now me.old }
-        ensures pass { IsPublisherOf self.now me.new × (me.new.number ≡ me.old.number) }
-        ensures sound { IsPublisherSound me.new }
-        ensures seen { Grows (publisher_sight me.old) (publisher_sight me.new) }
+        ensures remains { Remains self.now (publisher_view me.old) (publisher_view me.new) }
         ensures own { KnewOwnClose me.old me.new }
         ensures ok { IfOk result (λ n. HasPublished me.old letters.now n me.new) }
         ensures err { OnErr result (mine me.new ≡ mine me.old) }
         ensures refused { IfErr result (λ e. IsRefusedAt me.new letters.now e) }
     {
         let board = self.board();
-        let mut held = steps::take_turn(rt, board, self.sleepers(), &mut me.seat);
+        let mut held = self.lock(rt, &mut me.seat);
         match held.locked.publish(me.number, letters) {
             Ok(first) => {
                 let word = word::pack(held.locked.status());
@@ -86,15 +87,14 @@ impl Fifodir {
     /// Closes the fifodir for events and subscriptions.
     pub fn close<R: Wait>(&self, rt: &R, me: &mut Publisher) -> Result<(), Closed>
         requires { IsPublisherOf self.now me.old }
-        ensures pass { IsPublisherOf self.now me.new × (me.new.number ≡ me.old.number)
-            × (mine me.new ≡ mine me.old) }
-        ensures sound { IsPublisherSound me.new }
-        ensures seen { Grows (publisher_sight me.old) (publisher_sight me.new) }
-        ensures ok { OnOk result ((closed_mark me.old ≡ 0) × (closed_mark me.new ≡ me.old.number)) }
+        ensures remains { Remains self.now (publisher_view me.old) (publisher_view me.new) }
+        ensures mine { mine me.new ≡ mine me.old }
+        ensures ok { OnOk result ((closed_mark me.old ≡ 0)
+            × (closed_mark me.new ≡ publisher_number me.old)) }
         ensures err { OnErr result ((closed_mark me.new ≢ 0) × KnewOwnClose me.old me.new) }
     {
         let board = self.board();
-        let mut held = steps::take_turn(rt, board, self.sleepers(), &mut me.seat);
+        let mut held = self.lock(rt, &mut me.seat);
         match held.locked.close() {
             Ok(()) => {
                 let word = word::pack(held.locked.status());
@@ -115,22 +115,18 @@ impl Fifodir {
     {
         let Publisher { number, mut seat } = me;
         let board = self.board();
-        let mut held = steps::take_turn(rt, board, self.sleepers(), &mut seat);
+        let mut held = self.lock(rt, &mut seat);
         held.locked.leave(number);
         steps::rest_left(board, &mut seat, held);
     }
 }
 
-impl Pass for Publisher {
-    ghost table = { λ p. p.seat.table_id };
+impl Pass for Publisher {}
 
-    ghost rules = { λ p. p.seat.me.0.rules };
+impl Seated for Publisher {
+    ghost use Rattle.hub_fifodir.specs.Passes.{publisher_view};
 
-    ghost sight = { λ p. p.seat.me.0.sight };
-
-    ghost role = { λ p. p.seat.me.0.role };
-
-    ghost numbers = { λ p. p.number ∷ [] };
+    ghost view = { publisher_view };
 
     fn look(&mut self, board: &Board) -> u64 {
         steps::look(board, &mut self.seat)

@@ -1,9 +1,11 @@
 //! The steps of a call, each on one seat.
 ghost use Rattle.std.specs.Prelude.{◌≡◌, ◌∷◌, [], None};
-ghost use Rattle.hub_fifodir.specs.Rule.{IsSound, visitor};
-ghost use Rattle.hub_fifodir.specs.Steps.{IsIdle, Holding, Gives, Front, WritesMessage, WritesMark, grown, closing, writing_of, taking_of, writer, rested, new_taker, moved, gone_taker, gone_writer, Looks, Grows, note_of};
+ghost use Rattle.hub_fifodir.specs.Rule.{visitor};
+ghost use Rattle.hub_fifodir.specs.Steps.{IsIdle, Holding, Gives, Front, WritesMessage, WritesMark, Looks, Grows};
+ghost use Rattle.hub_fifodir.specs.Steps.{grown, closing, writing_of, taking_of, writer, rested, new_taker, moved, gone_taker, gone_writer};
 ghost use Rattle.hub_fifodir.specs.Notes.{IsSized, IsNote, note_sight};
 
+use crate::fifodir::Fifodir;
 use crate::locked::Locked;
 use crate::rule::{Board, Enter, Lock, Look, Next, Notes, Seat, Unlock, Write};
 use hub_letters::Letter;
@@ -23,33 +25,38 @@ pub(crate) struct Held<'a> {
     key: Key<'a>,
 }
 
-// Takes the lock, and the value behind it. A thread that has to wait is counted among the sleepers meanwhile, so the
-// thread that releases the lock wakes one only if one may be asleep.
-pub(crate) fn take_turn<'a, R: Wait>(
-    rt: &R,
-    board: &Board,
-    sleepers: &'a AtomicU64,
-    seat: &mut Seat,
-) -> Held<'a>
-    requires table { (seat.old.table_id ≡ board.now.table_id) × IsSized board.now.table_id }
-    requires idle { IsIdle seat.old.me }
-    ensures table { (seat.new.table_id ≡ seat.old.table_id) × (seat.new.id ≡ seat.old.id) }
-    ensures holding { Holding seat.old.me result.locked seat.new.me }
-{
-    for _ in rt.forever() {
-        let found = board.swap::<Lock>(seat, 1, 1);
-        if found == 0 {
-            let locked = board.exchange(seat, 0, None).unwrap();
-            return Held {
-                locked,
-                key: Key { sleepers },
-            };
+impl Fifodir {
+    ghost use Rattle.hub_fifodir.specs.Passes.{table_of};
+
+    // Takes the lock, and the value behind it.
+    //
+    // A thread that has to wait is counted among the sleepers meanwhile, so that a release wakes a thread only if one
+    // may be asleep. No sleeper is passed over. The count and the turn are stored and read in one order for all threads:
+    // here the count goes up before the park reads the turn, and a release stores 0 in the turn before it reads the
+    // count. So if a release reads a count without this thread, this thread's park finds 0 in the turn, and doesn't sleep.
+    pub(crate) fn lock<R: Wait>(&self, rt: &R, seat: &mut Seat) -> Held<'_>
+        requires table { seat.old.table_id ≡ table_of self.now }
+        requires idle { IsIdle seat.old.me }
+        ensures table { (seat.new.table_id ≡ seat.old.table_id) × (seat.new.id ≡ seat.old.id) }
+        ensures holding { Holding seat.old.me result.locked seat.new.me }
+    {
+        let board = self.board();
+        let sleepers = self.sleepers();
+        for _ in rt.forever() {
+            let found = board.swap::<Lock>(seat, 1, 1);
+            if found == 0 {
+                let locked = board.exchange(seat, 0, None).unwrap();
+                return Held {
+                    locked,
+                    key: Key { sleepers },
+                };
+            }
+            sleepers.fetch_add(1, Ordering::SeqCst);
+            board.park(rt, 1, 1);
+            sleepers.fetch_sub(1, Ordering::SeqCst);
         }
-        sleepers.fetch_add(1, Ordering::SeqCst);
-        board.park(rt, 1, 1);
-        sleepers.fetch_sub(1, Ordering::SeqCst);
+        unreachable!()
     }
-    unreachable!()
 }
 
 // Puts the value back into the slot, and releases the lock. `N` is the view afterwards; `_taken`, the number of events

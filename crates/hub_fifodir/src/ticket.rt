@@ -1,16 +1,16 @@
 //! Tickets, and the calls of a fifodir that take one.
-ghost use Rattle.std.specs.Prelude.{◌≡◌, [], ◌∷◌, length, IfOk};
-ghost use Rattle.hub_fifodir.specs.Steps.{IsTaker, Grows};
+ghost use Rattle.std.specs.Prelude.{◌≡◌, length, IfOk};
+ghost use Rattle.hub_fifodir.specs.Steps.{IsTaker};
 
 use crate::fifodir::Fifodir;
-use crate::pass::Pass;
+use crate::pass::{Pass, Seated};
 use crate::rule::{Board, Seat};
 use crate::steps;
 use hub_record::{Event, SubError, Taken};
 use std::sync::Wait;
 
-/// The pass of a subscription. A ticket that was dropped would keep its cursor, and the events that are pending behind it would fill the
-/// fifodir. So a ticket is neither `Copy` nor `Drop`, and only `Fifodir::cancel` takes it.
+/// The pass of a subscription. A ticket that was dropped would keep its cursor, and the events that are pending behind it
+/// would fill the fifodir. So a ticket is neither `Copy` nor `Drop`, and only `Fifodir::cancel` takes it.
 pub struct Ticket {
     id: u64,
     /// The number of events when it subscribed.
@@ -22,38 +22,41 @@ pub struct Ticket {
 }
 
 impl Ticket {
+    ghost use Rattle.hub_fifodir.specs.Passes.{ticket_id, ticket_mark, ticket_next};
+
     /// The number of the subscription; the first is 1.
     pub fn id(&self) -> u64
-        ensures { result ≡ self.now.id }
+        ensures { result ≡ ticket_id self.now }
     {
         self.id
     }
 
     /// The number of events when it subscribed.
     pub fn mark(&self) -> u64
-        ensures { result ≡ self.now.mark }
+        ensures { result ≡ ticket_mark self.now }
     {
         self.mark
     }
 
     /// The number of the next event that it takes.
     pub fn next(&self) -> u64
-        ensures { result ≡ self.now.next }
+        ensures { result ≡ ticket_next self.now }
     {
         self.next
     }
 }
 
 impl Fifodir {
-    ghost use Rattle.hub_fifodir.specs.Passes.{IsTicketOf, IsTicketSound, ticket_sight, HasSubscribed, HasTaken, filled};
+    ghost use Rattle.hub_fifodir.specs.Passes.{IsTicketOf, Remains, HasSoundSight, ticket_mark, ticket_view, HasSubscribed, HasTaken, filled};
 
     /// A new ticket, which begins at the end of the record.
     pub fn subscribe<R: Wait>(&self, rt: &R) -> Result<Ticket, SubError>
-        ensures { IfOk result (λ t. IsTicketOf self.now t × IsTicketSound t × HasSubscribed t) }
+        ensures { IfOk result (λ t. IsTicketOf self.now t × HasSoundSight (ticket_view t)
+            × HasSubscribed t) }
     {
         let board = self.board();
         let mut seat = steps::enter(board);
-        let mut held = steps::take_turn(rt, board, self.sleepers(), &mut seat);
+        let mut held = self.lock(rt, &mut seat);
         match held.locked.subscribe() {
             Ok((id, mark)) => {
                 steps::rest_as_ticket(board, &mut seat, held);
@@ -74,15 +77,13 @@ impl Fifodir {
     /// Takes what waits behind the ticket's cursor, as far as the slice goes.
     pub fn take_into<R: Wait>(&self, rt: &R, me: &mut Ticket, out: &mut [Event]) -> Taken
         requires { IsTicketOf self.now me.old }
-        ensures pass { IsTicketOf self.now me.new × (me.new.id ≡ me.old.id)
-            × (me.new.mark ≡ me.old.mark) }
-        ensures sound { IsTicketSound me.new }
-        ensures seen { Grows (ticket_sight me.old) (ticket_sight me.new) }
+        ensures remains { Remains self.now (ticket_view me.old) (ticket_view me.new) }
+        ensures mark { ticket_mark me.new ≡ ticket_mark me.old }
         ensures took { HasTaken me.old (length out.old) result me.new }
         ensures filled { out.new ≡ filled me.old result me.new out.old }
     {
         let board = self.board();
-        let mut held = steps::take_turn(rt, board, self.sleepers(), &mut me.seat);
+        let mut held = self.lock(rt, &mut me.seat);
         let taken = held.locked.take_into(me.id, out).unwrap();
         match taken {
             Taken::Got(count) => {
@@ -112,22 +113,18 @@ impl Fifodir {
             mut seat,
         } = me;
         let board = self.board();
-        let mut held = steps::take_turn(rt, board, self.sleepers(), &mut seat);
+        let mut held = self.lock(rt, &mut seat);
         held.locked.cancel(id).unwrap();
         steps::rest_cancelled(board, &mut seat, held);
     }
 }
 
-impl Pass for Ticket {
-    ghost table = { λ t. t.seat.table_id };
+impl Pass for Ticket {}
 
-    ghost rules = { λ t. t.seat.me.0.rules };
+impl Seated for Ticket {
+    ghost use Rattle.hub_fifodir.specs.Passes.{ticket_view};
 
-    ghost sight = { λ t. t.seat.me.0.sight };
-
-    ghost role = { λ t. t.seat.me.0.role };
-
-    ghost numbers = { λ t. t.id ∷ t.mark ∷ t.next ∷ [] };
+    ghost view = { ticket_view };
 
     fn look(&mut self, board: &Board) -> u64 {
         steps::look(board, &mut self.seat)

@@ -1,7 +1,7 @@
 //! Programs over fifodirs: two threads publish at once, and events are sent on from one fifodir to another.
 ghost use Rattle.std.specs.Prelude.{◌≡◌, ℕ, ◌++◌, [], ◌∷◌, OnOk, OnErr, IfOk, IfErr};
 ghost use Rattle.hub_record.specs.Runs.{by};
-ghost use Rattle.hub_fifodir.specs.Passes.{IsPublisherOf, IsTicketOf, HasTaken, IsRefusedAt, got, seen, mine, sent_on};
+ghost use Rattle.hub_fifodir.specs.Passes.{IsPublisherOf, IsTicketOf, HasTaken, IsRefusedAt, publisher_number, got, seen, mine, sent_on};
 
 use crate::fifodir::Fifodir;
 use crate::publisher::Publisher;
@@ -23,7 +23,8 @@ fn send<R: Wait>(
     letters: &[Letter],
 ) -> Result<u64, PubError>
     requires { IsPublisherOf fifodir.now me.old × (mine me.old ≡ []) }
-    ensures pass { IsPublisherOf fifodir.now me.new × (me.new.number ≡ me.old.number) }
+    ensures pass { IsPublisherOf fifodir.now me.new
+        × (publisher_number me.new ≡ publisher_number me.old) }
     ensures mine { OnOk result (mine me.new ≡ letters.now) }
 {
     fifodir.publish(rt, me, letters)
@@ -43,10 +44,11 @@ pub fn send_both<R: Threads + Wait + Sync>(
     requires one { IsPublisherOf fifodir.now one × (mine one ≡ []) }
     requires other { IsPublisherOf fifodir.now other × (mine other ≡ []) }
     ensures one { IsPublisherOf fifodir.now result.0.0
-        × OnOk result.0.1 (by result.0.0.number (seen result.0.0) ≡ first.now) }
+        × OnOk result.0.1 (by (publisher_number result.0.0) (seen result.0.0) ≡ first.now) }
     ensures other { IsPublisherOf fifodir.now result.1.0
-        × OnOk result.1.1 (by result.1.0.number (seen result.1.0) ≡ second.now) }
-    ensures numbers { (result.0.0.number ≡ one.number) × (result.1.0.number ≡ other.number) }
+        × OnOk result.1.1 (by (publisher_number result.1.0) (seen result.1.0) ≡ second.now) }
+    ensures numbers { (publisher_number result.0.0 ≡ publisher_number one)
+        × (publisher_number result.1.0 ≡ publisher_number other) }
     ensures same { seen result.1.0 ≡ seen result.0.0 }
 {
     let (one_sent, other_sent) = thread::join_mut(
@@ -54,13 +56,13 @@ pub fn send_both<R: Threads + Wait + Sync>(
         &mut || -> Result<u64, PubError>
             requires { IsPublisherOf fifodir.now one × (mine one ≡ []) }
             ensures { IsPublisherOf fifodir.entry.now one.exit
-                × (one.exit.number ≡ one.entry.number)
+                × (publisher_number one.exit ≡ publisher_number one.entry)
                 × OnOk result (mine one.exit ≡ first.entry.now) }
         { send(rt, fifodir, &mut one, first) },
         &mut || -> Result<u64, PubError>
             requires { IsPublisherOf fifodir.now other × (mine other ≡ []) }
             ensures { IsPublisherOf fifodir.entry.now other.exit
-                × (other.exit.number ≡ other.entry.number)
+                × (publisher_number other.exit ≡ publisher_number other.entry)
                 × OnOk result (mine other.exit ≡ second.entry.now) }
         { send(rt, fifodir, &mut other, second) },
     );
@@ -93,10 +95,11 @@ pub fn send_on<R: Wait>(
     ensures to { IsPublisherOf to.now publisher.new }
     ensures took { IfOk result (λ taken. HasTaken ticket.old 1 taken ticket.new) }
     ensures refused { IfErr result (λ unsent. HasTaken ticket.old 1 (Taken.Got 1) ticket.new
-        × (got ticket.new ≡ got ticket.old ++ unsent.event ∷ []) × IsRefusedAt publisher.new (unsent.event.letter ∷ []) unsent.why) }
+        × (got ticket.new ≡ got ticket.old ++ unsent.event ∷ [])
+        × IsRefusedAt publisher.new (unsent.event.letter ∷ []) unsent.why) }
     ensures unsent { OnErr result (mine publisher.new ≡ mine publisher.old) }
-    ensures sent { IfOk result (λ taken. mine publisher.new ≡ mine publisher.old ++ sent_on
-        ticket.old taken ticket.new) }
+    ensures sent { IfOk result (λ taken. mine publisher.new
+        ≡ mine publisher.old ++ sent_on ticket.old taken ticket.new) }
 {
     let mut out = [Event {
         who: 0,

@@ -4,8 +4,7 @@ use Rattle.hub_requests.specs.declared.reply.Refusal.TheVariants as no
 use Rattle.hub_requests.specs.declared.reply.Reply.{Reply}
 use Rattle.hub_requests.specs.declared.reply.Reply.TheVariants as answer
 use Rattle.hub_fifodir.specs.declared.ticket.Ticket.{Ticket}
-use Rattle.hub_fifodir.specs.PassNumbers.{next_of}
-use Rattle.hub_fifodir.specs.Passes.{got, ticket_seen, ticket_closed}
+use Rattle.hub_fifodir.specs.Passes.{got, ticket_next, ticket_seen, ticket_closed}
 use Rattle.hub_listen.specs.Listening.{Feeds, Listening}
 use Rattle.hub_listen.specs.declared.feed.Feed.{Feed}
 use Rattle.hub_listen.specs.declared.feed.Feed.TheVariants.{Hit, Quiet}
@@ -46,10 +45,10 @@ pub record Hears (old : Hearing) (fed : List ℕ) (heard : Result Feed FeedError
 
 -- nothing waits for it, and the fifodir is open or closed
 abbrev pub IsIdle : Ticket → Type 0
-IsIdle t = (next_of t ≡ length (ticket_seen t)) × (ticket_closed t ≡ 0)
+IsIdle t = (ticket_next t ≡ length (ticket_seen t)) × (ticket_closed t ≡ 0)
 
 abbrev pub IsOver : Ticket → Type 0
-IsOver t = (next_of t ≡ length (ticket_seen t)) × (ticket_closed t ≢ 0)
+IsOver t = (ticket_next t ≡ length (ticket_seen t)) × (ticket_closed t ≢ 0)
 
 -- why no further letter is heard
 abbrev pub Stops : Reply → Hearing → Type 0

@@ -5,8 +5,7 @@ use Rattle.hub_requests.specs.declared.reply.Reply.{Reply}
 use Rattle.hub_requests.specs.declared.reply.Reply.TheVariants as answer
 use Rattle.hub_fifodir.specs.declared.fifodir.Fifodir.{Fifodir}
 use Rattle.hub_fifodir.specs.declared.ticket.Ticket.{Ticket}
-use Rattle.hub_fifodir.specs.PassNumbers.{id_of, mark_of}
-use Rattle.hub_fifodir.specs.Passes.{HasSubscribed, HasTaken, sent_on, ticket_sight}
+use Rattle.hub_fifodir.specs.Passes.{HasSubscribed, HasTaken, sent_on, ticket_id, ticket_mark, ticket_sight}
 use Rattle.hub_fifodir.specs.Steps.{Grows}
 use Rattle.hub_record.specs.declared.Taken.TheVariants.{Got, Nothing, End}
 use Rattle.hub_handles.specs.declared.subscription.Subscription.{Subscription}
@@ -21,8 +20,8 @@ Shows max old _ new = ⊥
 -- it is the same ticket, of the same fifodir, and has seen no less
 pub record IsSameTicket (old new : Subscription) : Type 0 where
   pub dir : new.dir ≡ old.dir
-  pub id : id_of new.ticket ≡ id_of old.ticket
-  pub mark : mark_of new.ticket ≡ mark_of old.ticket
+  pub id : ticket_id new.ticket ≡ ticket_id old.ticket
+  pub mark : ticket_mark new.ticket ≡ ticket_mark old.ticket
   pub seen : Grows (ticket_sight old.ticket) (ticket_sight new.ticket)
 
 pub record TakesFrom (max : ℕ) (old : Subscription) (reply : Reply) (new : Subscription) : Type 0 where

@@ -5,8 +5,7 @@ use Rattle.hub_requests.specs.declared.reply.Refusal.TheVariants as no
 use Rattle.hub_requests.specs.declared.reply.Reply.{Reply}
 use Rattle.hub_requests.specs.declared.reply.Reply.TheVariants.{Done, Number, State, No}
 use Rattle.hub_fifodir.specs.declared.publisher.Publisher.{Publisher}
-use Rattle.hub_fifodir.specs.PassNumbers.{number_of}
-use Rattle.hub_fifodir.specs.Passes.{IsStatusOf, IsRefusedAt, HasPublished, KnewOwnClose, closed_mark, mine, publisher_sight}
+use Rattle.hub_fifodir.specs.Passes.{IsStatusOf, IsRefusedAt, HasPublished, KnewOwnClose, closed_mark, mine, publisher_number, publisher_sight}
 use Rattle.hub_record.specs.declared.PubError.{PubError}
 use Rattle.hub_names.specs.declared.speech.Speech.{Speech}
 use Rattle.hub_names.specs.declared.speech.Speech.TheVariants.{Publish, Close, Status}
@@ -22,7 +21,7 @@ says_published letters p _ q = ⊥
 
 -- it closes what it hadn't seen closed, or sees who did
 abbrev pub says_closed : Publisher → Reply → Publisher → Type 0
-says_closed p Done q = (closed_mark p ≡ 0) × (closed_mark q ≡ number_of p) × (mine q ≡ mine p)
+says_closed p Done q = (closed_mark p ≡ 0) × (closed_mark q ≡ publisher_number p) × (mine q ≡ mine p)
 says_closed p (No refusal) q = (refusal ≡ no.Closed) × (closed_mark q ≢ 0) × KnewOwnClose p q × (mine q ≡ mine p)
 says_closed p _ q = ⊥
 

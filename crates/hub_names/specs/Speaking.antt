@@ -6,8 +6,7 @@ use Rattle.hub_requests.specs.declared.reply.Reply.TheVariants.{No}
 use Rattle.hub_fifodir.specs.declared.PassError.{PassError}
 use Rattle.hub_fifodir.specs.declared.fifodir.Fifodir.{Fifodir}
 use Rattle.hub_fifodir.specs.declared.publisher.Publisher.{Publisher}
-use Rattle.hub_fifodir.specs.PassNumbers.{number_of}
-use Rattle.hub_fifodir.specs.Passes.{IsPublisherOf, closed_mark, mine, publisher_sight}
+use Rattle.hub_fifodir.specs.Passes.{IsPublisherOf, closed_mark, mine, publisher_number, publisher_sight}
 use Rattle.hub_fifodir.specs.Steps.{Grows}
 use Rattle.hub_names.specs.declared.hub.Found.{Found}
 use Rattle.hub_names.specs.declared.joined.Joined.{Joined}
@@ -31,7 +30,7 @@ publisher_of j = j.publisher
 pub record IsNew (dir : Fifodir) (p : Publisher) : Type 0 where
   pub of : IsPublisherOf dir p
   pub silent : mine p ≡ []
-  pub unclosed : closed_mark p ≢ number_of p
+  pub unclosed : closed_mark p ≢ publisher_number p
 
 -- the publisher that is kept speaks, and where none is kept a new one
 abbrev pub IsSpeaker : Fifodir → Option Publisher → Publisher → Type 0
@@ -45,7 +44,7 @@ pub record HasSpoken (old : Joined) (p q : Publisher) (new : Joined) : Type 0 wh
   pub found : new.found ≡ old.found
   pub speaker : IsSpeaker (fifodir_of old) old.publisher p
   pub kept : new.publisher ≡ Some q
-  pub same : number_of q ≡ number_of p
+  pub same : publisher_number q ≡ publisher_number p
   pub seen : Grows (publisher_sight p) (publisher_sight q)
 
 pub record Spoke (says : Publisher → Reply → Publisher → Type 0) (old : Joined) (reply : Reply) (new : Joined) : Type 0 where

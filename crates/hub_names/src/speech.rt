@@ -1,7 +1,6 @@
 //! What a session says by its publisher at a fifodir, and what it is answered.
 ghost use Rattle.std.specs.Prelude.{◌≡◌, ◌≤◌, length};
-ghost use Rattle.hub_fifodir.specs.PassNumbers.{number_of};
-ghost use Rattle.hub_fifodir.specs.Passes.{IsPublisherOf, publisher_sight};
+ghost use Rattle.hub_fifodir.specs.Passes.{IsPublisherOf, publisher_number, publisher_sight};
 ghost use Rattle.hub_fifodir.specs.Steps.{Grows};
 ghost use Rattle.hub_requests.specs.Texts.{text_of};
 
@@ -28,7 +27,7 @@ impl Speech<'_> {
     pub fn say<H: Wait>(self, rt: &H, dir: &Fifodir, publisher: &mut Publisher) -> Reply
         requires { IsPublisherOf dir.now publisher.old }
         ensures of { IsPublisherOf dir.now publisher.new }
-        ensures same { number_of publisher.new ≡ number_of publisher.old }
+        ensures same { publisher_number publisher.new ≡ publisher_number publisher.old }
         ensures seen { Grows (publisher_sight publisher.old) (publisher_sight publisher.new) }
         ensures said { says self.entry publisher.old result publisher.new }
         ensures short { length (text_of result) ≤ 4101 }

@@ -7,7 +7,7 @@ use Rattle.hub_record.specs.declared.Taken.TheVariants.{Got}
 use Rattle.hub_record.specs.World.{letters}
 use Rattle.hub_fifodir.specs.declared.ticket.Ticket.{Ticket}
 use Rattle.hub_fifodir.specs.Events.{StartsWith, slice}
-use Rattle.hub_fifodir.specs.Passes.{ticket_seen, ticket_closed, ticket_sight, HasTaken, filled}
+use Rattle.hub_fifodir.specs.Passes.{ticket_mark, ticket_next, ticket_seen, ticket_closed, ticket_sight, HasTaken, filled}
 use Rattle.hub_fifodir.specs.Steps.{Grows}
 use Rattle.hub_wait.specs.Watching.{Watching, stepped}
 use Rattle.hub_wait.specs.Histories.{Follows, IsSlice}
@@ -48,20 +48,20 @@ front_of_filled seen out a n h =
     ∙ take-append-le n (take n (drop a seen)) (drop n out) (omega (arith, long))
     ∙ take-take n n (drop a seen) (omega arith)
 
-Reads-stepped_there : (old new : Ticket) (w : Watching) (most n : ℕ) (out : List Event) → Reads old w → Grows (ticket_sight old) (ticket_sight new) → new.mark ≡ old.mark
-    → HasTaken old most (Got n) new → Reads new (stepped w old.next (letters (take n (filled old (Got n) new out))))
+Reads-stepped_there : (old new : Ticket) (w : Watching) (most n : ℕ) (out : List Event) → Reads old w → Grows (ticket_sight old) (ticket_sight new) → ticket_mark new ≡ ticket_mark old
+    → HasTaken old most (Got n) new → Reads new (stepped w (ticket_next old) (letters (take n (filled old (Got n) new out))))
 Reads-stepped_there old new w most n out r grows mark took =
-    let within : old.next + n ≤ length (ticket_seen new) = omega (arith, took.0, took.1) in
+    let within : ticket_next old + n ≤ length (ticket_seen new) = omega (arith, took.0, took.1) in
     let news = letters (take n (filled old (Got n) new out)) in
-    let are : news ≡ letters (take n (drop old.next (ticket_seen new))) = ap letters (front_of_filled (ticket_seen new) out old.next n within) in
-    let part : IsSlice (letters (ticket_seen new)) old.next news = subst (IsSlice (letters (ticket_seen new)) old.next) (sym are) (IsSlice-slice (ticket_seen new) old.next n within) in
+    let are : news ≡ letters (take n (drop (ticket_next old) (ticket_seen new))) = ap letters (front_of_filled (ticket_seen new) out (ticket_next old) n within) in
+    let part : IsSlice (letters (ticket_seen new)) (ticket_next old) news = subst (IsSlice (letters (ticket_seen new)) (ticket_next old)) (sym are) (IsSlice-slice (ticket_seen new) (ticket_next old) n within) in
     let follows = Follows-append w (ticket_seen old) (ticket_seen new) grows.0 r.follows in
-    let many : length news ≡ n = ap length are ∙ length-slice (ticket_seen new) old.next n within in
-    let moved : new.next ≡ old.next + n = took.2 in
+    let many : length news ≡ n = ap length are ∙ length-slice (ticket_seen new) (ticket_next old) n within in
+    let moved : ticket_next new ≡ ticket_next old + n = took.2 in
     let marked = r.marked in
     let inside : w.at ≤ length (ticket_seen old) = subst (λ k. w.at ≤ k) (length-map (ticket_seen old) _) r.follows.within in
     record {
-      follows = Follows-stepped w (letters (ticket_seen new)) news old.next r.reached follows part;
+      follows = Follows-stepped w (letters (ticket_seen new)) news (ticket_next old) r.reached follows part;
       marked = omega (arith, mark, marked);
       reached = omega (arith, many, moved);
       ended = λ is.
@@ -73,15 +73,15 @@ Reads-stepped_there old new w most n out r grows mark took =
     }
 
 -- after a take of some events, along which the watch was stepped
-pub Reads-stepped : (old new : Ticket) (w v : Watching) (most n first : ℕ) (out events : List Event) → Reads old w → Grows (ticket_sight old) (ticket_sight new) → new.mark ≡ old.mark
-    → HasTaken old most (Got n) new → events ≡ filled old (Got n) new out → first ≡ old.next → v ≡ stepped w first (letters (take n events)) → Reads new v
+pub Reads-stepped : (old new : Ticket) (w v : Watching) (most n first : ℕ) (out events : List Event) → Reads old w → Grows (ticket_sight old) (ticket_sight new) → ticket_mark new ≡ ticket_mark old
+    → HasTaken old most (Got n) new → events ≡ filled old (Got n) new out → first ≡ ticket_next old → v ≡ stepped w first (letters (take n events)) → Reads new v
 Reads-stepped old new w v most n first out events r grows mark took fill begin is =
     subst (Reads new)
-    (sym (is ∙ ap (λ k. stepped w k (letters (take n events))) begin ∙ ap (λ z. stepped w old.next (letters (take n z))) fill))
+    (sym (is ∙ ap (λ k. stepped w k (letters (take n events))) begin ∙ ap (λ z. stepped w (ticket_next old) (letters (take n z))) fill))
     (Reads-stepped_there old new w most n out r grows mark took)
 
 -- after a take of none
-pub Reads-kept : (old new : Ticket) (w : Watching) → Reads old w → Grows (ticket_sight old) (ticket_sight new) → new.mark ≡ old.mark → new.next ≡ old.next → Reads new w
+pub Reads-kept : (old new : Ticket) (w : Watching) → Reads old w → Grows (ticket_sight old) (ticket_sight new) → ticket_mark new ≡ ticket_mark old → ticket_next new ≡ ticket_next old → Reads new w
 Reads-kept old new w r grows mark next =
     let marked = r.marked in let reached = r.reached in
     record {
@@ -95,14 +95,14 @@ Reads-kept old new w r grows mark next =
     }
 
 -- if a ticket has taken all that it has seen, its watch is at the end
-pub at_end : (new : Ticket) (w : Watching) → Reads new w → new.next ≡ length (ticket_seen new) → w.at ≡ length (ticket_seen new)
+pub at_end : (new : Ticket) (w : Watching) → Reads new w → ticket_next new ≡ length (ticket_seen new) → w.at ≡ length (ticket_seen new)
 at_end new w r all =
     let reached = r.reached in
     let inside : w.at ≤ length (ticket_seen new) = subst (λ k. w.at ≤ k) (length-map (ticket_seen new) _) r.follows.within in
     omega (arith, all, reached, inside)
 
 -- after a take that reported the close
-pub Reads-ended : (new : Ticket) (w : Watching) → Reads new w → new.next ≡ length (ticket_seen new) → ticket_closed new ≢ 0 → Reads new (record w { ended = true })
+pub Reads-ended : (new : Ticket) (w : Watching) → Reads new w → ticket_next new ≡ length (ticket_seen new) → ticket_closed new ≢ 0 → Reads new (record w { ended = true })
 Reads-ended new w r all closed = record {
   follows = record { within = r.follows.within; flags = r.follows.flags };
   marked = r.marked;

@@ -8,7 +8,7 @@ use Rattle.hub_record.specs.declared.Status.{Status}
 use Rattle.hub_record.specs.World.{letters}
 use Rattle.hub_fifodir.specs.declared.fifodir.Fifodir.{Fifodir}
 use Rattle.hub_fifodir.specs.Events.{StartsWith, is_closed}
-use Rattle.hub_fifodir.specs.Passes.{ticket_seen, ticket_closed}
+use Rattle.hub_fifodir.specs.Passes.{ticket_mark, ticket_next, ticket_seen, ticket_closed}
 use Rattle.hub_wait.specs.declared.post.Post.{Post}
 use Rattle.hub_wait.specs.Watching.{Watching, started}
 use Rattle.hub_wait.specs.Histories.{Follows}
@@ -29,11 +29,11 @@ abbrev pub status_of : Post → Status
 status_of p = record { number = length (seen_of p); flags = flags_of (letters (seen_of p)); closed = is_closed (closed_of p) }
 
 abbrev pub mark_of : Post → ℕ
-mark_of p = p.ticket.mark
+mark_of p = ticket_mark p.ticket
 
 -- the number of the event that it takes next
 abbrev pub next_of : Post → ℕ
-next_of p = p.ticket.next
+next_of p = ticket_next p.ticket
 
 abbrev pub watch_of : Post → Watching
 watch_of p = p.watch

@@ -7,19 +7,19 @@ use Rattle.hub_fifodir.proofs.Taking.{rests_as_ticket, is_new_taker, id_given}
 use Rattle.hub_fifodir.proofs.fifodir.Fifodir.subscribe.Goals as goal
 
 pub rest_as_ticket-requires-clause-gives : goal.rest_as_ticket-requires-clause-gives
-rest_as_ticket-requires-clause-gives g c = let t = c.take_turn-held in let h = t.ensures.holding.1 in let ok = c.in-Ok.ensures in
+rest_as_ticket-requires-clause-gives g c = let t = c.lock-held in let h = t.ensures.holding.1 in let ok = c.in-Ok.ensures in
     rests_as_ticket t.new.seat.me t.result.locked c.subscribe.new.self
     (ap (λ (v : View). v.role) h.renews.is ∙ ap (λ (v : View). v.role) c.enter-seat.ensures.view) (ap (λ (v : View). v.held) h.renews.is) h.bounded h.behind (c.in-Ok.id, c.in-Ok.mark) (ok.world h.behind.world h.behind.for) ok.others
 
 pub invariant_of-result : goal.invariant_of-result
-invariant_of-result g c = let t = c.take_turn-held in let h = t.ensures.holding.1 in let w = h.behind.world in let reply = (c.in-Ok.ensures.reply w h.behind.for).1 in record {
+invariant_of-result g c = let t = c.lock-held in let h = t.ensures.holding.1 in let w = h.behind.world in let reply = (c.in-Ok.ensures.reply w h.behind.for).1 in record {
   is_taker = is_new_taker t.new.seat.me c.rest_as_ticket.new.seat.me c.subscribe.new.self c.in-Ok.id c.in-Ok.mark
       (id_given c.subscribe.new.self w (c.in-Ok.id, c.in-Ok.mark) reply (c.in-Ok.ensures.world w h.behind.for))
       (ap (λ (p : ℕ × ℕ). p.1) reply ∙ ap length h.behind.events) h.renews.sound_is c.rest_as_ticket.ensures.view;
 }
 
 pub rest-requires-clause-gives : goal.rest-requires-clause-gives
-rest-requires-clause-gives g c = let t = c.take_turn-held in let h = t.ensures.holding.1 in let e = c.in-Err.ensures.err in
+rest-requires-clause-gives g c = let t = c.lock-held in let h = t.ensures.holding.1 in let e = c.in-Err.ensures.err in
     let role = ap (λ (v : View). v.role) h.renews.is ∙ ap (λ (v : View). v.role) c.enter-seat.ensures.view in
     let m = t.new.seat.me in
     rests m t.result.locked c.subscribe.new.self (subst IsLive (sym role) tt) (ap (λ (v : View). v.held) h.renews.is) h.bounded (ap book_of e)

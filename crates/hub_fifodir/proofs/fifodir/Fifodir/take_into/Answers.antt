@@ -7,33 +7,33 @@ use Rattle.hub_fifodir.proofs.Taking.{is_answered, on_got, on_nothing, on_end, r
 use Rattle.hub_fifodir.proofs.fifodir.Fifodir.take_into.Goals as goal
 
 pub unwrap-taken-requires : goal.unwrap-taken-requires
-unwrap-taken-requires g c = let me = c.args.me.now in let t = c.take_turn-held in let h = t.ensures.holding.1 in
+unwrap-taken-requires g c = let me = c.args.me.now in let t = c.lock-held in let h = t.ensures.holding.1 in
     is_answered me.seat.me t.new.seat.me me.id me.mark me.next t.result.locked me.is_taker h (length c.args.out.now) c.take_into.result (c.take_into.ensures.reply h.behind.world h.behind.for)
 
 pub rest_moved-requires-clause-gives : goal.rest_moved-requires-clause-gives
-rest_moved-requires-clause-gives g c = let me = c.args.me.now in let t = c.take_turn-held in let h = t.ensures.holding.1 in let e = c.take_into.ensures in let w = h.behind.world in
+rest_moved-requires-clause-gives g c = let me = c.args.me.now in let t = c.lock-held in let h = t.ensures.holding.1 in let e = c.take_into.ensures in let w = h.behind.world in
     rests_moved me.seat.me t.new.seat.me me.id me.mark me.next t.result.locked me.is_taker h c.take_into.new.self (length c.args.out.now) (e.world w h.behind.for) e.others c.in-Got.count
     (on_got me.seat.me t.new.seat.me me.id me.mark me.next t.result.locked me.is_taker h (length c.args.out.now) c.in-Got.count c.take_into.result (e.reply w h.behind.for) (c.unwrap-taken.ensures ∙ ap (λ (x : Taken). Ok x) c.in-Got.is)).1
 
 pub invariant_of-me : goal.invariant_of-me
-invariant_of-me g c = let me = c.args.me.now in let t = c.take_turn-held in let h = t.ensures.holding.1 in let e = c.take_into.ensures in let w = h.behind.world in record {
+invariant_of-me g c = let me = c.args.me.now in let t = c.lock-held in let h = t.ensures.holding.1 in let e = c.take_into.ensures in let w = h.behind.world in record {
   is_taker = moved_taker me.seat.me t.new.seat.me me.id me.mark me.next t.result.locked me.is_taker h c.take_into.new.self (length c.args.out.now) (e.world w h.behind.for) e.others c.in-Got.count
       (on_got me.seat.me t.new.seat.me me.id me.mark me.next t.result.locked me.is_taker h (length c.args.out.now) c.in-Got.count c.take_into.result (e.reply w h.behind.for) (c.unwrap-taken.ensures ∙ ap (λ (x : Taken). Ok x) c.in-Got.is)).1
       c.rest_moved.new.seat.me c.rest_moved.ensures.view;
 }
 
 pub rest-requires-clause-gives : goal.rest-requires-clause-gives
-rest-requires-clause-gives g c = let me = c.args.me.now in let t = c.take_turn-held in let h = t.ensures.holding.1 in let e = c.take_into.ensures in let w = h.behind.world in
+rest-requires-clause-gives g c = let me = c.args.me.now in let t = c.lock-held in let h = t.ensures.holding.1 in let e = c.take_into.ensures in let w = h.behind.world in
     rests_still me.seat.me t.new.seat.me me.id me.mark me.next t.result.locked me.is_taker h c.take_into.new.self (length c.args.out.now) (e.world w h.behind.for) e.others
     (on_nothing me.seat.me t.new.seat.me me.id me.mark me.next t.result.locked me.is_taker h (length c.args.out.now) c.take_into.result (e.reply w h.behind.for) (c.unwrap-taken.ensures ∙ ap (λ (x : Taken). Ok x) c.in-Nothing.is)).0
 
 pub rest-requires-in-End-clause-gives : goal.rest-requires-in-End-clause-gives
-rest-requires-in-End-clause-gives g c = let me = c.args.me.now in let t = c.take_turn-held in let h = t.ensures.holding.1 in let e = c.take_into.ensures in let w = h.behind.world in
+rest-requires-in-End-clause-gives g c = let me = c.args.me.now in let t = c.lock-held in let h = t.ensures.holding.1 in let e = c.take_into.ensures in let w = h.behind.world in
     rests_still me.seat.me t.new.seat.me me.id me.mark me.next t.result.locked me.is_taker h c.take_into.new.self (length c.args.out.now) (e.world w h.behind.for) e.others
     (on_end me.seat.me t.new.seat.me me.id me.mark me.next t.result.locked me.is_taker h (length c.args.out.now) c.take_into.result (e.reply w h.behind.for) (c.unwrap-taken.ensures ∙ ap (λ (x : Taken). Ok x) c.in-End.is)).0
 
 pub returns-in-Got-clause-took : goal.returns-in-Got-clause-took
-returns-in-Got-clause-took g c = let me = c.args.me.now in let t = c.take_turn-held in let h = t.ensures.holding.1 in let e = c.take_into.ensures in let w = h.behind.world in
+returns-in-Got-clause-took g c = let me = c.args.me.now in let t = c.lock-held in let h = t.ensures.holding.1 in let e = c.take_into.ensures in let w = h.behind.world in
     let is = on_got me.seat.me t.new.seat.me me.id me.mark me.next t.result.locked me.is_taker h (length c.args.out.now) c.in-Got.count c.take_into.result (e.reply w h.behind.for) (c.unwrap-taken.ensures ∙ ap (λ (x : Taken). Ok x) c.in-Got.is) in
     let same = sight_moved me.seat.me t.new.seat.me me.id me.mark me.next t.result.locked me.is_taker h c.take_into.new.self (length c.args.out.now) (e.world w h.behind.for) e.others c.in-Got.count is.1 c.rest_moved.new.seat.me c.rest_moved.ensures.view in (
       subst (λ (s : Sight). me.next < length s.seen) (sym same) is.0,
@@ -43,14 +43,14 @@ returns-in-Got-clause-took g c = let me = c.args.me.now in let t = c.take_turn-h
     )
 
 pub returns-in-Got-clause-filled : goal.returns-in-Got-clause-filled
-returns-in-Got-clause-filled g c = let me = c.args.me.now in let t = c.take_turn-held in let h = t.ensures.holding.1 in let e = c.take_into.ensures in let w = h.behind.world in
+returns-in-Got-clause-filled g c = let me = c.args.me.now in let t = c.lock-held in let h = t.ensures.holding.1 in let e = c.take_into.ensures in let w = h.behind.world in
     let is = on_got me.seat.me t.new.seat.me me.id me.mark me.next t.result.locked me.is_taker h (length c.args.out.now) c.in-Got.count c.take_into.result (e.reply w h.behind.for) (c.unwrap-taken.ensures ∙ ap (λ (x : Taken). Ok x) c.in-Got.is) in
     let same = sight_moved me.seat.me t.new.seat.me me.id me.mark me.next t.result.locked me.is_taker h c.take_into.new.self (length c.args.out.now) (e.world w h.behind.for) e.others c.in-Got.count is.1 c.rest_moved.new.seat.me c.rest_moved.ensures.view in
     filled_moved me.seat.me t.new.seat.me me.id me.mark me.next t.result.locked me.is_taker h (length c.args.out.now) c.args.out.now c.take_into.new.out (e.filled w h.behind.for)
     ∙ ap (λ (n : ℕ). slice me.next (me.next + n) t.new.seat.me.0.sight.seen ++ drop n c.args.out.now) (sym is.1) ∙ ap (λ (s : Sight). slice me.next (me.next + c.in-Got.count) s.seen ++ drop c.in-Got.count c.args.out.now) (sym same)
 
 pub returns-in-Nothing-clause-took : goal.returns-in-Nothing-clause-took
-returns-in-Nothing-clause-took g c = let me = c.args.me.now in let t = c.take_turn-held in let h = t.ensures.holding.1 in let e = c.take_into.ensures in let w = h.behind.world in
+returns-in-Nothing-clause-took g c = let me = c.args.me.now in let t = c.lock-held in let h = t.ensures.holding.1 in let e = c.take_into.ensures in let w = h.behind.world in
     let is = on_nothing me.seat.me t.new.seat.me me.id me.mark me.next t.result.locked me.is_taker h (length c.args.out.now) c.take_into.result (e.reply w h.behind.for) (c.unwrap-taken.ensures ∙ ap (λ (x : Taken). Ok x) c.in-Nothing.is) in
     let view = c.rest.ensures.view in (
       is.0 ∙ sym (ap (λ (m : M). length m.0.sight.seen) view),
@@ -60,7 +60,7 @@ returns-in-Nothing-clause-took g c = let me = c.args.me.now in let t = c.take_tu
     )
 
 pub returns-in-End-clause-took : goal.returns-in-End-clause-took
-returns-in-End-clause-took g c = let me = c.args.me.now in let t = c.take_turn-held in let h = t.ensures.holding.1 in let e = c.take_into.ensures in let w = h.behind.world in
+returns-in-End-clause-took g c = let me = c.args.me.now in let t = c.lock-held in let h = t.ensures.holding.1 in let e = c.take_into.ensures in let w = h.behind.world in
     let is = on_end me.seat.me t.new.seat.me me.id me.mark me.next t.result.locked me.is_taker h (length c.args.out.now) c.take_into.result (e.reply w h.behind.for) (c.unwrap-taken.ensures ∙ ap (λ (x : Taken). Ok x) c.in-End.is) in
     let view = c.rest-in-End.ensures.view in (
       is.0 ∙ sym (ap (λ (m : M). length m.0.sight.seen) view),

@@ -8,7 +8,7 @@ use Rattle.hub_requests.proofs.ShortReplies.{short_number, short_state}
 use Rattle.hub_names.specs.Says.{says}
 use Rattle.hub_names.specs.declared.speech.Speech.{Speech}
 use Rattle.hub_names.proofs.ShortRefusals.{short_refused}
-use Rattle.hub_names.proofs.Speakers.{same_number, knew}
+use Rattle.hub_names.proofs.Speakers.{knew}
 use Rattle.hub_names.proofs.speech.Speech.say.Goals as goal
 
 pub returns-in-Ok-clause-said : goal.returns-in-Ok-clause-said
@@ -31,14 +31,11 @@ returns-in-Err-clause-short g c =
     let fits = c.items.type_inv in
     subst (λ (r : Refusal). length (text_of (No r)) ≤ 4101) (sym c.from.ensures) (short_refused c.publish.new.me _ c.in-Err.error c.in-Err.ensures.refused (omega arith))
 
-pub returns-in-Status-clause-same : goal.returns-in-Status-clause-same
-returns-in-Status-clause-same g c = same_number _ _ c.status.ensures.pass.2
-
 pub returns-in-Status-clause-said : goal.returns-in-Status-clause-said
 returns-in-Status-clause-said g c =
     let own = c.status.ensures in
     subst (λ (s : Speech). says s c.args.publisher.now (State c.status.result) c.status.new.me) (sym c.in-Status.is)
-    (own.status, knew c.args.publisher.now c.status.new.me own.seen.1 (same_number _ _ own.pass.2), ap mine_of own.pass.1)
+    (own.status, knew c.args.publisher.now c.status.new.me own.looks, ap mine_of own.looks.role)
 
 pub returns-in-Status-clause-short : goal.returns-in-Status-clause-short
 returns-in-Status-clause-short g c = short_state c.status.result (omega arith)

@@ -3,7 +3,7 @@ use Rattle.std.specs.Option.{IsSome}
 use Rattle.atomic_table.specs.Table.{rest}
 use Rattle.hub_fifodir.specs.Steps.{Holding}
 use Rattle.hub_fifodir.proofs.Asked.{asks_lock, taken_out, found_it}
-use Rattle.hub_fifodir.proofs.steps.take_turn.Goals as goal
+use Rattle.hub_fifodir.proofs.fifodir.Fifodir.lock.Goals as goal
 
 pub swap-found-requires : goal.swap-found-requires
 swap-found-requires g c = (search rules, search rules, asks_lock _ _ _ c.args.seat.now.me c.loop.seat.me c.loop.invariant.2 c.requires.idle)
