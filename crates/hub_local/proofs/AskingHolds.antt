@@ -1,6 +1,6 @@
 -- The requests that begin a subscription or a listener: one more handle.
 use Rattle.std.proofs.Common.{◌≡◌, ◌≢◌, ℕ, ◌+◌, ◌<◌, ◌≤◌, Bool, true, false, List, [], ◌∷◌, ◌++◌, length, nat_eq, nat_le, Option, Some, None, is_some, Ok, Err, refl, sym, ap, subst, ◌∙◌, inl, inr, length-append, arith}
-use Rattle.std.proofs.lemmas.Bool.{cases_Bool, le-leb, lt-leb, leb-false}
+use Rattle.std.proofs.lemmas.Bool.{cases_Bool}
 use Rattle.std.proofs.lemmas.Slice.Eq.{bytes_eq-Decides}
 use Rattle.std.specs.Map.{lookup}
 use Rattle.std.specs.Str.{bytes_eq}
@@ -15,6 +15,8 @@ use Rattle.hub_local.specs.Answers.{in_world, refusal_to_hold, refusal_to_listen
 use Rattle.hub_local.specs.Desks.{Desk, Handle, standing, world_of, with_world, subscription_of, AreHeld, AreApart, GoesOn, AllGoOn, refused}
 use Rattle.hub_local.specs.Replies.{subscribe_reply}
 use Rattle.hub_requests.specs.Refusals.{refusal_of_sub}
+use Rattle.hub_requests.specs.Room.{refusal_of_handle}
+use Rattle.hub_requests.proofs.NextHandle.{room_for_handle}
 use Rattle.hub_local.specs.Standing.{Local, AreKept, Stands, Answers, AskedWith, Unchanged}
 use Rattle.hub_local.specs.declared.local_desk.Hearing.{Hearing}
 use Rattle.hub_local.specs.declared.local_desk.Holding.{Holding}
@@ -44,17 +46,8 @@ module _ (local : Local) (name : List ℕ) (d : Desk) (st : Stands local d) wher
   pub hold_unnamed : is_some (lookup (bytes_eq name) local.fifodirs) ≡ false → Some no.Name ≡ refusal_to_hold d name
   hold_unnamed absent = let k = known false absent in simp k
 
-  module _ (there : is_some (lookup (bytes_eq name) local.fifodirs) ≡ true) where
-    pub hold_many : 256 ≤ length local.holdings → Some no.Many ≡ refusal_to_hold d name
-    hold_many many = let n = ap length st.holdings in simp (known true there, le-leb 256 (length (standing d)) (omega arith))
-
-    pub hold_spent : length local.holdings < 256 → 1000000 ≤ local.given → Some no.Spent ≡ refusal_to_hold d name
-    hold_spent few spent = let n = ap length st.holdings in let g = st.given in
-        simp (known true there, lt-leb 256 (length (standing d)) (omega arith), le-leb 1000000 (length d.handles) (omega arith))
-
-    pub may_hold : length local.holdings < 256 → local.given < 1000000 → None ≡ refusal_to_hold d name
-    may_hold few left = let n = ap length st.holdings in let g = st.given in
-        simp (known true there, lt-leb 256 (length (standing d)) (omega arith), lt-leb 1000000 (length d.handles) (omega arith))
+  pub hold_there : is_some (lookup (bytes_eq name) local.fifodirs) ≡ true → refusal_of_handle (length local.holdings) local.given ≡ refusal_to_hold d name
+  hold_there there = let k = known true there in let n = ap length st.holdings in let g = st.given in simp (k, n, g)
 
 -- if it doesn't refuse
 some_none : {X : Type 0} (x : X) → Some x ≡ None → ⊥
@@ -66,13 +59,7 @@ named_there local name d st may none = let e = none_kept name local.fifodirs d.f
 pub numbers_left : (local : Local) (name : List ℕ) (d : Desk) → Stands local d → refusal_to_hold d name ≡ None → local.given < 1000000
 numbers_left local name d st may =
     elim (cases_Bool (is_some (world_of d.fifodirs name))) [
-      | inl t ↦ elim (cases_Bool (nat_le 256 (length (standing d)))) [
-        | inl m ↦ absurd (some_none no.Many (simp (t, m) at may))
-        | inr m ↦ elim (cases_Bool (nat_le 1000000 (length d.handles))) [
-          | inl s ↦ absurd (some_none no.Spent (simp (t, m, s) at may))
-          | inr s ↦ (let l = leb-false 1000000 (length d.handles) s in let g = st.given in omega arith)
-        ]
-      ]
+      | inl t ↦ (let left = room_for_handle (length (standing d)) (length d.handles) (simp t at may) in let l = left.1 in let g = st.given in omega arith)
       | inr t ↦ absurd (some_none no.Name (simp t at may))
     ]
 

@@ -1,4 +1,3 @@
-mod LimitsInRange
 pub mod RecordReplies
 pub mod KeptFifodirs
 pub mod Worlds

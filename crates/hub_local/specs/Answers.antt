@@ -1,8 +1,6 @@
 -- What a desk answers to requests, and what it is afterwards.
 use Rattle.std.specs.Prelude.{ℕ, ◌≡◌, ◌+◌, ◌≤◌, Bool, true, false, if◌then◌else◌, List, [], ◌∷◌, ◌++◌, length, drop, nat_le, Option, Some, None, option_to_list, is_some, Result, Ok, Err}
 use Rattle.std.specs.List.{list_all}
-use Rattle.std.proofs.Math.Decide.{dec_le}
-use Rattle.std.proofs.Math.Dec.{lit≤}
 use Rattle.hub_letters.specs.Flags.{flags_of}
 use Rattle.hub_listen.specs.Hit.{IsPattern}
 use Rattle.hub_listen.specs.Listening.{unheard}
@@ -12,6 +10,7 @@ use Rattle.hub_record.specs.World.{World, empty_world, letters, after_subscribe,
 use Rattle.hub_record.specs.declared.Kind.{Kind}
 use Rattle.hub_record.specs.declared.Kind.TheVariants.{Plain, Service}
 use Rattle.hub_record.specs.declared.limits.Limits.{Limits}
+use Rattle.hub_record.specs.LimitsOf.{limits_of}
 use Rattle.hub_record.specs.declared.SubError.{SubError}
 use Rattle.hub_record.specs.declared.PubError.{PubError}
 use Rattle.hub_record.specs.declared.Taken.{Taken}
@@ -22,6 +21,7 @@ use Rattle.hub_local.specs.Desks.{Desk, Answer, world_of, reports_of, with_world
 use Rattle.hub_local.specs.Polls.{polled, LeftByPoll}
 use Rattle.hub_local.specs.Replies.{subscribe_reply, publish_reply}
 use Rattle.hub_requests.specs.Refusals.{refusal_of_sub, refusal_of_pub}
+use Rattle.hub_requests.specs.Room.{refusal_of_handle}
 use Rattle.hub_local.specs.Waits.{waited, LeftByWait}
 use Rattle.hub_local.specs.declared.local_desk.Hearing.{Hearing}
 use Rattle.hub_local.specs.declared.local_desk.Holding.{Holding}
@@ -47,9 +47,7 @@ refusal_by_name d name = if is_some (world_of d.fifodirs name) then None else So
 abbrev pub refusal_to_hold : Desk → List ℕ → Option Refusal
 refusal_to_hold d name =
     if is_some (world_of d.fifodirs name) then
-    (if nat_le 256 (length (standing d)) then Some no.Many else
-    if nat_le 1000000 (length d.handles) then Some no.Spent else
-    None)
+    refusal_of_handle (length (standing d)) (length d.handles)
     else Some no.Name
 
 -- the same for a listener; `read` says whether its text is a pattern
@@ -118,15 +116,6 @@ abbrev pub for_hearing : Desk → (Hearing → Answer) → Option Hearing → An
 for_hearing d done None = refused d no.Id
 for_hearing d done (Some hearing) = done hearing
 
-abbrev pub limits_by : (waiting total : ℕ) → Dec (1 ≤ waiting) → Dec (waiting ≤ 4096) → Dec (1 ≤ total) → Dec (total ≤ 1000000000000) → Option Limits
-limits_by waiting total (yes some_wait) (yes few_wait) (yes some) (yes within) =
-    Some (record { waiting = waiting; total = total; ids = 1000000000000; waiting_in_range = (some_wait, few_wait); total_in_range = (some, within); ids_in_range = (lit≤ tt, lit≤ tt) })
-limits_by waiting total a b c d = None
-
--- the limits of a desk's fifodir, if they are in their ranges
-abbrev pub limits_of : ℕ → ℕ → Option Limits
-limits_of waiting total = limits_by waiting total (dec_le 1 waiting) (dec_le waiting 4096) (dec_le 1 total) (dec_le total 1000000000000)
-
 -- if the limits aren't in their ranges, a number is refused; no request with such limits is ever asked
 abbrev pub made : Desk → List ℕ → Kind → Option Bool → Option Limits → Answer
 made d name kind reports None = refused d no.Range
@@ -175,8 +164,8 @@ shown d w = record { reply = State (record { number = length w.events; flags = f
 
 -- what is done with a request that the desk itself doesn't refuse
 abbrev pub carried_out : Desk → Request → Answer
-carried_out d (Dir name waiting total) = made d name Plain None (limits_of waiting total)
-carried_out d (Svc name waiting total notifies) = made d name Service (Some notifies) (limits_of waiting total)
+carried_out d (Dir name waiting total) = made d name Plain None (limits_of waiting total 1000000000000)
+carried_out d (Svc name waiting total notifies) = made d name Service (Some notifies) (limits_of waiting total 1000000000000)
 carried_out d (Sub name) = in_world d (λ w. subscribed d name None w (subscribe_reply w)) (world_of d.fifodirs name)
 carried_out d (Pub name message) = in_world d (λ w. published d name message w (publish_reply w message)) (world_of d.fifodirs name)
 carried_out d (Take id max) = for_holding d (λ h. in_world d (took d max h) (world_of d.fifodirs h.name)) (held d id)

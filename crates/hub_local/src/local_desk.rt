@@ -1,13 +1,11 @@
 //! The desk of one thread, its state, and its implementation of `Desk`.
-ghost use Rattle.std.specs.Prelude.{◌≡◌, IfOk, Some};
-ghost use Rattle.hub_local.specs.Answers.{limits_of};
-ghost use Rattle.hub_requests.specs.Ranges.{AreLimits};
+ghost use Rattle.std.specs.Prelude.{IfOk};
 
 use crate::local_desk::subscriptions::release_all;
 use hub_letters::Letter;
 use hub_listen::{Listener, Mode};
-use hub_record::{Kind, Limits, Record};
-use hub_requests::{Desk, Name, Reply, Request};
+use hub_record::{Kind, Record};
+use hub_requests::{Desk, Name, Reply, Request, limits};
 use indexmap::IndexMap;
 use std::alloc::{AllocError, Global};
 use std::marker::Model;
@@ -18,9 +16,6 @@ mod laws;
 mod listeners;
 mod subscriptions;
 mod waits;
-
-/// How many ids each fifodir can give.
-const IDS: u64 = 1_000_000_000_000;
 
 /// A fifodir that only this desk uses.
 #[derive(Drop)]
@@ -66,9 +61,17 @@ impl Model for LocalDesk {
 
     ghost Value = { Local };
 
-    ghost view = { λ d. record { fifodirs = d.fifodirs.entries; holdings = d.holdings.entries; given = d.given } };
+    ghost view = { λ d. record {
+      fifodirs = d.fifodirs.entries;
+      holdings = d.holdings.entries;
+      given = d.given;
+    } };
 
-    ghost invariant = { λ d. StandsForSome (record { fifodirs = d.fifodirs.entries; holdings = d.holdings.entries; given = d.given }) };
+    ghost invariant = { λ d. StandsForSome (record {
+      fifodirs = d.fifodirs.entries;
+      holdings = d.holdings.entries;
+      given = d.given;
+    }) };
 }
 
 impl LocalDesk {
@@ -85,17 +88,6 @@ impl LocalDesk {
             holdings: IndexMap::new(alloc),
             given: 0,
         })
-    }
-}
-
-fn limits(waiting: u64, total: u64) -> Limits
-    requires { AreLimits waiting total }
-    ensures { limits_of waiting total ≡ Some result }
-{
-    Limits {
-        waiting,
-        total,
-        ids: IDS,
     }
 }
 

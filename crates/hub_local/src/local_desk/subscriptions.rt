@@ -1,5 +1,5 @@
 //! The requests about a subscription: begin one, take from it, and end it.
-ghost use Rattle.std.specs.Prelude.{◌≡◌, ◌≤◌, List, length, None, false, true, IfOk, IfSome, OnOk, OnErr, vec_capacity, vec_len};
+ghost use Rattle.std.specs.Prelude.{◌≡◌, ◌≤◌, List, length, None, false, true, IfOk, IfSome, OnOk, OnErr};
 ghost use Rattle.indexmap.specs.IndexMap.{values};
 ghost use Rattle.hub_record.specs.Kept.{StandsFor};
 ghost use Rattle.hub_record.specs.World.{World, letters, take_reply, take_events, after_take};
@@ -14,16 +14,10 @@ ghost use Rattle.hub_requests.specs.declared.request.Request.TheVariants.{Sub, T
 
 use crate::local_desk::{Hearing, Holding, LocalDesk, LocalFifodir};
 use hub_letters::Letter;
-use hub_record::{Event, Letters, Record, Taken};
-use hub_requests::{Name, Refusal, Reply};
+use hub_record::{Event, Record, Taken};
+use hub_requests::{Name, Refusal, Reply, letters_of, refusal_of_handle};
 use indexmap::IndexMap;
 use std::alloc::{AllocError, Global};
-
-/// How many handles may be current at one time.
-const HANDLES: usize = 256;
-
-/// How many handles may be given in all.
-const NUMBERS: u64 = 1_000_000;
 
 impl LocalDesk {
     pub(super) fn subscribe(&mut self, name: &Name) -> Reply
@@ -45,13 +39,7 @@ impl LocalDesk {
         if !self.fifodirs.contains_key(name) {
             return Some(Refusal::Name);
         }
-        if self.holdings.len() >= HANDLES {
-            return Some(Refusal::Many);
-        }
-        if self.given >= NUMBERS {
-            return Some(Refusal::Spent);
-        }
-        None
+        refusal_of_handle(self.holdings.len(), self.given)
     }
 
     /// Subscribes, and gives the subscription the next handle.
@@ -177,8 +165,8 @@ fn take_letters(
     requires stands { HasSubscription kept.old id }
     requires few { length room.old ≤ 256 }
     ensures reply { (w : World) → StandsFor kept.old w
-        → IfOk result (λ reply. reply ≡ take_shown (letters (take_events w id (length room.old)))
-        (take_reply w id (length room.old))) }
+        → IfOk result (λ reply. reply ≡ take_shown
+        (letters (take_events w id (length room.old))) (take_reply w id (length room.old))) }
     ensures after { (w : World) → StandsFor kept.old w
         → OnOk result (StandsFor kept.new (after_take w id (length room.old))) }
     ensures short { IfOk result (λ reply. length (text_of reply) ≤ 4101) }
@@ -191,16 +179,4 @@ fn take_letters(
         Ok(Taken::End) => Ok(Reply::End),
         Err(_) => unreachable!(),
     }
-}
-
-/// The letters of the events, in a list that has room for them.
-fn letters_of(events: &[Event], mut room: Vec<Letter>) -> Letters
-    requires empty { vec_len room ≡ 0 }
-    requires fits { length events.now ≤ vec_capacity room }
-    ensures { result ≡ letters events.now }
-{
-    for event in events {
-        room.push_reserved(event.letter);
-    }
-    Letters::of(room)
 }
