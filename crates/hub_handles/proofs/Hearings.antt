@@ -1,5 +1,5 @@
 -- Letters that come to a listener, and how polls follow from what it hears.
-use Rattle.std.proofs.Common.{◌≡◌, ◌≤◌, ◌<◌, ◌+◌, ℕ, Bool, true, false, List, [], ◌∷◌, ◌++◌, length, Option, Some, None, Result, Ok, Err, refl, sym, ap, subst, ◌∙◌, inl, inr, append-nil, append_assoc, length-append}
+use Rattle.std.proofs.Common.{◌≡◌, ◌≤◌, ◌<◌, ◌+◌, ℕ, Bool, true, false, List, [], ◌∷◌, ◌++◌, length, Option, Some, None, is_some, IfSome, Result, Ok, Err, refl, sym, ap, subst, ◌∙◌, inl, inr, append-nil, append_assoc, length-append}
 use Rattle.std.specs.Prelude.{if◌then◌else◌}
 use Rattle.hub_requests.specs.declared.reply.Reply.{Reply}
 use Rattle.hub_requests.specs.declared.reply.Reply.TheVariants as answer
@@ -17,7 +17,7 @@ use Rattle.hub_listen.proofs.Singly.{nothing_is_quiet}
 use Rattle.hub_record.specs.World.{letters}
 use Rattle.hub_handles.specs.declared.hearing.Hearing.{Hearing}
 use Rattle.hub_handles.specs.declared.subscription.Subscription.{Subscription}
-use Rattle.hub_handles.specs.Taking.{IsSameTicket, TakesOne}
+use Rattle.hub_handles.specs.Taking.{HasLooked, IsSameTicket, TakesOne}
 use Rattle.hub_handles.specs.Hearings.{held_letters, Comes, Hears, Stops, Gives, HearsOne, Polls}
 
 same_ticket : (s : Subscription) → IsSameTicket s s
@@ -67,8 +67,16 @@ gives_held old new letter was is same mode = (
   is,
 )
 
-nothing_held : (old new : Hearing) → old.held ≡ None → new.held ≡ None → held_letters old.held ++ [] ≡ [] ++ held_letters new.held
-nothing_held old new was is = ap (λ (o : Option ℕ). held_letters o ++ []) was ∙ sym (ap held_letters is)
+-- no letter came
+comes_nothing : (old new : Hearing) → IsSameTicket old.subscription new.subscription → new.mode ≡ old.mode → got new.subscription.ticket ≡ got old.subscription.ticket → new.held ≡ old.held
+    → Comes old [] new
+comes_nothing old new same mode none held = record {
+  ticket = same;
+  mode = mode;
+  taken = [];
+  took = ap letters none ∙ sym (append-nil (letters (got old.subscription.ticket)));
+  once = append-nil (held_letters old.held) ∙ ap held_letters (sym held);
+}
 
 -- the letter that was taken, or none
 pub gives_taken : (old new : Hearing) (result : Result ℕ Reply) → old.held ≡ None → new.held ≡ None → new.mode ≡ old.mode
@@ -84,28 +92,8 @@ gives_taken old new (Ok letter) was is mode takes =
       },
       is,
     )
-gives_taken old new (Err answer.Nothing) was is mode takes =
-    let shows = takes.shows in (
-      record {
-        ticket = takes.same;
-        mode = mode;
-        taken = [];
-        took = ap letters shows.3 ∙ sym (append-nil (letters (got old.subscription.ticket)));
-        once = nothing_held old new was is;
-      },
-      (is, (shows.2 ∙ shows.0, shows.1)),
-    )
-gives_taken old new (Err answer.End) was is mode takes =
-    let shows = takes.shows in (
-      record {
-        ticket = takes.same;
-        mode = mode;
-        taken = [];
-        took = ap letters shows.3 ∙ sym (append-nil (letters (got old.subscription.ticket)));
-        once = nothing_held old new was is;
-      },
-      (is, (shows.2 ∙ shows.0, shows.1)),
-    )
+gives_taken old new (Err answer.Nothing) was is mode takes = (comes_nothing old new takes.same mode takes.shows.3 (is ∙ sym was), (is, (takes.shows.2 ∙ takes.shows.0, takes.shows.1)))
+gives_taken old new (Err answer.End) was is mode takes = (comes_nothing old new takes.same mode takes.shows.3 (is ∙ sym was), (is, (takes.shows.2 ∙ takes.shows.0, takes.shows.1)))
 gives_taken old new (Err answer.Done) was is mode takes = absurd takes
 gives_taken old new (Err (answer.Number n)) was is mode takes = absurd takes
 gives_taken old new (Err (answer.State s)) was is mode takes = absurd takes
@@ -131,6 +119,20 @@ hears_nothing old new comes same repeats fits = record {
   comes = comes;
   feeds = (unspent old.listener repeats, (hears_none old repeats fits).feeds.1, (hears_none old repeats fits).feeds.2, same ∙ (hears_none old repeats fits).feeds.3);
 }
+
+-- it only looked
+pub hears_looked : (old new : Hearing) → HasLooked old.subscription new.subscription → new.mode ≡ old.mode → new.listener ≡ old.listener → new.held ≡ old.held → old.listener.mode ≡ Repeat
+    → length old.listener.gathered ≤ 4096 → Hears old [] (Ok Quiet) new
+hears_looked old new looks mode same held repeats fits = hears_nothing old new (comes_nothing old new looks.same mode looks.got held) same repeats fits
+
+pub stops_idle : (old new : Hearing) (idle : Option Reply) → IfSome idle (λ reply. TakesOne old.subscription (Err reply) new.subscription) → old.held ≡ None → new.held ≡ None → new.mode ≡ old.mode
+    → IfSome idle (λ reply. Stops reply new)
+stops_idle old new None takes was is mode = tt
+stops_idle old new (Some reply) takes was is mode = (gives_taken old new (Err reply) was is mode takes).1
+
+pub none_held : (held : Option ℕ) → is_some held ≡ false → held ≡ None
+none_held None e = refl
+none_held (Some letter) e = absurd (let k : ⊥ = cc in k)
 
 hears_on : (a b c : Hearing) (fed more : List ℕ) (heard : Feed) → Hears a fed (Ok Quiet) b → Hears b more (Ok heard) c
     → Hears a (fed ++ more) (counted_from (length fed) (Ok heard)) c

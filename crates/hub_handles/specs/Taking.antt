@@ -5,7 +5,7 @@ use Rattle.hub_requests.specs.declared.reply.Reply.{Reply}
 use Rattle.hub_requests.specs.declared.reply.Reply.TheVariants as answer
 use Rattle.hub_fifodir.specs.declared.fifodir.Fifodir.{Fifodir}
 use Rattle.hub_fifodir.specs.declared.ticket.Ticket.{Ticket}
-use Rattle.hub_fifodir.specs.Passes.{HasSubscribed, HasTaken, sent_on, ticket_id, ticket_mark, ticket_sight}
+use Rattle.hub_fifodir.specs.Passes.{HasSubscribed, HasTaken, got, sent_on, ticket_id, ticket_mark, ticket_next, ticket_sight}
 use Rattle.hub_fifodir.specs.Steps.{Grows}
 use Rattle.hub_record.specs.declared.Taken.TheVariants.{Got, Nothing, End}
 use Rattle.hub_handles.specs.declared.subscription.Subscription.{Subscription}
@@ -23,6 +23,12 @@ pub record IsSameTicket (old new : Subscription) : Type 0 where
   pub id : ticket_id new.ticket ≡ ticket_id old.ticket
   pub mark : ticket_mark new.ticket ≡ ticket_mark old.ticket
   pub seen : Grows (ticket_sight old.ticket) (ticket_sight new.ticket)
+
+-- it only looked: it goes on at the same event, and has taken no more
+pub record HasLooked (old new : Subscription) : Type 0 where
+  pub same : IsSameTicket old new
+  pub next : ticket_next new.ticket ≡ ticket_next old.ticket
+  pub got : got new.ticket ≡ got old.ticket
 
 pub record TakesFrom (max : ℕ) (old : Subscription) (reply : Reply) (new : Subscription) : Type 0 where
   pub same : IsSameTicket old new

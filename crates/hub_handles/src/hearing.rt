@@ -1,5 +1,5 @@
 //! A session's listeners.
-ghost use Rattle.std.specs.Prelude.{◌≡◌, ◌≤◌, ◌<◌, [], Ok, length, vec_len, vec_capacity, IfOk, IfErr};
+ghost use Rattle.std.specs.Prelude.{◌≡◌, ◌≤◌, ◌<◌, [], Ok, length, vec_len, vec_capacity, IfOk, IfErr, IfSome};
 ghost use Rattle.hub_requests.specs.Texts.{text_of};
 ghost use Rattle.hub_listen.specs.declared.feed.Feed.TheVariants.{Quiet};
 ghost use Rattle.hub_letters.specs.declared.mode.Mode.TheVariants.{Repeat};
@@ -59,6 +59,9 @@ impl Hearing {
         if self.listener.text().len() >= GATHERED {
             return Reply::No(Refusal::Overlong);
         }
+        if let Some(reply) = self.look() {
+            return reply;
+        }
         let Ok(room) = Vec::with_capacity(alloc, GATHERED) else {
             return Reply::No(Refusal::Memory);
         };
@@ -70,6 +73,19 @@ impl Hearing {
             }
         }
         Reply::Nothing
+    }
+
+    /// What a poll is answered if no letter is held and none waits. None if there is a letter to hear.
+    fn look(&mut self) -> Option<Reply>
+        requires { length self.old.listener.gathered < 4096 }
+        ensures quiet { Hears self.old [] (Ok Quiet) self.new }
+        ensures stopped { IfSome result (λ reply. Stops reply self.new) }
+        ensures short { IfSome result (λ reply. length (text_of reply) ≤ 4101) }
+    {
+        if self.held.is_some() {
+            return None;
+        }
+        self.subscription.look()
     }
 
     /// Hears one letter more, and tells whether it completes a hit; or what to answer where none can be heard.

@@ -1,5 +1,5 @@
 //! A session's subscriptions.
-ghost use Rattle.std.specs.Prelude.{◌≡◌, ◌≤◌, length, vec_len, vec_capacity, IfOk, IfErr};
+ghost use Rattle.std.specs.Prelude.{◌≡◌, ◌≤◌, length, vec_len, vec_capacity, Err, IfOk, IfErr, IfSome};
 ghost use Rattle.std.specs.Arc.{arc_value};
 ghost use Rattle.hub_requests.specs.Texts.{text_of};
 ghost use Rattle.hub_fifodir.specs.Passes.{IsTicketOf};
@@ -20,7 +20,7 @@ pub struct Subscription {
 }
 
 impl Subscription {
-    ghost use Rattle.hub_handles.specs.Taking.{Begins, TakesFrom, TakesOne};
+    ghost use Rattle.hub_handles.specs.Taking.{Begins, HasLooked, TakesFrom, TakesOne};
 
     pub fn new<H: Wait>(rt: &H, dir: Arc<Fifodir, Global>) -> Result<Subscription, SubError>
         ensures { IfOk result (λ s. Begins (arc_value dir) s) }
@@ -65,6 +65,22 @@ impl Subscription {
             Taken::Nothing => Reply::Nothing,
             Taken::End => Reply::End,
         }
+    }
+
+    /// What a take is answered if nothing waits. None if an event waits. It is one load of the front word, and takes no memory.
+    pub fn look(&mut self) -> Option<Reply>
+        ensures looked { HasLooked self.old self.new }
+        ensures idle { IfSome result (λ reply. TakesOne self.old (Err reply) self.new) }
+        ensures short { IfSome result (λ reply. length (text_of reply) ≤ 4101) }
+    {
+        let status = self.dir.status(&mut self.ticket);
+        if status.number != self.ticket.next() {
+            return None;
+        }
+        if status.closed {
+            return Some(Reply::End);
+        }
+        Some(Reply::Nothing)
     }
 
     /// Takes the next letter, or tells what to answer where there is none.

@@ -1,12 +1,17 @@
-use Rattle.std.proofs.Common.{◌<◌, ◌+◌, length, [], Bool, refl, subst, ap, ◌∙◌, inr, arith}
+use Rattle.std.proofs.Common.{◌<◌, ◌+◌, length, [], Bool, refl, sym, subst, ap, ◌∙◌, inr, arith}
 use Rattle.hub_handles.specs.Hearings.{HearsOne}
 use Rattle.hub_handles.proofs.Hearings.{hears_none, hears_quietly, gathers_one, hit_polls, stop_polls}
 use Rattle.hub_handles.proofs.hearing.Hearing.poll.Goals as goal
 
-pub returns-in_default-clause-polled : goal.returns-in_default-clause-polled
-returns-in_default-clause-polled g c =
+pub returns-in_default-with_capacity-clause-polled : goal.returns-in_default-with_capacity-clause-polled
+returns-in_default-with_capacity-clause-polled g c =
     let few : length c.args.self.now.listener.gathered < 4096 = (let l = ap length c.text.ensures.value in let t = c.if-text-ge-GATHERED.false in omega arith) in
-    inr (refl, few, ([], hears_none c.args.self.now c.args.self.now.repeats c.text.ensures.short))
+    inr (refl, few, ([], c.look.ensures.quiet))
+
+pub returns-in-Some-clause-polled : goal.returns-in-Some-clause-polled
+returns-in-Some-clause-polled g c =
+    let few : length c.args.self.now.listener.gathered < 4096 = (let l = ap length c.text.ensures.value in let t = c.if-text-ge-GATHERED.false in omega arith) in
+    stop_polls c.args.self.now c.args.self.now c.look.new.self c.in-Some.reply [] (hears_none c.args.self.now c.args.self.now.repeats c.text.ensures.short) c.in-Some.ensures.quiet c.in-Some.ensures.stopped few
 
 pub returns-in-Ok-true-clause-polled : goal.returns-in-Ok-true-clause-polled
 returns-in-Ok-true-clause-polled g c =
@@ -25,3 +30,6 @@ loop-preserved g c =
       hears_quietly c.args.self.now c.loop.self c.hear.new.self c.loop.invariant.0.0 c.loop.invariant.0.1 heard,
       gathers_one c.loop.self c.hear.new.self heard ∙ ap (λ n. n + 1) c.loop.invariant.1,
     )
+
+pub loop-init : goal.loop-init
+loop-init g c = (([], c.look.ensures.quiet), ap length (sym c.text-counter.ensures.value))

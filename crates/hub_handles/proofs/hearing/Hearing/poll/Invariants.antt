@@ -4,4 +4,4 @@ use Rattle.hub_handles.specs.Hearings.{Hears}
 use Rattle.hub_handles.proofs.hearing.Hearing.poll.Given as goal
 
 abbrev pub invariant-loop : goal.invariant-loop
-invariant-loop g l = ((fed : List ℕ) × Hears l.initial.self fed (Ok Quiet) l.self) × (length l.self.listener.gathered ≡ l.counter)
+invariant-loop g l = ((fed : List ℕ) × Hears l.fn.self fed (Ok Quiet) l.self) × (length l.self.listener.gathered ≡ l.counter)
