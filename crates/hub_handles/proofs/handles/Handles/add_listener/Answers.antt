@@ -25,5 +25,5 @@ invariant_of-self-2 g c =
     record {
       subscribed = λ id above. old.subscribed id (omega arith);
       listening = λ id above.
-      put.2 id (ne_eqb (old.given + 1) id (λ e. absurd (omega arith))) ∙ ap (lookup (nat_eq id)) c.reserve.ensures.entries ∙ old.listening id (omega arith);
+          put.2 id (ne_eqb (old.given + 1) id (λ e. absurd (omega arith))) ∙ ap (lookup (nat_eq id)) c.reserve.ensures.entries ∙ old.listening id (omega arith);
     }
