@@ -71,7 +71,7 @@ pub fn send_both<R: Threads + Wait + Sync>(
 }
 
 /// An event that was taken and couldn't be sent on.
-#[derive(Clone, Copy, Debug, PartialEq, Eq, Error)]
+#[derive(Clone, Copy, Debug, PartialEq, Eq, Hash, Error)]
 #[error("the event could not be sent on: {why}")]
 pub struct Unsent {
     /// The event. The ticket doesn't take it again, so a caller that wants to send it later has to keep it.
@@ -101,10 +101,7 @@ pub fn send_on<R: Wait>(
     ensures sent { IfOk result (λ taken. mine publisher.new
         ≡ mine publisher.old ++ sent_on ticket.old taken ticket.new) }
 {
-    let mut out = [Event {
-        who: 0,
-        letter: Letter::least(),
-    }];
+    let mut out = [Event::FILLER];
     let taken = from.take_into(rt, ticket, &mut out);
     let [event] = out;
     if let Taken::Got(_) = taken {
