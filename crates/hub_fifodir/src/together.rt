@@ -1,7 +1,8 @@
 //! Programs over fifodirs: two threads publish at once, and events are sent on from one fifodir to another.
 ghost use Rattle.std.specs.Prelude.{◌≡◌, ℕ, ◌++◌, [], ◌∷◌, OnOk, OnErr, IfOk, IfErr};
 ghost use Rattle.hub_record.specs.Runs.{by};
-ghost use Rattle.hub_fifodir.specs.Passes.{IsPublisherOf, IsTicketOf, HasTaken, IsRefusedAt, publisher_number, got, seen, mine, sent_on};
+ghost use Rattle.hub_fifodir.specs.Passes.{IsPublisherOf, IsTicketOf, HasTaken, IsRefusedAt};
+ghost use Rattle.hub_fifodir.specs.Passes.{publisher_number, got, seen, mine, sent_on};
 
 use crate::fifodir::Fifodir;
 use crate::publisher::Publisher;

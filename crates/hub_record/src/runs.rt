@@ -3,7 +3,8 @@ ghost use Rattle.std.specs.Prelude.{◌≡◌, ◌≤◌, ◌+◌, ◌-◌, ◌+
 ghost use Rattle.std.specs.Map.{lookup};
 ghost use Rattle.hub_record.specs.World.{World as Modelled, empty_world};
 ghost use Rattle.hub_record.specs.Kept.{StandsFor};
-ghost use Rattle.hub_record.specs.Runs.{IsRun, world_after, SaidTo, after_call, AllFollow, by, published, gathered_from, lists_of, appended};
+ghost use Rattle.hub_record.specs.Runs.{IsRun, world_after, SaidTo, after_call, AllFollow};
+ghost use Rattle.hub_record.specs.Runs.{by, published, gathered_from, lists_of, appended};
 
 use crate::{Closed, Event, Kind, Letters, Limits, NoId, PubError, Record, SubError, Taken};
 use indexmap::IndexMap;
