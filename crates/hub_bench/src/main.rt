@@ -69,7 +69,7 @@ fn measure_fifodir(
 
 fn measure_record(rt: &impl Runtime, alloc: Global) -> Result<()> {
     for (burst, bursts) in MEASURES {
-        let message = vec![in alloc; Letter::least(); burst]?;
+        let message = vec![in alloc; Letter::LEAST; burst]?;
         for listeners in LISTENERS {
             let sent = (burst as u64).saturating_mul(bursts as u64);
             let record = through_record(rt, alloc, listeners, &message, bursts)?;
@@ -81,7 +81,7 @@ fn measure_record(rt: &impl Runtime, alloc: Global) -> Result<()> {
             )?;
         }
     }
-    let message = vec![in alloc; Letter::least(); 256]?;
+    let message = vec![in alloc; Letter::LEAST; 256]?;
     for listeners in LISTENERS {
         let took = publishing_alone(rt, alloc, listeners, &message, 2_000)?;
         println!(rt;
@@ -95,13 +95,6 @@ fn measure_record(rt: &impl Runtime, alloc: Global) -> Result<()> {
 /// The rate in letters, or looks, a second.
 fn rate(letters: u64, took: Duration) -> u128 {
     letters as u128 * 1_000_000 / took.as_micros().max(1)
-}
-
-fn filler() -> Event {
-    Event {
-        who: 0,
-        letter: Letter::least(),
-    }
 }
 
 /// A record with this many subscriptions, and their ids.
@@ -127,7 +120,7 @@ fn through_record(
     bursts: u32,
 ) -> Result<Duration> {
     let (mut record, ids) = subscribed(alloc, listeners)?;
-    let mut out = vec![in alloc; filler(); message.len()]?;
+    let mut out = vec![in alloc; Event::FILLER; message.len()]?;
     let start = Instant::now(rt)?;
     for _ in 0..bursts {
         record.publish(1, message)?;
@@ -148,7 +141,7 @@ fn through_vector(
 ) -> Result<Duration> {
     let mut events: Vec<Event> = Vec::with_capacity(alloc, WAITING)?;
     let mut nexts = vec![in alloc; 0_usize; listeners as usize]?;
-    let mut out = vec![in alloc; filler(); message.len()]?;
+    let mut out = vec![in alloc; Event::FILLER; message.len()]?;
     let start = Instant::now(rt)?;
     for _ in 0..bursts {
         for letter in message {
@@ -185,7 +178,7 @@ fn publishing_alone(
     rounds: u32,
 ) -> Result<Duration> {
     let (mut record, ids) = subscribed(alloc, listeners)?;
-    let mut out = vec![in alloc; filler(); WAITING]?;
+    let mut out = vec![in alloc; Event::FILLER; WAITING]?;
     let mut total = Duration::ZERO;
     for _ in 0..rounds {
         let start = Instant::now(rt)?;

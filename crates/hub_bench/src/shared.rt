@@ -2,11 +2,11 @@
 //! threads.
 ghost use Rattle.hub_fifodir.specs.Passes.{IsPublisherOf, IsTicketOf};
 
-use crate::{filler, rate};
+use crate::rate;
 use anyhow::{Result, anyhow};
 use hub_fifodir::{Fifodir, Publisher, Ticket};
 use hub_letters::Letter;
-use hub_record::{Kind, Limits, PubError, Record, Taken};
+use hub_record::{Event, Kind, Limits, PubError, Record, Taken};
 use std::alloc::{AllocGlobal, Global};
 use std::rt::Runtime;
 use std::sync::atomic::{AtomicU64, Ordering};
@@ -140,7 +140,7 @@ pub fn threads<R: Runtime + AllocGlobal + Wait + Threads + Sync + Send + 'static
 }
 
 fn publish_all<R: Wait>(rt: &R, alloc: Global, fifodir: &Fifodir) -> Result<()> {
-    let message = vec![in alloc; Letter::least(); BURST]?;
+    let message = vec![in alloc; Letter::LEAST; BURST]?;
     let mut publisher = fifodir.publisher(rt)?;
     let published = publish_by(rt, fifodir, &mut publisher, &message);
     let _ = fifodir.close(rt, &mut publisher);
@@ -177,7 +177,7 @@ fn took<R: Wait>(rt: &R, fifodir: &Fifodir, subscribed: &AtomicU64) -> u64 {
         return 0;
     };
     subscribed.fetch_add(1, Ordering::SeqCst);
-    let mut out = [filler(); BURST];
+    let mut out = [Event::FILLER; BURST];
     let mut all = 0_u64;
     'takes: for _ in rt.forever() {
         match fifodir.take_into(rt, &mut ticket, &mut out) {

@@ -1,4 +1,4 @@
-use crate::fixtures::{BLANK, are_events, blank, none_is_unlike, word};
+use crate::fixtures::{BLANK, are_events, none_is_unlike, word};
 use crate::passes::{
     Reader, Sender, Shared, cancel_all, joined, keep_reader, keep_sender, leave_all, open,
     publisher, subscribed, ticket,
@@ -209,7 +209,7 @@ impl Scene {
         answer: Taken,
         events: [(u64, u8); 3],
     ) -> bool {
-        let mut out = [blank(); 3];
+        let mut out = [Event::FILLER; 3];
         match self.readers.get_mut(place) {
             Some(reader) => reader.take(rt, &mut out) == answer && are_events(&out, &events),
             None => false,
@@ -347,7 +347,7 @@ fn all_meet<R: Abort + Wait>(rt: &R, fifodir: &Fifodir) -> bool {
     let mut other = publisher(rt, fifodir);
     let mut early = ticket(rt, fifodir);
     let mut late = ticket(rt, fifodir);
-    let published = fifodir.publish(rt, &mut one, &[Letter::least()]);
+    let published = fifodir.publish(rt, &mut one, &[Letter::LEAST]);
     fifodir.meet(rt, &mut one, &mut other);
     fifodir.meet(rt, &mut other, &mut early);
     fifodir.meet(rt, &mut early, &mut late);
@@ -383,7 +383,7 @@ fn goes_on<R: Wait>(rt: &R, from: &mut Reader, to: &mut Sender) -> Result<Taken,
 fn second_is_refused<R: Wait>(rt: &R, from: &mut Reader, to: &mut Sender) -> bool {
     let event = Event {
         who: 1,
-        letter: Letter::of(b'b').unwrap_or(Letter::least()),
+        letter: Letter::of(b'b').unwrap_or(Letter::LEAST),
     };
     let why = PubError::Spent;
     goes_on(rt, from, to) == Ok(Taken::Got(1))
@@ -436,8 +436,8 @@ fn two_send_at_once(rt: HostRuntime) -> Result<(), Fail> {
     let fifodir = open(rt.alloc(), Kind::Plain, (64, 1000, 10))?;
     let one = publisher(&rt, &fifodir);
     let other = publisher(&rt, &fifodir);
-    let a = [Letter::of(b'a').unwrap_or(Letter::least()); 100];
-    let b = [Letter::of(b'b').unwrap_or(Letter::least()); 100];
+    let a = [Letter::of(b'a').unwrap_or(Letter::LEAST); 100];
+    let b = [Letter::of(b'b').unwrap_or(Letter::LEAST); 100];
     let ((mut one, first), (other, second)) = send_both(&rt, &fifodir, one, other, &a, &b);
     let is_so = matches!((first, second), (Ok(0), Ok(100)) | (Ok(100), Ok(0)));
     let number = fifodir.front(&mut one);

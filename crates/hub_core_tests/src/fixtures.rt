@@ -23,14 +23,6 @@ pub(crate) fn word(alloc: Global, text: &str) -> Result<Vec<Letter>, AllocError>
 /// What a place has that no take wrote to.
 pub(crate) const BLANK: (u64, u8) = (0, b'!');
 
-/// An event to be written over.
-pub(crate) fn blank() -> Event {
-    Event {
-        who: 0,
-        letter: Letter::least(),
-    }
-}
-
 /// Whether the events are these publishers' numbers and letters.
 pub(crate) fn are_events(events: &[Event], wanted: &[(u64, u8)]) -> bool {
     for (event, (who, byte)) in events.iter().zip(wanted.iter()) {

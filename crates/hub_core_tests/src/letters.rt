@@ -16,7 +16,7 @@ fn letters_are_from_bang_to_tilde() -> bool {
             return false;
         }
     }
-    Letter::least().byte() == b'!'
+    Letter::LEAST.byte() == b'!'
 }
 
 /// The letters of the columns of `NEXT`.

@@ -155,7 +155,7 @@ static FILLS: [Run; 3] = [
 ];
 
 fn run_of(alloc: Global, byte: u8, count: usize) -> Result<Vec<Letter>, AllocError> {
-    let letter = Letter::of(byte).unwrap_or(Letter::least());
+    let letter = Letter::of(byte).unwrap_or(Letter::LEAST);
     vec![in alloc; letter; count].or_else(|_| vec![in alloc; letter; count])
 }
 

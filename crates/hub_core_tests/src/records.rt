@@ -1,9 +1,9 @@
 //! Worked examples, whose values were found by hand.
-use crate::fixtures::{BLANK, are_events, blank, none_is_unlike, word};
+use crate::fixtures::{BLANK, are_events, none_is_unlike, word};
 use hub_letters::Stage;
 use hub_record::{
-    Call, Closed, Kind, Letters, Limits, NoId, PubError, Record, Said, SubError, Taken, World,
-    replay,
+    Call, Closed, Event, Kind, Letters, Limits, NoId, PubError, Record, Said, SubError, Taken,
+    World, replay,
 };
 use std::alloc::{AllocError, Global};
 use std::test::Fail;
@@ -166,7 +166,7 @@ fn takes(
     answer: Result<Taken, NoId>,
     wanted: [(u64, u8); 3],
 ) -> bool {
-    let mut out = [blank(); 3];
+    let mut out = [Event::FILLER; 3];
     record.take_into(id, &mut out) == answer && are_events(&out, &wanted)
 }
 
@@ -181,7 +181,7 @@ fn subscribes_up_to(record: &mut Record, last: u64) -> bool {
 
 fn passes(alloc: Global, record: &mut Record, times: u64) -> Result<bool, AllocError> {
     let a = word(alloc, "a")?;
-    let mut out = [blank(); 1];
+    let mut out = [Event::FILLER; 1];
     for number in 0..times {
         if record.publish(1, &a) != Ok(number)
             || record.take_into(1, &mut out) != Ok(Taken::Got(1))

@@ -1,4 +1,3 @@
-use crate::fixtures::blank;
 use crate::passes::{Reader, Sender, joined, open, subscribed};
 use hub_letters::Letter;
 use hub_record::{Event, Kind, Taken};
@@ -11,7 +10,7 @@ use std::thread::Threads;
 // The letters that a publisher sends, in their order: the alphabet over and over.
 fn nth(first: u8, place: usize) -> Letter {
     let turn = (place % 26) as u8;
-    Letter::of(first.wrapping_add(turn)).unwrap_or(Letter::least())
+    Letter::of(first.wrapping_add(turn)).unwrap_or(Letter::LEAST)
 }
 
 // The messages after the first, of one to three letters each.
@@ -46,7 +45,7 @@ type Gathered = Result<Vec<Event>, AllocError>;
 fn gather<R: Wait>(rt: &R, alloc: Global, me: &mut Reader) -> Gathered {
     let mut all = Vec::new(alloc);
     for _ in rt.forever() {
-        let mut out = [blank(); 7];
+        let mut out = [Event::FILLER; 7];
         match me.take(rt, &mut out) {
             Taken::Got(count) => all.extend_from_slice(&out[..count])?,
             Taken::Nothing => thread::yield_now(),

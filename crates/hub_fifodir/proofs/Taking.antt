@@ -1,5 +1,5 @@
 -- A ticket's calls, from step to step: m0 before, m1 with the lock, m3 after.
-use Rattle.std.proofs.Common.{◌≡◌, ◌≢◌, ℕ, suc, ◌+◌, ◌-◌, ◌<◌, ◌≤◌, nat_lt, true, false, List, [], ◌∷◌, ◌++◌, length, take, drop, min, Option, Some, None, Ok, sym, refl, ap, ◌∙◌, subst, inl, inr, arith, length-append, length-drop, Result, IsOk}
+use Rattle.std.proofs.Common.{◌≡◌, ◌≢◌, ℕ, suc, ◌+◌, ◌-◌, ◌<◌, ◌≤◌, nat_lt, Bool, true, false, List, [], ◌∷◌, ◌++◌, length, take, drop, min, Option, Some, None, Ok, sym, refl, ap, ◌∙◌, subst, inl, inr, arith, length-append, length-drop, Result, IsOk}
 use Rattle.std.proofs.lemmas.Bool.{cases_Bool, ltb-true, ltb-false}
 use Rattle.std.proofs.lemmas.List.{length-take-le}
 use Rattle.hub_record.specs.declared.Event.{Event}
@@ -11,11 +11,12 @@ use Rattle.hub_fifodir.specs.declared.views.Book.{Book}
 use Rattle.hub_fifodir.specs.declared.views.Sight.{Sight}
 use Rattle.hub_fifodir.specs.declared.views.View.{View}
 use Rattle.hub_fifodir.specs.declared.views.Role.{Role}
-use Rattle.hub_fifodir.specs.declared.views.Role.TheVariants.{Visitor}
+use Rattle.hub_fifodir.specs.declared.views.Role.TheVariants.{Visitor, Ticket}
+use Rattle.hub_fifodir.specs.declared.views.Taking.{Taking}
 use Rattle.hub_fifodir.specs.declared.locked.Locked.{Locked}
 use Rattle.hub_fifodir.specs.Events.{slice}
 use Rattle.hub_fifodir.specs.Locks.{Stands, stands, KeepsPublishers}
-use Rattle.hub_fifodir.specs.Rule.{IsSane, IsGiven, IsBounded, cursor_of, book_of, IsBehind, IsSound}
+use Rattle.hub_fifodir.specs.Rule.{IsSane, IsGiven, IsBounded, cursor_of, cursor_if, book_of, IsBehind, IsSound}
 use Rattle.hub_fifodir.specs.Steps.{M, Locks, Changes, Gives, IsInBook, IsTaker, rested, taker, new_taker, moved, taking_of, got_of, gone_taker}
 use Rattle.hub_fifodir.proofs.Logs.{slice_none, slice_join}
 use Rattle.hub_fifodir.proofs.Subscriptions.{found_changed, found_stopped, found_else, found_new, found_old, found_stands, length-changed, next_of, cursor_found, subscription_of}
@@ -130,6 +131,44 @@ module _ (m0 m1 : M) (id mark next : ℕ) (b : Locked) (w : IsTaker m0 id mark n
   pub got_still : (m3 : M) → m3 ≡ (rested m1.0 m1.0.role, []) → got_of m3.0.role ≡ got_of m0.0.role
   got_still m3 e = ap (λ (m : M). got_of m.0.role) e ∙ ap got_of role_is
 
+  -- ---- a call that makes `f` of its subscription
+
+  module _ (b' : Locked) (f : Subscription → Subscription) (after : Stands b' (with_changed h.behind.world id f)) (others : KeepsPublishers b b') where
+    cursor_now : (s : Option Subscription) → found (with_changed h.behind.world id f) id ≡ s → cursor_of b'.kept.cursors id ≡ next_of s
+    cursor_now s e = cursor_found b'.kept (with_changed h.behind.world id f) id after.for ∙ ap next_of e
+
+    -- the ticket as it is then, with its cursor, or none if it is gone
+    gives : (next' : ℕ) (got' : List Event) (gone : Bool) → let t : Taking = record { id = id; mark = mark; next = next'; got = got'; gone = gone } in
+        IsSane m1.0.sight.seen (Ticket t) → cursor_of b'.kept.cursors id ≡ cursor_if gone next' → Gives m1 b' (rested m1.0 (Ticket t))
+    gives next' got' gone sane cursor =
+        let t : Taking = record { id = id; mark = mark; next = next'; got = got'; gone = gone } in
+        let numbers : b'.given ≡ b.given = others.1 in
+        let ids : b'.kept.given ≡ b.kept.given = after.for.given ∙ length-changed f 1 h.behind.world.subscriptions id ∙ sym h.behind.for.for.given in (
+          book_of b,
+          Ticket t,
+          id,
+          suc b.given,
+          held_is,
+          refl,
+          record { world = with_changed h.behind.world id f; for = after; events = h.behind.events; closed = h.behind.closed; kind = h.behind.kind; limits = h.behind.limits },
+          subst (λ (r : Role). Changes m1.0.sight.seen r (Ticket t) (book_of b) (book_of b') id (suc b.given)) (sym role_is) record {
+            ids_up = omega arith;
+            numbers_up = omega arith;
+            cursors = λ i ne. cursor_found b'.kept (with_changed h.behind.world id f) i after.for ∙ ap next_of (found_else f 1 h.behind.world.subscriptions id i ne) ∙ sym (cursor_found b.kept h.behind.world i h.behind.for.for);
+            standing = λ n ne. ap (λ (l : List ℕ). stands l n) others.0;
+            live = tt;
+            live' = tt;
+            own_id = λ f g j x. inr x.its_seat;
+            own_number = λ f g j x. inl (omega arith);
+            id_kept = λ i x. x;
+            number_kept = λ n x. absurd x;
+            id_given = λ i a c. absurd (none_between i b.kept.given a (omega arith));
+            number_given = λ n a c. absurd (none_between n b.given a (omega arith));
+            bounded = bounded_after b' (with_changed h.behind.world id f) after (still_low b b' h.bounded others);
+            fits = λ f g j x _ _. record { its_seat = x.its_seat; given = (x.given.0, let q = x.given.1 in omega arith); sane = sane; cursor = cursor };
+          },
+        )
+
   -- ---- a take
 
   pub is_answered : (most : ℕ) (answer : Result Taken NoId) → answer ≡ take_reply h.behind.world id most → IsOk answer
@@ -178,56 +217,14 @@ module _ (m0 m1 : M) (id mark next : ℕ) (b : Locked) (w : IsTaker m0 id mark n
     stands' = subst (λ (o : Option Subscription). Stands b' (after_take_for h.behind.world id most o)) subscribed.1 after
 
     cursor_own : cursor_of b'.kept.cursors id ≡ Some (next + count most)
-    cursor_own = cursor_found b'.kept (with_changed h.behind.world id (moved_on h.behind.world most)) id stands'.for
-        ∙ ap next_of (found_changed (moved_on h.behind.world most) 1 h.behind.world.subscriptions id subscribed.0 subscribed.1 (found_stands 1 h.behind.world.subscriptions id subscribed.0 subscribed.1))
-        ∙ (λ i. Some (subscribed.2 i + count_is most i))
-
-    cursor_else : (i : ℕ) → i ≢ id → cursor_of b'.kept.cursors i ≡ cursor_of b.kept.cursors i
-    cursor_else i ne = cursor_found b'.kept (with_changed h.behind.world id (moved_on h.behind.world most)) i stands'.for
-        ∙ ap next_of (found_else (moved_on h.behind.world most) 1 h.behind.world.subscriptions id i ne) ∙ sym (cursor_found b.kept h.behind.world i h.behind.for.for)
-
-    ids_same : b'.kept.given ≡ b.kept.given
-    ids_same = stands'.for.given ∙ length-changed (moved_on h.behind.world most) 1 h.behind.world.subscriptions id ∙ sym h.behind.for.for.given
-
-    behind' : IsBehind m1.0.rules m1.0.sight.seen m1.0.sight.closed b'
-    behind' = record { world = with_changed h.behind.world id (moved_on h.behind.world most); for = stands'; events = h.behind.events; closed = h.behind.closed; kind = h.behind.kind; limits = h.behind.limits }
-
-    changes : (next' : ℕ) (got' : List Event) → next' ≡ next + count most → next' ≤ length m1.0.sight.seen → got' ≡ slice mark next' m1.0.sight.seen
-        → Changes m1.0.sight.seen (taker id mark next (got_of m0.0.role)) (taker id mark next' got') (book_of b) (book_of b') id (suc b.given)
-    changes next' got' to within whole = let le = sane_is.0 in let numbers : b'.given ≡ b.given = others.1 in let ids = ids_same in record {
-      ids_up = omega arith;
-      numbers_up = omega arith;
-      cursors = cursor_else;
-      standing = λ n ne. ap (λ (l : List ℕ). stands l n) others.0;
-      live = tt;
-      live' = tt;
-      own_id = λ f g j x. inr x.its_seat;
-      own_number = λ f g j x. inl (omega arith);
-      id_kept = λ i x. x;
-      number_kept = λ n x. absurd x;
-      id_given = λ i a c. absurd (none_between i b.kept.given a (omega arith));
-      number_given = λ n a c. absurd (none_between n b.given a (omega arith));
-      bounded = bounded_after b' (with_changed h.behind.world id (moved_on h.behind.world most)) stands' (still_low b b' h.bounded others);
-      fits = λ f g j x _ _. record {
-        its_seat = x.its_seat;
-        given = (x.given.0, let q = x.given.1 in omega arith);
-        sane = (omega arith, within, whole);
-        cursor = cursor_own ∙ ap (λ (n : ℕ). Some n) (sym to);
-      };
-    }
+    cursor_own = let s = subscribed in let subs = h.behind.world.subscriptions in let f = moved_on h.behind.world most in
+        cursor_now b' f stands' others (Some (f s.0)) (found_changed f 1 subs id s.0 s.1 (found_stands 1 subs id s.0 s.1)) ∙ (λ i. Some (s.2 i + count_is most i))
 
     -- nothing was taken
     pub rests_still : next ≡ length m1.0.sight.seen → Gives m1 b' (rested m1.0 m1.0.role)
-    rests_still at = let none : next ≡ next + count most = omega arith in subst (λ (r : Role). Gives m1 b' (rested m1.0 r)) (sym role_is) (
-      book_of b,
-      taker id mark next (got_of m0.0.role),
-      id,
-      suc b.given,
-      held_is,
-      refl,
-      behind',
-      subst (λ (r : Role). Changes m1.0.sight.seen r (taker id mark next (got_of m0.0.role)) (book_of b) (book_of b') id (suc b.given)) (sym role_is) (changes next (got_of m0.0.role) none sane_is.1 sane_is.2),
-    )
+    rests_still at = let none : next + count most ≡ next = omega arith in
+        subst (λ (r : Role). Gives m1 b' (rested m1.0 r)) (sym role_is)
+        (gives b' (moved_on h.behind.world most) stands' others next (got_of m0.0.role) false sane_is (cursor_own ∙ ap (λ (n : ℕ). Some n) none))
 
     within_moved : (n : ℕ) → n ≡ count most → next + n ≤ length m1.0.sight.seen
     within_moved n is = let p : next ≤ length m1.0.sight.seen = sane_is.1 in omega arith
@@ -237,17 +234,10 @@ module _ (m0 m1 : M) (id mark next : ℕ) (b : Locked) (w : IsTaker m0 id mark n
 
     -- n events were taken
     pub rests_moved : (n : ℕ) → n ≡ count most → Gives m1 b' (rested m1.0 (moved m1.0.sight.seen (taking_of m1.0.role) n))
-    rests_moved n is = subst (λ (r : Role). Gives m1 b' (rested m1.0 (moved m1.0.sight.seen (taking_of r) n))) (sym role_is) (
-      book_of b,
-      taker id mark (next + n) (got_of m0.0.role ++ slice next (next + n) m1.0.sight.seen),
-      id,
-      suc b.given,
-      held_is,
-      refl,
-      behind',
-      subst (λ (r : Role). Changes m1.0.sight.seen r (taker id mark (next + n) (got_of m0.0.role ++ slice next (next + n) m1.0.sight.seen)) (book_of b) (book_of b') id (suc b.given)) (sym role_is)
-          (changes (next + n) (got_of m0.0.role ++ slice next (next + n) m1.0.sight.seen) (ap (λ (k : ℕ). next + k) is) (within_moved n is) (got_longer n)),
-    )
+    rests_moved n is = let le = sane_is.0 in
+        subst (λ (r : Role). Gives m1 b' (rested m1.0 (moved m1.0.sight.seen (taking_of r) n))) (sym role_is)
+        (gives b' (moved_on h.behind.world most) stands' others (next + n) (got_of m0.0.role ++ slice next (next + n) m1.0.sight.seen) false
+        (omega arith, within_moved n is, got_longer n) (cursor_own ∙ ap (λ (k : ℕ). Some (next + k)) (sym is)))
 
     module _ (n : ℕ) (is : n ≡ count most) (m3 : M) (e3 : m3 ≡ (rested m1.0 (moved m1.0.sight.seen (taking_of m1.0.role) n), [])) where
       now : m3 ≡ (rested m1.0 (taker id mark (next + n) (got_of m0.0.role ++ slice next (next + n) m1.0.sight.seen)), [])
@@ -281,31 +271,6 @@ module _ (m0 m1 : M) (id mark next : ℕ) (b : Locked) (w : IsTaker m0 id mark n
     stands_on = subst (λ (o : Option Subscription). Stands b' (after_cancel_for h.behind.world id o)) subscribed.1 after
 
     pub rests_cancelled : Gives m1 b' (rested m1.0 (gone_taker m1.0.role))
-    rests_cancelled = let numbers : b'.given ≡ b.given = others.1 in
-        let ids : b'.kept.given ≡ b.kept.given = stands_on.for.given ∙ length-changed stopped 1 h.behind.world.subscriptions id ∙ sym h.behind.for.for.given in
-        let own : cursor_of b'.kept.cursors id ≡ None = cursor_found b'.kept (with_changed h.behind.world id stopped) id stands_on.for ∙ ap next_of (found_stopped 1 h.behind.world.subscriptions id subscribed.0 subscribed.1) in
-        subst (λ (r : Role). Gives m1 b' (rested m1.0 (gone_taker r))) (sym role_is) (
-          book_of b,
-          gone_taker (taker id mark next (got_of m0.0.role)),
-          id,
-          suc b.given,
-          held_is,
-          refl,
-          record { world = with_changed h.behind.world id stopped; for = stands_on; events = h.behind.events; closed = h.behind.closed; kind = h.behind.kind; limits = h.behind.limits },
-          subst (λ (r : Role). Changes m1.0.sight.seen r (gone_taker (taker id mark next (got_of m0.0.role))) (book_of b) (book_of b') id (suc b.given)) (sym role_is) record {
-            ids_up = omega arith;
-            numbers_up = omega arith;
-            cursors = λ i ne. cursor_found b'.kept (with_changed h.behind.world id stopped) i stands_on.for ∙ ap next_of (found_else stopped 1 h.behind.world.subscriptions id i ne) ∙ sym (cursor_found b.kept h.behind.world i h.behind.for.for);
-            standing = λ n ne. ap (λ (l : List ℕ). stands l n) others.0;
-            live = tt;
-            live' = tt;
-            own_id = λ f g j x. inr x.its_seat;
-            own_number = λ f g j x. inl (omega arith);
-            id_kept = λ i x. x;
-            number_kept = λ n x. absurd x;
-            id_given = λ i a c. absurd (none_between i b.kept.given a (omega arith));
-            number_given = λ n a c. absurd (none_between n b.given a (omega arith));
-            bounded = bounded_after b' (with_changed h.behind.world id stopped) stands_on (still_low b b' h.bounded others);
-            fits = λ f g j x _ _. record { its_seat = x.its_seat; given = (x.given.0, let q = x.given.1 in omega arith); sane = x.sane; cursor = own };
-          },
-        )
+    rests_cancelled = let none = found_stopped 1 h.behind.world.subscriptions id subscribed.0 subscribed.1 in
+        subst (λ (r : Role). Gives m1 b' (rested m1.0 (gone_taker r))) (sym role_is)
+        (gives b' stopped stands_on others next (got_of m0.0.role) true sane_is (cursor_now b' stopped stands_on others None none))

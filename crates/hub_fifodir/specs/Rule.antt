@@ -1,14 +1,12 @@
 -- The rule of the table: there is one history, and each seat has seen a prefix of it.
 use Rattle.std.specs.Prelude.{◌≡◌, ◌≢◌, ◌⊎◌, ℕ, ◌≤◌, ◌<◌, List, [], ◌∷◌, length, Option, Some, None, Bool, true, false, not, nat_eq}
-use Rattle.std.proofs.Common.{lit≤}
 use Rattle.std.specs.Map.{lookup}
 use mathlib.Core.Option as maybe
 use lib.ListN.{get_elem?}
 use Rattle.atomic_table.specs.Table.{State}
 use Rattle.hub_record.specs.declared.Event.{Event}
 use Rattle.hub_record.specs.declared.Kind.TheVariants.{Plain}
-use Rattle.hub_record.specs.declared.limits.Limits.{Limits}
-use Rattle.hub_record.specs.World.{World, letters, IsLawfulIn}
+use Rattle.hub_record.specs.World.{World, least_limits, letters, IsLawfulIn}
 use Rattle.hub_record.specs.Runs.{by}
 use Rattle.hub_fifodir.specs.declared.views.Rules.{Rules}
 use Rattle.hub_fifodir.specs.declared.views.Book.{Book}
@@ -37,12 +35,9 @@ resting rules at role = view rules at role None None
 abbrev pub visitor : Rules → List Event → ℕ → View
 visitor rules seen closed = resting rules (sight seen closed) Visitor
 
--- some limits, for the view of a seat that is spent
-abbrev pub any_limits : Limits
-any_limits = record { waiting = 1; total = 1; ids = 1; waiting_in_range = (lit≤ tt, lit≤ tt); total_in_range = (lit≤ tt, lit≤ tt); ids_in_range = (lit≤ tt, lit≤ tt) }
-
+-- a seat that is spent has nothing of any fifodir
 abbrev pub spent : View
-spent = resting (record { kind = Plain; limits = any_limits }) (sight [] 0) Spent
+spent = resting (record { kind = Plain; limits = least_limits }) (sight [] 0) Spent
 
 abbrev pub IsLive : Role → Type 0
 IsLive Spent = ⊥

@@ -3,7 +3,8 @@ ghost use Rattle.std.specs.Prelude.{◌≡◌, ◌≤◌, ◌++◌, drop, length
 ghost use Rattle.hub_record.specs.Runs.{by};
 ghost use Rattle.hub_fifodir.specs.Laws.{TicketsDiffer, PublishersDiffer, SeatsAgree, RecordIsHistory};
 ghost use Rattle.hub_fifodir.specs.Laws.{TicketsHaveCursors, CursorsHaveTickets, StandingHavePublishers, BaseIsBehind};
-ghost use Rattle.hub_fifodir.specs.Passes.{publisher_number, seen, mine, ticket_mark, ticket_next, ticket_seen, ticket_rules, got};
+ghost use Rattle.hub_fifodir.specs.Passes.{publisher_number, seen, mine};
+ghost use Rattle.hub_fifodir.specs.Passes.{ticket_mark, ticket_next, ticket_seen, ticket_rules, got};
 
 use crate::publisher::Publisher;
 use crate::ticket::Ticket;

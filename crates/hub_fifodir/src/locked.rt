@@ -1,7 +1,8 @@
 //! The value behind the lock.
 ghost use Rattle.std.specs.Prelude.{◌≡◌, ◌++◌, [], length, drop, IfOk, OnErr, OnOk};
 ghost use Rattle.hub_record.specs.World.{World, empty_world, SubscribeReply, after_subscribe, PublishReply, after_publish};
-ghost use Rattle.hub_record.specs.World.{take_reply, take_events, after_take, cancel_reply, after_cancel, close_reply, after_close};
+ghost use Rattle.hub_record.specs.World.{take_reply, take_events, after_take};
+ghost use Rattle.hub_record.specs.World.{cancel_reply, after_cancel, close_reply, after_close};
 ghost use Rattle.hub_fifodir.specs.Locks.{Stands, record_of, numbers_of, given_by};
 ghost use Rattle.hub_fifodir.specs.Locks.{PublisherReply, IsAfterPublisher, HasLeft, KeepsPublishers, KeepsRecord};
 

@@ -2,7 +2,8 @@
 ghost use Rattle.std.specs.Prelude.{◌≡◌, ◌∷◌, [], None};
 ghost use Rattle.hub_fifodir.specs.Rule.{visitor};
 ghost use Rattle.hub_fifodir.specs.Steps.{IsIdle, Holding, Gives, Front, WritesMessage, WritesMark, Looks, Grows};
-ghost use Rattle.hub_fifodir.specs.Steps.{grown, closing, writing_of, taking_of, writer, rested, new_taker, moved, gone_taker, gone_writer};
+ghost use Rattle.hub_fifodir.specs.Steps.{grown, closing, writing_of, taking_of, rested};
+ghost use Rattle.hub_fifodir.specs.Steps.{writer, new_taker, moved, gone_taker, gone_writer};
 ghost use Rattle.hub_fifodir.specs.Notes.{IsSized, IsNote, note_sight};
 
 use crate::fifodir::Fifodir;

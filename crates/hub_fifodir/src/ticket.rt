@@ -47,7 +47,8 @@ impl Ticket {
 }
 
 impl Fifodir {
-    ghost use Rattle.hub_fifodir.specs.Passes.{IsTicketOf, Remains, HasSoundSight, ticket_mark, ticket_view, HasSubscribed, HasTaken, filled};
+    ghost use Rattle.hub_fifodir.specs.Passes.{IsTicketOf, Remains, HasSoundSight, HasSubscribed, HasTaken};
+    ghost use Rattle.hub_fifodir.specs.Passes.{ticket_mark, ticket_view, filled};
 
     /// A new ticket, which begins at the end of the record.
     pub fn subscribe<R: Wait>(&self, rt: &R) -> Result<Ticket, SubError>

@@ -1,7 +1,8 @@
 //! Programs over fifodirs: two threads publish at once, and events are sent on from one fifodir to another.
 ghost use Rattle.std.specs.Prelude.{◌≡◌, ℕ, ◌++◌, [], ◌∷◌, OnOk, OnErr, IfOk, IfErr};
 ghost use Rattle.hub_record.specs.Runs.{by};
-ghost use Rattle.hub_fifodir.specs.Passes.{IsPublisherOf, IsTicketOf, HasTaken, IsRefusedAt, publisher_number, got, seen, mine, sent_on};
+ghost use Rattle.hub_fifodir.specs.Passes.{IsPublisherOf, IsTicketOf, HasTaken, IsRefusedAt};
+ghost use Rattle.hub_fifodir.specs.Passes.{publisher_number, got, seen, mine, sent_on};
 
 use crate::fifodir::Fifodir;
 use crate::publisher::Publisher;
@@ -71,7 +72,7 @@ pub fn send_both<R: Threads + Wait + Sync>(
 }
 
 /// An event that was taken and couldn't be sent on.
-#[derive(Clone, Copy, Debug, PartialEq, Eq, Error)]
+#[derive(Clone, Copy, Debug, PartialEq, Eq, Hash, Error)]
 #[error("the event could not be sent on: {why}")]
 pub struct Unsent {
     /// The event. The ticket doesn't take it again, so a caller that wants to send it later has to keep it.
@@ -101,10 +102,7 @@ pub fn send_on<R: Wait>(
     ensures sent { IfOk result (λ taken. mine publisher.new
         ≡ mine publisher.old ++ sent_on ticket.old taken ticket.new) }
 {
-    let mut out = [Event {
-        who: 0,
-        letter: Letter::least(),
-    }];
+    let mut out = [Event::FILLER];
     let taken = from.take_into(rt, ticket, &mut out);
     let [event] = out;
     if let Taken::Got(_) = taken {

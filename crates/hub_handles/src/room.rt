@@ -1,7 +1,6 @@
 //! Room for the events of one take.
 ghost use Rattle.std.specs.Prelude.{◌≡◌, IfOk, vec_len};
 
-use hub_letters::Letter;
 use hub_record::Event;
 use std::alloc::{AllocError, Global};
 
@@ -26,9 +25,5 @@ impl Room {
 fn fillers(alloc: Global, size: usize) -> Result<Vec<Event>, AllocError>
     ensures { IfOk result (λ events. vec_len events ≡ size) }
 {
-    let filler = Event {
-        who: 0,
-        letter: Letter::least(),
-    };
-    vec![in alloc; filler; size]
+    vec![in alloc; Event::FILLER; size]
 }

@@ -88,10 +88,7 @@ impl Subscription {
         ensures step { TakesOne self.old result self.new }
         ensures short { IfErr result (λ reply. length (text_of reply) ≤ 4101) }
     {
-        let mut event = [Event {
-            who: 0,
-            letter: Letter::least(),
-        }];
+        let mut event = [Event::FILLER];
         match self.dir.take_into(rt, &mut self.ticket, &mut event) {
             Taken::Got(_) => Ok(event[0].letter),
             Taken::Nothing => Err(Reply::Nothing),

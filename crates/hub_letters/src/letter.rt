@@ -4,7 +4,7 @@ ghost use Rattle.std.specs.Prelude.{◌≡◌, ◌≤◌, SomeIff};
 use std::marker::Model;
 
 /// One byte from 0x21 (`!`) to 0x7E (`~`), as `s6-ftrig-notify` sends it. In contracts a letter is its byte.
-#[derive(Clone, Copy, Debug, PartialEq, Eq)]
+#[derive(Clone, Copy, Debug, PartialEq, Eq, Hash)]
 pub struct Letter {
     byte: u8,
 }
@@ -22,6 +22,9 @@ impl Model for Letter {
 }
 
 impl Letter {
+    /// The letter `!`, which fills a slice before letters are put into it.
+    pub const LEAST: Letter = Letter { byte: b'!' };
+
     /// The letter with this byte. None if the byte isn't within 0x21 to 0x7E.
     pub fn of(byte: u8) -> Option<Letter>
         ensures { SomeIff result ((33 ≤ byte) × (byte ≤ 126)) byte }
@@ -31,13 +34,6 @@ impl Letter {
         } else {
             None
         }
-    }
-
-    /// The letter `!`, which fills a slice before events are taken into it.
-    pub fn least() -> Letter
-        ensures { result ≡ 33 }
-    {
-        Letter { byte: b'!' }
     }
 
     /// Its byte, from 0x21 to 0x7E.

@@ -5,7 +5,7 @@ ghost use Rattle.hub_letters.specs.Wants.{is_met, is_hopeless};
 use crate::flags::Flags;
 
 /// The state of a service that a wait asks for, as in `s6-svwait` and `s6-svlisten`.
-#[derive(Clone, Copy, Debug, PartialEq, Eq)]
+#[derive(Clone, Copy, Debug, PartialEq, Eq, Hash)]
 pub enum Want {
     /// It is up (`-u`).
     Up,

@@ -2,7 +2,8 @@
 ghost use Rattle.std.specs.Prelude.{◌≡◌, ◌≤◌, ◌<◌, ◌↔◌, ◌+◌, ◌-◌, length, IfOk, OnErr, IsTrue, option_map, drop};
 ghost use Rattle.circular_buffer.specs.Buffer.{buffer};
 ghost use Rattle.hub_record.specs.World.{least, stamped};
-ghost use Rattle.hub_record.specs.Backlog.{Held, nothing_held, lowest, next_of, with_new_id, with_events, with_cursors, HasRoomFor, TakesBy, RemovesBy, standing_at};
+ghost use Rattle.hub_record.specs.Backlog.{Held, nothing_held, lowest, next_of, standing_at};
+ghost use Rattle.hub_record.specs.Backlog.{with_new_id, with_events, with_cursors, HasRoomFor, TakesBy, RemovesBy};
 
 use crate::ring::{copy_out, cut, push_in};
 use crate::{Event, NoId};
@@ -45,7 +46,8 @@ impl Model for Backlog {
       cursors = b.cursors.entries;
     } };
 
-    ghost invariant = { λ b. IsKept b.base.number b.base.standing (b.base.number + length b.ring.items) b.given b.cursors.entries };
+    ghost invariant = { λ b. IsKept b.base.number b.base.standing
+        (b.base.number + length b.ring.items) b.given b.cursors.entries };
 }
 
 impl Backlog {

@@ -36,7 +36,7 @@ pub use runs::{Call, Said, World, replay};
 use thiserror::Error;
 
 /// A letter with the number of its publisher.
-#[derive(Clone, Copy, Debug, PartialEq, Eq)]
+#[derive(Clone, Copy, Debug, PartialEq, Eq, Hash)]
 pub struct Event {
     /// The number of the publisher.
     pub who: u64,
@@ -44,8 +44,16 @@ pub struct Event {
     pub letter: Letter,
 }
 
+impl Event {
+    /// An event that fills a slice before events are taken into it.
+    pub const FILLER: Event = Event {
+        who: 0,
+        letter: Letter::LEAST,
+    };
+}
+
 /// Which letters a record takes.
-#[derive(Clone, Copy, Debug, PartialEq, Eq)]
+#[derive(Clone, Copy, Debug, PartialEq, Eq, Hash)]
 pub enum Kind {
     /// Any letters in any order, as in a fifodir that a user makes by `s6-mkfifodir`.
     Plain,
@@ -54,7 +62,7 @@ pub enum Kind {
 }
 
 /// The answer to a take.
-#[derive(Clone, Copy, Debug, PartialEq, Eq)]
+#[derive(Clone, Copy, Debug, PartialEq, Eq, Hash)]
 pub enum Taken {
     /// This many events fill the beginning of the slice. It is 0 if the slice is empty and events are pending.
     Got(usize),
@@ -65,7 +73,7 @@ pub enum Taken {
 }
 
 /// Why there is no new subscription. If several reasons hold, the first in this order is reported.
-#[derive(Clone, Copy, Debug, PartialEq, Eq, Error)]
+#[derive(Clone, Copy, Debug, PartialEq, Eq, Hash, Error)]
 pub enum SubError {
     /// The record is closed.
     #[error("the fifodir is closed")]
@@ -82,7 +90,7 @@ pub enum SubError {
 }
 
 /// Why no letter of a message was added. If several reasons hold, the first in this order is reported.
-#[derive(Clone, Copy, Debug, PartialEq, Eq, Error)]
+#[derive(Clone, Copy, Debug, PartialEq, Eq, Hash, Error)]
 pub enum PubError {
     /// The record is closed.
     #[error("the fifodir is closed")]
@@ -101,17 +109,17 @@ pub enum PubError {
 }
 
 /// The id was never given, or it was cancelled.
-#[derive(Clone, Copy, Debug, PartialEq, Eq, Error)]
+#[derive(Clone, Copy, Debug, PartialEq, Eq, Hash, Error)]
 #[error("no such id")]
 pub struct NoId;
 
 /// The record is closed already.
-#[derive(Clone, Copy, Debug, PartialEq, Eq, Error)]
+#[derive(Clone, Copy, Debug, PartialEq, Eq, Hash, Error)]
 #[error("closed already")]
 pub struct Closed;
 
 /// The status of a fifodir at one moment.
-#[derive(Clone, Copy, Debug, PartialEq, Eq)]
+#[derive(Clone, Copy, Debug, PartialEq, Eq, Hash)]
 pub struct Status {
     /// How many events its record has.
     pub number: u64,

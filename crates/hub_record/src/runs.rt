@@ -3,10 +3,10 @@ ghost use Rattle.std.specs.Prelude.{◌≡◌, ◌≤◌, ◌+◌, ◌-◌, ◌+
 ghost use Rattle.std.specs.Map.{lookup};
 ghost use Rattle.hub_record.specs.World.{World as Modelled, empty_world};
 ghost use Rattle.hub_record.specs.Kept.{StandsFor};
-ghost use Rattle.hub_record.specs.Runs.{IsRun, world_after, SaidTo, after_call, AllFollow, by, published, gathered_from, lists_of, appended};
+ghost use Rattle.hub_record.specs.Runs.{IsRun, world_after, SaidTo, after_call, AllFollow};
+ghost use Rattle.hub_record.specs.Runs.{by, published, gathered_from, lists_of, appended};
 
 use crate::{Closed, Event, Kind, Letters, Limits, NoId, PubError, Record, SubError, Taken};
-use hub_letters::Letter;
 use indexmap::IndexMap;
 use std::alloc::{AllocError, Global};
 
@@ -26,7 +26,7 @@ pub enum Call {
 }
 
 /// The reply to a call, one variant for each kind of call.
-#[derive(Clone, Copy, Debug, PartialEq, Eq)]
+#[derive(Clone, Copy, Debug, PartialEq, Eq, Hash)]
 pub enum Said {
     /// The id and its mark.
     Subscribed(Result<(u64, u64), SubError>),
@@ -78,11 +78,7 @@ impl World {
             )),
             Call::Take { id, max } => {
                 let waiting = self.state.waiting(*id).unwrap_or(0) as usize;
-                let filler = Event {
-                    who: 0,
-                    letter: Letter::least(),
-                };
-                let mut out = vec![in alloc; filler; waiting.min(*max)]?;
+                let mut out = vec![in alloc; Event::FILLER; waiting.min(*max)]?;
                 let reply = self.state.take_into(*id, &mut out);
                 append(&mut self.gathered, *id, &out)?;
                 return Ok(Said::Took(reply));

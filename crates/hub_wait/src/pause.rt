@@ -7,7 +7,7 @@ use std::thread;
 use std::time::Duration;
 
 /// Whether a wait goes on after a pause.
-#[derive(Clone, Copy, Debug, PartialEq, Eq)]
+#[derive(Clone, Copy, Debug, PartialEq, Eq, Hash)]
 pub enum Go {
     /// It takes what has come meanwhile, and looks again.
     Again,

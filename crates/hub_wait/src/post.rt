@@ -83,10 +83,7 @@ impl Post {
         ensures kept { IsKept self.old self.new }
         ensures took { HasTakenSlice self.old result self.new }
     {
-        let mut events = [Event {
-            who: 0,
-            letter: Letter::least(),
-        }; SLICE];
+        let mut events = [Event::FILLER; SLICE];
         let first = self.ticket.next();
         match self.fifodir.take_into(rt, &mut self.ticket, &mut events) {
             Taken::Got(count) => {
@@ -119,7 +116,7 @@ fn step_by_events(watch: &mut Watch, first: u64, events: &[Event])
     requires small { first + length events.now ≤ 10 ^ 12 }
     ensures { watch.new ≡ stepped watch.old first (letters events.now) }
 {
-    let mut letters = [Letter::least(); SLICE];
+    let mut letters = [Letter::LEAST; SLICE];
     let letters = &mut letters[..events.len()];
     copy_letters(events, letters);
     watch.step(first, letters);

@@ -6,7 +6,7 @@ use hub_letters::Span;
 use std::marker::Model;
 
 /// How a wait ends.
-#[derive(Clone, Copy, Debug, PartialEq, Eq)]
+#[derive(Clone, Copy, Debug, PartialEq, Eq, Hash)]
 pub enum Verdict {
     /// What was wanted holds.
     Yes,

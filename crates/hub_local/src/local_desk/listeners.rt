@@ -140,11 +140,7 @@ fn take_one(kept: &mut Record, id: u64) -> Result<Letter, Heard>
     ensures { (w : World) (s : Subscription) → StandsFor kept.old w → found w id ≡ Some s
         → TakesOne w id result kept.new }
 {
-    let least = Event {
-        who: 0,
-        letter: Letter::least(),
-    };
-    let mut room = [least];
+    let mut room = [Event::FILLER];
     match kept.take_into(id, &mut room) {
         Ok(Taken::Got(_)) => Ok(room[0].letter),
         Ok(Taken::Nothing) => Err(Heard::Nothing),

@@ -147,11 +147,7 @@ fn take_waiting(alloc: Global, kept: &mut Record, id: u64, most: usize) -> Resul
     let Some(waiting) = kept.waiting(id) else {
         unreachable!()
     };
-    let least = Event {
-        who: 0,
-        letter: Letter::least(),
-    };
-    let mut room = vec![in alloc; least; most.min(waiting as usize)]?;
+    let mut room = vec![in alloc; Event::FILLER; most.min(waiting as usize)]?;
     take_letters(alloc, kept, id, &mut room)
 }
 
