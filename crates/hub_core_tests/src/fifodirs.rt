@@ -69,7 +69,7 @@ struct Row {
     steps: &'static [Step],
 }
 
-static ROWS: [Row; 5] = [
+static ROWS: [Row; 8] = [
     Row {
         name: "there is room again when the slowest leaves",
         kind: Kind::Plain,
@@ -132,6 +132,67 @@ static ROWS: [Row; 5] = [
         ],
     },
     Row {
+        name: "many goes before spent, and closed before both",
+        kind: Kind::Plain,
+        limits: (64, 1000, 1024),
+        steps: &[
+            Step::HoldUpTo(1024),
+            Step::Subscribe(Err(SubError::Many)),
+            Step::Join(Err(PassError::Many)),
+            Step::Cancel(1023),
+            Step::Leave,
+            Step::Subscribe(Err(SubError::Spent)),
+            Step::Join(Err(PassError::Spent)),
+            Step::Close(Ok(())),
+            Step::Subscribe(Err(SubError::Closed)),
+            Step::Join(Err(PassError::Spent)),
+        ],
+    },
+    Row {
+        name: "no refusal, no leave and no cancel changes the front",
+        kind: Kind::Plain,
+        limits: (2, 100, 3),
+        steps: &[
+            Step::Join(Ok(1)),
+            Step::Subscribe(Ok((1, 0))),
+            Step::Publish("ab", Ok(0)),
+            Step::Publish("c", Err(PubError::Full)),
+            Step::Join(Ok(2)),
+            Step::Leave,
+            Step::Join(Ok(3)),
+            Step::Publish("c", Err(PubError::Full)),
+            Step::Join(Err(PassError::Spent)),
+            Step::Subscribe(Ok((2, 2))),
+            Step::Subscribe(Ok((3, 2))),
+            Step::Subscribe(Err(SubError::Spent)),
+            Step::Cancel(2),
+            Step::Cancel(1),
+            Step::Publish("", Ok(2)),
+            Step::Close(Ok(())),
+            Step::Close(Err(Closed)),
+            Step::Publish("c", Err(PubError::Closed)),
+            Step::Subscribe(Err(SubError::Closed)),
+            Step::Join(Err(PassError::Spent)),
+            Step::Leave,
+            Step::Take(0, Taken::Got(2), [(1, b'a'), (1, b'b'), BLANK]),
+            Step::Take(0, Taken::End, [BLANK, BLANK, BLANK]),
+            Step::Cancel(0),
+        ],
+    },
+    Row {
+        name: "an unlawful message and one too many leave the front",
+        kind: Kind::Service,
+        limits: (64, 3, 10),
+        steps: &[
+            Step::Join(Ok(1)),
+            Step::Publish("su", Ok(0)),
+            Step::Publish("UdU", Err(PubError::Unlawful(2))),
+            Step::Publish("Ud", Err(PubError::Spent)),
+            Step::Publish("U", Ok(2)),
+            Step::Publish("d", Err(PubError::Spent)),
+        ],
+    },
+    Row {
         name: "a status shows each change",
         kind: Kind::Service,
         limits: (64, 1000, 10),
@@ -154,6 +215,10 @@ struct Scene {
     fifodir: Shared,
     senders: Vec<Sender>,
     readers: Vec<Reader>,
+    /// How many letters were to be published so far.
+    events: u64,
+    /// Whether it was to be closed.
+    closed: bool,
 }
 
 impl Scene {
@@ -179,18 +244,9 @@ impl Scene {
         }
     }
 
-    /// Whether a ticket and a publisher are given this number. If a growth is refused, the call that met it gives none,
-    /// and is made again.
+    /// Whether a ticket and a publisher are given this number.
     fn holds<R: Wait>(&mut self, rt: &R, number: u64) -> Result<bool, AllocError> {
-        let subscribed = match self.subscribe(rt)? {
-            Err(SubError::Memory) => self.subscribe(rt)?,
-            answer => answer,
-        };
-        let joined = match self.join(rt)? {
-            Err(PassError::Memory) => self.join(rt)?,
-            answer => answer,
-        };
-        Ok(subscribed == Ok((number, 0)) && joined == Ok(number))
+        Ok(self.subscribe(rt)? == Ok((number, 0)) && self.join(rt)? == Ok(number))
     }
 
     fn holds_up_to<R: Wait>(&mut self, rt: &R, last: u64) -> Result<bool, AllocError> {
@@ -245,11 +301,29 @@ impl Scene {
         steps: &[Step],
     ) -> Result<bool, AllocError> {
         for step in steps {
-            if !self.goes(rt, alloc, *step)? {
+            if !self.goes(rt, alloc, *step)? || !self.front_is_after(*step) {
                 return Ok(false);
             }
         }
         Ok(true)
+    }
+
+    /// Whether the first publisher sees the letters that the steps were to publish, and no more, and the close.
+    fn front_is_after(&mut self, step: Step) -> bool {
+        match step {
+            Step::Publish(text, Ok(_)) => {
+                self.events = self.events.wrapping_add(text.len() as u64);
+            }
+            Step::Close(Ok(())) => self.closed = true,
+            _ => {}
+        }
+        match self.senders.first_mut() {
+            Some(sender) => {
+                let status = sender.status();
+                (status.number, status.closed) == (self.events, self.closed)
+            }
+            None => true,
+        }
     }
 
     /// Whether the step goes so.
@@ -301,6 +375,8 @@ impl Scene {
             fifodir: _,
             senders,
             readers,
+            events: _,
+            closed: _,
         } = self;
         leave_all(rt, senders);
         cancel_all(rt, readers);
@@ -318,6 +394,8 @@ fn goes_so<R: Wait>(rt: &R, alloc: Global, row: &Row) -> Result<bool, Fail> {
         fifodir: open(alloc, row.kind, row.limits)?,
         senders: Vec::new(alloc),
         readers: Vec::new(alloc),
+        events: 0,
+        closed: false,
     };
     let is_so = scene.goes_through(rt, alloc, row.steps);
     scene.end(rt);
@@ -460,14 +538,39 @@ fn open_at_last(alloc: Global, limits: Limits) -> Result<Shared, AllocError> {
     }
 }
 
+/// Whether a ticket and a publisher are given this number. If a growth is refused, the call that met it gives none, and
+/// is made again.
+fn holds_at_last<R: Wait>(rt: &R, scene: &mut Scene, number: u64) -> Result<bool, AllocError> {
+    let subscribed = match scene.subscribe(rt)? {
+        Err(SubError::Memory) => scene.subscribe(rt)?,
+        answer => answer,
+    };
+    let joined = match scene.join(rt)? {
+        Err(PassError::Memory) => scene.join(rt)?,
+        answer => answer,
+    };
+    Ok(subscribed == Ok((number, 0)) && joined == Ok(number))
+}
+
+fn holds_a_hundred<R: Wait>(rt: &R, scene: &mut Scene) -> Result<bool, AllocError> {
+    for number in 1..101 {
+        if !holds_at_last(rt, scene, number)? {
+            return Ok(false);
+        }
+    }
+    Ok(true)
+}
+
 fn a_hundred_are_given<R: Wait>(rt: &R, alloc: Global) -> Result<bool, Fail> {
     let limits = Limits::of(4, 100, 1000).ok_or("no limits")?;
     let mut scene = Scene {
         fifodir: open_at_last(alloc, limits)?,
         senders: Vec::new(alloc),
         readers: Vec::new(alloc),
+        events: 0,
+        closed: false,
     };
-    let is_so = scene.holds_up_to(rt, 100);
+    let is_so = holds_a_hundred(rt, &mut scene);
     scene.end(rt);
     Ok(is_so?)
 }

@@ -4,7 +4,8 @@ use hub_record::Event;
 use std::alloc::{AllocError, Global};
 use std::process::Abort;
 
-fn letters_of(alloc: Global, text: &str) -> Result<Vec<Letter>, AllocError> {
+/// The letters of a text.
+pub(crate) fn word(alloc: Global, text: &str) -> Result<Vec<Letter>, AllocError> {
     let mut letters = Vec::new(alloc);
     for byte in text.as_bytes() {
         if let Some(letter) = Letter::of(*byte) {
@@ -14,10 +15,25 @@ fn letters_of(alloc: Global, text: &str) -> Result<Vec<Letter>, AllocError> {
     Ok(letters)
 }
 
-/// The letters of a text. If a growth is refused, it tries once more, so that a test passes also with any one growth
-/// refused.
-pub(crate) fn word(alloc: Global, text: &str) -> Result<Vec<Letter>, AllocError> {
-    letters_of(alloc, text).or_else(|_| letters_of(alloc, text))
+/// So many times a letter.
+pub(crate) fn run_of(alloc: Global, byte: u8, count: usize) -> Result<Vec<Letter>, AllocError> {
+    vec![in alloc; Letter::of(byte).unwrap_or(Letter::least()); count]
+}
+
+/// Powers of two and their neighbours, up to what may be pending or gathered.
+static LARGE: [usize; 12] = [
+    511, 512, 513, 1023, 1024, 1025, 2047, 2048, 2049, 4094, 4095, 4096,
+];
+
+/// How many sizes are tried.
+pub(crate) const SIZES_TRIED: usize = 313;
+
+/// The sizes that are tried: each from 0 to 300, and the large ones. The last is 4,096.
+pub(crate) fn size_at(place: usize) -> usize {
+    match place.checked_sub(301) {
+        Some(place) => LARGE.get(place).copied().unwrap_or(0),
+        None => place,
+    }
 }
 
 /// What a place has that no take wrote to.

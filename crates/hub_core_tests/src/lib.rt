@@ -7,6 +7,8 @@
 #![tactic(auto)]
 
 #[cfg(test)]
+mod busy;
+#[cfg(test)]
 mod fifodirs;
 #[cfg(test)]
 mod fixtures;
@@ -15,9 +17,15 @@ mod letters;
 #[cfg(test)]
 mod listeners;
 #[cfg(test)]
+mod no_memory;
+#[cfg(test)]
 mod passes;
 #[cfg(test)]
+mod posts;
+#[cfg(test)]
 mod records;
+#[cfg(test)]
+mod sizes;
 #[cfg(test)]
 mod threads;
 #[cfg(test)]

@@ -1,21 +1,18 @@
 ghost use Rattle.std.specs.Prelude.{◌≡◌, IfOk};
 ghost use Rattle.hub_listen.specs.Listening.{unheard};
 
-use crate::fixtures::{none_is_unlike, word};
+use crate::fixtures::{SIZES_TRIED, none_is_unlike, run_of, size_at, word};
 use hub_letters::Letter;
 use hub_listen::{Each, Feed, FeedError, ListenError, Listener, Mode, feed_each};
 use regex::Regex;
 use std::alloc::{AllocError, Global};
 use std::test::Fail;
 
-/// Makes a listener. If a growth is refused, it tries once more.
+/// Makes a listener.
 fn listener_for(alloc: Global, pattern: &str, mode: Mode) -> Result<Listener, ListenError>
     ensures { IfOk result (λ listener. listener ≡ unheard pattern.now mode) }
 {
-    match Listener::new(alloc, pattern, mode) {
-        Err(ListenError::Memory) => Listener::new(alloc, pattern, mode),
-        other => other,
-    }
+    Listener::new(alloc, pattern, mode)
 }
 
 /// A piece and the answer to it, and the text and the last hit afterwards.
@@ -154,11 +151,6 @@ static FILLS: [Run; 3] = [
     (b'b', 1, Err(FeedError::Overlong), 4096, 0, false),
 ];
 
-fn run_of(alloc: Global, byte: u8, count: usize) -> Result<Vec<Letter>, AllocError> {
-    let letter = Letter::of(byte).unwrap_or(Letter::LEAST);
-    vec![in alloc; letter; count].or_else(|_| vec![in alloc; letter; count])
-}
-
 fn hears_run(alloc: Global, listener: &mut Listener, run: &Run) -> Result<bool, AllocError> {
     let (byte, count, answer, text, hit, is_spent) = run;
     let letters = run_of(alloc, *byte, *count)?;
@@ -202,6 +194,107 @@ fn are_heard_one_at_a_time(alloc: Global) -> Result<bool, AllocError> {
         each(alloc, "u.*U", hit.as_slice()) == Some(Each::Hit(3))
             && each(alloc, "b", ran.as_slice()) == Some(Each::Ran(9)),
     )
+}
+
+/// Whether a piece before its hit, and the same with its hit, are heard so, and leave nothing.
+fn hears_and_hits(
+    listener: &mut Listener,
+    piece: &[Letter],
+    hit: &[Letter],
+    piece_with_hit: &[Letter],
+) -> bool {
+    let count = piece_with_hit.len();
+    listener.feed(piece) == Ok(Feed::Quiet)
+        && *listener.text() == *piece
+        && listener.feed(hit) == Ok(Feed::Hit(1))
+        && *listener.hit() == *piece_with_hit
+        && listener.feed(piece_with_hit) == Ok(Feed::Hit(count))
+        && *listener.hit() == *piece_with_hit
+        && listener.text().is_empty()
+}
+
+/// How many letters the first piece before a hit has that is heard otherwise; none if there is none.
+fn piece_unlike(alloc: Global) -> Result<Option<usize>, AllocError> {
+    let hit = run_of(alloc, b'b', 1)?;
+    let mut letters = run_of(alloc, b'a', 4095)?;
+    letters.extend_from_slice(&hit)?;
+    let Ok(mut listener) = listener_for(alloc, "b", Mode::Repeat) else {
+        return Ok(Some(0));
+    };
+    for place in 0..SIZES_TRIED - 1 {
+        let count = size_at(place);
+        let start = letters.len().saturating_sub(count).saturating_sub(1);
+        let (Some(piece), Some(with_hit)) = (letters.get(..count), letters.get(start..)) else {
+            return Ok(Some(count));
+        };
+        if !hears_and_hits(&mut listener, piece, &hit, with_hit) {
+            return Ok(Some(count));
+        }
+    }
+    Ok(None)
+}
+
+/// How many letters that are no hit a listener hears one at a time.
+fn letters_one_at_a_time(alloc: Global) -> Result<usize, AllocError> {
+    let letters = run_of(alloc, b'a', 5000)?;
+    let Ok(mut listener) = listener_for(alloc, "b", Mode::Repeat) else {
+        return Ok(0);
+    };
+    let mut heard: usize = 0;
+    for letter in letters.iter() {
+        if listener.feed(&[*letter]) != Ok(Feed::Quiet) {
+            break;
+        }
+        heard = heard.wrapping_add(1);
+        if listener.text().len() != heard {
+            break;
+        }
+    }
+    Ok(heard)
+}
+
+/// How many letters the first list has that doesn't run through one at a time; none if each does.
+fn list_that_stops(alloc: Global) -> Result<Option<usize>, AllocError> {
+    let letters = run_of(alloc, b'a', 4096)?;
+    for place in 0..SIZES_TRIED {
+        let count = size_at(place);
+        match letters.get(..count) {
+            Some(list) if each(alloc, "b", list) == Some(Each::Ran(count)) => {}
+            _ => return Ok(Some(count)),
+        }
+    }
+    Ok(None)
+}
+
+/// What a new listener for the pattern answers; none if there is no listener, or it answers nothing.
+fn hit_of(alloc: Global, pattern: &str, letters: &[Letter]) -> Option<Feed> {
+    match listener_for(alloc, pattern, Mode::Once) {
+        Ok(mut listener) => listener.feed(letters).ok(),
+        Err(_) => None,
+    }
+}
+
+/// How many bytes the first pattern of `a` alone has that doesn't hit at as many letters; 201 if there is none. The empty
+/// one hits at each letter, and a desk takes no more than 200 bytes.
+fn patterns_before_one_unlike(alloc: Global) -> Result<usize, AllocError> {
+    let letters = run_of(alloc, b'a', 200)?;
+    let mut pattern = String::new(alloc);
+    for count in 0..201usize {
+        if hit_of(alloc, &pattern, &letters) != Some(Feed::Hit(count.max(1))) {
+            return Ok(count);
+        }
+        pattern.push('a')?;
+    }
+    Ok(201)
+}
+
+#[test]
+fn pieces_and_patterns_of_each_size(rt: HostRuntime) -> Result<(), Fail> {
+    assert_eq!(rt; piece_unlike(rt.alloc())?, None);
+    assert_eq!(rt; letters_one_at_a_time(rt.alloc())?, 4096);
+    assert_eq!(rt; list_that_stops(rt.alloc())?, None);
+    assert_eq!(rt; patterns_before_one_unlike(rt.alloc())?, 201);
+    Ok(())
 }
 
 #[test]
@@ -259,8 +352,7 @@ fn is_too_large(alloc: Global, text: &str) -> bool {
 /// The first text that is a pattern, or whose size is another than its row says.
 fn first_no_pattern_unlike(alloc: Global) -> Option<&'static str> {
     for (text, large) in NO_PATTERNS.iter() {
-        let is_large = is_too_large(alloc, text) || is_too_large(alloc, text);
-        if is_pattern(alloc, text) != Some(false) || is_large != *large {
+        if is_pattern(alloc, text) != Some(false) || is_too_large(alloc, text) != *large {
             return Some(*text);
         }
     }

@@ -45,6 +45,10 @@ impl Sender {
         self.fifodir.front(&mut self.me)
     }
 
+    pub(crate) fn status(&mut self) -> Status {
+        self.fifodir.status(&mut self.me)
+    }
+
     pub(crate) fn leave<R: Wait>(self, rt: &R) {
         let Sender { fifodir, me } = self;
         fifodir.leave(rt, me);

@@ -11,19 +11,19 @@ use std::test::Fail;
 
 /// What a pause does at one of its calls.
 #[derive(Clone, Copy)]
-enum Deed {
+pub(crate) enum Deed {
     Send(&'static str),
     Close,
     Expire,
 }
 
 /// A pause that counts its calls, and does its deed at one of them.
-struct Doing {
-    supervisor: Sender,
-    deed: Deed,
-    letters: Vec<Letter>,
-    at_call: u64,
-    calls: u64,
+pub(crate) struct Doing {
+    pub(crate) supervisor: Sender,
+    pub(crate) deed: Deed,
+    pub(crate) letters: Vec<Letter>,
+    pub(crate) at_call: u64,
+    pub(crate) calls: u64,
 }
 
 impl Pause for Doing {
@@ -48,7 +48,7 @@ impl Pause for Doing {
 
 impl Doing {
     /// How many calls it counted. Its supervisor leaves.
-    fn end<R: Wait>(self, rt: &R) -> u64 {
+    pub(crate) fn end<R: Wait>(self, rt: &R) -> u64 {
         let Doing {
             supervisor,
             deed: _,
@@ -126,7 +126,7 @@ fn started<R: Abort + Wait>(rt: &R, alloc: Global) -> Result<(Shared, Sender), F
 }
 
 /// A post at a fifodir that has room for one more ticket.
-fn opened<R: Abort + Wait>(rt: &R, fifodir: Shared, want: Want, notifies: bool) -> Post {
+pub(crate) fn opened<R: Abort + Wait>(rt: &R, fifodir: Shared, want: Want, notifies: bool) -> Post {
     Post::open(rt, fifodir, want, notifies).expect(rt, "a post")
 }
 

@@ -26,23 +26,21 @@ pub fn new_local<H: AllocGlobal + Abort>(rt: &H) -> LocalDesk {
     LocalDesk::new(rt.alloc()).expect(rt, "a desk")
 }
 
-fn new_hub_once(alloc: Global) -> Result<Arc<Hub, Global>, AllocError> {
+fn try_new_hub(alloc: Global) -> Result<Arc<Hub, Global>, AllocError> {
     Ok(Arc::new(alloc, Hub::new(alloc)?)?)
 }
 
 pub fn new_hub<H: AllocGlobal + Abort>(rt: &H) -> Arc<Hub, Global> {
-    let hub = new_hub_once(rt.alloc()).or_else(|_| new_hub_once(rt.alloc()));
-    hub.expect(rt, "a hub")
+    try_new_hub(rt.alloc()).expect(rt, "a hub")
 }
 
-fn session_once(alloc: Global, hub: &Arc<Hub, Global>) -> Result<Session, AllocError> {
+fn try_session(alloc: Global, hub: &Arc<Hub, Global>) -> Result<Session, AllocError> {
     SharedDesk::new(alloc, Arc::try_clone(hub)?, Yielding)
 }
 
 /// A session over the hub.
 pub fn session<H: AllocGlobal + Abort>(rt: &H, hub: &Arc<Hub, Global>) -> Session {
-    let desk = session_once(rt.alloc(), hub).or_else(|_| session_once(rt.alloc(), hub));
-    desk.expect(rt, "a session")
+    try_session(rt.alloc(), hub).expect(rt, "a session")
 }
 
 /// A session alone over a hub.

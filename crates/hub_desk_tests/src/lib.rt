@@ -1,5 +1,5 @@
 //! Tests of the two desks: tables of requests and replies, whose values were found by hand, and sessions one after the
-//! other over one hub.
+//! other, or two at once, over one hub.
 //!
 //! They call what is public. A crate that had its tests in itself would be proved twice: by itself, and with them.
 #![tactic(auto)]
@@ -11,10 +11,16 @@ mod ended;
 #[cfg(test)]
 mod listeners;
 #[cfg(test)]
+mod meanwhile;
+#[cfg(test)]
+mod no_memory;
+#[cfg(test)]
 mod requests;
 #[cfg(test)]
 mod rows;
 #[cfg(test)]
 mod shared;
+#[cfg(test)]
+mod sizes;
 #[cfg(test)]
 mod waits;

@@ -187,7 +187,7 @@ fn standing_handles_are_limited(rt: HostRuntime) {
     desk.release(&rt);
 }
 
-fn many_letters(rt: &impl Abort, alloc: Global, count: usize) -> Result<Request, AllocError>
+pub fn many_letters(rt: &impl Abort, alloc: Global, count: usize) -> Result<Request, AllocError>
     ensures { IfOk result IsInRange }
 {
     let name = Name::of(alloc, "web".as_bytes())?.expect(rt, "a name");
@@ -200,11 +200,8 @@ fn many_letters(rt: &impl Abort, alloc: Global, count: usize) -> Result<Request,
 
 /// Publishes so many `a`.
 fn publish_many<H: AllocGlobal + Abort + Wait, D: Desk>(rt: &H, desk: &mut D, count: usize) {
-    let message = match many_letters(rt, rt.alloc(), count) {
-        Err(_) => many_letters(rt, rt.alloc(), count),
-        message => message,
-    };
-    expect(rt, desk, &message.expect(rt, "a message"), "ok 0");
+    let message = many_letters(rt, rt.alloc(), count).expect(rt, "a message");
+    expect(rt, desk, &message, "ok 0");
 }
 
 static HEARS_B: [Row; 2] = [

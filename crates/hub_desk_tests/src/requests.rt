@@ -129,17 +129,13 @@ fn a_desk_serves_on_after_the_end(rt: HostRuntime) {
     desk.release(&rt);
 }
 
-fn counted_once(rt: &impl Abort, alloc: Global, number: u64) -> Result<Name, AllocError> {
+fn try_counted(rt: &impl Abort, alloc: Global, number: u64) -> Result<Name, AllocError> {
     let text = format!(in alloc; "n{number}")?;
     named(rt, alloc, &text)
 }
 
 fn counted(rt: &impl Abort, alloc: Global, number: u64) -> Name {
-    let name = match counted_once(rt, alloc, number) {
-        Err(_) => counted_once(rt, alloc, number),
-        name => name,
-    };
-    name.expect(rt, "a name")
+    try_counted(rt, alloc, number).expect(rt, "a name")
 }
 
 fn make_counted<H: AllocGlobal + Abort + Wait, D: Desk>(rt: &H, desk: &mut D, number: u64) {

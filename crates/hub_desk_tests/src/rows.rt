@@ -1,11 +1,10 @@
-//! Requests and replies as rows of a table, for every desk. Where a growth is refused, what wanted it is tried again, so that
-//! each test passes also with any one growth refused, whichever of those that it makes.
+//! Requests and replies as rows of a table, for every desk. There is ample memory: a reply `no memory` fails its test.
 ghost use Rattle.std.specs.Prelude.{IfOk};
 ghost use Rattle.hub_requests.specs.Ranges.{IsInRange};
 
 use hub_letters::{Letter, Mode, Span, Want};
 use hub_record::Letters;
-use hub_requests::{Desk, Name, Names, PatternText, Refusal, Reply, Request};
+use hub_requests::{Desk, Name, Names, PatternText, Reply, Request};
 use std::alloc::{AllocError, AllocGlobal, Global};
 use std::ops::Range;
 use std::process::Abort;
@@ -127,11 +126,7 @@ fn request_once(rt: &impl Abort, alloc: Global, ask: Ask) -> Result<Request, All
 pub fn request(rt: &impl Abort, alloc: Global, ask: Ask) -> Request
     ensures { IsInRange result }
 {
-    let made = match request_once(rt, alloc, ask) {
-        Err(_) => request_once(rt, alloc, ask),
-        made => made,
-    };
-    made.expect(rt, "a request")
+    request_once(rt, alloc, ask).expect(rt, "a request")
 }
 
 fn spelled(alloc: Global, word: &str, letters: &Letters) -> Result<String, AllocError> {
@@ -177,22 +172,14 @@ fn shown_once(alloc: Global, reply: &Reply) -> Result<String, AllocError> {
 }
 
 fn shown(rt: &impl Abort, alloc: Global, reply: &Reply) -> String {
-    let text = match shown_once(alloc, reply) {
-        Err(_) => shown_once(alloc, reply),
-        text => text,
-    };
-    text.expect(rt, "a text")
+    shown_once(alloc, reply).expect(rt, "a text")
 }
 
-/// Asks, and once more after want of memory, which has lost nothing.
+/// Asks, of which the prover knows nothing afterwards.
 pub fn answered<H: Wait, D: Desk>(rt: &H, desk: &mut D, request: &Request) -> Reply
     requires { IsInRange request.now }
 {
-    let reply = desk.ask(rt, request);
-    match reply {
-        Reply::No(Refusal::Memory) => desk.ask(rt, request),
-        other => other,
-    }
+    desk.ask(rt, request)
 }
 
 pub fn expect<H: AllocGlobal + Abort + Wait, D: Desk>(

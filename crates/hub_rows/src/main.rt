@@ -2,7 +2,8 @@
 //! with one byte a read, and the desk of a session that is alone over a hub.
 //!
 //! Its arguments are the rows' names. It prints the name of each row whose output was byte for byte the same each time,
-//! and stops at the first row whose output wasn't.
+//! and stops at the first row whose output wasn't: it says which desk gave it, and in which line it differs. It also stops
+//! if a row of the folder isn't among the names.
 #![tactic(auto)]
 
 mod dripping;
@@ -27,13 +28,39 @@ fn main(rt: HostRuntime) -> ExitCode {
     }
 }
 
-fn run(rt: &(impl Runtime + AllocGlobal + Wait), alloc: Global) -> Result<()> {
+fn run(rt: &(impl Runtime + AllocGlobal + Wait + Clone + Drop), alloc: Global) -> Result<()> {
+    let mut names: Vec<String> = Vec::new(alloc);
     for name in env::args(rt)?.skip(1) {
+        names.push(name)?;
+    }
+    for name in &names {
         let row = Row::read(rt, name.as_str())?;
-        row.holds(rt, alloc)?;
+        row.holds(rt, alloc, name.as_str())?;
         println!(rt; "{name}")?;
     }
+    find_unnamed(rt, &names)
+}
+
+/// An error names a row of the folder that isn't among the names.
+fn find_unnamed(rt: &(impl Runtime + AllocGlobal + Clone + Drop), names: &[String]) -> Result<()> {
+    for entry in fs::read_dir(rt, ".")? {
+        let entry = entry?;
+        if let Some(row) = entry.file_name().strip_suffix(".in") {
+            if !is_among(names, row) {
+                return Err(anyhow!("row {row} isn't in `args`"));
+            }
+        }
+    }
     Ok(())
+}
+
+fn is_among(names: &[String], row: &str) -> bool {
+    for name in names {
+        if name.as_str() == row {
+            return true;
+        }
+    }
+    false
 }
 
 /// An input, and the output that is expected for it.
@@ -50,34 +77,66 @@ impl Row {
         Ok(Row { input, output })
     }
 
-    /// Runs each desk, the first one with both forms of the input. An error says that an output was another one.
-    fn holds(&self, rt: &(impl Runtime + AllocGlobal + Wait), alloc: Global) -> Result<()> {
+    /// Runs each desk, the first one with both forms of the input. An error says which desk gave another output, and in
+    /// which line.
+    fn holds(
+        &self,
+        rt: &(impl Runtime + AllocGlobal + Wait),
+        alloc: Global,
+        name: &str,
+    ) -> Result<()> {
         let input = self.input.as_slice();
-        self.holds_at(rt, alloc, &mut LocalDesk::new(alloc)?, &mut &*input)?;
-        self.holds_at(
+        let whole = self.differs_at(rt, alloc, &mut LocalDesk::new(alloc)?, &mut &*input)?;
+        tell(name, "a local desk", whole)?;
+        let dripping = self.differs_at(
             rt,
             alloc,
             &mut LocalDesk::new(alloc)?,
             &mut Dripping::of(input),
         )?;
+        tell(name, "a local desk, one byte a read", dripping)?;
         let mut shared = sharing::alone(alloc)?;
-        let held = self.holds_at(rt, alloc, &mut shared, &mut &*input);
+        let line = self.differs_at(rt, alloc, &mut shared, &mut &*input);
         shared.release(rt);
-        held
+        tell(name, "a shared desk", line?)
     }
 
-    fn holds_at<H: Wait, D: Desk, R: Source>(
+    /// The first line of a desk's output that is another one than expected, counted from 1; none if there is none.
+    fn differs_at<H: Wait, D: Desk, R: Source>(
         &self,
         rt: &H,
         alloc: Global,
         desk: &mut D,
         reader: &mut R,
-    ) -> Result<()> {
+    ) -> Result<Option<u64>> {
         let mut written: Vec<u8> = Vec::new(alloc);
         serve(rt, alloc, desk, reader, &mut written)?;
-        if written != self.output {
-            return Err(anyhow!("another output"));
+        Ok(first_line_unlike(written.as_slice(), self.output.as_slice()))
+    }
+}
+
+/// The number of the first line in which the texts differ.
+fn first_line_unlike(found: &[u8], wanted: &[u8]) -> Option<u64> {
+    let mut line: u64 = 1;
+    for (byte, other) in found.iter().zip(wanted.iter()) {
+        if *byte != *other {
+            return Some(line);
         }
-        Ok(())
+        if *byte == b'\n' {
+            line = line.wrapping_add(1);
+        }
+    }
+    if found.len() == wanted.len() {
+        None
+    } else {
+        Some(line)
+    }
+}
+
+/// An error if there is such a line.
+fn tell(row: &str, desk: &str, line: Option<u64>) -> Result<()> {
+    match line {
+        Some(line) => Err(anyhow!("row {row}, {desk}: another output in line {line}")),
+        None => Ok(()),
     }
 }

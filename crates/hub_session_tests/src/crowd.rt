@@ -1,4 +1,5 @@
-//! Sixteen clients at once, over one hub: eight publish and eight listen.
+//! Sixteen clients at once, over one hub: eight publish and eight listen. The fifodir holds so few letters that publishers
+//! have to retry.
 ghost use Rattle.std.specs.Prelude.{◌<◌};
 
 use crate::clients::Client;
@@ -27,21 +28,23 @@ fn letter(publisher: usize, i: usize) -> u8
     b'!' + (publisher * OWN + i % OWN) as u8
 }
 
-/// Publishes one letter after another, and gives the client back.
-fn publish_all(mut client: Client, publisher: usize) -> io::Result<Client>
+/// Publishes one letter after another. Gives the client back, and how often the fifodir was full.
+fn publish_all(mut client: Client, publisher: usize) -> io::Result<(Client, u64)>
     requires { publisher < 8 }
 {
     let mut line = *b"pub web ?";
+    let mut full: u64 = 0;
     for i in 0..LETTERS {
         line[8] = letter(publisher, i);
         for _ in 0..PATIENCE {
             if client.ask(&line)? != b"no full".as_slice() {
                 break;
             }
+            full = full.saturating_add(1);
             thread::yield_now();
         }
     }
-    Ok(client)
+    Ok((client, full))
 }
 
 /// Takes what the subscription gets until the fifodir is closed.
@@ -91,37 +94,43 @@ fn start_taking<H: Threads>(
     Ok(())
 }
 
-/// Runs the clients. The first that listens does so from the beginning, and the others begin while letters come.
+/// Runs the clients. Each one that listens has subscribed before the first letter comes.
 fn run_all<H: Threads>(rt: &H, alloc: Global, mut clients: Vec<Client>) -> io::Result<bool> {
     let mut taking: Vec<Taking> = Vec::new(alloc);
-    let mut publishing: Vec<JoinHandle<Option<Client>>> = Vec::new(alloc);
+    let mut publishing: Vec<JoinHandle<Option<(Client, u64)>>> = Vec::new(alloc);
     let Some(mut first) = clients.pop() else {
         return Ok(false);
     };
-    first.ask(b"dir web 4096 1000000")?;
+    first.ask(b"dir web 8 1000000")?;
     start_taking(rt, alloc, first, &mut taking)?;
+    for _ in 1..HALF {
+        if let Some(client) = clients.pop() {
+            start_taking(rt, alloc, client, &mut taking)?;
+        }
+    }
     for publisher in 0..HALF {
         if let Some(client) = clients.pop() {
             let handle = thread::spawn(rt, move || publish_all(client, publisher).ok())?;
             publishing.push(handle)?;
         }
     }
-    for client in clients {
-        start_taking(rt, alloc, client, &mut taking)?;
-    }
+    let mut was_full = false;
     let mut closer = None;
     for handle in publishing {
-        closer = handle.join(rt);
+        if let Some((client, full)) = handle.join(rt) {
+            was_full = was_full || full > 0;
+            closer = Some(client);
+        }
     }
     if let Some(mut client) = closer {
         client.ask(b"close web")?;
     }
-    Ok(are_right(rt, taking))
+    Ok(are_right(rt, taking) && was_full)
 }
 
-/// Whether the first has all letters, and each other one those from its mark on.
+/// Whether all that listened have all letters, and in the same order.
 fn are_right<H: Threads>(rt: &H, taking: Vec<Taking>) -> bool {
-    let mut whole = None;
+    let mut whole: Option<Vec<u8>> = None;
     let mut right = taking.len() == HALF;
     for handle in taking {
         match (handle.join(rt), &whole) {
@@ -130,7 +139,7 @@ fn are_right<H: Threads>(rt: &H, taking: Vec<Taking>) -> bool {
                 whole = Some(letters);
             }
             (Some(letters), Some(all)) => {
-                right = right && all.as_slice().ends_with(letters.as_slice());
+                right = right && letters.as_slice() == all.as_slice();
             }
             (None, _) => right = false,
         }
@@ -139,7 +148,7 @@ fn are_right<H: Threads>(rt: &H, taking: Vec<Taking>) -> bool {
 }
 
 #[test]
-fn listeners_get_one_list_from_their_marks(rt: HostRuntime) -> Result<(), Fail> {
+fn listeners_get_one_list(rt: HostRuntime) -> Result<(), Fail> {
     let alloc: Global = rt.alloc();
     let (door, clients) = open(&rt, alloc, "crowd.sock", 2 * HALF)?;
     let asking: JoinHandle<bool> = thread::spawn(&rt, move || {

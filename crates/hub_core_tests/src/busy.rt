@@ -1,0 +1,138 @@
+//! Calls while another thread is at the lock: wake-ups aren't lost, and a meeting doesn't wait.
+use crate::fixtures::run_of;
+use crate::passes::{Sender, Shared, open, publisher};
+use hub_fifodir::Fifodir;
+use hub_letters::Letter;
+use hub_record::Kind;
+use std::alloc::{AllocError, Global};
+use std::process::Abort;
+use std::rt::Clock;
+use std::sync::atomic::{AtomicU64, Ordering};
+use std::sync::{Arc, Wait};
+use std::test::Fail;
+use std::thread::Threads;
+use std::time::Duration;
+use std::{io, thread};
+
+/// How many messages each of two threads sends.
+const MESSAGES: u64 = 100_000;
+
+/// How many milliseconds they have. A thread that misses its wake-up sleeps for ever.
+const PATIENCE: u64 = 40_000;
+
+/// Sends the messages, and counts in `done` that all were sent.
+fn send_all<R: Wait>(rt: &R, fifodir: Shared, done: &AtomicU64) {
+    let Ok(mut sender) = Sender::of(rt, fifodir) else {
+        return;
+    };
+    let mut sent: u64 = 0;
+    for _ in 0..MESSAGES {
+        if sender.send(rt, &[Letter::least()]).is_ok() {
+            sent = sent.wrapping_add(1);
+        }
+    }
+    sender.leave(rt);
+    if sent == MESSAGES {
+        done.fetch_add(1, Ordering::SeqCst);
+    }
+}
+
+/// Starts a thread that sends the messages.
+fn start<R: Threads + Wait + Copy + Send + 'static>(
+    rt: &R,
+    fifodir: &Shared,
+    done: &Arc<AtomicU64, Global>,
+) -> io::Result<()> {
+    let rt = *rt;
+    let fifodir = Arc::try_clone(fifodir)?;
+    let done = Arc::try_clone(done)?;
+    let _ = thread::spawn(&rt, move || { send_all(&rt, fifodir, &done) })?;
+    Ok(())
+}
+
+/// Whether so many threads come to their end in time.
+fn come_to_an_end<R: Clock>(rt: &R, done: &AtomicU64, count: u64) -> bool {
+    for _ in 0..PATIENCE {
+        if done.load(Ordering::SeqCst) == count {
+            return true;
+        }
+        thread::sleep(rt, Duration::from_millis(1));
+    }
+    false
+}
+
+// The threads aren't joined before they have ended, so that the test fails where one sleeps for ever.
+#[test]
+fn two_threads_that_publish_come_to_an_end(rt: HostRuntime) -> Result<(), Fail> {
+    let fifodir = open(rt.alloc(), Kind::Plain, (4096, 1_000_000, 10))?;
+    let done = Arc::new(rt.alloc(), AtomicU64::new(0))?;
+    start(&rt, &fifodir, &done)?;
+    start(&rt, &fifodir, &done)?;
+    assert!(rt; come_to_an_end(&rt, &done, 2), "two threads in 40 s");
+    Ok(())
+}
+
+/// How many letters one message has, so that its publisher holds the lock for long.
+const LONG: usize = 8_000_000;
+
+/// How many such messages there are.
+const ROUNDS: u64 = 5;
+
+/// Sends the long message over and over, to no subscription, and tells before each how many there were.
+fn send_long<R: Abort + Wait>(rt: &R, fifodir: &Fifodir, letters: &[Letter], begun: &AtomicU64) {
+    let mut sender = publisher(rt, fifodir);
+    for _ in 0..ROUNDS {
+        begun.fetch_add(1, Ordering::SeqCst);
+        let _ = fifodir.publish(rt, &mut sender, letters);
+    }
+    fifodir.leave(rt, sender);
+}
+
+/// In how many rounds two passes met while the message was being published. They meet a millisecond after it was
+/// begun, when its publisher has the lock, and then the front is still as it was.
+fn meet_meanwhile<R: Abort + Wait + Clock>(rt: &R, fifodir: &Fifodir, begun: &AtomicU64) -> u64 {
+    let mut one = publisher(rt, fifodir);
+    let mut other = publisher(rt, fifodir);
+    let mut met: u64 = 0;
+    for _ in 0..20_000 {
+        let round = begun.load(Ordering::SeqCst);
+        let before = fifodir.front(&mut one);
+        thread::sleep(rt, Duration::from_millis(1));
+        fifodir.meet(rt, &mut one, &mut other);
+        if round > 0
+            && fifodir.front(&mut one) == before
+            && before < round.wrapping_mul(LONG as u64)
+        {
+            met = met.wrapping_add(1);
+        }
+        if before >= ROUNDS * LONG as u64 {
+            break;
+        }
+    }
+    fifodir.leave(rt, one);
+    fifodir.leave(rt, other);
+    met
+}
+
+fn met_meanwhile<R: Abort + Threads + Wait + Clock + Sync>(
+    rt: &R,
+    alloc: Global,
+    fifodir: &Fifodir,
+) -> Result<u64, AllocError> {
+    let letters = run_of(alloc, b'a', LONG)?;
+    let begun = AtomicU64::new(0);
+    let ((), met) = thread::join_mut(
+        rt,
+        &mut || { send_long(rt, fifodir, &letters, &begun) },
+        &mut || -> u64 { meet_meanwhile(rt, fifodir, &begun) },
+    );
+    Ok(met)
+}
+
+#[test]
+fn a_meeting_does_not_wait_for_the_lock(rt: HostRuntime) -> Result<(), Fail> {
+    let fifodir = open(rt.alloc(), Kind::Plain, (64, 1_000_000_000_000, 10))?;
+    let met = met_meanwhile(&rt, rt.alloc(), &fifodir)?;
+    assert!(rt; met > 0, "a meeting while a publisher has the lock");
+    Ok(())
+}

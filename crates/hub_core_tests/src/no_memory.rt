@@ -1,0 +1,253 @@
+//! Calls that take no memory. Whether they take none is counted by `tests/no-memory`, which runs this program over a
+//! `malloc` that counts (`tests/count.c`): it counts between two marks.
+use crate::fixtures::{blank, word};
+use crate::passes::{Sender, Shared, joined, open, publisher, ticket};
+use crate::waits::{Deed, Doing, opened};
+use hub_fifodir::{Fifodir, Locked};
+use hub_letters::{Flags, Letter, Stage, Want};
+use hub_listen::{Feed, Listener, Mode};
+use hub_record::{Closed, Kind, Letters, Limits, NoId, PubError, Record, Status, Taken};
+use hub_wait::{Span, Tally, Verdict, Watch, svlisten, svwait};
+use std::alloc::{AllocError, Global};
+use std::process::Abort;
+use std::sync::Wait;
+use std::test::Fail;
+use std::thread;
+
+/// The counting `malloc` knows a mark by the call of the system that it makes.
+fn mark() {
+    thread::yield_now();
+}
+
+/// Each call of `hub_letters`, and `Limits::of`.
+fn letters_are_read() -> bool {
+    mark();
+    let letter = Letter::of(b'u').unwrap_or(Letter::least());
+    let stage = Stage::Idle.next(letter);
+    let followed = Stage::Idle.follow(&[letter, letter]);
+    let flags = Flags::none().after(letter).after_all(&[letter]);
+    let code = flags.code();
+    let again = Flags::of_code(code);
+    let met = (Want::Up.met(flags, true), Want::Up.hopeless(flags));
+    let limits = Limits::of(1, 1, 1);
+    mark();
+    letter.byte() == b'u'
+        && stage == Some(Stage::Starting)
+        && followed == Err(1)
+        && (code, again) == (1, Some(flags))
+        && met == (true, false)
+        && limits.is_some()
+}
+
+/// Each call of a record that has a subscription, and `Letters`.
+fn a_record_is_used(alloc: Global) -> Result<bool, AllocError> {
+    let Some(limits) = Limits::of(2, 4, 10) else {
+        return Ok(false);
+    };
+    let (su, x) = (word(alloc, "su")?, word(alloc, "x")?);
+    let mut record = Record::new(alloc, Kind::Service, limits)?;
+    let subscribed = record.subscribe();
+    let mut out = [blank(); 4];
+    mark();
+    let letters = Letters::of(su);
+    let sent = record.publish(1, letters.items());
+    let refused = (
+        record.publish(1, letters.items()),
+        record.publish(1, &[Letter::least()]),
+        record.publish(1, x.as_slice()),
+    );
+    let seen = (
+        record.end(),
+        record.base(),
+        record.waiting(1),
+        record.flags().code(),
+    );
+    let taken = (record.take_into(1, &mut out), record.take_into(1, &mut out));
+    let none = (
+        record.take_into(2, &mut out),
+        record.cancel(2),
+        record.waiting(2),
+    );
+    let closed = (
+        record.close(),
+        record.close(),
+        record.publish(1, letters.items()),
+    );
+    let end = (
+        record.take_into(1, &mut out),
+        record.stage(),
+        record.closed(),
+    );
+    let cancelled = record.cancel(1);
+    mark();
+    Ok(
+        subscribed == Ok((1, 0))
+            && sent == Ok(0)
+            && refused
+                == (
+                    Err(PubError::Full),
+                    Err(PubError::Unlawful(0)),
+                    Err(PubError::Full),
+                )
+            && seen == (2, 0, Some(2), 5)
+            && taken == (Ok(Taken::Got(2)), Ok(Taken::Nothing))
+            && none == (Err(NoId), Err(NoId), None)
+            && closed == (Ok(()), Err(Closed), Err(PubError::Closed))
+            && end == (Ok(Taken::End), Stage::Starting, true)
+            && cancelled == Ok(()),
+    )
+}
+
+/// Each call of a `Locked` that has a subscription and a publisher.
+fn a_locked_is_used(alloc: Global) -> Result<bool, AllocError> {
+    let Some(limits) = Limits::of(2, 2, 10) else {
+        return Ok(false);
+    };
+    let ab = word(alloc, "ab")?;
+    let mut locked = Locked::new(alloc, Kind::Plain, limits)?;
+    let given = (locked.publisher().is_ok(), locked.subscribe().is_ok());
+    let mut out = [blank(); 4];
+    mark();
+    let sent = (locked.publish(1, &ab), locked.publish(1, &ab));
+    let taken = (locked.take_into(1, &mut out), locked.take_into(2, &mut out));
+    locked.leave(1);
+    locked.leave(1);
+    let ended = (
+        locked.cancel(1),
+        locked.cancel(1),
+        locked.close(),
+        locked.close(),
+    );
+    let status = (locked.status().closed, locked.front());
+    mark();
+    Ok(
+        given == (true, true)
+            && sent == (Ok(0), Err(PubError::Spent))
+            && taken == (Ok(Taken::Got(2)), Err(NoId))
+            && ended == (Ok(()), Err(NoId), Ok(()), Err(Closed))
+            && status == (true, 2),
+    )
+}
+
+/// Each call of a fifodir's two publishers and its ticket.
+fn passes_are_used<R: Abort + Wait>(rt: &R, fifodir: &Fifodir, ab: &[Letter]) -> bool {
+    let mut one = publisher(rt, fifodir);
+    let mut other = publisher(rt, fifodir);
+    let mut reader = ticket(rt, fifodir);
+    let mut out = [blank(); 4];
+    mark();
+    let sent = (
+        fifodir.publish(rt, &mut one, ab),
+        fifodir.publish(rt, &mut one, ab),
+    );
+    fifodir.meet(rt, &mut one, &mut reader);
+    let seen = (fifodir.status(&mut reader).number, fifodir.front(&mut one));
+    let taken = fifodir.take_into(rt, &mut reader, &mut out);
+    let nothing = fifodir.take_into(rt, &mut reader, &mut out);
+    let closed = (fifodir.close(rt, &mut one), fifodir.close(rt, &mut other));
+    let end = fifodir.take_into(rt, &mut reader, &mut out);
+    let numbers = (one.number(), reader.id(), reader.mark(), reader.next());
+    let kind = fifodir.kind();
+    fifodir.leave(rt, one);
+    fifodir.leave(rt, other);
+    fifodir.cancel(rt, reader);
+    mark();
+    sent == (Ok(0), Err(PubError::Full))
+        && seen == (2, 2)
+        && (taken, nothing, end) == (Taken::Got(2), Taken::Nothing, Taken::End)
+        && closed == (Ok(()), Err(Closed))
+        && numbers == (1, 1, 0, 2)
+        && kind == Kind::Plain
+}
+
+/// The two calls of a listener that only show.
+fn a_listener_is_shown(alloc: Global) -> Result<bool, AllocError> {
+    let letters = word(alloc, "aba")?;
+    let Ok(mut listener) = Listener::new(alloc, "b", Mode::Repeat) else {
+        return Ok(false);
+    };
+    let hit = listener.feed(&letters);
+    mark();
+    let shown = (listener.text().len(), listener.hit().len());
+    mark();
+    Ok(hit == Ok(Feed::Hit(2)) && shown == (0, 2))
+}
+
+/// Each call of a watch and of a tally.
+fn a_watch_is_judged() -> bool {
+    mark();
+    let status = Status {
+        number: 0,
+        flags: Flags::none(),
+        closed: false,
+    };
+    let mut watch = Watch::new(Want::Up, true, status);
+    watch.step(0, &[Letter::least()]);
+    let seen = (
+        watch.at(),
+        watch.flags().code(),
+        watch.met(),
+        watch.hopeless(),
+    );
+    watch.end();
+    let mut tally = Tally::new(Span::All);
+    tally.add(&watch);
+    let answer = (tally.answer(), watch.ended());
+    mark();
+    seen == (1, 0, false, false) && answer == (Some(Verdict::Never), true)
+}
+
+/// Waits at a post that catches up, and its end.
+fn posts_are_used<R: Abort + Wait>(
+    rt: &R,
+    fifodir: Shared,
+    mut supervisor: Sender,
+    letters: Vec<Letter>,
+    more: &[Letter],
+) -> bool {
+    let _ = supervisor.send(rt, more);
+    let mut pause = Doing {
+        supervisor,
+        deed: Deed::Send("u"),
+        letters,
+        at_call: 1,
+        calls: 0,
+    };
+    let mut posts = [opened(rt, fifodir, Want::Up, true)];
+    mark();
+    let heard = svlisten(rt, &mut posts, Span::All, 0, &mut pause, |_posts| 7);
+    let verdict = svwait(rt, &mut posts, Span::All, 1, &mut pause);
+    let seen = (posts[0].watch().at(), posts[0].mark());
+    let [mut post] = posts;
+    post.catch_up(rt);
+    post.end(rt);
+    mark();
+    let calls = pause.end(rt);
+    heard == (7, Verdict::Late) && verdict == Verdict::Yes && seen == (2, 1) && calls == 1
+}
+
+/// A call that takes memory, by which `tests/no-memory` sees that it counts.
+fn memory_is_taken(alloc: Global) -> Result<bool, AllocError> {
+    mark();
+    let letters = word(alloc, "ab")?;
+    mark();
+    Ok(letters.len() == 2)
+}
+
+#[test]
+fn these_calls_take_no_memory(rt: HostRuntime) -> Result<(), Fail> {
+    let plain = open(rt.alloc(), Kind::Plain, (2, 100, 10))?;
+    let service = open(rt.alloc(), Kind::Service, (64, 100, 10))?;
+    let (s, u) = (word(rt.alloc(), "s")?, word(rt.alloc(), "u")?);
+    let ab = word(rt.alloc(), "ab")?;
+    assert!(rt; memory_is_taken(rt.alloc())?);
+    assert!(rt; letters_are_read());
+    assert!(rt; a_record_is_used(rt.alloc())?);
+    assert!(rt; a_locked_is_used(rt.alloc())?);
+    assert!(rt; passes_are_used(&rt, &plain, &ab));
+    assert!(rt; a_listener_is_shown(rt.alloc())?);
+    assert!(rt; a_watch_is_judged());
+    let supervisor = joined(&rt, &service);
+    assert!(rt; posts_are_used(&rt, service, supervisor, u, &s));
+    Ok(())
+}

@@ -1,0 +1,64 @@
+//! The end of a desk, and what lends the parts of a request, take no memory. It is counted by `tests/no-memory`, which
+//! runs this program over a `malloc` that counts (`tests/count.c`): it counts between two marks.
+use crate::desks::{alone, new_local};
+use crate::rows::{Ask, Row, named, run};
+use hub_letters::Mode;
+use hub_requests::{Desk, Name, Names, Numbers, PatternText};
+use std::alloc::{AllocError, AllocGlobal, Global};
+use std::process::Abort;
+use std::sync::Wait;
+use std::test::Fail;
+use std::thread;
+
+/// The counting `malloc` knows a mark by the call of the system that it makes.
+fn mark() {
+    thread::yield_now();
+}
+
+/// A session with a publisher, two subscriptions and a listener.
+static HOLDS: [Row; 7] = [
+    (Ask::Dir("web", 64, 1000), "ok"),
+    (Ask::Svc("db", 64, 1000, true), "ok"),
+    (Ask::Sub("web"), "ok 1"),
+    (Ask::Sub("db"), "ok 2"),
+    (Ask::Listen("web", Mode::Repeat, "b"), "ok 3"),
+    (Ask::Pub("web", "aab"), "ok 0"),
+    (Ask::Poll(3), "hit aab"),
+];
+
+fn hold_and_end<H: AllocGlobal + Abort + Wait, D: Desk>(rt: &H, desk: &mut D) {
+    run(rt, desk, &HOLDS);
+    mark();
+    desk.end(rt);
+    mark();
+}
+
+/// The parts of requests are made of what holds them, and lent.
+fn parts_are_lent(alloc: Global, name: Name) -> Result<bool, AllocError> {
+    let text = String::from_str(alloc, "ab")?;
+    let mut list = Vec::with_capacity(alloc, 1)?;
+    list.push_reserved(name);
+    let list_of_numbers = Vec::from_array(alloc, [Some(7u64), None])?;
+    mark();
+    let pattern = PatternText::of(text);
+    let names = Names::of(list);
+    let numbers = Numbers::of(list_of_numbers);
+    let lent = (pattern.items().len(), numbers.items().len());
+    let bytes = match names.items().first() {
+        Some(name) => name.bytes().len(),
+        None => 0,
+    };
+    mark();
+    Ok(lent == (2, 2) && bytes == 3)
+}
+
+#[test]
+fn these_calls_take_no_memory(rt: HostRuntime) -> Result<(), Fail> {
+    let name = named(&rt, rt.alloc(), "web")?;
+    assert!(rt; parts_are_lent(rt.alloc(), name)?);
+    hold_and_end(&rt, &mut new_local(&rt));
+    let mut desk = alone(&rt);
+    hold_and_end(&rt, &mut desk);
+    desk.release(&rt);
+    Ok(())
+}

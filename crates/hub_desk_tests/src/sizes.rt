@@ -1,0 +1,124 @@
+//! Each size that a request may have, with ample memory. A reply `no memory` is a failure here.
+use crate::desks::{alone, new_local};
+use crate::listeners::many_letters;
+use crate::rows::{Ask, Row, answered, request, run};
+use hub_front::serve;
+use hub_letters::Mode;
+use hub_requests::{Desk, Name, Reply};
+use std::alloc::{AllocError, AllocGlobal, Global};
+use std::process::Abort;
+use std::sync::Wait;
+use std::test::Fail;
+
+/// A fifodir with a subscription and a listener.
+static BEGUN: [Row; 3] = [
+    (Ask::Dir("web", 4096, 1_000_000_000_000), "ok"),
+    (Ask::Sub("web"), "ok 1"),
+    (Ask::Listen("web", Mode::Repeat, "b"), "ok 2"),
+];
+
+fn takes<H: AllocGlobal + Abort + Wait, D: Desk>(rt: &H, desk: &mut D, count: usize) -> bool {
+    let take = request(rt, rt.alloc(), Ask::Take(1, 256));
+    match answered(rt, desk, &take) {
+        Reply::Got(letters) => letters.items().len() == count,
+        _ => false,
+    }
+}
+
+fn hears<H: AllocGlobal + Abort + Wait, D: Desk>(rt: &H, desk: &mut D, count: usize) -> bool {
+    let poll = request(rt, rt.alloc(), Ask::Poll(2));
+    match answered(rt, desk, &poll) {
+        Reply::Hit(letters) => letters.items().len() == count,
+        _ => false,
+    }
+}
+
+/// Whether a message of so many letters is taken, and a listener hears it with a letter more, at which it hits.
+fn carries<H: AllocGlobal + Abort + Wait, D: Desk>(rt: &H, desk: &mut D, count: usize) -> bool {
+    let message = many_letters(rt, rt.alloc(), count).expect(rt, "a message");
+    let last = request(rt, rt.alloc(), Ask::Pub("web", "b"));
+    let sent = answered(rt, desk, &message);
+    let was_taken = takes(rt, desk, count);
+    let hit = answered(rt, desk, &last);
+    matches!((sent, hit), (Reply::Number(_), Reply::Number(_)))
+        && was_taken
+        && takes(rt, desk, 1)
+        && hears(rt, desk, count.saturating_add(1))
+}
+
+/// How many letters the first message has that isn't carried so.
+fn message_unlike<H: AllocGlobal + Abort + Wait, D: Desk>(rt: &H, desk: &mut D) -> Option<usize> {
+    run(rt, desk, &BEGUN);
+    for count in 1..257usize {
+        if !carries(rt, desk, count) {
+            return Some(count);
+        }
+    }
+    None
+}
+
+/// The lines of waits for one name up to 32, and of names of up to 32 bytes, and the replies to them.
+fn waits_and_names(alloc: Global) -> Result<(Vec<u8>, Vec<u8>), AllocError> {
+    let mut input = Vec::from_slice(alloc, b"svc w 64 1000 1\npub w su\n")?;
+    let mut output = Vec::from_slice(alloc, b"ok\nok 0\n")?;
+    for count in 1..33 {
+        input.extend_from_slice(b"wait all up 0")?;
+        output.extend_from_slice(b"yes")?;
+        for _ in 0..count {
+            input.extend_from_slice(b" w")?;
+            output.extend_from_slice(b" 2")?;
+        }
+        input.extend_from_slice(b"\ndir ")?;
+        for _ in 0..count {
+            input.push(b'n')?;
+        }
+        input.extend_from_slice(b" 1 1\n")?;
+        output.extend_from_slice(b"\nok\n")?;
+    }
+    Ok((input, output))
+}
+
+/// Whether a desk waits for each number of names, and makes a name of each length.
+fn waits_for_each<H: Wait, D: Desk>(
+    rt: &H,
+    alloc: Global,
+    desk: &mut D,
+) -> Result<bool, AllocError> {
+    let (input, output) = waits_and_names(alloc)?;
+    let mut written: Vec<u8> = Vec::new(alloc);
+    let served = serve(rt, alloc, desk, &mut input.as_slice(), &mut written);
+    Ok(served == Ok(66) && written == output)
+}
+
+/// Whether texts of up to 32 bytes are names, and no other.
+fn are_names(alloc: Global) -> Result<bool, AllocError> {
+    let text = [b'n'; 40];
+    for count in 0..41 {
+        let Some(text) = text.get(..count) else {
+            return Ok(false);
+        };
+        let is_so = match Name::of(alloc, text)? {
+            Some(name) => name.bytes() == text && *name.copy()?.bytes() == *text,
+            None => count == 0 || count > 32,
+        };
+        if !is_so || (count > 0 && count <= 32) != Name::is_name(text) {
+            return Ok(false);
+        }
+    }
+    Ok(true)
+}
+
+#[test]
+fn requests_of_each_size(rt: HostRuntime) -> Result<(), Fail> {
+    assert!(rt; are_names(rt.alloc())?);
+    let mut local = new_local(&rt);
+    assert_eq!(rt; message_unlike(&rt, &mut local), None);
+    assert!(rt; waits_for_each(&rt, rt.alloc(), &mut local)?);
+    let mut desk = alone(&rt);
+    let unlike = message_unlike(&rt, &mut desk);
+    let waits = waits_for_each(&rt, rt.alloc(), &mut desk);
+    desk.release(&rt);
+    assert_eq!(rt; unlike, None);
+    assert!(rt; waits?);
+    Ok(())
+}
