@@ -1,1 +1,4 @@
 pub mod Desks
+pub mod Faults
+pub mod Calls
+pub mod Serving
