@@ -1,5 +1,6 @@
 //! Reads the words of the command line.
-ghost use Rattle.std.specs.Prelude.{◌≡◌, ◌⊎◌, IfOk, IfSome};
+ghost use Rattle.std.specs.Prelude.{◌≡◌, ◌⊎◌, ℕ, IfOk, IfSome};
+ghost use Rattle.hub_arguments.specs.declared.command_line.Start.TheVariants.{End};
 
 use crate::help::{
     ABOUT, CALL_ABOUT, CALL_LINES, EXIT, LONG_ABOUT, SCRIPT_ABOUT, SCRIPT_LINES, SERVE_ABOUT,
@@ -7,7 +8,13 @@ use crate::help::{
 };
 use clap::error::ErrorKind;
 use clap::{Arg, ArgAction, Command, Error, value_parser};
-use std::alloc::{AllocError, Global};
+use hub_io::FrontError;
+use std::alloc::{AllocError, AllocGlobal, Global};
+use std::rt::Runtime;
+use std::{env, io};
+
+/// The program's name in the usage lines, whatever name it was started by.
+const NAME: &str = "ftrighub";
 
 /// The program's version, which `--version` prints after its name.
 const VERSION: &str = "0.2.0";
@@ -57,7 +64,7 @@ fn command<'a>(alloc: Global) -> Result<Command<'a>, AllocError> {
         .about(CALL_ABOUT)
         .after_help(CALL_LINES)
         .arg(socket(alloc))?;
-    Command::new(alloc, "ftrighub")
+    Command::new(alloc, NAME)
         .version(VERSION)
         .about(ABOUT)
         .long_about(LONG_ABOUT)
@@ -85,11 +92,30 @@ pub fn read_words<'a>(alloc: Global, words: &'a [String]) -> Result<Plan<'a>, Er
     })
 }
 
+/// What the words of the command line ask for.
+#[derive(Clone, Copy, Debug, PartialEq, Eq)]
+pub enum Start<'a> {
+    /// The program is to do this.
+    Run(Plan<'a>),
+    /// The text for these words was printed, and the program ends with this status.
+    End(u8),
+}
+
 /// The exit status for words that run nothing: 2 if they were refused, 0 if they ask for help or the version.
 pub fn status_of(error: &Error) -> u8
     ensures { (result ≡ 0) ⊎ (result ≡ 2) }
 {
     if error.use_stderr() { 2 } else { 0 }
+}
+
+// The same, unless the words couldn't be read for want of memory.
+fn status_with_memory(error: &Error) -> Result<u8, AllocError>
+    ensures { IfOk result (λ status. (status ≡ 0) ⊎ (status ≡ 2)) }
+{
+    if error.kind() == ErrorKind::OutOfMemory {
+        return Err(AllocError);
+    }
+    Ok(status_of(error))
 }
 
 /// The exit status for words that run nothing. None if the words are a plan to run.
@@ -98,8 +124,39 @@ pub fn early_status(alloc: Global, words: &[String]) -> Result<Option<u8>, Alloc
 {
     match read_words(alloc, words) {
         Ok(_) => Ok(None),
-        Err(error) if error.kind() == ErrorKind::OutOfMemory => Err(AllocError),
-        Err(error) => Ok(Some(status_of(&error))),
+        Err(error) => Ok(Some(status_with_memory(&error)?)),
+    }
+}
+
+/// The words of the command line, with the program's name first. An error is `InvalidData` if a word is not UTF-8, or
+/// `OutOfMemory`.
+pub fn own_words<H: Runtime + AllocGlobal>(rt: &H, alloc: Global) -> io::Result<Vec<String>> {
+    let mut words = Vec::new(alloc);
+    words.push(String::from_str(alloc, NAME)?)?;
+    for word in env::args(rt)?.skip(1) {
+        words.push(word)?;
+    }
+    Ok(words)
+}
+
+/// Reads the words. If they run nothing, it prints their text: help and the version on standard output, what is wrong on
+/// standard error. An error is `Write` if the text couldn't be printed, or `Memory`.
+pub fn start<'a, H: Runtime + AllocGlobal>(
+    rt: &H,
+    alloc: Global,
+    words: &'a [String],
+) -> Result<Start<'a>, FrontError>
+    ensures { IfOk result (λ start. (status : ℕ) → start ≡ End status
+        → (status ≡ 0) ⊎ (status ≡ 2)) }
+{
+    let error = match read_words(alloc, words) {
+        Ok(plan) => return Ok(Start::Run(plan)),
+        Err(error) => error,
+    };
+    let status = status_with_memory(&error)?;
+    match error.print(rt) {
+        Ok(()) => Ok(Start::End(status)),
+        Err(_) => Err(FrontError::Write),
     }
 }
 

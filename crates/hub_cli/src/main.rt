@@ -1,19 +1,18 @@
 //! The program `ftrighub`: reads the command line, and runs the subcommand with the real streams.
 #![tactic(auto)]
 
-use clap::error::ErrorKind;
-use hub_arguments::{Plan, read_words, status_of};
+use hub_arguments::{Plan, Start, own_words, start};
 use hub_commands::{Fault, call, serve, tell_faults};
-use hub_io::{FrontError, Sink, Source};
+use hub_io::{Sink, Source};
 use hub_script::script;
 use std::alloc::{AllocGlobal, Global};
+use std::io;
 use std::io::Write;
 use std::net::Net;
 use std::process::ExitCode;
 use std::rt::Runtime;
 use std::sync::Wait;
 use std::thread::Threads;
-use std::{env, io};
 
 /// The exit status of a fault while running.
 const FAULTY: u8 = 1;
@@ -21,16 +20,13 @@ const FAULTY: u8 = 1;
 /// The exit status of a command line that was refused.
 const REFUSED: u8 = 2;
 
-/// The program's name in the usage lines, whatever name it was started by.
-const NAME: &str = "ftrighub";
-
 fn main(rt: HostRuntime) -> ExitCode {
     let alloc: Global = rt.alloc();
     let mut faults = rt.stderr();
     match run(&rt, alloc, &mut rt.stdin(), &mut rt.stdout(), &mut faults) {
         Ok(status) => ExitCode::from(status),
         Err(fault) => {
-            fault.tell(alloc, &mut faults);
+            let _: io::Result<()> = fault.tell(alloc, &mut faults);
             ExitCode::from(FAULTY)
         }
     }
@@ -47,7 +43,7 @@ fn run<H, R: Source, W: Sink, F: Write>(
 where
     H: Runtime + AllocGlobal + Net + Threads + Wait + Copy + Send + 'static,
 {
-    let words = match words(rt, alloc) {
+    let words = match own_words(rt, alloc) {
         Ok(words) => words,
         Err(error) if error.kind() == io::ErrorKind::OutOfMemory => return Err(Fault::Memory),
         Err(_) => {
@@ -55,15 +51,9 @@ where
             return Ok(REFUSED);
         }
     };
-    match read_words(alloc, words.as_slice()) {
-        Ok(plan) => carry_out(rt, alloc, plan, input, output, faults),
-        Err(error) if error.kind() == ErrorKind::OutOfMemory => Err(Fault::Memory),
-        Err(error) => {
-            if error.print(rt).is_err() {
-                return Err(Fault::Script(FrontError::Write));
-            }
-            Ok(status_of(&error))
-        }
+    match start(rt, alloc, words.as_slice())? {
+        Start::Run(plan) => carry_out(rt, alloc, plan, input, output, faults),
+        Start::End(status) => Ok(status),
     }
 }
 
@@ -85,7 +75,7 @@ where
         }
         Plan::Serve { socket, sessions } => {
             let report = serve(rt, alloc, socket, sessions)?;
-            tell_faults(alloc, &report, faults);
+            let _: io::Result<()> = tell_faults(alloc, &report, faults);
             if !report.is_clean() {
                 return Ok(FAULTY);
             }
@@ -95,14 +85,4 @@ where
         }
     }
     Ok(0)
-}
-
-/// The words of the command line, after the program's name.
-fn words<H: Runtime + AllocGlobal>(rt: &H, alloc: Global) -> io::Result<Vec<String>> {
-    let mut words = Vec::new(alloc);
-    words.push(String::from_str(alloc, NAME)?)?;
-    for word in env::args(rt)?.skip(1) {
-        words.push(word)?;
-    }
-    Ok(words)
 }

@@ -1,5 +1,5 @@
 -- The stream of each fault.
-use Rattle.std.specs.Prelude.{ℕ, Result, Ok, Err}
+use Rattle.std.specs.Prelude.{ℕ, List, codes, Result, Ok, Err}
 use Rattle.hub_io.specs.declared.fault.FrontError.{FrontError}
 use Rattle.hub_io.specs.declared.fault.FrontError.TheVariants as passing
 use Rattle.hub_client.specs.declared.fault.RelayError.{RelayError}
@@ -62,3 +62,13 @@ receive_faults (Err Receive) = 1
 receive_faults (Err Ended) = 0
 receive_faults (Err Turns) = 0
 receive_faults (Err Memory) = 0
+
+-- the text of a fault
+abbrev pub relay_text : RelayError → List ℕ
+relay_text Input = codes "read failed"
+relay_text Output = codes "write failed"
+relay_text Send = codes "send failed"
+relay_text Receive = codes "receive failed"
+relay_text Ended = codes "connection ended"
+relay_text Turns = codes "too many reads"
+relay_text Memory = codes "out of memory"

@@ -6,33 +6,27 @@ ghost use Rattle.hub_client.specs.declared.fault.RelayError.TheVariants.{Memory}
 
 use hub_io::FrontError;
 use std::alloc::AllocError;
-use thiserror::Error;
+use std::error::Error;
+use std::fmt;
 
 /// Why a relay stopped before the end of its input.
-#[derive(Clone, Copy, Debug, PartialEq, Eq, Error)]
+#[derive(Clone, Copy, Debug, PartialEq, Eq)]
 pub enum RelayError {
     /// A read of the input failed.
-    #[error("read failed")]
     Input,
     /// A write to the output failed, or took no byte.
-    #[error("write failed")]
     Output,
     /// A write to the peer failed, or took no byte.
-    #[error("send failed")]
     Send,
     /// A read of the peer's stream failed. If a reply was unfinished, it wasn't written, as at `Ended`.
-    #[error("receive failed")]
     Receive,
     /// The peer's stream ended before the LF of a reply. The unfinished reply wasn't written, except for the buffers of
     /// 64 KiB that it filled.
-    #[error("connection ended")]
     Ended,
     /// 10,000,000 reads were made, of the input and the peer's stream together, and more were needed. If a reply was
     /// unfinished, it wasn't written, as at `Ended`.
-    #[error("too many reads")]
     Turns,
     /// There was no memory for the two buffers.
-    #[error("out of memory")]
     Memory,
 }
 
@@ -43,6 +37,27 @@ impl From<AllocError> for RelayError {
         RelayError::Memory
     }
 }
+
+impl fmt::Display for RelayError {
+    ghost use Rattle.std.specs.Prelude.{Some};
+    ghost use Rattle.hub_client.specs.Faults.{relay_text};
+
+    ghost output = { λ fault. Some (relay_text fault) };
+
+    fn fmt<W: fmt::Write>(&self, f: &mut fmt::Formatter<W>) -> fmt::Result {
+        match self {
+            RelayError::Input => f.write_str("read failed"),
+            RelayError::Output => f.write_str("write failed"),
+            RelayError::Send => f.write_str("send failed"),
+            RelayError::Receive => f.write_str("receive failed"),
+            RelayError::Ended => f.write_str("connection ended"),
+            RelayError::Turns => f.write_str("too many reads"),
+            RelayError::Memory => f.write_str("out of memory"),
+        }
+    }
+}
+
+impl Error for RelayError {}
 
 // The error for a fault between the input and the peer.
 pub(crate) fn of_sending(fault: FrontError) -> RelayError

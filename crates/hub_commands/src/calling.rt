@@ -1,4 +1,9 @@
 //! The subcommand `call`: a client of a server.
+ghost use Rattle.std.specs.Prelude.{◌≡◌, ◌≢◌, ℕ, Result, Err};
+ghost use Rattle.hub_client.specs.declared.fault.RelayError.{RelayError as relay_error};
+ghost use Rattle.hub_commands.specs.Calls.{IsRelayed, call_result};
+ghost use Rattle.hub_commands.specs.declared.fault.Fault.TheVariants as fault;
+
 use crate::fault::Fault;
 use hub_client::relay;
 use hub_io::{Sink, Source};
@@ -24,7 +29,16 @@ pub fn call<H: Net + Wait, R: Source, W: Sink>(
     socket: &str,
     input: &mut R,
     output: &mut W,
-) -> Result<u64, Fault> {
+) -> Result<u64, Fault>
+    // Without a connection, nothing is read and nothing is written.
+    ensures connected { result ≡ Err fault.Connect → (input.new ≡ input.old) × (output.new ≡ output.old) }
+
+    // Over a connection the lines are relayed, and the result is the relay's.
+    ensures relayed { result ≢ Err fault.Connect → (outcome : Result ℕ relay_error) × (result ≡ call_result outcome)
+        × IsRelayed (record { remaining = R.remaining; reads = R.reads; faults = R.faults })
+        (record { contents = W.contents; faults = W.faults })
+        input.old input.new output.old output.new outcome }
+{
     let Some((mut receive, mut send)) = connect(rt, socket) else {
         return Err(Fault::Connect);
     };

@@ -1,5 +1,5 @@
 -- What is written at a fault, and the faults of an outcome.
-use Rattle.std.specs.Prelude.{ℕ, ◌<◌, List, length, take, Option, Result, Ok, Err}
+use Rattle.std.specs.Prelude.{ℕ, ◌<◌, List, length, take, codes, Option, Result, Ok, Err}
 use Rattle.std.specs.Io.KnownBytes.{Appends}
 use Rattle.hub_io.specs.declared.fault.FrontError.{FrontError}
 use Rattle.hub_io.specs.declared.fault.FrontError.TheVariants as fault
@@ -26,3 +26,10 @@ write_faults (Err Read) = 0
 write_faults (Err Write) = 1
 write_faults (Err Turns) = 0
 write_faults (Err fault.Memory) = 0
+
+-- the text of a fault
+abbrev pub fault_text : FrontError → List ℕ
+fault_text Read = codes "read failed"
+fault_text Write = codes "write failed"
+fault_text Turns = codes "too many reads"
+fault_text fault.Memory = codes "out of memory"

@@ -4,22 +4,19 @@ ghost use Rattle.std.specs.Prelude.{◌≡◌};
 ghost use Rattle.hub_io.specs.declared.fault.FrontError.TheVariants.{Memory};
 
 use std::alloc::AllocError;
-use thiserror::Error;
+use std::error::Error;
+use std::fmt;
 
 /// Why a session stopped before the end of its input, or a relay before its end.
-#[derive(Clone, Copy, Debug, PartialEq, Eq, Error)]
+#[derive(Clone, Copy, Debug, PartialEq, Eq)]
 pub enum FrontError {
     /// A read failed.
-    #[error("read failed")]
     Read,
     /// A write failed, or took no byte.
-    #[error("write failed")]
     Write,
     /// 10,000,000 reads were made, and the input hasn't ended.
-    #[error("too many reads")]
     Turns,
     /// There was no memory for the session's own buffers.
-    #[error("out of memory")]
     Memory,
 }
 
@@ -30,3 +27,21 @@ impl From<AllocError> for FrontError {
         FrontError::Memory
     }
 }
+
+impl fmt::Display for FrontError {
+    ghost use Rattle.std.specs.Prelude.{Some};
+    ghost use Rattle.hub_io.specs.Faults.{fault_text};
+
+    ghost output = { λ fault. Some (fault_text fault) };
+
+    fn fmt<W: fmt::Write>(&self, f: &mut fmt::Formatter<W>) -> fmt::Result {
+        match self {
+            FrontError::Read => f.write_str("read failed"),
+            FrontError::Write => f.write_str("write failed"),
+            FrontError::Turns => f.write_str("too many reads"),
+            FrontError::Memory => f.write_str("out of memory"),
+        }
+    }
+}
+
+impl Error for FrontError {}

@@ -1,8 +1,10 @@
 -- What a report shows.
-use Rattle.std.specs.Prelude.{ℕ, Bool, List, Result}
+use Rattle.std.specs.Prelude.{ℕ, Bool, List, codes, Result}
 use Rattle.std.specs.List.{AllZip}
 use Rattle.hub_front.specs.Serving.{Asking}
 use Rattle.hub_io.specs.declared.fault.FrontError.{FrontError}
+use Rattle.hub_server.specs.declared.report.ServeError.{ServeError}
+use Rattle.hub_server.specs.declared.report.ServeError.TheVariants.{Spawn, Memory}
 use Rattle.hub_server.specs.Gates.{Giving, Closing, IsAsked, ThenCloses}
 use Rattle.hub_server.specs.Sessions.{Reading, Writing, IsResult}
 
@@ -17,3 +19,8 @@ pub record IsReport {D R W G : Type 0} (begins : D → Type 0) (asks : Asking D)
   pub given : List (R × W)
   pub asked : ThenCloses closes (λ last. IsAsked gives most old given failed last) new
   pub each : AreResults begins asks ends r w given results
+
+-- the text of an error
+abbrev pub serve_text : ServeError → List ℕ
+serve_text Spawn = codes "cannot start a session"
+serve_text Memory = codes "out of memory"

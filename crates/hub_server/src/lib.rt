@@ -1,6 +1,6 @@
 //! Serves sessions, each on a thread of its own, whatever desks answer them.
 //!
-//! A [`Gate`] gives sessions, each with a reader and a writer, as a listening socket does. [`serve_each`] serves each
+//! A [`Gate`] gives sessions, each with a reader and a writer; a [`Door`] is that of a listening socket. [`serve_each`] serves each
 //! session as soon as it comes, by a desk of its own that [`Desks`] opens. All sessions run at the same time, and in
 //! the end it joins their threads. The [`Report`] has the result of each session, in the gate's order.
 //!
@@ -8,6 +8,7 @@
 #![tactic(auto)]
 
 mod desks;
+mod door;
 mod gate;
 mod promise;
 mod report;
@@ -15,6 +16,7 @@ mod started;
 mod together;
 
 pub use desks::Desks;
+pub use door::Door;
 pub use gate::{Gate, Next};
 pub use report::{Report, ServeError};
 pub use together::{STACK_SIZE, serve_each};

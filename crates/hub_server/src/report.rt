@@ -3,7 +3,8 @@ ghost use Rattle.std.specs.Prelude.{◌≡◌, ◌↔◌, IsTrue, All, IsOk, fal
 
 use hub_io::FrontError;
 use std::alloc::AllocError;
-use thiserror::Error;
+use std::error::Error;
+use std::fmt;
 
 /// The results of all sessions.
 #[derive(Debug, Drop)]
@@ -25,13 +26,11 @@ impl Report {
 }
 
 /// Why the serving of sessions failed. All sessions that were started have ended by then.
-#[derive(Clone, Copy, Debug, PartialEq, Eq, Error)]
+#[derive(Clone, Copy, Debug, PartialEq, Eq)]
 pub enum ServeError {
     /// A thread couldn't be started.
-    #[error("cannot start a session")]
     Spawn,
     /// Memory ran out, before the first session, for one more session, or for the results.
-    #[error("out of memory")]
     Memory,
 }
 
@@ -45,3 +44,19 @@ impl From<AllocError> for ServeError {
         ServeError::Memory
     }
 }
+
+impl fmt::Display for ServeError {
+    ghost use Rattle.std.specs.Prelude.{Some};
+    ghost use Rattle.hub_server.specs.Reports.{serve_text};
+
+    ghost output = { λ fault. Some (serve_text fault) };
+
+    fn fmt<W: fmt::Write>(&self, f: &mut fmt::Formatter<W>) -> fmt::Result {
+        match self {
+            ServeError::Spawn => f.write_str("cannot start a session"),
+            ServeError::Memory => f.write_str("out of memory"),
+        }
+    }
+}
+
+impl Error for ServeError {}
