@@ -141,7 +141,7 @@ pub fn own_words<H: Runtime + AllocGlobal>(rt: &H, alloc: Global) -> io::Result<
 
 /// Reads the words. If they run nothing, it prints their text: help and the version on standard output, what is wrong on
 /// standard error. An error is `Write` if the text couldn't be printed, or `Memory`.
-pub fn start<'a, H: Runtime + AllocGlobal>(
+pub fn begin<'a, H: Runtime + AllocGlobal>(
     rt: &H,
     alloc: Global,
     words: &'a [String],

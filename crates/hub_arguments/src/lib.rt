@@ -2,10 +2,10 @@
 //!
 //! [`read_words`] reads the words with the crate `clap`. They are a [`Plan`], or an error with the text to print: help,
 //! the version, or what is wrong with them. [`status_of`] is the exit status for such an error. A program takes its
-//! [`own_words`] and calls [`start`], which prints that text.
+//! [`own_words`] and calls [`begin`], which prints that text.
 #![tactic(auto)]
 
 mod command_line;
 mod help;
 
-pub use command_line::{Plan, Start, early_status, own_words, read_words, start, status_of};
+pub use command_line::{Plan, Start, begin, early_status, own_words, read_words, status_of};

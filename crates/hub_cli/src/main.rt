@@ -1,7 +1,7 @@
 //! The program `ftrighub`: reads the command line, and runs the subcommand with the real streams.
 #![tactic(auto)]
 
-use hub_arguments::{Plan, Start, own_words, start};
+use hub_arguments::{Plan, Start, begin, own_words};
 use hub_commands::{Fault, call, serve, tell_faults};
 use hub_io::{Sink, Source};
 use hub_script::script;
@@ -51,7 +51,7 @@ where
             return Ok(REFUSED);
         }
     };
-    match start(rt, alloc, words.as_slice())? {
+    match begin(rt, alloc, words.as_slice())? {
         Start::Run(plan) => carry_out(rt, alloc, plan, input, output, faults),
         Start::End(status) => Ok(status),
     }

@@ -9,9 +9,8 @@ use hub_io::FrontError;
 use hub_server::ServeError;
 use std::alloc::{AllocError, Global};
 use std::error::Error;
-use std::fmt;
-use std::io;
 use std::io::Write;
+use std::{fmt, io};
 
 /// Why the program ends with status 1. Its text is the line on standard error.
 #[derive(Clone, Copy, Debug, PartialEq, Eq)]

@@ -46,13 +46,13 @@ where
         × IsSome opened.listener × IsReport (IsNewDesk one pause)
         ⟦<SharedDesk<Backoff<H>> as Desk>⟧.asks ⟦<SharedDesk<Backoff<H>> as Desk>⟧.ends
         (record {
-            remaining = ⟦<UnixStream as Read>⟧.remaining;
-            reads = ⟦<UnixStream as Source>⟧.reads;
-            faults = ⟦<UnixStream as Source>⟧.faults;
+          remaining = ⟦<UnixStream as Read>⟧.remaining;
+          reads = ⟦<UnixStream as Source>⟧.reads;
+          faults = ⟦<UnixStream as Source>⟧.faults;
         })
         (record {
-            contents = ⟦<UnixStream as Write>⟧.contents;
-            faults = ⟦<UnixStream as Sink>⟧.faults;
+          contents = ⟦<UnixStream as Write>⟧.contents;
+          faults = ⟦<UnixStream as Sink>⟧.faults;
         })
         ⟦<Door as Gate<UnixStream, UnixStream>>⟧.gives ⟦<Door as Gate<UnixStream, UnixStream>>⟧.closes
         sessions opened closed report.results.items report.gate_failed) }

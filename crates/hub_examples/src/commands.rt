@@ -8,12 +8,15 @@ use std::rt::Clock;
 use std::sync::Wait;
 use std::thread::Threads;
 
-/// Serves 8 connections at a socket, and writes a line for each that stopped. Answers whether none did.
+/// Serves 8 connections at a socket, and writes a line for each that stopped. Answers whether none did and all lines were
+/// written.
 pub fn serve_at<H>(rt: &H, alloc: Global, socket: &str, errors: &mut Stderr) -> Result<bool, Fault>
 where
     H: Files + Net + Clock + Threads + Wait + Copy + Send + 'static,
 {
     let report = serve(rt, alloc, socket, 8)?;
-    tell_faults(alloc, &report, errors);
-    Ok(report.is_clean())
+    match tell_faults(alloc, &report, errors) {
+        Ok(()) => Ok(report.is_clean()),
+        Err(_) => Ok(false),
+    }
 }

@@ -83,7 +83,7 @@ fn faults_in_the_order_of_acceptance(rt: HostRuntime) -> Result<(), Fail> {
             gate_failed: *gate_failed,
         };
         let mut told: Vec<u8> = Vec::new(rt.alloc());
-        tell_faults(rt.alloc(), &report, &mut told);
+        tell_faults(rt.alloc(), &report, &mut told)?;
         assert_eq!(rt; told.as_slice(), lines.as_bytes());
         assert_eq!(rt; report.is_clean(), lines.is_empty());
     }
