@@ -31,7 +31,7 @@ static OF_RELAYING: [(RelayError, &str); 7] = [
 
 fn expect_line(rt: &impl Abort, alloc: Global, fault: Fault, line: &str) {
     let mut told: Vec<u8> = Vec::new(alloc);
-    fault.tell(alloc, &mut told);
+    assert!(rt; fault.tell(alloc, &mut told).is_ok());
     assert_eq!(rt; told.as_slice(), line.as_bytes());
 }
 
