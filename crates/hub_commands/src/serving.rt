@@ -1,8 +1,9 @@
 //! The subcommand `serve`: sessions over a Unix socket.
-ghost use Rattle.std.specs.Prelude.{IfOk, IfErr, IsSome, OnOk};
+ghost use Rattle.std.specs.Prelude.{◌≡◌, IfOk, IfErr, IsSome, OnOk};
 ghost use Rattle.std.specs.Io.KnownBytes.{Appends};
 ghost use Rattle.hub_commands.specs.Faults.{session_line, session_lines, report_lines};
 ghost use Rattle.hub_commands.specs.Serving.{FailsToServe};
+ghost use Rattle.hub_commands.specs.declared.fault.Fault.TheVariants as fault;
 ghost use Rattle.hub_server.specs.Gates.{StopsEarly, ThenCloses};
 ghost use Rattle.hub_server.specs.Reports.{IsReport};
 ghost use Rattle.hub_server.specs.declared.door.Door.{Door as door};
@@ -28,7 +29,9 @@ use std::sync::{Arc, Wait};
 use std::thread::Threads;
 
 /// Listens at the socket. An empty path is refused: the system would choose an address that no client knows.
-fn listen<H: Files + Net>(rt: &H, socket: &str) -> Result<UnixListener, Fault> {
+fn listen<H: Files + Net>(rt: &H, socket: &str) -> Result<UnixListener, Fault>
+    ensures { IfErr result (λ error. error ≡ fault.Listen) }
+{
     if socket.is_empty() {
         return Err(Fault::Listen);
     }

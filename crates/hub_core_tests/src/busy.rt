@@ -27,7 +27,7 @@ fn send_all<R: Wait>(rt: &R, fifodir: Shared, done: &AtomicU64) {
     };
     let mut sent: u64 = 0;
     for _ in 0..MESSAGES {
-        if sender.send(rt, &[Letter::least()]).is_ok() {
+        if sender.send(rt, &[Letter::LEAST]).is_ok() {
             sent = sent.wrapping_add(1);
         }
     }

@@ -17,7 +17,7 @@ pub(crate) fn word(alloc: Global, text: &str) -> Result<Vec<Letter>, AllocError>
 
 /// So many times a letter.
 pub(crate) fn run_of(alloc: Global, byte: u8, count: usize) -> Result<Vec<Letter>, AllocError> {
-    vec![in alloc; Letter::of(byte).unwrap_or(Letter::least()); count]
+    vec![in alloc; Letter::of(byte).unwrap_or(Letter::LEAST); count]
 }
 
 /// Powers of two and their neighbours, up to what may be pending or gathered.

@@ -1,12 +1,12 @@
 //! Calls that take no memory. Whether they take none is counted by `tests/no-memory`, which runs this program over a
 //! `malloc` that counts (`tests/count.c`): it counts between two marks.
-use crate::fixtures::{blank, word};
+use crate::fixtures::word;
 use crate::passes::{Sender, Shared, joined, open, publisher, ticket};
 use crate::waits::{Deed, Doing, opened};
 use hub_fifodir::{Fifodir, Locked};
 use hub_letters::{Flags, Letter, Stage, Want};
 use hub_listen::{Feed, Listener, Mode};
-use hub_record::{Closed, Kind, Letters, Limits, NoId, PubError, Record, Status, Taken};
+use hub_record::{Closed, Event, Kind, Letters, Limits, NoId, PubError, Record, Status, Taken};
 use hub_wait::{Span, Tally, Verdict, Watch, svlisten, svwait};
 use std::alloc::{AllocError, Global};
 use std::process::Abort;
@@ -22,7 +22,7 @@ fn mark() {
 /// Each call of `hub_letters`, and `Limits::of`.
 fn letters_are_read() -> bool {
     mark();
-    let letter = Letter::of(b'u').unwrap_or(Letter::least());
+    let letter = Letter::of(b'u').unwrap_or(Letter::LEAST);
     let stage = Stage::Idle.next(letter);
     let followed = Stage::Idle.follow(&[letter, letter]);
     let flags = Flags::none().after(letter).after_all(&[letter]);
@@ -47,13 +47,13 @@ fn a_record_is_used(alloc: Global) -> Result<bool, AllocError> {
     let (su, x) = (word(alloc, "su")?, word(alloc, "x")?);
     let mut record = Record::new(alloc, Kind::Service, limits)?;
     let subscribed = record.subscribe();
-    let mut out = [blank(); 4];
+    let mut out = [Event::FILLER; 4];
     mark();
     let letters = Letters::of(su);
     let sent = record.publish(1, letters.items());
     let refused = (
         record.publish(1, letters.items()),
-        record.publish(1, &[Letter::least()]),
+        record.publish(1, &[Letter::LEAST]),
         record.publish(1, x.as_slice()),
     );
     let seen = (
@@ -106,7 +106,7 @@ fn a_locked_is_used(alloc: Global) -> Result<bool, AllocError> {
     let ab = word(alloc, "ab")?;
     let mut locked = Locked::new(alloc, Kind::Plain, limits)?;
     let given = (locked.publisher().is_ok(), locked.subscribe().is_ok());
-    let mut out = [blank(); 4];
+    let mut out = [Event::FILLER; 4];
     mark();
     let sent = (locked.publish(1, &ab), locked.publish(1, &ab));
     let taken = (locked.take_into(1, &mut out), locked.take_into(2, &mut out));
@@ -134,7 +134,7 @@ fn passes_are_used<R: Abort + Wait>(rt: &R, fifodir: &Fifodir, ab: &[Letter]) ->
     let mut one = publisher(rt, fifodir);
     let mut other = publisher(rt, fifodir);
     let mut reader = ticket(rt, fifodir);
-    let mut out = [blank(); 4];
+    let mut out = [Event::FILLER; 4];
     mark();
     let sent = (
         fifodir.publish(rt, &mut one, ab),
@@ -182,7 +182,7 @@ fn a_watch_is_judged() -> bool {
         closed: false,
     };
     let mut watch = Watch::new(Want::Up, true, status);
-    watch.step(0, &[Letter::least()]);
+    watch.step(0, &[Letter::LEAST]);
     let seen = (
         watch.at(),
         watch.flags().code(),

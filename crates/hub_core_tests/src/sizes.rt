@@ -1,5 +1,5 @@
 //! Each size that a call may have, with ample memory. A refused growth is a failure here.
-use crate::fixtures::{SIZES_TRIED, blank, run_of, size_at};
+use crate::fixtures::{SIZES_TRIED, run_of, size_at};
 use crate::passes::{publisher, ticket};
 use hub_fifodir::{Fifodir, Locked, PassError};
 use hub_letters::Letter;
@@ -26,7 +26,7 @@ fn record_holds(
     Ok(
         record.subscribe() == Ok((1, 0))
             && record.publish(1, message) == Ok(0)
-            && record.publish(1, &[Letter::least()]) == Err(PubError::Full)
+            && record.publish(1, &[Letter::LEAST]) == Err(PubError::Full)
             && record.take_into(1, out) == Ok(Taken::Got(room)),
     )
 }
@@ -42,7 +42,7 @@ fn locked_holds(
     Ok(
         locked.subscribe() == Ok((1, 0))
             && locked.publish(1, message) == Ok(0)
-            && locked.publish(1, &[Letter::least()]) == Err(PubError::Full)
+            && locked.publish(1, &[Letter::LEAST]) == Err(PubError::Full)
             && locked.take_into(1, out) == Ok(Taken::Got(room)),
     )
 }
@@ -59,7 +59,7 @@ fn fifodir_holds<R: Abort + Wait>(
     let mut sender = publisher(rt, &fifodir);
     let mut reader = ticket(rt, &fifodir);
     let sent = fifodir.publish(rt, &mut sender, message);
-    let more = fifodir.publish(rt, &mut sender, &[Letter::least()]);
+    let more = fifodir.publish(rt, &mut sender, &[Letter::LEAST]);
     let taken = fifodir.take_into(rt, &mut reader, out);
     fifodir.leave(rt, sender);
     fifodir.cancel(rt, reader);
@@ -69,7 +69,7 @@ fn fifodir_holds<R: Abort + Wait>(
 /// How many events may be pending in the first record or fifodir that holds another number of them.
 fn room_unlike<R: Abort + Wait>(rt: &R, alloc: Global) -> Result<Option<usize>, AllocError> {
     let letters = run_of(alloc, b'a', MOST)?;
-    let mut events = vec![in alloc; blank(); MOST]?;
+    let mut events = vec![in alloc; Event::FILLER; MOST]?;
     for place in 1..SIZES_TRIED {
         let waiting = size_at(place);
         let (Some(limits), Some(message)) = (

@@ -1,7 +1,6 @@
-use Rattle.std.proofs.Common.{ℕ, ◌+◌, List, [], ◌++◌, Result, Ok, refl, sym, subst, get_or, OnOk}
+use Rattle.std.proofs.Common.{ℕ, ◌+◌, List, [], ◌++◌, Ok, refl, sym, subst, get_or, OnOk}
 use Rattle.std.proofs.KnownBytes.{Appends-nil}
 use Rattle.std.specs.Io.KnownBytes.{Appends}
-use Rattle.hub_io.specs.declared.fault.FrontError.{FrontError}
 use Rattle.hub_commands.specs.Faults.{session_line}
 use Rattle.hub_commands.proofs.Lines.{next_line, no_line, both_written}
 use Rattle.hub_commands.proofs.serving.tell_sessions.Goals as goal
