@@ -1,5 +1,5 @@
 //! Tests of the two desks: tables of requests and replies, whose values were found by hand, and sessions one after the
-//! other, or two at once, over one hub.
+//! other over one hub.
 //!
 //! They call what is public. A crate that had its tests in itself would be proved twice: by itself, and with them.
 #![tactic(auto)]
@@ -10,8 +10,6 @@ mod desks;
 mod ended;
 #[cfg(test)]
 mod listeners;
-#[cfg(test)]
-mod meanwhile;
 #[cfg(test)]
 mod no_memory;
 #[cfg(test)]
