@@ -1,6 +1,7 @@
 -- A piece cut in two, if the first part is quiet; and that there is one answer.
 use Rattle.std.proofs.Common.{◌≡◌, ℕ, suc, ◌+◌, ◌<◌, ◌≤◌, ◌-◌, false, List, [], ◌∷◌, ◌++◌, take, length, refl, sym, ap, subst, ◌∙◌, arith, append_assoc, length-append, ⊎_elim, Result, Ok, Err, true≢false}
 use Rattle.std.proofs.lemmas.Bool.{cases_lt}
+use Rattle.hub_letters.specs.declared.bounds.TheConstants.{MOST_GATHERED}
 use Rattle.hub_listen.specs.Hit.{finds, IsHit, HasNoHit}
 use Rattle.hub_listen.specs.Listening.{Listening, Feeds, after_hit, after_quiet}
 use Rattle.hub_listen.specs.Pieces.{counted_from, left_by, CutsAnywhere, AnswersOnce}
@@ -24,7 +25,7 @@ module _ (p g a b : List ℕ) where
   past i = ap (λ t. g ++ t) (take-append-past a b i) ∙ sym (append_assoc g a (take i b))
 
   -- if the first part has no hit, a prefix of both finds nothing if it finds nothing in the second
-  finds_nothing : HasNoHit p g a → length g + length a ≤ 4096 → (j : ℕ) → 1 ≤ j
+  finds_nothing : HasNoHit p g a → length g + length a ≤ MOST_GATHERED → (j : ℕ) → 1 ≤ j
       → ((i : ℕ) → 1 ≤ i → j ≡ length a + i → finds p ((g ++ a) ++ take i b) ≡ false) → finds p (g ++ take j (a ++ b)) ≡ false
   finds_nothing quiet fits j some later =
       ⊎_elim (λ (lt : length a < j). let e : j ≡ length a + (j - length a) = omega arith in
@@ -32,7 +33,7 @@ module _ (p g a b : List ℕ) where
       (λ (le : j ≤ length a). finds-front p g a b j le ∙ quiet j some le (omega arith))
       (cases_lt (length a) j)
 
-  IsHit-past : HasNoHit p g a → length g + length a ≤ 4096 → (k : ℕ) → IsHit p (g ++ a) b k → IsHit p g (a ++ b) (length a + k)
+  IsHit-past : HasNoHit p g a → length g + length a ≤ MOST_GATHERED → (k : ℕ) → IsHit p (g ++ a) b k → IsHit p g (a ++ b) (length a + k)
   IsHit-past quiet fits k h =
       let some = h.some in let within = h.within in let short = h.short in
       let all = length-append g a in let both = length-append a b in record {
@@ -43,7 +44,7 @@ module _ (p g a b : List ℕ) where
         least = λ j from below. finds_nothing quiet fits j from (λ i start e. h.least i start (omega arith));
       }
 
-  HasNoHit-past : HasNoHit p g a → length g + length a ≤ 4096 → HasNoHit p (g ++ a) b → HasNoHit p g (a ++ b)
+  HasNoHit-past : HasNoHit p g a → length g + length a ≤ MOST_GATHERED → HasNoHit p (g ++ a) b → HasNoHit p g (a ++ b)
   HasNoHit-past quiet fits none = λ j from within short.
       let all = length-append g a in let both = length-append a b in
       finds_nothing quiet fits j from (λ i start e. none i start (omega arith) (omega arith))

@@ -2,6 +2,7 @@
 use Rattle.std.proofs.Common.{◌≡◌, ℕ, ◌+◌, ◌<◌, ◌≤◌, Bool, false, List, [], ◌∷◌, ◌++◌, take, length, get_or, sym, ap, subst, ◌∙◌, arith, append_assoc, length-append, ⊎_elim}
 use Rattle.std.proofs.lemmas.Bool.{cases_lt}
 use Rattle.std.proofs.lemmas.List.{take_more, length-take-le, take-append-le}
+use Rattle.hub_letters.specs.declared.bounds.TheConstants.{MOST_GATHERED}
 use Rattle.hub_listen.specs.Hit.{finds, IsHit, HasNoHit}
 
 -- ---- a text that grows by the letters of a piece
@@ -42,6 +43,6 @@ module _ (p g front rest : List ℕ) where
         least = λ j some below. finds-front j (omega arith) ∙ h.least j some below;
       }
 
-  pub HasNoHit-append : HasNoHit p g front → 4096 ≤ length g + length front → HasNoHit p g (front ++ rest)
+  pub HasNoHit-append : HasNoHit p g front → MOST_GATHERED ≤ length g + length front → HasNoHit p g (front ++ rest)
   HasNoHit-append none full = λ j some within short.
       let inside : j ≤ length front = omega arith in finds-front j inside ∙ none j some inside short

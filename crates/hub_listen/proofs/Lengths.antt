@@ -1,6 +1,7 @@
 -- The length of a hit as a function, and that there is always an answer.
 use Rattle.std.proofs.Common.{◌≡◌, ◌≢◌, ◌⊎◌, ℕ, zero, suc, ◌+◌, ◌-◌, ◌<◌, ◌≤◌, Bool, true, false, List, ◌++◌, take, length, min, Option, None, Some, refl, sym, ap, ◌∙◌, arith, ⊎_elim, inl, inr, Result, Ok, Err}
 use Rattle.std.proofs.lemmas.Bool.{cases_lt, cases_Bool, cond-true, cond-false}
+use Rattle.hub_letters.specs.declared.bounds.TheConstants.{MOST_GATHERED}
 use Rattle.hub_listen.specs.Hit.{finds, HasNoHit, first_such, hit_length}
 use Rattle.hub_listen.specs.Listening.{Listening, Feeds, after_hit, after_quiet, is_spent}
 use Rattle.hub_listen.specs.Pieces.{LengthIsHit, NoLengthIsNoHit, Answers}
@@ -69,7 +70,7 @@ pub length_is_hit : LengthIsHit
 unfolding hit_length
 length_is_hit p g l k =
     let test : ℕ → Bool = λ j. finds p (g ++ take j l) in
-    let most = min (length l) (4096 - length g) in (
+    let most = min (length l) (MOST_GATHERED - length g) in (
       λ e. let h = first_such-holds test most 1 k e in
           let low = h.0 in let high = h.1 in
           record { some = low; within = omega arith; short = omega arith; found = h.2; least = h.3 },
@@ -80,7 +81,7 @@ pub no_length_is_no_hit : NoLengthIsNoHit
 unfolding hit_length
 no_length_is_no_hit p g l =
     let test : ℕ → Bool = λ j. finds p (g ++ take j l) in
-    let most = min (length l) (4096 - length g) in (
+    let most = min (length l) (MOST_GATHERED - length g) in (
       λ e j some within short. first_such-fails test most 1 e j some (omega arith),
       λ none. first_such-none test most 1 (λ j from below. none j from (omega arith) (omega arith)),
     )
@@ -94,9 +95,9 @@ some_or_none (Some k) = inl (k, refl)
 without_hit : (old : Listening) (piece : List ℕ) → is_spent old ≡ false → HasNoHit old.pattern old.gathered piece
     → (answer : Result Feed FeedError) × (new : Listening) × (answer ≢ Err Memory) × Feeds old piece answer new
 without_hit old piece unspent none =
-    ⊎_elim (λ (over : 4096 < length old.gathered + length piece). (Err Overlong, old, (λ e. cc), (unspent, none, over, refl)))
-    (λ (fits : length old.gathered + length piece ≤ 4096). (Ok Quiet, after_quiet old piece, (λ e. cc), (unspent, none, fits, refl)))
-    (cases_lt 4096 (length old.gathered + length piece))
+    ⊎_elim (λ (over : MOST_GATHERED < length old.gathered + length piece). (Err Overlong, old, (λ e. cc), (unspent, none, over, refl)))
+    (λ (fits : length old.gathered + length piece ≤ MOST_GATHERED). (Ok Quiet, after_quiet old piece, (λ e. cc), (unspent, none, fits, refl)))
+    (cases_lt MOST_GATHERED (length old.gathered + length piece))
 
 pub answers : Answers
 answers old piece =

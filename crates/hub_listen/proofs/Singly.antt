@@ -1,6 +1,7 @@
 -- Letters fed one at a time, and all of them at once.
 use Rattle.std.proofs.Common.{◌≡◌, ◌≢◌, ℕ, ◌+◌, ◌-◌, ◌<◌, ◌≤◌, false, List, [], ◌∷◌, ◌++◌, take, drop, length, length-append, slice_range, drop-cons, refl, sym, ap, subst, ◌∙◌, arith, ⊎_elim, Result, Ok, Err, true≢false}
 use Rattle.std.proofs.lemmas.List.{take_more, take-append-le, take-append-drop, length-take-le, append-nil}
+use Rattle.hub_letters.specs.declared.bounds.TheConstants.{MOST_GATHERED}
 use Rattle.hub_listen.specs.Hit.{IsHit}
 use Rattle.hub_listen.specs.Listening.{Listening, Feeds, after_hit, is_spent}
 use Rattle.hub_listen.specs.Pieces.{counted_from, left_by, SinglyIsAtOnce}
@@ -13,7 +14,7 @@ use Rattle.hub_listen.proofs.Fronts.{IsHit-append, HasNoHit-append}
 
 -- ---- lists of letters
 
-pub nothing_is_quiet : (l : Listening) → is_spent l ≡ false → length l.gathered ≤ 4096 → Feeds l [] (Ok Quiet) l
+pub nothing_is_quiet : (l : Listening) → is_spent l ≡ false → length l.gathered ≤ MOST_GATHERED → Feeds l [] (Ok Quiet) l
 nothing_is_quiet l unspent fits = (
   unspent,
   λ j some within short. absurd (omega arith),
@@ -26,7 +27,7 @@ after_hit-append old front rest k le =
     ap (λ t. record old { gathered = []; hit = old.gathered ++ t }) (sym (take-append-le k front rest le))
 
 -- an answer to the first letter, other than Quiet, is the answer to them all
-at_the_first : (old new : Listening) (x : ℕ) (letters : List ℕ) (answer : Result Feed FeedError) → is_spent old ≡ false → length old.gathered ≤ 4096
+at_the_first : (old new : Listening) (x : ℕ) (letters : List ℕ) (answer : Result Feed FeedError) → is_spent old ≡ false → length old.gathered ≤ MOST_GATHERED
     → Feeds old (x ∷ []) answer new → answer ≢ Ok Quiet → Feeds old (x ∷ letters) answer (left_by answer old new)
 at_the_first old new x letters (Ok Spent) unspent fits f other = absurd (true≢false (sym f.0 ∙ unspent))
 at_the_first old new x letters (Ok (Hit k)) unspent fits f other = (
@@ -59,7 +60,7 @@ after_the_first old between new x letters later answer quiet f same =
 stays_unspent : (old between : Listening) (piece : List ℕ) → Feeds old piece (Ok Quiet) between → is_spent between ≡ false
 stays_unspent old between piece quiet = ap is_spent quiet.3 ∙ quiet.0
 
-stays_short : (old between : Listening) (piece : List ℕ) → Feeds old piece (Ok Quiet) between → length between.gathered ≤ 4096
+stays_short : (old between : Listening) (piece : List ℕ) → Feeds old piece (Ok Quiet) between → length between.gathered ≤ MOST_GATHERED
 stays_short old between piece quiet =
     let fits = quiet.2 in let both = ap (λ l. length l.gathered) quiet.3 ∙ length-append old.gathered piece in omega arith
 

@@ -1,5 +1,6 @@
 -- What a listener holds, and what a piece of letters does to it.
 use Rattle.std.specs.Prelude.{◌≡◌, ℕ, ◌+◌, ◌≤◌, ◌<◌, Bool, true, false, List, [], ◌∷◌, ◌++◌, length, take, Result, Ok, Err}
+use Rattle.hub_letters.specs.declared.bounds.TheConstants.{MOST_GATHERED}
 use Rattle.hub_listen.specs.Hit.{IsHit, HasNoHit}
 use Rattle.hub_letters.specs.declared.mode.Mode.{Mode}
 use Rattle.hub_letters.specs.declared.mode.Mode.TheVariants.{Once, Repeat}
@@ -44,9 +45,9 @@ Feeds old piece (Ok Spent) new = (is_spent old ≡ true) × (new ≡ old)
 Feeds old piece (Ok (Hit k)) new =
     (is_spent old ≡ false) × IsHit old.pattern old.gathered piece k × (new ≡ after_hit old piece k)
 Feeds old piece (Ok Quiet) new =
-    (is_spent old ≡ false) × HasNoHit old.pattern old.gathered piece × (length old.gathered + length piece ≤ 4096)
+    (is_spent old ≡ false) × HasNoHit old.pattern old.gathered piece × (length old.gathered + length piece ≤ MOST_GATHERED)
     × (new ≡ after_quiet old piece)
 Feeds old piece (Err Overlong) new =
-    (is_spent old ≡ false) × HasNoHit old.pattern old.gathered piece × (4096 < length old.gathered + length piece)
+    (is_spent old ≡ false) × HasNoHit old.pattern old.gathered piece × (MOST_GATHERED < length old.gathered + length piece)
     × (new ≡ old)
 Feeds old piece (Err Memory) new = (is_spent old ≡ false) × (new ≡ old)

@@ -1,5 +1,6 @@
 -- How the answers to pieces of letters are related.
 use Rattle.std.specs.Prelude.{◌≡◌, ◌≢◌, ◌⊎◌, ◌↔◌, ℕ, ◌+◌, ◌≤◌, false, List, [], ◌∷◌, ◌++◌, length, Some, None, Result, Ok, Err}
+use Rattle.hub_letters.specs.declared.bounds.TheConstants.{MOST_GATHERED}
 use Rattle.hub_listen.specs.Hit.{IsHit, HasNoHit, hit_length}
 use Rattle.hub_listen.specs.Listening.{Listening, Feeds, is_spent}
 use Rattle.hub_listen.specs.declared.feed.Feed.{Feed}
@@ -47,7 +48,7 @@ FedSingly old (x ∷ letters) answer new =
 -- Letters fed one at a time are heard as one piece.
 abbrev pub SinglyIsAtOnce : Type 0
 SinglyIsAtOnce = (old new : Listening) (letters : List ℕ) (answer : Result Feed FeedError)
-    → is_spent old ≡ false → length old.gathered ≤ 4096 → FedSingly old letters answer new
+    → is_spent old ≡ false → length old.gathered ≤ MOST_GATHERED → FedSingly old letters answer new
     → Feeds old letters answer (left_by answer old new)
 
 -- A hit in a prefix is a hit in the whole.
@@ -58,7 +59,7 @@ FrontsShowHits = (pattern gathered front rest : List ℕ) (k : ℕ)
 -- If a prefix without a hit leaves no room, there is no hit in the whole.
 abbrev pub FullFrontsShowNone : Type 0
 FullFrontsShowNone = (pattern gathered front rest : List ℕ)
-    → HasNoHit pattern gathered front → 4096 ≤ length gathered + length front → HasNoHit pattern gathered (front ++ rest)
+    → HasNoHit pattern gathered front → MOST_GATHERED ≤ length gathered + length front → HasNoHit pattern gathered (front ++ rest)
 
 -- The function gives exactly the hit, and none exactly if there is none.
 abbrev pub LengthIsHit : Type 0

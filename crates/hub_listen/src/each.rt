@@ -4,8 +4,8 @@ ghost use Rattle.hub_listen.specs.Each.{FeedsEach};
 ghost use Rattle.hub_listen.specs.Listening.{is_spent};
 
 use crate::feed::{Feed, FeedError};
-use crate::listener::{Listener, ROOM};
-use hub_letters::Letter;
+use crate::listener::Listener;
+use hub_letters::{Letter, MOST_GATHERED};
 
 /// The answer to letters that are fed one at a time.
 #[derive(Clone, Copy, Debug, PartialEq, Eq)]
@@ -23,7 +23,7 @@ pub fn feed_each(listener: &mut Listener, letters: &[Letter]) -> Each
     requires { is_spent listener.old ≡ false }
     ensures { FeedsEach listener.old letters.now result listener.new }
 {
-    let fitting = letters.len().min(ROOM - listener.text().len());
+    let fitting = letters.len().min(MOST_GATHERED - listener.text().len());
     for i in 0..fitting {
         match listener.feed(&letters[i..i + 1]) {
             Ok(Feed::Quiet) => {}

@@ -16,7 +16,7 @@ pub enum Feed {
 /// Why a piece was refused. The listener hasn't changed.
 #[derive(Clone, Copy, Debug, PartialEq, Eq, Error)]
 pub enum FeedError {
-    /// There is no hit, and the gathered letters and the piece together are more than 4,096 letters.
+    /// There is no hit, and the gathered letters and the piece together are more letters than a listener gathers.
     #[error("more letters than a listener gathers")]
     Overlong,
     /// The search ran out of memory. This can't happen today, since all room is made with the listener.

@@ -9,9 +9,9 @@
 //! its own: `^` is where the gathering began, and `$` is the end of the newest letter. A pattern that finds a match at
 //! any place of every text, such as `a*`, hits at each letter.
 //!
-//! A listener gathers at most 4,096 letters. A piece that doesn't fit, and has no hit before that, is refused whole.
-//! All of the room is made with the listener, so a piece takes no memory. In mode [`Mode::Once`] a listener is spent
-//! after its hit.
+//! A listener gathers at most [`MOST_GATHERED`](hub_letters::MOST_GATHERED) letters. A piece that doesn't fit, and has
+//! no hit before that, is refused whole. All of the room is made with the listener, so a piece takes no memory. In mode
+//! [`Mode::Once`] a listener is spent after its hit.
 //!
 //! No letter costs more than three passes over the pattern's NFA, however many were gathered: the listener keeps the
 //! states in which its searches are alive, and a letter moves them on.

@@ -5,14 +5,11 @@ use crate::alive::Alive;
 use crate::feed::{Feed, FeedError};
 use crate::pattern::Pattern;
 use crate::search::first_hit;
-use hub_letters::{Letter, Mode};
+use hub_letters::{Letter, MOST_GATHERED, Mode};
 use std::alloc::{AllocError, Global};
 use std::marker::Model;
 use std::mem;
 use thiserror::Error;
-
-/// The most letters that a listener gathers.
-pub(crate) const ROOM: usize = 4096;
 
 /// Why there is no listener.
 #[derive(Clone, Copy, Debug, PartialEq, Eq, Error)]
@@ -92,9 +89,9 @@ impl Listener {
     {
         let pattern = Pattern::new(alloc, pattern)?;
         let alive = Alive::new(alloc, &pattern.nfa)?;
-        let text = String::with_capacity(alloc, ROOM)?;
-        let letters = Vec::with_capacity(alloc, ROOM)?;
-        let hit = Vec::with_capacity(alloc, ROOM)?;
+        let text = String::with_capacity(alloc, MOST_GATHERED)?;
+        let letters = Vec::with_capacity(alloc, MOST_GATHERED)?;
+        let hit = Vec::with_capacity(alloc, MOST_GATHERED)?;
         Ok(Listener {
             pattern,
             mode,
@@ -108,7 +105,7 @@ impl Listener {
     /// The letters gathered since the last hit.
     pub fn text(&self) -> &[Letter]
         ensures value { result.now ≡ self.now.gathered }
-        ensures short { length self.now.gathered ≤ 4096 }
+        ensures short { length self.now.gathered ≤ MOST_GATHERED }
     {
         self.letters.as_slice()
     }
@@ -116,7 +113,7 @@ impl Listener {
     /// The letters of the last hit; none before the first hit.
     pub fn hit(&self) -> &[Letter]
         ensures value { result.now ≡ self.now.hit }
-        ensures short { length self.now.hit ≤ 4096 }
+        ensures short { length self.now.hit ≤ MOST_GATHERED }
     {
         self.hit.as_slice()
     }
@@ -140,7 +137,7 @@ impl Listener {
         }
         let before = self.letters.len();
         self.alive
-            .keep_if(piece.len() > ROOM - before, &self.pattern.nfa);
+            .keep_if(piece.len() > MOST_GATHERED - before, &self.pattern.nfa);
         match first_hit(&self.pattern, &mut self.alive, &mut self.text, piece) {
             Some(count) => {
                 self.letters.extend_from_slice(&piece[..count]).unwrap();
@@ -151,7 +148,7 @@ impl Listener {
                 Ok(Feed::Hit(count))
             }
             None => {
-                if piece.len() > ROOM - before {
+                if piece.len() > MOST_GATHERED - before {
                     self.text.truncate(before);
                     self.alive.go_back(&self.pattern.nfa);
                     return Err(FeedError::Overlong);

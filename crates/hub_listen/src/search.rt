@@ -6,9 +6,8 @@ ghost use Rattle.hub_listen.specs.Hit.{finds, IsHit, HasNoHit};
 ghost use Rattle.hub_listen.specs.Alive.{AreAlive, HasRoom};
 
 use crate::alive::Alive;
-use crate::listener::ROOM;
 use crate::pattern::Pattern;
-use hub_letters::Letter;
+use hub_letters::{Letter, MOST_GATHERED};
 
 /// Appends a letter; the caller knows that there is room.
 fn append(text: &mut String, letter: Letter)
@@ -28,8 +27,8 @@ pub(crate) fn first_hit(
     text: &mut String,
     piece: &[Letter],
 ) -> Option<usize>
-    requires short { string_len text.old ≤ 4096 }
-    requires room { 4096 ≤ string_capacity text.old }
+    requires short { string_len text.old ≤ MOST_GATHERED }
+    requires room { MOST_GATHERED ≤ string_capacity text.old }
     requires ascii { IsAscii (string_bytes text.old) }
     requires states { HasRoom alive.old (vec_len pattern.now.nfa.states) }
     requires alive { AreAlive pattern.now.nfa (string_bytes text.old)
@@ -41,18 +40,18 @@ pub(crate) fn first_hit(
     ensures none { IfNone result (HasNoHit (string_bytes pattern.now.text)
         (string_bytes text.old) piece.now) }
     ensures grown { IfNone result (string_bytes text.new
-        ≡ string_bytes text.old ++ take (4096 - string_len text.old) piece.now) }
+        ≡ string_bytes text.old ++ take (MOST_GATHERED - string_len text.old) piece.now) }
     ensures alive { IfNone result
         (AreAlive pattern.now.nfa (string_bytes text.new) (string_len text.new) alive.new.states.items) }
     ensures quiet { IfNone result (1 ≤ string_len text.new →
         finds (string_bytes pattern.now.text) (string_bytes text.new) ≡ false) }
     ensures states { HasRoom alive.new (vec_len pattern.now.nfa.states) }
     ensures kept { alive.new.kept ≡ alive.old.kept }
-    ensures room { 4096 ≤ string_capacity text.new }
+    ensures room { MOST_GATHERED ≤ string_capacity text.new }
     ensures ascii { IsAscii (string_bytes text.new) }
 {
     for i in 0..piece.len() {
-        if text.len() >= ROOM {
+        if text.len() >= MOST_GATHERED {
             return None;
         }
         append(text, piece[i]);

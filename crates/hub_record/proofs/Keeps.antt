@@ -9,6 +9,7 @@ use Rattle.std.proofs.lemmas.Map.Steps.{set_value_same}
 use Rattle.std.specs.Option.{IfSome, is_some}
 use Rattle.std.specs.Map.{lookup, set_value, remove_entry, keys_of, values_of}
 use Rattle.circular_buffer.specs.Buffer.{Buffer, buffer}
+use Rattle.hub_record.specs.declared.limits.TheConstants.{MOST_EVENTS}
 use Rattle.hub_record.specs.declared.Event.{Event}
 use Rattle.hub_record.specs.World.{least, stamped}
 use Rattle.hub_record.specs.Backlog.{Held, IsKept, Takes, TakesBy, RemovesBy, next_of, lowest, standing_at, with_new_id, with_cursors}
@@ -37,7 +38,7 @@ kept_stand number standing more end given cs after k is m = record {
   small = k.small;
 }
 
-pub kept_grown : (number standing end more given : ℕ) (cs : List (ℕ × ℕ)) → IsKept number standing end given cs → (length cs ≡ 0 → ⊥) → end ≤ more → more ≤ 1000000000000 → IsKept number standing more given cs
+pub kept_grown : (number standing end more given : ℕ) (cs : List (ℕ × ℕ)) → IsKept number standing end given cs → (length cs ≡ 0 → ⊥) → end ≤ more → more ≤ MOST_EVENTS → IsKept number standing more given cs
 kept_grown number standing end more given cs k some l small = record {
   lowest = k.lowest ∙ sym (least_grown end more cs (λ none. some (ap length none)) l k.behind);
   counted = k.counted;

@@ -3,9 +3,10 @@ use Rattle.std.proofs.Common.{◌≡◌, ◌≤◌, Some}
 use Rattle.std.proofs.Math.Bridge.{le_prop}
 use Rattle.std.proofs.Math.Decide.{dec_le}
 use Rattle.hub_record.specs.declared.limits.Limits.{Limits}
+use Rattle.hub_record.specs.declared.limits.TheConstants.{MOST_WAITING, MOST_EVENTS, MOST_IDS}
 use Rattle.hub_record.specs.LimitsOf.{limits_by, limits_of}
 
-by_tests : (l : Limits) (a : Dec (1 ≤ l.waiting)) (b : Dec (l.waiting ≤ 4096)) (c : Dec (1 ≤ l.total)) (d : Dec (l.total ≤ 1000000000000)) (e : Dec (1 ≤ l.ids)) (f : Dec (l.ids ≤ 1000000000000))
+by_tests : (l : Limits) (a : Dec (1 ≤ l.waiting)) (b : Dec (l.waiting ≤ MOST_WAITING)) (c : Dec (1 ≤ l.total)) (d : Dec (l.total ≤ MOST_EVENTS)) (e : Dec (1 ≤ l.ids)) (f : Dec (l.ids ≤ MOST_IDS))
     → limits_by l.waiting l.total l.ids a b c d e f ≡ Some l
 by_tests l (yes a) (yes b) (yes c) (yes d) (yes e) (yes f) = λ i. Some (record {
   waiting = l.waiting;
@@ -24,4 +25,4 @@ by_tests l (yes a) (yes b) (yes c) (yes d) (yes e) (no f) = absurd (f l.ids_in_r
 
 -- any limits are those with their numbers
 pub limits_of-numbers : (l : Limits) → limits_of l.waiting l.total l.ids ≡ Some l
-limits_of-numbers l = by_tests l (dec_le 1 l.waiting) (dec_le l.waiting 4096) (dec_le 1 l.total) (dec_le l.total 1000000000000) (dec_le 1 l.ids) (dec_le l.ids 1000000000000)
+limits_of-numbers l = by_tests l (dec_le 1 l.waiting) (dec_le l.waiting MOST_WAITING) (dec_le 1 l.total) (dec_le l.total MOST_EVENTS) (dec_le 1 l.ids) (dec_le l.ids MOST_IDS)

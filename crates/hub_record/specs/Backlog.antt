@@ -3,6 +3,7 @@ use Rattle.std.specs.Prelude.{ℕ, ◌≡◌, ◌⊎◌, ◌==◌, ◌+◌, ◌-
 use Rattle.std.specs.Map.{lookup, set_value, remove_entry, keys_of, values_of}
 use Rattle.hub_record.specs.declared.Event.{Event}
 use Rattle.hub_record.specs.declared.NoId.{NoId}
+use Rattle.hub_record.specs.declared.limits.TheConstants.{MOST_EVENTS}
 use Rattle.hub_record.specs.World.{least}
 
 -- the events from the least cursor on, and the cursors of the current ids in the order of the ids
@@ -78,4 +79,4 @@ pub record IsKept (number standing end given : ℕ) (cursors : List (ℕ × ℕ)
   pub counted : standing ≡ standing_at number cursors
   pub behind : All (λ n. n ≤ end) (values_of cursors)
   pub known : All (λ id. id ≤ given) (keys_of cursors)
-  pub small : end ≤ 1000000000000
+  pub small : end ≤ MOST_EVENTS

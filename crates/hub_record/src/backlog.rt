@@ -1,6 +1,7 @@
 //! The pending events, and the cursors into them.
 ghost use Rattle.std.specs.Prelude.{◌≡◌, ◌≤◌, ◌<◌, ◌↔◌, ◌+◌, ◌-◌, length, IfOk, OnErr, IsTrue, option_map, drop};
 ghost use Rattle.circular_buffer.specs.Buffer.{buffer};
+ghost use Rattle.hub_record.specs.declared.limits.TheConstants.{MOST_EVENTS, MOST_IDS, MOST_PASSES};
 ghost use Rattle.hub_record.specs.World.{least, stamped};
 ghost use Rattle.hub_record.specs.Backlog.{Held, nothing_held, lowest, next_of, standing_at};
 ghost use Rattle.hub_record.specs.Backlog.{with_new_id, with_events, with_cursors, HasRoomFor, TakesBy, RemovesBy};
@@ -69,7 +70,7 @@ impl Backlog {
     /// The number of the next event.
     pub fn end(&self) -> u64
         ensures end { result ≡ self.now.end }
-        ensures small { result ≤ 1000000000000 }
+        ensures small { result ≤ MOST_EVENTS }
     {
         self.base.number + self.ring.len() as u64
     }
@@ -117,8 +118,8 @@ impl Backlog {
 
     /// Gives the next id a cursor at the end. Returns the id and its cursor.
     pub fn stand(&mut self) -> Result<(u64, u64), AllocError>
-        requires few { length self.old.cursors < 1024 }
-        requires left { self.old.given < 1000000000000 }
+        requires few { length self.old.cursors < MOST_PASSES }
+        requires left { self.old.given < MOST_IDS }
         ensures given { IfOk result (λ r. r ≡ (self.old.given + 1, self.old.end)) }
         ensures stands { IfOk result (λ r. self.new ≡ with_new_id self.old) }
         ensures err { OnErr result (self.new ≡ self.old) }
@@ -138,7 +139,7 @@ impl Backlog {
     /// Adds the letters as events of a publisher. They are kept only if there is a cursor.
     pub fn push(&mut self, who: u64, letters: &[Letter])
         requires room { HasRoomFor self.old (length letters.now) }
-        requires small { self.old.end + length letters.now ≤ 1000000000000 }
+        requires small { self.old.end + length letters.now ≤ MOST_EVENTS }
         ensures { self.new ≡ with_events self.old (stamped who letters.now) }
     {
         if self.cursors.is_empty() {
@@ -191,7 +192,7 @@ impl Backlog {
 fn base_left(base: Base, ring: &mut HeapCircularBuffer<Event>, cursors: &IndexMap<u64, u64>) -> Base
     requires counted { base.standing ≡ standing_at base.number cursors.now.entries + 1 }
     requires least { base.number ≤ least (base.number + length ring.old.items) cursors.now.entries }
-    requires small { base.number + length ring.old.items ≤ 1000000000000 }
+    requires small { base.number + length ring.old.items ≤ MOST_EVENTS }
     ensures number { result.number ≡ least (base.number + length ring.old.items)
         cursors.now.entries }
     ensures standing { result.standing ≡ standing_at result.number cursors.now.entries }

@@ -30,7 +30,7 @@ mod runs;
 
 use hub_letters::{Flags, Letter};
 pub use letters::Letters;
-pub use limits::Limits;
+pub use limits::{Limits, MOST_EVENTS, MOST_IDS, MOST_PASSES, MOST_WAITING};
 pub use record::Record;
 pub use runs::{Call, Said, World, replay};
 use thiserror::Error;
@@ -78,7 +78,7 @@ pub enum SubError {
     /// The record is closed.
     #[error("the fifodir is closed")]
     Closed,
-    /// 1,024 subscriptions are current. There is room again after one of them is cancelled.
+    /// [`MOST_PASSES`] subscriptions are current. There is room again after one of them is cancelled.
     #[error("too many subscriptions stand")]
     Many,
     /// The last id was given. An id is never given again.

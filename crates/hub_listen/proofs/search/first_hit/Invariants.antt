@@ -1,6 +1,7 @@
 use Rattle.std.proofs.Common.{◌≡◌, ℕ, ◌+◌, ◌≤◌, ◌++◌, false, length, take, string_bytes, vec_len}
 use Rattle.std.specs.String.{string_capacity}
 use Rattle.std.specs.Str.{IsAscii}
+use Rattle.hub_letters.specs.declared.bounds.TheConstants.{MOST_GATHERED}
 use Rattle.hub_listen.specs.Hit.{finds}
 use Rattle.hub_listen.specs.Alive.{AreAlive, HasRoom}
 use Rattle.hub_listen.proofs.search.first_hit.Given as goal
@@ -8,9 +9,9 @@ use Rattle.hub_listen.proofs.search.first_hit.Given as goal
 abbrev pub invariant-loop-i : goal.invariant-loop-i
 invariant-loop-i l = record {
   grown : string_bytes l.text ≡ string_bytes l.initial.text ++ take l.i l.piece;
-  short : length (string_bytes l.initial.text) + l.i ≤ 4096;
+  short : length (string_bytes l.initial.text) + l.i ≤ MOST_GATHERED;
   ascii : IsAscii (string_bytes l.text);
-  room : 4096 ≤ string_capacity l.text;
+  room : MOST_GATHERED ≤ string_capacity l.text;
   states : HasRoom l.alive (vec_len l.pattern.nfa.states);
   kept : l.alive.kept ≡ l.initial.alive.kept;
   alive : AreAlive l.pattern.nfa (string_bytes l.text) (length (string_bytes l.text)) l.alive.states.items;
