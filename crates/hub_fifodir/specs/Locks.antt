@@ -1,6 +1,7 @@
 -- The value behind the lock, and what its calls do beside the calls of its record.
 use Rattle.std.specs.Prelude.{◌≡◌, ℕ, ◌+◌, ◌<◌, ◌≤◌, Bool, true, false, cond, List, length, Result, Ok, Err, nat_eq}
 use Rattle.std.specs.List.{list_any}
+use Rattle.hub_record.specs.declared.limits.TheConstants.{MOST_PASSES}
 use Rattle.hub_record.specs.World.{World}
 use Rattle.hub_record.specs.Kept.{Kept, StandsFor}
 use Rattle.hub_fifodir.specs.declared.PassError.{PassError}
@@ -32,10 +33,10 @@ abbrev pub stands : List ℕ → ℕ → Bool
 stands numbers n = list_any (nat_eq n) numbers
 
 abbrev pub PublisherReply : Locked → Result ℕ PassError → Type 0
-PublisherReply b (Ok n) = (length b.standing.keys < 1024) × (b.given < b.ids) × (n ≡ b.given + 1)
-PublisherReply b (Err pass.Many) = 1024 ≤ length b.standing.keys
-PublisherReply b (Err pass.Spent) = (length b.standing.keys < 1024) × (b.ids ≤ b.given)
-PublisherReply b (Err pass.Memory) = (length b.standing.keys < 1024) × (b.given < b.ids)
+PublisherReply b (Ok n) = (length b.standing.keys < MOST_PASSES) × (b.given < b.ids) × (n ≡ b.given + 1)
+PublisherReply b (Err pass.Many) = MOST_PASSES ≤ length b.standing.keys
+PublisherReply b (Err pass.Spent) = (length b.standing.keys < MOST_PASSES) × (b.ids ≤ b.given)
+PublisherReply b (Err pass.Memory) = (length b.standing.keys < MOST_PASSES) × (b.given < b.ids)
 
 -- the same publishers are current, and no number was given
 abbrev pub KeepsPublishers : Locked → Locked → Type 0

@@ -34,7 +34,7 @@ pub use ticket::Ticket;
 /// Why there is no new publisher. If several reasons hold, the first in this order is reported.
 #[derive(Clone, Copy, Debug, PartialEq, Eq, Hash, Error)]
 pub enum PassError {
-    /// 1,024 publishers are current. There is room again after one of them leaves.
+    /// [`MOST_PASSES`](hub_record::MOST_PASSES) publishers are current. There is room again after one of them leaves.
     #[error("too many publishers stand")]
     Many,
     /// The last number was given. A number is never given again.

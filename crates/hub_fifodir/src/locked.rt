@@ -8,7 +8,9 @@ ghost use Rattle.hub_fifodir.specs.Locks.{PublisherReply, IsAfterPublisher, HasL
 
 use crate::PassError;
 use hub_letters::Letter;
-use hub_record::{Closed, Event, Kind, Limits, NoId, PubError, Record, Status, SubError, Taken};
+use hub_record::{
+    Closed, Event, Kind, Limits, MOST_PASSES, NoId, PubError, Record, Status, SubError, Taken,
+};
 use indexmap::IndexSet;
 use std::alloc::{AllocError, Global};
 
@@ -45,7 +47,7 @@ impl Locked {
         ensures after { IsAfterPublisher self.old result self.new }
         ensures record { KeepsRecord self.old self.new }
     {
-        if self.standing.len() >= 1024 {
+        if self.standing.len() >= MOST_PASSES {
             return Err(PassError::Many);
         }
         if self.given >= self.ids {

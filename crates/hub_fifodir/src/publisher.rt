@@ -10,8 +10,8 @@ use hub_letters::Letter;
 use hub_record::{Closed, PubError};
 use std::sync::Wait;
 
-/// The pass of a publisher. A publisher that was dropped would keep its place among the 1,024. So it is neither `Copy`
-/// nor `Drop`, and only `Fifodir::leave` takes it.
+/// The pass of a publisher. A publisher that was dropped would keep its place among those that a fifodir has room for.
+/// So it is neither `Copy` nor `Drop`, and only `Fifodir::leave` takes it.
 pub struct Publisher {
     number: u64,
     seat: Seat,

@@ -1,6 +1,7 @@
 //! The front word: the number of events, whether the record is closed, and its flags, in one `u64`.
 ghost use Rattle.std.specs.Prelude.{◌≡◌, ◌≤◌, Bool, ℕ};
 ghost use Rattle.hub_letters.specs.declared.flags.Flags.{Flags};
+ghost use Rattle.hub_record.specs.declared.limits.TheConstants.{MOST_EVENTS};
 ghost use Rattle.hub_fifodir.specs.Word.{packed};
 
 use hub_letters::Flags;
@@ -8,7 +9,7 @@ use hub_record::Status;
 
 /// The front word of a status: `number * 32 + closed * 16 + code of the flags`.
 pub fn pack(status: Status) -> u64
-    requires { status.number ≤ 1000000000000 }
+    requires { status.number ≤ MOST_EVENTS }
     ensures { result ≡ packed status.number status.closed status.flags }
 {
     let closed = if status.closed { 1 } else { 0 };

@@ -14,7 +14,7 @@ pub enum FrontError {
     Read,
     /// A write failed, or took no byte.
     Write,
-    /// 10,000,000 reads were made, and the input hasn't ended.
+    /// [`MAX_READS`](crate::MAX_READS) reads were made, and the input hasn't ended.
     Turns,
     /// There was no memory for the session's own buffers.
     Memory,

@@ -1,5 +1,5 @@
 -- What the calls on a post make of it.
-use Rattle.std.specs.Prelude.{ℕ, ◌≡◌, ◌≢◌, ◌+◌, ◌≤◌, ◌⊎◌, Bool, true, false, List, length}
+use Rattle.std.specs.Prelude.{ℕ, ◌≡◌, ◌≢◌, ◌+◌, ◌*◌, ◌≤◌, ◌⊎◌, Bool, true, false, List, length}
 use Rattle.std.specs.Arc.{arc_value}
 use Rattle.hub_letters.specs.declared.want.Want.{Want}
 use Rattle.hub_letters.specs.Flags.{flags_of}
@@ -10,6 +10,7 @@ use Rattle.hub_fifodir.specs.declared.fifodir.Fifodir.{Fifodir}
 use Rattle.hub_fifodir.specs.Events.{StartsWith, is_closed}
 use Rattle.hub_fifodir.specs.Passes.{ticket_mark, ticket_next, ticket_seen, ticket_closed}
 use Rattle.hub_wait.specs.declared.post.Post.{Post}
+use Rattle.hub_wait.specs.declared.post.TheConstants.{SLICE, SLICES}
 use Rattle.hub_wait.specs.Watching.{Watching, started}
 use Rattle.hub_wait.specs.Histories.{Follows}
 
@@ -55,15 +56,15 @@ pub record IsKept (old new : Post) : Type 0 where
   pub seen : StartsWith (seen_of new) (seen_of old)
   pub follows : Follows (watch_of new) (letters (seen_of new))
 
--- its watch knows all that was seen, or it took 4,096 events; it is ended only at the end of a closed record, and it is
--- ended if it took nothing and has seen the close
+-- its watch knows all that was seen, or it took as many slices as it may; it is ended only at the end of a closed record,
+-- and it is ended if it took nothing and has seen the close
 pub record HasCaughtUp (old new : Post) : Type 0 where
-  pub all : ((watch_of new).at ≡ length (seen_of new)) ⊎ (next_of new ≡ next_of old + 4096)
+  pub all : ((watch_of new).at ≡ length (seen_of new)) ⊎ (next_of new ≡ next_of old + SLICE * SLICES)
   pub ended_only : (watch_of new).ended ≡ true → (closed_of new ≢ 0) × ((watch_of new).at ≡ length (seen_of new))
   pub ended : closed_of new ≢ 0 → next_of new ≡ next_of old → (watch_of new).ended ≡ true
 
 -- the slice was full, or the watch knows all that was seen; and it is ended if nothing was taken and the close was seen
 pub record HasTakenSlice (old : Post) (whole : Bool) (new : Post) : Type 0 where
-  pub more : whole ≡ true → next_of new ≡ next_of old + 256
+  pub more : whole ≡ true → next_of new ≡ next_of old + SLICE
   pub all : whole ≡ false → (watch_of new).at ≡ length (seen_of new)
   pub ended : closed_of new ≢ 0 → next_of new ≡ next_of old → (watch_of new).ended ≡ true

@@ -24,7 +24,7 @@ mod watch;
 
 pub use hub_letters::Span;
 pub use pause::{BRIEF_TURNS, Backoff, Go, Pause};
-pub use post::Post;
+pub use post::{Post, SLICE, SLICES};
 pub use tally::{Tally, Verdict};
 pub use wait::{svlisten, svwait};
 pub use watch::Watch;

@@ -1,6 +1,7 @@
 //! A watch with the ticket that feeds it.
-ghost use Rattle.std.specs.Prelude.{◌≡◌, ◌+◌, ◌≤◌, ◌^◌, length, IfOk};
+ghost use Rattle.std.specs.Prelude.{◌≡◌, ◌+◌, ◌≤◌, length, IfOk};
 ghost use Rattle.std.specs.Arc.{arc_value};
+ghost use Rattle.hub_record.specs.declared.limits.TheConstants.{MOST_EVENTS};
 ghost use Rattle.hub_fifodir.specs.Passes.{IsTicketOf};
 ghost use Rattle.hub_record.specs.World.{letters};
 ghost use Rattle.hub_wait.specs.Reading.{Reads};
@@ -14,10 +15,10 @@ use std::alloc::Global;
 use std::sync::{Arc, Wait};
 
 /// How many events a take may give.
-const SLICE: usize = 256;
+pub const SLICE: usize = 256;
 
 /// How many takes one `catch_up` makes.
-const SLICES: u64 = 16;
+pub const SLICES: u64 = 16;
 
 /// A subscription to a service's events, and what is known of the service by it. A post that was dropped would keep its
 /// subscription, and the events that are pending for it would fill the fifodir. So a post isn't `Drop`, and only `end`
@@ -66,7 +67,7 @@ impl Post {
         self.ticket.mark()
     }
 
-    /// Takes what came meanwhile: slices of 256 events, until one isn't whole or 16 were taken.
+    /// Takes what came meanwhile: slices of [`SLICE`] events, until one isn't whole or [`SLICES`] were taken.
     pub fn catch_up<R: Wait>(&mut self, rt: &R)
         ensures kept { IsKept self.old self.new }
         ensures caught_up { HasCaughtUp self.old self.new }
@@ -111,9 +112,9 @@ impl Post {
 
 /// Steps a watch by the letters of events.
 fn step_by_events(watch: &mut Watch, first: u64, events: &[Event])
-    requires fits { length events.now ≤ 256 }
+    requires fits { length events.now ≤ SLICE }
     requires overlaps { first ≤ watch.old.at }
-    requires small { first + length events.now ≤ 10 ^ 12 }
+    requires small { first + length events.now ≤ MOST_EVENTS }
     ensures { watch.new ≡ stepped watch.old first (letters events.now) }
 {
     let mut letters = [Letter::LEAST; SLICE];

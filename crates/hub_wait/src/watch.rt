@@ -1,5 +1,6 @@
 //! What a wait knows of one service.
-ghost use Rattle.std.specs.Prelude.{◌≡◌, ◌+◌, ◌≤◌, ◌^◌, length, true};
+ghost use Rattle.std.specs.Prelude.{◌≡◌, ◌+◌, ◌≤◌, length, true};
+ghost use Rattle.hub_record.specs.declared.limits.TheConstants.{MOST_EVENTS};
 
 use hub_letters::{Flags, Letter, Want};
 use hub_record::Status;
@@ -46,7 +47,7 @@ impl Watch {
     /// Follows letters that are numbered from `first`. Letters below `at()` are known already and are skipped.
     pub fn step(&mut self, first: u64, letters: &[Letter])
         requires overlaps { first ≤ self.old.at }
-        requires small { first + length letters.now ≤ 10 ^ 12 }
+        requires small { first + length letters.now ≤ MOST_EVENTS }
         ensures { self.new ≡ stepped self.old first letters.now }
     {
         let told = self.at - first;
