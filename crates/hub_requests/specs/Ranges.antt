@@ -1,22 +1,24 @@
 -- The ranges of a request's numbers.
 use Rattle.std.specs.Prelude.{ℕ, ◌≤◌, List, length}
+use Rattle.hub_record.specs.declared.limits.TheConstants.{MOST_EVENTS, MOST_WAITING}
+use Rattle.hub_requests.specs.declared.bounds.TheConstants.{MOST_SERVICES, MOST_TAKEN, MOST_TURNS}
 use Rattle.hub_requests.specs.declared.request.Request.{Request}
 use Rattle.hub_requests.specs.declared.request.Request.TheVariants.{Dir, Svc, Sub, Pub, Take, Cancel, Close, Status, Listen, Poll, Wait}
 
 pub record AreLimits (waiting total : ℕ) : Type 0 where
   pub some_wait : 1 ≤ waiting
-  pub few_wait : waiting ≤ 4096
+  pub few_wait : waiting ≤ MOST_WAITING
   pub some : 1 ≤ total
-  pub within : total ≤ 1000000000000
+  pub within : total ≤ MOST_EVENTS
 
 pub record IsTake (max : ℕ) : Type 0 where
   pub some : 1 ≤ max
-  pub few : max ≤ 256
+  pub few : max ≤ MOST_TAKEN
 
 pub record IsWait (turns : ℕ) (names : List (List ℕ)) : Type 0 where
-  pub patient : turns ≤ 1000000
+  pub patient : turns ≤ MOST_TURNS
   pub some : 1 ≤ length names
-  pub few : length names ≤ 32
+  pub few : length names ≤ MOST_SERVICES
 
 -- each number of the request is in its range
 abbrev pub IsInRange : Request → Type 0

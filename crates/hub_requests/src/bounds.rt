@@ -1,5 +1,7 @@
 //! The bounds of requests and replies, each a number of its own.
 
+use hub_letters::MOST_GATHERED;
+
 /// The most fifodirs that a hub has, or a desk without a hub.
 pub const MOST_NAMES: usize = 256;
 
@@ -22,4 +24,4 @@ pub const MOST_SERVICES: usize = 32;
 pub const LONGEST_NAME: usize = 32;
 
 /// How many bytes the longest reply has, with its LF: `got ` or `hit `, and as many letters as a listener may gather.
-pub const LONGEST_REPLY: usize = 4_101;
+pub const LONGEST_REPLY: usize = "hit ".len() + MOST_GATHERED + "\n".len();

@@ -64,7 +64,7 @@ pub enum Refusal {
     Full,
     /// The text isn't a pattern, or the pattern is too large.
     Pattern,
-    /// The listener has gathered 4,096 letters without a hit.
+    /// The listener has gathered as many letters as it may, without a hit.
     Overlong,
     /// Memory ran out.
     Memory,

@@ -5,28 +5,16 @@ ghost use Rattle.hub_requests.specs.Brief.{IsBrief};
 ghost use Rattle.hub_requests.specs.Ranges.{AreLimits};
 ghost use Rattle.hub_requests.specs.Room.{refusal_of_handle};
 
+use crate::bounds::{MOST_HANDLES, MOST_NUMBERS};
 use crate::reply::Refusal;
-use hub_record::Limits;
-
-/// How many ids each fifodir can give.
-const IDS: u64 = 1_000_000_000_000;
-
-/// How many handles may be current at one time.
-const HANDLES: usize = 256;
-
-/// How many handles may be given in all.
-const NUMBERS: u64 = 1_000_000;
+use hub_record::{Limits, MOST_IDS};
 
 /// The limits of a fifodir that a client asks for.
 pub fn limits(waiting: u64, total: u64) -> Limits
     requires { AreLimits waiting total }
-    ensures { limits_of waiting total 1000000000000 ≡ Some result }
+    ensures { limits_of waiting total MOST_IDS ≡ Some result }
 {
-    Limits {
-        waiting,
-        total,
-        ids: IDS,
-    }
+    Limits::new(waiting, total, MOST_IDS)
 }
 
 /// Why a session gets no further handle. None if it can get one.
@@ -34,10 +22,10 @@ pub fn refusal_of_handle(current: usize, given: u64) -> Option<Refusal>
     ensures refusal { result ≡ refusal_of_handle current given }
     ensures brief { IfSome result IsBrief }
 {
-    if current >= HANDLES {
+    if current >= MOST_HANDLES {
         return Some(Refusal::Many);
     }
-    if given >= NUMBERS {
+    if given >= MOST_NUMBERS {
         return Some(Refusal::Spent);
     }
     None
