@@ -14,6 +14,6 @@ mod spelling;
 mod words;
 mod writing;
 
-pub use parsing::{Bad, parse};
+pub use parsing::{Bad, LONGEST_LINE, parse};
 pub use spelling::{each_form_has_a_line, each_line_is_read_in_one_way, no_line_is_spelled_twice};
 pub use writing::write_reply;

@@ -14,7 +14,7 @@ use hub_requests::{Refusal, Request};
 use std::alloc::Global;
 
 /// The most bytes of a line, without its LF.
-const LONGEST_LINE: usize = 512;
+pub const LONGEST_LINE: usize = 512;
 
 /// Why a line isn't a request: the first rule that it breaks, in this order.
 #[derive(Clone, Copy, Debug, PartialEq, Eq)]

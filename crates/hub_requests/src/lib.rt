@@ -7,6 +7,7 @@
 //! This crate has the vocabulary alone. The layers above read lines, write replies and implement the desks with it.
 #![tactic(auto)]
 
+mod bounds;
 mod desk;
 mod letters;
 mod name;
@@ -15,6 +16,10 @@ mod request;
 mod room;
 mod texts;
 
+pub use bounds::{
+    LONGEST_NAME, LONGEST_REPLY, MOST_HANDLES, MOST_NAMES, MOST_NUMBERS, MOST_SERVICES, MOST_TAKEN,
+    MOST_TURNS,
+};
 pub use desk::Desk;
 pub use letters::letters_of;
 pub use name::Name;
