@@ -8,6 +8,7 @@ use Rattle.hub_record.specs.declared.Kind.{Kind}
 use Rattle.hub_record.specs.declared.Kind.TheVariants.{Plain, Service}
 use Rattle.hub_record.specs.declared.Status.{Status}
 use Rattle.hub_record.specs.World.{IsUnlawfulIn}
+use Rattle.hub_requests.specs.declared.bounds.TheConstants.{LONGEST_REPLY}
 use Rattle.hub_requests.specs.Texts.{text_of, openness, numbers_text, number_or_dash}
 use Rattle.hub_requests.specs.declared.reply.Reply.TheVariants.{Number, State, No}
 use Rattle.hub_requests.specs.declared.reply.Refusal.TheVariants.{Unlawful}
@@ -16,7 +17,7 @@ use Rattle.hub_requests.specs.declared.reply.Refusal.TheVariants.{Unlawful}
 pub short_decimal : (n : ℕ) → n < 2 ^ 64 → length (decimal n) ≤ 20
 short_decimal n h = length-decimal-le 20 n (omega arith) (omega arith) h
 
-pub short_number : (n : ℕ) → n < 2 ^ 64 → length (text_of (Number n)) ≤ 4101
+pub short_number : (n : ℕ) → n < 2 ^ 64 → length (text_of (Number n)) ≤ LONGEST_REPLY
 short_number n h = let d = short_decimal n h in simp (length-append) (omega arith)
 
 numbers_text-push : (numbers : List (Option ℕ)) (number : Option ℕ) → numbers_text (numbers ++ number ∷ []) ≡ numbers_text numbers ++ 32 ∷ number_or_dash number
@@ -42,7 +43,7 @@ code_bound f =
     let a = digit_bound f.up in let b = digit_bound f.settled in let c = digit_bound f.supervised in let d = digit_bound f.failed in
     omega arith
 
-pub short_state : (shown : Status) → shown.number < 2 ^ 64 → length (text_of (State shown)) ≤ 4101
+pub short_state : (shown : Status) → shown.number < 2 ^ 64 → length (text_of (State shown)) ≤ LONGEST_REPLY
 short_state shown n =
     let a = short_decimal shown.number n in
     let b = short_decimal (code_of shown.flags) (code_bound shown.flags) in
@@ -54,7 +55,7 @@ short_place Plain word message place h = absurd h
 short_place Service word message place h = h.inside
 
 -- the place of an unlawful letter is below the length of the message
-pub short_unlawful : (kind : Kind) (word message : List ℕ) (place : ℕ) → IsUnlawfulIn kind word message place → length message < 2 ^ 64 → length (text_of (No (Unlawful place))) ≤ 4101
+pub short_unlawful : (kind : Kind) (word message : List ℕ) (place : ℕ) → IsUnlawfulIn kind word message place → length message < 2 ^ 64 → length (text_of (No (Unlawful place))) ≤ LONGEST_REPLY
 short_unlawful kind word message place h n =
     let l = short_place kind word message place h in
     let d = short_decimal place (omega arith) in

@@ -1,5 +1,6 @@
 -- The ranges of a request's numbers.
 use Rattle.std.specs.Prelude.{ℕ, ◌≤◌, List, length}
+use Rattle.hub_requests.specs.declared.bounds.TheConstants.{MOST_SERVICES, MOST_TAKEN, MOST_TURNS}
 use Rattle.hub_requests.specs.declared.request.Request.{Request}
 use Rattle.hub_requests.specs.declared.request.Request.TheVariants.{Dir, Svc, Sub, Pub, Take, Cancel, Close, Status, Listen, Poll, Wait}
 
@@ -11,12 +12,12 @@ pub record AreLimits (waiting total : ℕ) : Type 0 where
 
 pub record IsTake (max : ℕ) : Type 0 where
   pub some : 1 ≤ max
-  pub few : max ≤ 256
+  pub few : max ≤ MOST_TAKEN
 
 pub record IsWait (turns : ℕ) (names : List (List ℕ)) : Type 0 where
-  pub patient : turns ≤ 1000000
+  pub patient : turns ≤ MOST_TURNS
   pub some : 1 ≤ length names
-  pub few : length names ≤ 32
+  pub few : length names ≤ MOST_SERVICES
 
 -- each number of the request is in its range
 abbrev pub IsInRange : Request → Type 0

@@ -2,6 +2,7 @@
 ghost use Rattle.std.specs.Prelude.{◌≤◌, length};
 ghost use Rattle.hub_requests.specs.Ranges.{IsInRange};
 ghost use Rattle.hub_requests.specs.Texts.{text_of};
+ghost use Rattle.hub_requests.specs.declared.bounds.TheConstants.{LONGEST_REPLY};
 ghost use Rattle.hub_requests.specs.declared.reply.Reply.{Reply};
 ghost use Rattle.hub_requests.specs.declared.request.Request.{Request};
 
@@ -18,11 +19,12 @@ pub trait Desk {
     /// `ends old new`: the end of a desk in the state `old` may leave it in the state `new`.
     ghost ends: { Self → Self → Type 0 };
 
-    /// Answers a request whose numbers are in their ranges. The text of the reply has at most 4,101 bytes.
+    /// Answers a request whose numbers are in their ranges. The text of the reply is no longer than
+    /// `LONGEST_REPLY`.
     fn ask<H: Wait>(&mut self, rt: &H, request: &Request) -> Reply
         requires { IsInRange request.now }
         ensures step { asks self.old request.now result self.new }
-        ensures short { length (text_of result) ≤ 4101 };
+        ensures short { length (text_of result) ≤ LONGEST_REPLY };
 
     /// Releases all that the session holds. The fifodirs stay. The desk has no handles afterwards, and can be used
     /// again.

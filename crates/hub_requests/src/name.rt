@@ -5,6 +5,7 @@ ghost use Rattle.std.specs.Cmp.Rules.{comparing, hashing};
 ghost use Rattle.std.proofs.Common.{rules};
 ghost use Rattle.hub_requests.specs.Names.{is_name_byte, is_name};
 
+use crate::bounds::LONGEST_NAME;
 use std::alloc::{AllocError, Global};
 use std::hash::{Hash, Hasher};
 use std::marker::Model;
@@ -41,7 +42,7 @@ impl Name {
     pub fn is_name(text: &[u8]) -> bool
         ensures { result ≡ is_name text.now }
     {
-        if text.is_empty() || text.len() > 32 {
+        if text.is_empty() || text.len() > LONGEST_NAME {
             return false;
         }
         has_name_bytes(text)

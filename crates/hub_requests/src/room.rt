@@ -5,17 +5,12 @@ ghost use Rattle.hub_requests.specs.Brief.{IsBrief};
 ghost use Rattle.hub_requests.specs.Ranges.{AreLimits};
 ghost use Rattle.hub_requests.specs.Room.{refusal_of_handle};
 
+use crate::bounds::{MOST_HANDLES, MOST_NUMBERS};
 use crate::reply::Refusal;
 use hub_record::Limits;
 
 /// How many ids each fifodir can give.
 const IDS: u64 = 1_000_000_000_000;
-
-/// How many handles may be current at one time.
-const HANDLES: usize = 256;
-
-/// How many handles may be given in all.
-const NUMBERS: u64 = 1_000_000;
 
 /// The limits of a fifodir that a client asks for.
 pub fn limits(waiting: u64, total: u64) -> Limits
@@ -34,10 +29,10 @@ pub fn refusal_of_handle(current: usize, given: u64) -> Option<Refusal>
     ensures refusal { result ≡ refusal_of_handle current given }
     ensures brief { IfSome result IsBrief }
 {
-    if current >= HANDLES {
+    if current >= MOST_HANDLES {
         return Some(Refusal::Many);
     }
-    if given >= NUMBERS {
+    if given >= MOST_NUMBERS {
         return Some(Refusal::Spent);
     }
     None
