@@ -1,6 +1,7 @@
 -- Letters that come to a listener, and how polls follow from what it hears.
 use Rattle.std.proofs.Common.{◌≡◌, ◌≤◌, ◌<◌, ◌+◌, ℕ, Bool, true, false, List, [], ◌∷◌, ◌++◌, length, Option, Some, None, is_some, IfSome, Result, Ok, Err, refl, sym, ap, subst, ◌∙◌, inl, inr, append-nil, append_assoc, length-append}
 use Rattle.std.specs.Prelude.{if◌then◌else◌}
+use Rattle.hub_letters.specs.declared.bounds.TheConstants.{MOST_GATHERED}
 use Rattle.hub_requests.specs.declared.reply.Reply.{Reply}
 use Rattle.hub_requests.specs.declared.reply.Reply.TheVariants as answer
 use Rattle.hub_fifodir.specs.Passes.{got, ticket_sight}
@@ -109,11 +110,11 @@ gives_taken old new (Err (answer.No r)) was is mode takes = absurd takes
 unspent : (l : Listening) → l.mode ≡ Repeat → is_spent l ≡ false
 unspent l e = ap (λ (m : Mode). spent_by m l.hit) e
 
-pub hears_none : (h : Hearing) → h.listener.mode ≡ Repeat → length h.listener.gathered ≤ 4096 → Hears h [] (Ok Quiet) h
+pub hears_none : (h : Hearing) → h.listener.mode ≡ Repeat → length h.listener.gathered ≤ MOST_GATHERED → Hears h [] (Ok Quiet) h
 hears_none h repeats fits = record { comes = comes_none h; feeds = nothing_is_quiet h.listener (unspent h.listener repeats) fits }
 
 -- what came wasn't heard: it is held, or there was none
-pub hears_nothing : (old new : Hearing) → Comes old [] new → new.listener ≡ old.listener → old.listener.mode ≡ Repeat → length old.listener.gathered ≤ 4096
+pub hears_nothing : (old new : Hearing) → Comes old [] new → new.listener ≡ old.listener → old.listener.mode ≡ Repeat → length old.listener.gathered ≤ MOST_GATHERED
     → Hears old [] (Ok Quiet) new
 hears_nothing old new comes same repeats fits = record {
   comes = comes;
@@ -122,7 +123,7 @@ hears_nothing old new comes same repeats fits = record {
 
 -- it only looked
 pub hears_looked : (old new : Hearing) → HasLooked old.subscription new.subscription → new.mode ≡ old.mode → new.listener ≡ old.listener → new.held ≡ old.held → old.listener.mode ≡ Repeat
-    → length old.listener.gathered ≤ 4096 → Hears old [] (Ok Quiet) new
+    → length old.listener.gathered ≤ MOST_GATHERED → Hears old [] (Ok Quiet) new
 hears_looked old new looks mode same held repeats fits = hears_nothing old new (comes_nothing old new looks.same mode looks.got held) same repeats fits
 
 pub stops_idle : (old new : Hearing) (idle : Option Reply) → IfSome idle (λ reply. TakesOne old.subscription (Err reply) new.subscription) → old.held ≡ None → new.held ≡ None → new.mode ≡ old.mode
@@ -158,7 +159,7 @@ hit_polls a b c fed hit p q same =
     (fed ++ q.0 ∷ [], subst (λ (n : ℕ). Hears a (fed ++ q.0 ∷ []) (Ok (Hit n)) c) long (hears_on a b c fed (q.0 ∷ []) (Hit 1) p q.1), same, q.2)
 
 pub stop_polls : (a b c : Hearing) (reply : Reply) (fed : List ℕ) → Hears a fed (Ok Quiet) b → Hears b [] (Ok Quiet) c → Stops reply c
-    → length a.listener.gathered < 4096 → Polls a reply c
+    → length a.listener.gathered < MOST_GATHERED → Polls a reply c
 stop_polls a b c answer.Nothing fed p q stops few = (few, (fed ++ [], hears_on a b c fed [] Quiet p q), inl stops)
 stop_polls a b c answer.End fed p q stops few = (few, (fed ++ [], hears_on a b c fed [] Quiet p q), stops)
 stop_polls a b c (answer.No refusal) fed p q stops few = inr (stops, few, (fed ++ [], hears_on a b c fed [] Quiet p q))

@@ -11,6 +11,7 @@ use Rattle.hub_fifodir.specs.declared.fifodir.Fifodir.{Fifodir}
 use Rattle.hub_listen.specs.Listening.{unheard}
 use Rattle.hub_letters.specs.declared.mode.Mode.{Mode}
 use Rattle.hub_letters.specs.declared.mode.Mode.TheVariants.{Repeat}
+use Rattle.hub_requests.specs.declared.bounds.TheConstants.{MOST_HANDLES, MOST_NUMBERS}
 use Rattle.hub_handles.specs.declared.handles.Handles.{Handles}
 use Rattle.hub_handles.specs.declared.hearing.Hearing.{Hearing}
 use Rattle.hub_handles.specs.declared.subscription.Subscription.{Subscription}
@@ -53,9 +54,9 @@ pub record IsStill (old new : Handles) : Type 0 where
 
 -- the number is the next one, which was never given
 pub record IsNext (old : Handles) (number : ℕ) (new : Handles) : Type 0 where
-  pub few : standing old < 256
+  pub few : standing old < MOST_HANDLES
   pub next : number ≡ old.given + 1
-  pub within : number ≤ 1000000
+  pub within : number ≤ MOST_NUMBERS
   pub given : new.given ≡ number
   pub unsubscribed : subscription_of old number ≡ None
   pub unheard : listener_of old number ≡ None

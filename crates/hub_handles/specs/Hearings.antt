@@ -1,5 +1,6 @@
 -- What a session's listener hears of what its subscription takes.
 use Rattle.std.specs.Prelude.{◌≡◌, ◌≢◌, ◌≤◌, ◌<◌, ◌⊎◌, ℕ, Bool, true, false, List, [], ◌∷◌, ◌++◌, length, Option, Some, None, Result, Ok, Err}
+use Rattle.hub_letters.specs.declared.bounds.TheConstants.{MOST_GATHERED}
 use Rattle.hub_requests.specs.declared.reply.Refusal.TheVariants as no
 use Rattle.hub_requests.specs.declared.reply.Reply.{Reply}
 use Rattle.hub_requests.specs.declared.reply.Reply.TheVariants as answer
@@ -71,11 +72,11 @@ HearsOne old false new = (letter : ℕ) × Hears old (letter ∷ []) (Ok Quiet) 
 -- gathered as may be.
 abbrev pub Polls : Hearing → Reply → Hearing → Type 0
 Polls old (answer.Hit hit) new = (fed : List ℕ) × Hears old fed (Ok (Hit (length fed))) new × (hit ≡ new.listener.hit) × (new.held ≡ None)
-Polls old answer.Nothing new = (length old.listener.gathered < 4096) × ((fed : List ℕ) × Hears old fed (Ok Quiet) new) × (Stops answer.Nothing new ⊎ (4096 ≤ length new.listener.gathered))
-Polls old answer.End new = (length old.listener.gathered < 4096) × ((fed : List ℕ) × Hears old fed (Ok Quiet) new) × Stops answer.End new
+Polls old answer.Nothing new = (length old.listener.gathered < MOST_GATHERED) × ((fed : List ℕ) × Hears old fed (Ok Quiet) new) × (Stops answer.Nothing new ⊎ (MOST_GATHERED ≤ length new.listener.gathered))
+Polls old answer.End new = (length old.listener.gathered < MOST_GATHERED) × ((fed : List ℕ) × Hears old fed (Ok Quiet) new) × Stops answer.End new
 Polls old (answer.No refusal) new =
-    ((refusal ≡ no.Overlong) × (4096 ≤ length old.listener.gathered) × (new ≡ old))
-    ⊎ ((refusal ≡ no.Memory) × (length old.listener.gathered < 4096) × ((fed : List ℕ) × Hears old fed (Ok Quiet) new))
+    ((refusal ≡ no.Overlong) × (MOST_GATHERED ≤ length old.listener.gathered) × (new ≡ old))
+    ⊎ ((refusal ≡ no.Memory) × (length old.listener.gathered < MOST_GATHERED) × ((fed : List ℕ) × Hears old fed (Ok Quiet) new))
 Polls old _ new = ⊥
 
 -- the one hit of mode Once is the last reply

@@ -1,10 +1,9 @@
 //! What a session holds, by handle.
-ghost use Rattle.std.specs.Prelude.{◌≡◌, ◌≤◌, ◌<◌, ℕ, None, Some, false, length, nat_eq, IfOk, IfErr, OnOk, OnErr};
+ghost use Rattle.std.specs.Prelude.{◌≡◌, ◌<◌, ℕ, None, Some, false, nat_eq, IfOk, IfErr, OnOk, OnErr};
 ghost use Rattle.std.specs.Arc.{arc_value};
 ghost use Rattle.std.specs.Map.{lookup};
 ghost use Rattle.hub_requests.specs.Ranges.{IsTake};
-ghost use Rattle.hub_requests.specs.Texts.{text_of};
-ghost use Rattle.hub_requests.specs.Brief.{IsBrief};
+ghost use Rattle.hub_requests.specs.Brief.{IsBrief, IsShort};
 
 use crate::hearing::Hearing;
 use crate::room::Room;
@@ -65,7 +64,7 @@ impl Handles {
     /// Begins a subscription, under the next number.
     pub fn subscribe<H: Wait>(&mut self, rt: &H, dir: Arc<Fifodir, Global>) -> Reply
         ensures step { Subscribes (arc_value dir) self.old result self.new }
-        ensures short { length (text_of result) ≤ 4101 }
+        ensures short { IsShort result }
     {
         match self.add_subscription(rt, dir) {
             Ok(number) => Reply::Number(number),
@@ -105,7 +104,7 @@ impl Handles {
         pattern: &PatternText,
     ) -> Reply
         ensures step { Listens (arc_value dir) mode pattern.now self.old result self.new }
-        ensures short { length (text_of result) ≤ 4101 }
+        ensures short { IsShort result }
     {
         match self.add_listener(rt, dir, mode, pattern) {
             Ok(number) => Reply::Number(number),
@@ -148,7 +147,7 @@ impl Handles {
     pub fn take<H: Wait>(&mut self, rt: &H, id: u64, max: u64) -> Reply
         requires { IsTake max }
         ensures step { TakesAt self.old id max result self.new }
-        ensures short { length (text_of result) ≤ 4101 }
+        ensures short { IsShort result }
     {
         let Some(subscription) = self.subscriptions.get_mut(&id) else {
             return Reply::No(Refusal::Id);
@@ -162,7 +161,7 @@ impl Handles {
     /// Looks for the next hit of a listener. After its hit in mode `Once` it is ended.
     pub fn poll<H: Wait>(&mut self, rt: &H, id: u64) -> Reply
         ensures step { PollsAt self.old id result self.new }
-        ensures short { length (text_of result) ≤ 4101 }
+        ensures short { IsShort result }
     {
         let Some(hearing) = self.listeners.get_mut(&id) else {
             return Reply::No(Refusal::Id);
@@ -190,7 +189,7 @@ impl Handles {
     /// Ends a subscription or a listener.
     pub fn cancel<H: Wait>(&mut self, rt: &H, id: u64) -> Reply
         ensures step { Cancels self.old id result self.new }
-        ensures short { length (text_of result) ≤ 4101 }
+        ensures short { IsShort result }
     {
         if let Some(subscription) = self.subscriptions.swap_remove(&id) {
             subscription.cancel(rt);

@@ -1,19 +1,16 @@
 //! A session's listeners.
 ghost use Rattle.std.specs.Prelude.{◌≡◌, ◌≤◌, ◌<◌, [], Ok, length, vec_len, vec_capacity, IfOk, IfErr, IfSome};
-ghost use Rattle.hub_requests.specs.Texts.{text_of};
 ghost use Rattle.hub_listen.specs.declared.feed.Feed.TheVariants.{Quiet};
 ghost use Rattle.hub_letters.specs.declared.mode.Mode.TheVariants.{Repeat};
+ghost use Rattle.hub_requests.specs.Brief.{IsShort};
 
 use crate::subscription::Subscription;
-use hub_letters::Letter;
+use hub_letters::{Letter, MOST_GATHERED};
 use hub_listen::{Feed, FeedError, Listener, Mode};
 use hub_record::Letters;
 use hub_requests::{Refusal, Reply};
 use std::alloc::Global;
 use std::sync::Wait;
-
-/// How many letters a listener gathers.
-const GATHERED: usize = 4096;
 
 /// A listener that hears a subscription. It hears in mode `Repeat` whatever its own mode is: after the one hit of mode
 /// `Once` the session ends it. It isn't `Drop`, and only `cancel` takes it.
@@ -54,18 +51,18 @@ impl Hearing {
     /// Hears letter after letter, up to the next hit or as far as it gathers.
     pub fn poll<H: Wait>(&mut self, rt: &H, alloc: Global) -> Reply
         ensures polled { Polls self.old result self.new }
-        ensures short { length (text_of result) ≤ 4101 }
+        ensures short { IsShort result }
     {
-        if self.listener.text().len() >= GATHERED {
+        if self.listener.text().len() >= MOST_GATHERED {
             return Reply::No(Refusal::Overlong);
         }
         if let Some(reply) = self.look() {
             return reply;
         }
-        let Ok(room) = Vec::with_capacity(alloc, GATHERED) else {
+        let Ok(room) = Vec::with_capacity(alloc, MOST_GATHERED) else {
             return Reply::No(Refusal::Memory);
         };
-        for _ in self.listener.text().len()..GATHERED {
+        for _ in self.listener.text().len()..MOST_GATHERED {
             match self.hear(rt) {
                 Ok(false) => {}
                 Ok(true) => return Reply::Hit(copied(self.listener.hit(), room)),
@@ -77,10 +74,10 @@ impl Hearing {
 
     /// What a poll is answered if no letter is held and none waits. None if there is a letter to hear.
     fn look(&mut self) -> Option<Reply>
-        requires { length self.old.listener.gathered < 4096 }
+        requires { length self.old.listener.gathered < MOST_GATHERED }
         ensures quiet { Hears self.old [] (Ok Quiet) self.new }
         ensures stopped { IfSome result (λ reply. Stops reply self.new) }
-        ensures short { IfSome result (λ reply. length (text_of reply) ≤ 4101) }
+        ensures short { IfSome result IsShort }
     {
         if self.held.is_some() {
             return None;
@@ -90,11 +87,11 @@ impl Hearing {
 
     /// Hears one letter more, and tells whether it completes a hit; or what to answer where none can be heard.
     fn hear<H: Wait>(&mut self, rt: &H) -> Result<bool, Reply>
-        requires { length self.old.listener.gathered < 4096 }
+        requires { length self.old.listener.gathered < MOST_GATHERED }
         ensures heard { IfOk result (λ hit. HearsOne self.old hit self.new) }
         ensures stopped { IfErr result (λ reply. Hears self.old [] (Ok Quiet) self.new
             × Stops reply self.new) }
-        ensures short { IfErr result (λ reply. length (text_of reply) ≤ 4101) }
+        ensures short { IfErr result IsShort }
     {
         let letter = self.next_letter(rt)?;
         match self.listener.feed(&[letter]) {
@@ -112,7 +109,7 @@ impl Hearing {
     fn next_letter<H: Wait>(&mut self, rt: &H) -> Result<Letter, Reply>
         ensures gives { Gives self.old result self.new }
         ensures listener { self.new.listener ≡ self.old.listener }
-        ensures short { IfErr result (λ reply. length (text_of reply) ≤ 4101) }
+        ensures short { IfErr result IsShort }
     {
         match self.held.take() {
             Some(letter) => Ok(letter),

@@ -1,22 +1,21 @@
 //! Room for the events of one take.
 ghost use Rattle.std.specs.Prelude.{◌≡◌, IfOk, vec_len};
+ghost use Rattle.hub_requests.specs.declared.bounds.TheConstants.{MOST_TAKEN};
 
 use hub_record::Event;
+use hub_requests::MOST_TAKEN;
 use std::alloc::{AllocError, Global};
-
-/// How many events one request may take.
-const EVENTS: usize = 256;
 
 /// Room for the events of one take. A session keeps one for all its takes; what the last take left there is overwritten.
 #[derive(Drop)]
 pub struct Room {
     pub(super) events: Vec<Event>,
-    ghost full: { vec_len events ≡ 256 },
+    ghost full: { vec_len events ≡ MOST_TAKEN },
 }
 
 impl Room {
     pub fn new(alloc: Global) -> Result<Room, AllocError> {
-        let events = fillers(alloc, EVENTS)?;
+        let events = fillers(alloc, MOST_TAKEN as usize)?;
         Ok(Room { events })
     }
 }

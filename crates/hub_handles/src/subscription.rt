@@ -1,8 +1,9 @@
 //! A session's subscriptions.
 ghost use Rattle.std.specs.Prelude.{◌≡◌, ◌≤◌, length, vec_len, vec_capacity, Err, IfOk, IfErr, IfSome};
 ghost use Rattle.std.specs.Arc.{arc_value};
-ghost use Rattle.hub_requests.specs.Texts.{text_of};
 ghost use Rattle.hub_fifodir.specs.Passes.{IsTicketOf};
+ghost use Rattle.hub_requests.specs.declared.bounds.TheConstants.{MOST_TAKEN};
+ghost use Rattle.hub_requests.specs.Brief.{IsShort};
 
 use crate::room::Room;
 use hub_fifodir::{Fifodir, Ticket};
@@ -37,11 +38,11 @@ impl Subscription {
         room: &mut Room,
         letters: Vec<Letter>,
     ) -> Reply
-        requires few { max ≤ 256 }
+        requires few { max ≤ MOST_TAKEN }
         requires empty { vec_len letters ≡ 0 }
         requires fits { max ≤ vec_capacity letters }
         ensures step { TakesFrom max self.old result self.new }
-        ensures short { length (text_of result) ≤ 4101 }
+        ensures short { IsShort result }
     {
         self.take_through(rt, max, &mut room.events, letters)
     }
@@ -53,12 +54,12 @@ impl Subscription {
         events: &mut [Event],
         letters: Vec<Letter>,
     ) -> Reply
-        requires few { max ≤ 256 }
+        requires few { max ≤ MOST_TAKEN }
         requires places { max ≤ length events.old }
         requires empty { vec_len letters ≡ 0 }
         requires fits { max ≤ vec_capacity letters }
         ensures step { TakesFrom max self.old result self.new }
-        ensures short { length (text_of result) ≤ 4101 }
+        ensures short { IsShort result }
     {
         match self.dir.take_into(rt, &mut self.ticket, &mut events[..max]) {
             Taken::Got(count) => Reply::Got(letters_of(&events[..count], letters)),
@@ -71,7 +72,7 @@ impl Subscription {
     pub fn look(&mut self) -> Option<Reply>
         ensures looked { HasLooked self.old self.new }
         ensures idle { IfSome result (λ reply. TakesOne self.old (Err reply) self.new) }
-        ensures short { IfSome result (λ reply. length (text_of reply) ≤ 4101) }
+        ensures short { IfSome result IsShort }
     {
         let status = self.dir.status(&mut self.ticket);
         if status.number != self.ticket.next() {
@@ -86,7 +87,7 @@ impl Subscription {
     /// Takes the next letter, or tells what to answer where there is none.
     pub fn take_letter<H: Wait>(&mut self, rt: &H) -> Result<Letter, Reply>
         ensures step { TakesOne self.old result self.new }
-        ensures short { IfErr result (λ reply. length (text_of reply) ≤ 4101) }
+        ensures short { IfErr result IsShort }
     {
         let mut event = [Event::FILLER];
         match self.dir.take_into(rt, &mut self.ticket, &mut event) {

@@ -1,16 +1,17 @@
 use Rattle.std.proofs.Common.{◌<◌, ◌+◌, length, [], Bool, refl, sym, subst, ap, ◌∙◌, inr, arith}
+use Rattle.hub_letters.specs.declared.bounds.TheConstants.{MOST_GATHERED}
 use Rattle.hub_handles.specs.Hearings.{HearsOne}
 use Rattle.hub_handles.proofs.Hearings.{hears_none, hears_quietly, gathers_one, hit_polls, stop_polls}
 use Rattle.hub_handles.proofs.hearing.Hearing.poll.Goals as goal
 
 pub returns-in_default-with_capacity-clause-polled : goal.returns-in_default-with_capacity-clause-polled
 returns-in_default-with_capacity-clause-polled g c =
-    let few : length c.args.self.now.listener.gathered < 4096 = (let l = ap length c.text.ensures.value in let t = c.if-text-ge-GATHERED.false in omega arith) in
+    let few : length c.args.self.now.listener.gathered < MOST_GATHERED = (let l = ap length c.text.ensures.value in let t = c.if-text-ge-MOST_GATHERED.false in omega arith) in
     inr (refl, few, ([], c.look.ensures.quiet))
 
 pub returns-in-Some-clause-polled : goal.returns-in-Some-clause-polled
 returns-in-Some-clause-polled g c =
-    let few : length c.args.self.now.listener.gathered < 4096 = (let l = ap length c.text.ensures.value in let t = c.if-text-ge-GATHERED.false in omega arith) in
+    let few : length c.args.self.now.listener.gathered < MOST_GATHERED = (let l = ap length c.text.ensures.value in let t = c.if-text-ge-MOST_GATHERED.false in omega arith) in
     stop_polls c.args.self.now c.args.self.now c.look.new.self c.in-Some.reply [] (hears_none c.args.self.now c.args.self.now.repeats c.text.ensures.short) c.in-Some.ensures.quiet c.in-Some.ensures.stopped few
 
 pub returns-in-Ok-true-clause-polled : goal.returns-in-Ok-true-clause-polled
@@ -20,7 +21,7 @@ returns-in-Ok-true-clause-polled g c =
 
 pub returns-in-Err-clause-polled : goal.returns-in-Err-clause-polled
 returns-in-Err-clause-polled g c =
-    let few : length c.args.self.now.listener.gathered < 4096 = (let l = ap length c.text.ensures.value in let t = c.if-text-ge-GATHERED.false in omega arith) in
+    let few : length c.args.self.now.listener.gathered < MOST_GATHERED = (let l = ap length c.text.ensures.value in let t = c.if-text-ge-MOST_GATHERED.false in omega arith) in
     let stopped = c.in-Err.ensures.stopped in
     stop_polls c.args.self.now c.loop.self c.hear.new.self c.in-Err.reply c.loop.invariant.0.0 c.loop.invariant.0.1 stopped.0 stopped.1 few
 
