@@ -1,7 +1,6 @@
 //! The fifodirs that a session found, by name.
-ghost use Rattle.std.specs.Prelude.{◌≡◌, ◌≤◌, None, length, IfErr, OnOk, IfOk};
-ghost use Rattle.hub_requests.specs.Brief.{IsBrief};
-ghost use Rattle.hub_requests.specs.Texts.{text_of};
+ghost use Rattle.std.specs.Prelude.{◌≡◌, None, IfErr, OnOk, IfOk};
+ghost use Rattle.hub_requests.specs.Brief.{IsBrief, IsShort};
 ghost use Rattle.hub_names.specs.Says.{says};
 
 use crate::hub::{Hub, Made};
@@ -82,7 +81,7 @@ impl Fifodirs {
     /// Answers by the session's publisher at the fifodir of this name.
     pub fn speak<H: Wait>(&mut self, rt: &H, hub: &Hub, name: &Name, speech: Speech<'_>) -> Reply
         ensures step { AsksByName hub.now (says speech.entry) self.old name.now result self.new }
-        ensures short { length (text_of result) ≤ 4101 }
+        ensures short { IsShort result }
     {
         if let Some(joined) = self.by_name.get_mut(name) {
             return joined.speak(rt, speech);

@@ -3,18 +3,16 @@ ghost use Rattle.std.specs.Prelude.{◌≡◌, ◌≤◌, ℕ, List, true, false
 ghost use Rattle.std.specs.Arc.{arc_value};
 ghost use Rattle.std.specs.Str.{bytes_eq};
 ghost use Rattle.indexmap.specs.IndexMap.{get, index_map_len};
+ghost use Rattle.hub_requests.specs.declared.bounds.TheConstants.{MOST_NAMES};
 
 use hub_fifodir::Fifodir;
 use hub_record::{Kind, Limits};
-use hub_requests::Name;
+use hub_requests::{MOST_NAMES, Name};
 use indexmap::IndexMap;
 use std::alloc::{AllocError, Global};
 use std::snapshot::Snapshot;
 use std::sync::{Arc, RwLock, Wait};
 use thiserror::Error;
-
-/// How many names a hub may have.
-const NAMES: usize = 256;
 
 /// Why no fifodir was made.
 #[derive(Clone, Copy, Debug, PartialEq, Eq, Hash, Error)]
@@ -22,7 +20,7 @@ pub enum HubError {
     /// A fifodir has this name already.
     #[error("a fifodir has this name")]
     Exists,
-    /// 256 fifodirs have names.
+    /// [`MOST_NAMES`] fifodirs have names.
     #[error("too many fifodirs")]
     Many,
     #[error("out of memory")]
@@ -114,7 +112,7 @@ impl Found {
 struct Named {
     alloc: Global,
     fifodirs: IndexMap<Name, Made>,
-    ghost few: { index_map_len fifodirs ≤ 256 },
+    ghost few: { index_map_len fifodirs ≤ MOST_NAMES },
 }
 
 impl Named {
@@ -130,11 +128,11 @@ impl Named {
         ensures exists { is_some (get bytes_eq self.old.fifodirs name.now) ≡ true
             → result ≡ Err HubError.Exists }
         ensures many { is_some (get bytes_eq self.old.fifodirs name.now) ≡ false
-            → 256 ≤ index_map_len self.old.fifodirs → result ≡ Err HubError.Many }
+            → MOST_NAMES ≤ index_map_len self.old.fifodirs → result ≡ Err HubError.Many }
         ensures exists_only { result ≡ Err HubError.Exists
             → is_some (get bytes_eq self.old.fifodirs name.now) ≡ true }
         ensures many_only { result ≡ Err HubError.Many
-            → 256 ≤ index_map_len self.old.fifodirs }
+            → MOST_NAMES ≤ index_map_len self.old.fifodirs }
         ensures ok { OnOk result (HasMade kind limits notifies
             (get bytes_eq self.new.fifodirs name.now)) }
         ensures others { OnOk result ((other : List ℕ) → bytes_eq name.now other ≡ false
@@ -144,7 +142,7 @@ impl Named {
         if self.fifodirs.contains_key(name) {
             return Err(HubError::Exists);
         }
-        if self.fifodirs.len() >= NAMES {
+        if self.fifodirs.len() >= MOST_NAMES {
             return Err(HubError::Many);
         }
         let key = name.copy()?;

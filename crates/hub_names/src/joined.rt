@@ -1,9 +1,9 @@
 //! A fifodir that a session found, with the session's publisher there.
-ghost use Rattle.std.specs.Prelude.{◌≡◌, ◌≤◌, None, Some, length, IfErr, IfOk, OnErr};
+ghost use Rattle.std.specs.Prelude.{◌≡◌, None, Some, IfErr, IfOk, OnErr};
 ghost use Rattle.std.specs.Arc.{arc_value};
-ghost use Rattle.hub_requests.specs.Texts.{text_of};
 ghost use Rattle.hub_fifodir.specs.Passes.{IsPublisherOf};
 ghost use Rattle.hub_fifodir.specs.declared.publisher.Publisher.{Publisher};
+ghost use Rattle.hub_requests.specs.Brief.{IsShort};
 ghost use Rattle.hub_names.specs.Refusals.{refusal_of_pass};
 ghost use Rattle.hub_names.specs.Says.{says};
 
@@ -76,7 +76,7 @@ impl Joined {
     /// Answers by the publisher that it keeps, or by a new one, which it keeps from then on.
     pub fn speak<H: Wait>(&mut self, rt: &H, speech: Speech<'_>) -> Reply
         ensures step { Asked (says speech.entry) self.old result self.new }
-        ensures short { length (text_of result) ≤ 4101 }
+        ensures short { IsShort result }
     {
         let mut publisher = match self.speaker(rt) {
             Ok(publisher) => publisher,

@@ -4,7 +4,7 @@
 //! that it was found by, with the session's publisher there once that was made. The publisher answers `pub`, `close` and
 //! `status`, so what the session is told is what its own publisher has seen.
 //!
-//! A publisher that nobody ends would keep its place among the 1,024 of its fifodir. So [`Fifodirs`] isn't `Drop`: `leave`
+//! A publisher that nobody ends would keep its place among those of its fifodir. So [`Fifodirs`] isn't `Drop`: `leave`
 //! and `release` end what it keeps, and code that drops it doesn't compile.
 #![tactic(auto)]
 

@@ -1,8 +1,8 @@
 //! What a session says by its publisher at a fifodir, and what it is answered.
-ghost use Rattle.std.specs.Prelude.{◌≡◌, ◌≤◌, length};
+ghost use Rattle.std.specs.Prelude.{◌≡◌};
 ghost use Rattle.hub_fifodir.specs.Passes.{IsPublisherOf, publisher_number, publisher_sight};
 ghost use Rattle.hub_fifodir.specs.Steps.{Grows};
-ghost use Rattle.hub_requests.specs.Texts.{text_of};
+ghost use Rattle.hub_requests.specs.Brief.{IsShort};
 
 use hub_fifodir::{Fifodir, Publisher};
 use hub_record::{Closed, Letters};
@@ -30,7 +30,7 @@ impl Speech<'_> {
         ensures same { publisher_number publisher.new ≡ publisher_number publisher.old }
         ensures seen { Grows (publisher_sight publisher.old) (publisher_sight publisher.new) }
         ensures said { says self.entry publisher.old result publisher.new }
-        ensures short { length (text_of result) ≤ 4101 }
+        ensures short { IsShort result }
     {
         match self {
             Speech::Publish(letters) => match dir.publish(rt, publisher, letters.items()) {

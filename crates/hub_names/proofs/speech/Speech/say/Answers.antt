@@ -1,10 +1,10 @@
-use Rattle.std.proofs.Common.{ℕ, List, ◌≤◌, length, refl, ap, subst, sym, arith}
-use Rattle.hub_requests.specs.Texts.{text_of}
+use Rattle.std.proofs.Common.{ℕ, List, refl, ap, subst, sym, arith}
 use Rattle.hub_requests.specs.declared.reply.Refusal.{Refusal}
 use Rattle.hub_requests.specs.declared.reply.Reply.TheVariants.{Number, State, No}
 use Rattle.hub_fifodir.specs.Passes.{HasPublished, IsRefusedAt}
 use Rattle.hub_fifodir.specs.Steps.{mine_of}
 use Rattle.hub_requests.proofs.ShortReplies.{short_number, short_state}
+use Rattle.hub_requests.specs.Brief.{IsShort}
 use Rattle.hub_names.specs.Says.{says}
 use Rattle.hub_names.specs.declared.speech.Speech.{Speech}
 use Rattle.hub_names.proofs.ShortRefusals.{short_refused}
@@ -29,7 +29,7 @@ returns-in-Ok-clause-short g c = short_number c.in-Ok.first (omega arith)
 pub returns-in-Err-clause-short : goal.returns-in-Err-clause-short
 returns-in-Err-clause-short g c =
     let fits = c.items.type_inv in
-    subst (λ (r : Refusal). length (text_of (No r)) ≤ 4101) (sym c.from.ensures) (short_refused c.publish.new.me _ c.in-Err.error c.in-Err.ensures.refused (omega arith))
+    subst (λ (r : Refusal). IsShort (No r)) (sym c.from.ensures) (short_refused c.publish.new.me _ c.in-Err.error c.in-Err.ensures.refused (omega arith))
 
 pub returns-in-Status-clause-said : goal.returns-in-Status-clause-said
 returns-in-Status-clause-said g c =
