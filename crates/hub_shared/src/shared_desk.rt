@@ -1,7 +1,7 @@
 //! The desk of one session among several.
-ghost use Rattle.std.specs.Prelude.{◌≤◌, length, IfOk};
+ghost use Rattle.std.specs.Prelude.{IfOk};
 ghost use Rattle.std.specs.Arc.{arc_value};
-ghost use Rattle.hub_requests.specs.Texts.{text_of};
+ghost use Rattle.hub_requests.specs.Brief.{IsShort};
 
 use hub_handles::Handles;
 use hub_names::{Fifodirs, Hub, HubError, Speech};
@@ -83,7 +83,7 @@ impl<P: Pause + Copy> SharedDesk<P> {
         limits: Limits,
     ) -> Reply
         ensures made { IsMadeReply result }
-        ensures short { length (text_of result) ≤ 4101 }
+        ensures short { IsShort result }
     {
         match self.hub.make_named(rt, name, kind, limits, notifies) {
             Ok(()) => Reply::Done,

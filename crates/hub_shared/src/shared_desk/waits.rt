@@ -1,8 +1,9 @@
 //! A session's waits: the posts of one, and what it is answered.
 ghost use Rattle.std.specs.Prelude.{◌≡◌, ◌≤◌, ◌+◌, length, map, vec_len, vec_capacity, IfOk, IfErr, OnOk, false};
-ghost use Rattle.hub_requests.specs.Texts.{number_or_dash, text_of};
+ghost use Rattle.hub_requests.specs.declared.bounds.TheConstants.{MOST_SERVICES};
+ghost use Rattle.hub_requests.specs.Texts.{number_or_dash};
 ghost use Rattle.hub_requests.specs.declared.reply.Reply.TheVariants.{Yes};
-ghost use Rattle.hub_requests.specs.Brief.{IsBrief};
+ghost use Rattle.hub_requests.specs.Brief.{IsBrief, IsShort};
 ghost use Rattle.hub_names.specs.Fifodirs.{KeepsAll};
 ghost use Rattle.hub_shared.specs.Waits.{ArePosts, AreSeen, IsPostRefused, IsUnseen, number_met};
 
@@ -21,7 +22,7 @@ pub struct Posts {
     numbers: Vec<Option<u64>>,
     ghost empty: { vec_len numbers ≡ 0 },
     ghost fits: { vec_len posts ≤ vec_capacity numbers },
-    ghost few: { vec_len posts ≤ 32 },
+    ghost few: { vec_len posts ≤ MOST_SERVICES },
 }
 
 impl Posts {
@@ -37,7 +38,7 @@ impl Posts {
         want: Want,
         names: &[Name],
     ) -> Result<Posts, Refusal>
-        requires { length names.now ≤ 32 }
+        requires { length names.now ≤ MOST_SERVICES }
         ensures services { OnOk result (AreSeen fifodirs.new names.now false) }
         ensures opened { IfOk result (λ opened. ArePosts fifodirs.new want names.now
             (posts_of opened)) }
@@ -72,7 +73,7 @@ impl Posts {
         mut pause: P,
     ) -> Reply
         ensures settled { Settles span (posts_of self) result }
-        ensures short { length (text_of result) ≤ 4101 }
+        ensures short { IsShort result }
     {
         let Posts { mut posts, numbers } = self;
         let reply = match svwait(rt, &mut posts, span, turns, &mut pause) {
@@ -138,9 +139,9 @@ fn open_each<H: Wait>(
 fn numbers_met(posts: &[Post], mut room: Vec<Option<u64>>) -> Numbers
     requires empty { vec_len room ≡ 0 }
     requires fits { length posts.now ≤ vec_capacity room }
-    requires few { length posts.now ≤ 32 }
+    requires few { length posts.now ≤ MOST_SERVICES }
     ensures met { result ≡ map number_met posts.now }
-    ensures short { length (text_of (Yes result)) ≤ 4101 }
+    ensures short { IsShort (Yes result) }
 {
     for post in posts {
         room.push_reserved(number_met(post));
