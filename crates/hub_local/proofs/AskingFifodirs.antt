@@ -21,6 +21,7 @@ use Rattle.hub_requests.specs.declared.reply.Reply.{Reply}
 use Rattle.hub_requests.specs.declared.reply.Reply.TheVariants.{Done, Number, State, No}
 use Rattle.hub_requests.specs.declared.reply.Refusal.TheVariants as no
 use Rattle.std.proofs.lemmas.Bool.{le-leb, lt-leb}
+use Rattle.hub_requests.specs.declared.bounds.TheConstants.{MOST_NAMES}
 use Rattle.hub_local.proofs.Holdings.{held_still, held_with_more}
 use Rattle.hub_local.proofs.Asking.{by_carrying, by_refusing, by_lacking, still_lacking, stands_same, Replaces, world_there, stands_replaced, stands_still, named}
 use Rattle.hub_local.proofs.KeptFifodirs.{some_kept, is_some-world_of, length-kept, kept_push}
@@ -39,16 +40,16 @@ module _ (old : Local) (name : List ℕ) (kind : Kind) (reports : Option Bool) (
   make_exists there = by_refusing old old true _ _ _ _ no.Exists refl (λ e. cc)
       (λ d st. (let e = sym (is_some-world_of name old.fifodirs d.fifodirs st.fifodirs) ∙ there in simp e)) (λ d st. st)
 
-  pub make_many : is_some (lookup (bytes_eq name) old.fifodirs) ≡ false → 256 ≤ length old.fifodirs → Makes (No no.Many) old
+  pub make_many : is_some (lookup (bytes_eq name) old.fifodirs) ≡ false → MOST_NAMES ≤ length old.fifodirs → Makes (No no.Many) old
   make_many absent many = by_refusing old old true _ _ _ _ no.Many refl (λ e. cc)
       (λ d st. (let same = length-kept old.fifodirs d.fifodirs st.fifodirs in
-      simp (no_world old d name st absent, le-leb 256 (length d.fifodirs) (omega arith)))) (λ d st. st)
+      simp (no_world old d name st absent, le-leb MOST_NAMES (length d.fifodirs) (omega arith)))) (λ d st. st)
 
   -- no fifodir has the name, and there is room for one more
-  module _ (absent : is_some (lookup (bytes_eq name) old.fifodirs) ≡ false) (few : length old.fifodirs < 256) where
+  module _ (absent : is_some (lookup (bytes_eq name) old.fifodirs) ≡ false) (few : length old.fifodirs < MOST_NAMES) where
     may_make : (d : Desk) → Stands old d → refusal_to_make d name ≡ None
     may_make d st = let same = length-kept old.fifodirs d.fifodirs st.fifodirs in
-        simp (no_world old d name st absent, lt-leb 256 (length d.fifodirs) (omega arith))
+        simp (no_world old d name st absent, lt-leb MOST_NAMES (length d.fifodirs) (omega arith))
 
     pub make_lacks : (new : Local) → new ≡ old → Makes (No no.Memory) new
     make_lacks new same = by_lacking old new true _ _ _ _ refl refl (λ d st. still_lacking new d (refusal_to_make d name) (may_make d st) (stands_same old new d same st))

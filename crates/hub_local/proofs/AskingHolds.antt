@@ -11,6 +11,7 @@ use Rattle.hub_record.specs.declared.SubError.{SubError}
 use Rattle.hub_record.specs.declared.SubError.TheVariants as sub
 use Rattle.hub_record.specs.Kept.{Kept, StandsFor}
 use Rattle.hub_record.specs.World.{World, new_subscription, SubscribeReply, after_subscribe}
+use Rattle.hub_requests.specs.declared.bounds.TheConstants.{MOST_NUMBERS}
 use Rattle.hub_local.specs.Answers.{in_world, refusal_to_hold, refusal_to_listen, subscribed}
 use Rattle.hub_local.specs.Desks.{Desk, Handle, standing, world_of, with_world, subscription_of, AreHeld, AreApart, GoesOn, AllGoOn, refused}
 use Rattle.hub_local.specs.Replies.{subscribe_reply}
@@ -56,7 +57,7 @@ some_none x e = cc
 pub named_there : (local : Local) (name : List ℕ) (d : Desk) → Stands local d → refusal_to_hold d name ≡ None → None ≡ lookup (bytes_eq name) local.fifodirs → ⊥
 named_there local name d st may none = let e = none_kept name local.fifodirs d.fifodirs st.fifodirs (sym none) in some_none no.Name (simp e at may)
 
-pub numbers_left : (local : Local) (name : List ℕ) (d : Desk) → Stands local d → refusal_to_hold d name ≡ None → local.given < 1000000
+pub numbers_left : (local : Local) (name : List ℕ) (d : Desk) → Stands local d → refusal_to_hold d name ≡ None → local.given < MOST_NUMBERS
 numbers_left local name d st may =
     elim (cases_Bool (is_some (world_of d.fifodirs name))) [
       | inl t ↦ (let left = room_for_handle (length (standing d)) (length d.handles) (simp t at may) in let l = left.1 in let g = st.given in omega arith)

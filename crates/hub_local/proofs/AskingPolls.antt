@@ -4,6 +4,7 @@ use Rattle.std.proofs.lemmas.Bool.{cases_Bool, le-leb, lt-leb, le-ltb, lt-ltb}
 use Rattle.std.proofs.lemmas.Map.Steps.{set_value_same}
 use Rattle.std.specs.Map.{lookup, set_value}
 use Rattle.std.specs.Str.{bytes_eq}
+use Rattle.hub_letters.specs.declared.bounds.TheConstants.{MOST_GATHERED}
 use Rattle.hub_listen.specs.Each.{fitting}
 use Rattle.hub_listen.specs.Listening.{Listening, is_spent, spent_by, after_hit, after_quiet}
 use Rattle.hub_letters.specs.declared.mode.Mode.{Mode}
@@ -79,12 +80,12 @@ never_spent l goes_on = ap (λ (m : Mode). spent_by m l.hit) goes_on
 
 -- ---- replies without a hit
 
-quiet_nothing : (count : ℕ) (closed : Bool) → (4096 ≤ count) ⊎ (closed ≡ false) → (if nat_lt count 4096 && closed then End else Nothing) ≡ Nothing
-quiet_nothing count closed (inl full) = simp (le-ltb count 4096 full)
-quiet_nothing count closed (inr is_open) = elim (cases_Bool (nat_lt count 4096)) [ inl t ↦ simp (t, is_open) | inr t ↦ simp t ]
+quiet_nothing : (count : ℕ) (closed : Bool) → (MOST_GATHERED ≤ count) ⊎ (closed ≡ false) → (if nat_lt count MOST_GATHERED && closed then End else Nothing) ≡ Nothing
+quiet_nothing count closed (inl full) = simp (le-ltb count MOST_GATHERED full)
+quiet_nothing count closed (inr is_open) = elim (cases_Bool (nat_lt count MOST_GATHERED)) [ inl t ↦ simp (t, is_open) | inr t ↦ simp t ]
 
-quiet_end : (count : ℕ) (closed : Bool) → count < 4096 → closed ≡ true → (if nat_lt count 4096 && closed then End else Nothing) ≡ End
-quiet_end count closed room is_closed = simp (lt-ltb count 4096 room, is_closed)
+quiet_end : (count : ℕ) (closed : Bool) → count < MOST_GATHERED → closed ≡ true → (if nat_lt count MOST_GATHERED && closed then End else Nothing) ≡ End
+quiet_end count closed room is_closed = simp (lt-ltb count MOST_GATHERED room, is_closed)
 
 -- ---- refusals
 
@@ -102,17 +103,17 @@ module _ (old new : Local) (n : ℕ) where
         (λ d st. (let e = there_held d st in simp (e, plain))) (λ d st. stands_same old new d same st)
 
     module _ (g : Hearing) (hears : h.hearing ≡ Some g) where
-      pub poll_overlong : 4096 ≤ length g.listener.gathered → new ≡ old → AskedWith false old (Poll n) (No no.Overlong) new
+      pub poll_overlong : MOST_GATHERED ≤ length g.listener.gathered → new ≡ old → AskedWith false old (Poll n) (No no.Overlong) new
       poll_overlong over same = by_refusing old new true _ _ _ _ no.Overlong refl (λ e. cc)
-          (λ d st. (let e = there_held d st in simp (e, hears, le-leb 4096 (length g.listener.gathered) over))) (λ d st. stands_same old new d same st)
+          (λ d st. (let e = there_held d st in simp (e, hears, le-leb MOST_GATHERED (length g.listener.gathered) over))) (λ d st. stands_same old new d same st)
 
       -- what is needed to hear more
       pub unspent : (d : Desk) → Stands old d → g.listener.mode ≡ Repeat
       unspent d st = subst GoesOn hears (go_on_at (standing d) n h st.is_desk.go_on (there_held d st))
 
-      module _ (room : length g.listener.gathered < 4096) where
+      module _ (room : length g.listener.gathered < MOST_GATHERED) where
         may_poll : (d : Desk) → Stands old d → refusal_to_poll (held d n) ≡ None
-        may_poll d st = let e = there_held d st in simp (e, hears, lt-leb 4096 (length g.listener.gathered) room)
+        may_poll d st = let e = there_held d st in simp (e, hears, lt-leb MOST_GATHERED (length g.listener.gathered) room)
 
         pub poll_lacks : new ≡ old → AskedWith false old (Poll n) (No no.Memory) new
         poll_lacks same = by_lacking old new true _ _ _ _ refl refl (λ d st. record { unrefused = may_poll d st; desk = d; is_left = inl refl; stands = stands_same old new d same st })

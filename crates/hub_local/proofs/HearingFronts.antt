@@ -2,6 +2,7 @@
 use Rattle.std.proofs.Common.{◌≡◌, ℕ, zero, suc, ◌+◌, ◌-◌, ◌<◌, ◌≤◌, true, false, List, [], ◌∷◌, ◌++◌, length, take, drop, slice_get, slice_range, Option, Some, None, is_some, option_to_list, Ok, refl, sym, ap, subst, ◌∙◌, inl, inr, length-append, arith}
 use Rattle.std.proofs.lemmas.List.{length-drop, length-take-le, take-append-drop}
 use Rattle.std.proofs.Math.Seq.{take-length}
+use Rattle.hub_letters.specs.declared.bounds.TheConstants.{MOST_GATHERED}
 use Rattle.hub_listen.specs.Each.{fitting}
 use Rattle.hub_listen.specs.Hit.{HasNoHit}
 use Rattle.hub_listen.specs.Listening.{Listening, Feeds, is_spent, after_quiet}
@@ -50,7 +51,7 @@ module _ (g : Hearing) (w : World) (id : ℕ) (s : Subscription) (is : found w i
   letters_count = let b = length-behind w id s is in let a = length-append (option_to_list g.held) (behind w id) in omega arith
 
   -- at the beginning
-  pub front_none : (kept : Kept) → is_spent g.listener ≡ false → length g.listener.gathered ≤ 4096 → StandsFor kept w → HeardFront g w id 0 g kept
+  pub front_none : (kept : Kept) → is_spent g.listener ≡ false → length g.listener.gathered ≤ MOST_GATHERED → StandsFor kept w → HeardFront g w id 0 g kept
   front_none kept unspent short stands = record {
     within = omega arith;
     quiet = nothing_is_quiet g.listener unspent short;
@@ -154,7 +155,7 @@ module _ (g : Hearing) (w : World) (id : ℕ) (s : Subscription) (is : found w i
           let hit = one_more_hit g.listener new.listener new'.listener letters n k inside front.quiet (subst (λ (p : List ℕ). Feeds new.listener p (Ok (fed.Hit k)) new'.listener) piece hears) in
           (n + 1, hit.0, record { listener_is = hit.1; mode_is = mode ∙ front.mode_is; held_is = held; stands = subst (StandsFor kept') (taken_one_more n new front.held_is inside) stands })
 
-      pub front_lacks : length g.listener.gathered + n < 4096 → (new' : Hearing) (kept' : Kept) → IsAt new (taken_from g w id n) id 1 new.listener (Some x) new' kept' → Hears g w id Lacking new' kept'
+      pub front_lacks : length g.listener.gathered + n < MOST_GATHERED → (new' : Hearing) (kept' : Kept) → IsAt new (taken_from g w id n) id 1 new.listener (Some x) new' kept' → Hears g w id Lacking new' kept'
       front_lacks room new' kept' at = (
         n,
         (let l = inside in omega arith),
@@ -173,7 +174,7 @@ module _ (g : Hearing) (w : World) (id : ℕ) (s : Subscription) (is : found w i
     front_is new' kept' all listener mode held stands = subst (λ (k : ℕ). IsAt g w id k (after_quiet g.listener (take k letters)) None new' kept') all
         (record { listener_is = listener ∙ front.quiet.3; mode_is = mode ∙ front.mode_is; held_is = held; stands = stands })
 
-    module _ (none : to_hear new (taken_from g w id n) id ≡ []) (room : length g.listener.gathered + n < 4096) where
+    module _ (none : to_hear new (taken_from g w id n) id ≡ []) (room : length g.listener.gathered + n < MOST_GATHERED) where
       all_heard : n ≡ length letters
       all_heard = let a = length-drop n letters in let b = ap length (sym (letters_left n new front.held_is) ∙ none) in let c = front.within in omega arith
 
@@ -194,7 +195,7 @@ module _ (g : Hearing) (w : World) (id : ℕ) (s : Subscription) (is : found w i
         front_end closed = (no_hit, (let a = all_heard in omega arith), sym (closed_then w id s is (n - length (option_to_list g.held))) ∙ closed, at_end)
 
     -- if there is no more room
-    pub front_full : length g.listener.gathered + n ≡ 4096 → length g.listener.gathered < 4096 → Hears g w id Nothing new kept
+    pub front_full : length g.listener.gathered + n ≡ MOST_GATHERED → length g.listener.gathered < MOST_GATHERED → Hears g w id Nothing new kept
     front_full full room =
         let within = front.within in
         let fits : n ≡ fitting g.listener letters = omega arith in
@@ -211,7 +212,7 @@ module _ (g : Hearing) (w : World) (id : ℕ) (s : Subscription) (is : found w i
 
     -- ---- what the next letter comes to, or that there is none
 
-    pub front_then : length g.listener.gathered + n < 4096 → (heard : Heard) (new' : Hearing) (kept' : Kept) → HearsOne new (taken_from g w id n) id (Some heard) new' kept' → Hears g w id heard new' kept'
+    pub front_then : length g.listener.gathered + n < MOST_GATHERED → (heard : Heard) (new' : Hearing) (kept' : Kept) → HearsOne new (taken_from g w id n) id (Some heard) new' kept' → Hears g w id heard new' kept'
     front_then room Hit new' kept' h = front_hit h.0 h.1 h.3 h.2 new' kept' h.4 h.5.mode_is h.5.held_is h.5.stands
     front_then room Nothing new' kept' h = front_nothing h.0 room new' kept' h.2 h.1
     front_then room End new' kept' h = front_end h.0 room new' kept' h.2 h.1

@@ -8,6 +8,7 @@ use Rattle.hub_letters.specs.Stages.{stage_of, follow_by, followed}
 use Rattle.hub_letters.specs.declared.stage.Stage.{Stage}
 use Rattle.hub_letters.specs.declared.stage.Stage.TheVariants.{Off}
 use Rattle.hub_letters.proofs.Lawful.{follow_none, follow-append, followed_from_lawful, lawful_from_followed}
+use Rattle.hub_record.specs.declared.limits.TheConstants.{MOST_PASSES}
 use Rattle.hub_record.specs.declared.Kind.{Kind}
 use Rattle.hub_record.specs.declared.Kind.TheVariants.{Plain, Service}
 use Rattle.hub_record.specs.declared.SubError.{SubError}
@@ -18,10 +19,10 @@ use Rattle.hub_record.specs.World.{World, standing, letters, load, IsLawfulIn, I
 use Rattle.hub_local.specs.Replies.{SubscribeIsOf, PublishIsOf, subscribe_reply, is_lawful_in, first_unlawful, is_full, lawful_reply, open_reply, publish_reply}
 
 pub subscribe_reply_is : (w : World) (r : Result (ℕ × ℕ) SubError) → SubscribeReply w r → r ≢ Err sub.Memory → r ≡ subscribe_reply w
-subscribe_reply_is w (Ok given) h real = simp (h.0.is_open, lt-leb 1024 _ h.0.few, lt-leb w.limits.ids _ h.0.left) (ap (λ (z : ℕ × ℕ). Ok z) h.1)
+subscribe_reply_is w (Ok given) h real = simp (h.0.is_open, lt-leb MOST_PASSES _ h.0.few, lt-leb w.limits.ids _ h.0.left) (ap (λ (z : ℕ × ℕ). Ok z) h.1)
 subscribe_reply_is w (Err sub.Closed) h real = simp h
-subscribe_reply_is w (Err sub.Many) h real = simp (h.0, le-leb 1024 _ h.1)
-subscribe_reply_is w (Err sub.Spent) h real = simp (h.0, lt-leb 1024 _ h.1, le-leb w.limits.ids _ h.2)
+subscribe_reply_is w (Err sub.Many) h real = simp (h.0, le-leb MOST_PASSES _ h.1)
+subscribe_reply_is w (Err sub.Spent) h real = simp (h.0, lt-leb MOST_PASSES _ h.1, le-leb w.limits.ids _ h.2)
 subscribe_reply_is w (Err sub.Memory) h real = absurd (real refl)
 
 -- ---- lawful words
@@ -123,12 +124,12 @@ subscribe_holds : (w : World) → SubscribeReply w (subscribe_reply w)
 subscribe_holds w =
     elim (cases_Bool w.closed) [
       | inl c ↦ (let e : subscribe_reply w ≡ Err sub.Closed = simp c in subst (SubscribeReply w) (sym e) c)
-      | inr c ↦ elim (cases_Bool (nat_le 1024 (length (standing w)))) [
-        | inl m ↦ (let e : subscribe_reply w ≡ Err sub.Many = simp (c, m) in subst (SubscribeReply w) (sym e) (c, leb-true 1024 _ m))
+      | inr c ↦ elim (cases_Bool (nat_le MOST_PASSES (length (standing w)))) [
+        | inl m ↦ (let e : subscribe_reply w ≡ Err sub.Many = simp (c, m) in subst (SubscribeReply w) (sym e) (c, leb-true MOST_PASSES _ m))
         | inr m ↦ elim (cases_Bool (nat_le w.limits.ids (length w.subscriptions))) [
-          | inl s ↦ (let e : subscribe_reply w ≡ Err sub.Spent = simp (c, m, s) in subst (SubscribeReply w) (sym e) (c, leb-false 1024 _ m, leb-true w.limits.ids _ s))
+          | inl s ↦ (let e : subscribe_reply w ≡ Err sub.Spent = simp (c, m, s) in subst (SubscribeReply w) (sym e) (c, leb-false MOST_PASSES _ m, leb-true w.limits.ids _ s))
           | inr s ↦ (let e : subscribe_reply w ≡ Ok (length w.subscriptions + 1, length w.events) = simp (c, m, s) in
-              subst (SubscribeReply w) (sym e) (record { is_open = c; few = leb-false 1024 _ m; left = leb-false w.limits.ids _ s }, refl))
+              subst (SubscribeReply w) (sym e) (record { is_open = c; few = leb-false MOST_PASSES _ m; left = leb-false w.limits.ids _ s }, refl))
         ]
       ]
     ]

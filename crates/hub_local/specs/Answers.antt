@@ -1,11 +1,13 @@
 -- What a desk answers to requests, and what it is afterwards.
 use Rattle.std.specs.Prelude.{ℕ, ◌≡◌, ◌+◌, ◌≤◌, Bool, true, false, if◌then◌else◌, List, [], ◌∷◌, ◌++◌, length, drop, nat_le, Option, Some, None, option_to_list, is_some, Result, Ok, Err}
 use Rattle.std.specs.List.{list_all}
+use Rattle.hub_letters.specs.declared.bounds.TheConstants.{MOST_GATHERED}
 use Rattle.hub_letters.specs.Flags.{flags_of}
 use Rattle.hub_listen.specs.Hit.{IsPattern}
 use Rattle.hub_listen.specs.Listening.{unheard}
 use Rattle.hub_letters.specs.declared.mode.Mode.{Mode}
 use Rattle.hub_letters.specs.declared.mode.Mode.TheVariants.{Repeat}
+use Rattle.hub_record.specs.declared.limits.TheConstants.{MOST_IDS}
 use Rattle.hub_record.specs.World.{World, empty_world, letters, after_subscribe, after_publish, take_reply, take_events, after_take, close_reply, after_close}
 use Rattle.hub_record.specs.declared.Kind.{Kind}
 use Rattle.hub_record.specs.declared.Kind.TheVariants.{Plain, Service}
@@ -17,6 +19,7 @@ use Rattle.hub_record.specs.declared.Taken.{Taken}
 use Rattle.hub_record.specs.declared.Taken.TheVariants as taken
 use Rattle.hub_record.specs.declared.NoId.{NoId}
 use Rattle.hub_record.specs.declared.Closed.{Closed}
+use Rattle.hub_requests.specs.declared.bounds.TheConstants.{MOST_NAMES}
 use Rattle.hub_local.specs.Desks.{Desk, Answer, world_of, reports_of, with_world, standing, held, without_handle, refused}
 use Rattle.hub_local.specs.Polls.{polled, LeftByPoll}
 use Rattle.hub_local.specs.Replies.{subscribe_reply, publish_reply}
@@ -37,7 +40,7 @@ use Rattle.hub_requests.specs.declared.reply.Refusal.TheVariants as no
 abbrev pub refusal_to_make : Desk → List ℕ → Option Refusal
 refusal_to_make d name =
     if is_some (world_of d.fifodirs name) then Some no.Exists else
-    if nat_le 256 (length d.fifodirs) then Some no.Many else
+    if nat_le MOST_NAMES (length d.fifodirs) then Some no.Many else
     None
 
 abbrev pub refusal_by_name : Desk → List ℕ → Option Refusal
@@ -63,7 +66,7 @@ refusal_to_take (Some h) = if is_some h.hearing then Some no.Id else None
 
 abbrev pub refusal_to_hear : Option Hearing → Option Refusal
 refusal_to_hear None = Some no.Id
-refusal_to_hear (Some hearing) = if nat_le 4096 (length hearing.listener.gathered) then Some no.Overlong else None
+refusal_to_hear (Some hearing) = if nat_le MOST_GATHERED (length hearing.listener.gathered) then Some no.Overlong else None
 
 -- and a poll needs the handle of a listener
 abbrev pub refusal_to_poll : Option Holding → Option Refusal
@@ -164,8 +167,8 @@ shown d w = record { reply = State (record { number = length w.events; flags = f
 
 -- what is done with a request that the desk itself doesn't refuse
 abbrev pub carried_out : Desk → Request → Answer
-carried_out d (Dir name waiting total) = made d name Plain None (limits_of waiting total 1000000000000)
-carried_out d (Svc name waiting total notifies) = made d name Service (Some notifies) (limits_of waiting total 1000000000000)
+carried_out d (Dir name waiting total) = made d name Plain None (limits_of waiting total MOST_IDS)
+carried_out d (Svc name waiting total notifies) = made d name Service (Some notifies) (limits_of waiting total MOST_IDS)
 carried_out d (Sub name) = in_world d (λ w. subscribed d name None w (subscribe_reply w)) (world_of d.fifodirs name)
 carried_out d (Pub name message) = in_world d (λ w. published d name message w (publish_reply w message)) (world_of d.fifodirs name)
 carried_out d (Take id max) = for_holding d (λ h. in_world d (took d max h) (world_of d.fifodirs h.name)) (held d id)

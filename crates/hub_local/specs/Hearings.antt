@@ -1,5 +1,6 @@
 -- What a listener hears of the letters that it still has to hear.
 use Rattle.std.specs.Prelude.{ℕ, ◌≡◌, ◌⊎◌, ◌+◌, ◌<◌, ◌≤◌, true, false, List, [], ◌∷◌, length, take, slice_get, Option, Some, None, Result, Ok, Err}
+use Rattle.hub_letters.specs.declared.bounds.TheConstants.{MOST_GATHERED}
 use Rattle.hub_listen.specs.Each.{fitting}
 use Rattle.hub_listen.specs.Hit.{IsHit, HasNoHit}
 use Rattle.hub_listen.specs.Listening.{Listening, Feeds, after_hit, after_quiet}
@@ -43,10 +44,10 @@ abbrev pub Hears : Hearing → World → ℕ → Heard → Hearing → Kept → 
 Hears g w id Hit new kept =
     (k : ℕ) × IsHit g.listener.pattern g.listener.gathered (to_hear g w id) k × IsAt g w id k (after_hit g.listener (to_hear g w id) k) None new kept
 Hears g w id Nothing new kept =
-    HasNoHit g.listener.pattern g.listener.gathered (to_hear g w id) × ((4096 ≤ length g.listener.gathered + length (to_hear g w id)) ⊎ (w.closed ≡ false))
+    HasNoHit g.listener.pattern g.listener.gathered (to_hear g w id) × ((MOST_GATHERED ≤ length g.listener.gathered + length (to_hear g w id)) ⊎ (w.closed ≡ false))
     × IsAt g w id (fitting g.listener (to_hear g w id)) (after_quiet g.listener (take (fitting g.listener (to_hear g w id)) (to_hear g w id))) None new kept
 Hears g w id End new kept =
-    HasNoHit g.listener.pattern g.listener.gathered (to_hear g w id) × (length g.listener.gathered + length (to_hear g w id) < 4096) × (w.closed ≡ true)
+    HasNoHit g.listener.pattern g.listener.gathered (to_hear g w id) × (length g.listener.gathered + length (to_hear g w id) < MOST_GATHERED) × (w.closed ≡ true)
     × IsAt g w id (fitting g.listener (to_hear g w id)) (after_quiet g.listener (take (fitting g.listener (to_hear g w id)) (to_hear g w id))) None new kept
 Hears g w id Lacking new kept =
     (n : ℕ) × (n < fitting g.listener (to_hear g w id)) × HasNoHit g.listener.pattern g.listener.gathered (take n (to_hear g w id))

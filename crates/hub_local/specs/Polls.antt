@@ -1,6 +1,7 @@
 -- What a poll answers: the letters that a listener still has to hear are heard one at a time, until there is a hit or
 -- no room.
 use Rattle.std.specs.Prelude.{ℕ, ◌≡◌, ◌⊎◌, ◌+◌, ◌-◌, ◌<◌, ◌&&◌, if◌then◌else◌, List, [], ◌++◌, length, take, drop, nat_lt, slice_get, option_to_list, Option, Some, None}
+use Rattle.hub_letters.specs.declared.bounds.TheConstants.{MOST_GATHERED}
 use Rattle.hub_listen.specs.Each.{fitting}
 use Rattle.hub_listen.specs.Hit.{HasNoHit, hit_length}
 use Rattle.hub_listen.specs.Listening.{after_hit, after_quiet}
@@ -50,7 +51,7 @@ heard d number h g w letters (Some k) = record {
   desk = ended_by g.mode (heard_on d number h (heard_to_hit g letters k) (taken_from g w h.id k)) number h;
 }
 heard d number h g w letters None = record {
-  reply = if nat_lt (length g.listener.gathered + length letters) 4096 && w.closed then End else Nothing;
+  reply = if nat_lt (length g.listener.gathered + length letters) MOST_GATHERED && w.closed then End else Nothing;
   desk = heard_on d number h (heard_quietly g (take (fitting g.listener letters) letters)) (taken_from g w h.id (fitting g.listener letters));
 }
 

@@ -3,6 +3,7 @@ use Rattle.std.specs.Prelude.{ℕ, ◌≡◌, ◌≢◌, ◌==◌, ◌+◌, Bool
 use Rattle.std.specs.Option.{option_map}
 use Rattle.hub_letters.specs.Stages.{followed}
 use Rattle.hub_letters.specs.declared.stage.Stage.TheVariants.{Off}
+use Rattle.hub_record.specs.declared.limits.TheConstants.{MOST_PASSES}
 use Rattle.hub_record.specs.World.{World, standing, letters, load, IsLawfulIn, SubscribeReply, PublishReply}
 use Rattle.hub_record.specs.declared.Kind.{Kind}
 use Rattle.hub_record.specs.declared.Kind.TheVariants.{Plain, Service}
@@ -14,7 +15,7 @@ use Rattle.hub_record.specs.declared.PubError.TheVariants as post
 abbrev pub subscribe_reply : World → Result (ℕ × ℕ) SubError
 subscribe_reply w =
     if w.closed then Err sub.Closed else
-    if nat_le 1024 (length (standing w)) then Err sub.Many else
+    if nat_le MOST_PASSES (length (standing w)) then Err sub.Many else
     if nat_le w.limits.ids (length w.subscriptions) then Err sub.Spent else
     Ok (length w.subscriptions + 1, length w.events)
 

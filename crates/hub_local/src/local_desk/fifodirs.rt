@@ -1,16 +1,13 @@
 //! The requests about a fifodir: make one, publish to it, close it, and report its status.
-ghost use Rattle.std.specs.Prelude.{◌≤◌, Some, length, false, true};
+ghost use Rattle.std.specs.Prelude.{Some, false, true};
 ghost use Rattle.hub_local.specs.Answers.{made, refusal_to_make};
 ghost use Rattle.hub_local.specs.Standing.{Answers, AskedWith, Unchanged};
-ghost use Rattle.hub_requests.specs.Texts.{text_of};
 ghost use Rattle.hub_requests.specs.declared.request.Request.TheVariants.{Pub, Close, Status as Show};
+ghost use Rattle.hub_requests.specs.Brief.{IsShort};
 
 use crate::local_desk::{LocalDesk, LocalFifodir};
 use hub_record::{Closed, Kind, Letters, Limits, Record, Status};
-use hub_requests::{Name, Refusal, Reply};
-
-/// How many fifodirs a desk may have.
-const NAMES: usize = 256;
+use hub_requests::{MOST_NAMES, Name, Refusal, Reply};
 
 /// The publisher's number in a desk's own records.
 const PUBLISHER: u64 = 1;
@@ -25,12 +22,12 @@ impl LocalDesk {
     ) -> Reply
         ensures step { Answers self.old true (λ desk. refusal_to_make desk name.now)
             (λ desk. made desk name.now kind reports (Some limits)) Unchanged result self.new }
-        ensures short { length (text_of result) ≤ 4101 }
+        ensures short { IsShort result }
     {
         if self.fifodirs.contains_key(name) {
             return Reply::No(Refusal::Exists);
         }
-        if self.fifodirs.len() >= NAMES {
+        if self.fifodirs.len() >= MOST_NAMES {
             return Reply::No(Refusal::Many);
         }
         let Ok(key) = name.copy() else {
@@ -47,7 +44,7 @@ impl LocalDesk {
 
     pub(super) fn publish(&mut self, name: &Name, letters: &Letters) -> Reply
         ensures step { AskedWith false self.old (Pub name.now letters.now) result self.new }
-        ensures short { length (text_of result) ≤ 4101 }
+        ensures short { IsShort result }
     {
         let Some(fifodir) = self.fifodirs.get_mut(name) else {
             return Reply::No(Refusal::Name);
@@ -60,7 +57,7 @@ impl LocalDesk {
 
     pub(super) fn close(&mut self, name: &Name) -> Reply
         ensures step { AskedWith false self.old (Close name.now) result self.new }
-        ensures short { length (text_of result) ≤ 4101 }
+        ensures short { IsShort result }
     {
         let Some(fifodir) = self.fifodirs.get_mut(name) else {
             return Reply::No(Refusal::Name);
@@ -73,7 +70,7 @@ impl LocalDesk {
 
     pub(super) fn status(&self, name: &Name) -> Reply
         ensures step { AskedWith false self.now (Show name.now) result self.now }
-        ensures short { length (text_of result) ≤ 4101 }
+        ensures short { IsShort result }
     {
         let Some(fifodir) = self.fifodirs.get(name) else {
             return Reply::No(Refusal::Name);

@@ -1,21 +1,18 @@
 //! The requests about a listener: begin one, and look for its next hit.
-ghost use Rattle.std.specs.Prelude.{◌≡◌, ◌≢◌, ◌≤◌, ◌<◌, Some, length, false};
+ghost use Rattle.std.specs.Prelude.{◌≡◌, ◌≢◌, ◌<◌, Some, length, false};
 ghost use Rattle.hub_listen.specs.Listening.{is_spent};
 ghost use Rattle.hub_record.specs.Kept.{StandsFor};
 ghost use Rattle.hub_record.specs.World.{World, Subscription, found};
 ghost use Rattle.hub_local.specs.Hearings.{Hears, HearsOne, TakesOne};
 ghost use Rattle.hub_local.specs.Standing.{Asked, AskedWith, HasSubscription};
-ghost use Rattle.hub_requests.specs.Texts.{text_of};
 ghost use Rattle.hub_requests.specs.declared.request.Request.TheVariants.{Listen, Poll};
+ghost use Rattle.hub_requests.specs.Brief.{IsShort};
 
 use crate::local_desk::{Hearing, LocalDesk};
-use hub_letters::Letter;
+use hub_letters::{Letter, MOST_GATHERED};
 use hub_listen::{Feed, FeedError, ListenError, Listener, Mode};
 use hub_record::{Event, Letters, Record, Taken};
 use hub_requests::{Name, PatternText, Refusal, Reply};
-
-/// The most letters that a listener gathers.
-const ROOM: usize = 4096;
 
 /// What a listener's look at its letters came to.
 enum Heard {
@@ -31,7 +28,7 @@ enum Heard {
 impl LocalDesk {
     pub(super) fn listen(&mut self, name: &Name, mode: Mode, pattern: &PatternText) -> Reply
         ensures step { Asked self.old (Listen name.now mode pattern.now) result self.new }
-        ensures short { length (text_of result) ≤ 4101 }
+        ensures short { IsShort result }
     {
         if let Some(refusal) = self.refusal_to_hold(name) {
             return Reply::No(refusal);
@@ -52,7 +49,7 @@ impl LocalDesk {
 
     pub(super) fn poll(&mut self, id: u64) -> Reply
         ensures step { AskedWith false self.old (Poll id) result self.new }
-        ensures short { length (text_of result) ≤ 4101 }
+        ensures short { IsShort result }
     {
         let Some(holding) = self.holdings.get_mut(&id) else {
             return Reply::No(Refusal::Id);
@@ -60,10 +57,10 @@ impl LocalDesk {
         let Some(hearing) = &mut holding.hearing else {
             return Reply::No(Refusal::Id);
         };
-        if hearing.listener.text().len() >= ROOM {
+        if hearing.listener.text().len() >= MOST_GATHERED {
             return Reply::No(Refusal::Overlong);
         }
-        let Ok(mut letters) = Vec::with_capacity(self.alloc, ROOM) else {
+        let Ok(mut letters) = Vec::with_capacity(self.alloc, MOST_GATHERED) else {
             return Reply::No(Refusal::Memory);
         };
         let Some(fifodir) = self.fifodirs.get_mut(&holding.name) else {
@@ -91,11 +88,11 @@ impl LocalDesk {
 fn hear(hearing: &mut Hearing, kept: &mut Record, id: u64) -> Heard
     requires stands { HasSubscription kept.old id }
     requires unspent { is_spent hearing.old.listener ≡ false }
-    requires room { length hearing.old.listener.gathered < 4096 }
+    requires room { length hearing.old.listener.gathered < MOST_GATHERED }
     ensures { (w : World) (s : Subscription) → StandsFor kept.old w → found w id ≡ Some s
         → Hears hearing.old w id result hearing.new kept.new }
 {
-    for _ in hearing.listener.text().len()..ROOM {
+    for _ in hearing.listener.text().len()..MOST_GATHERED {
         match hear_one(hearing, kept, id) {
             None => {}
             Some(heard) => return heard,
@@ -108,7 +105,7 @@ fn hear(hearing: &mut Hearing, kept: &mut Record, id: u64) -> Heard
 fn hear_one(hearing: &mut Hearing, kept: &mut Record, id: u64) -> Option<Heard>
     requires stands { HasSubscription kept.old id }
     requires unspent { is_spent hearing.old.listener ≡ false }
-    requires room { length hearing.old.listener.gathered < 4096 }
+    requires room { length hearing.old.listener.gathered < MOST_GATHERED }
     ensures { (w : World) (s : Subscription) → StandsFor kept.old w → found w id ≡ Some s
         → HearsOne hearing.old w id result hearing.new kept.new }
 {

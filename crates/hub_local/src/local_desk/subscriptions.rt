@@ -3,14 +3,15 @@ ghost use Rattle.std.specs.Prelude.{◌≡◌, ◌≤◌, List, length, None, fa
 ghost use Rattle.indexmap.specs.IndexMap.{values};
 ghost use Rattle.hub_record.specs.Kept.{StandsFor};
 ghost use Rattle.hub_record.specs.World.{World, letters, take_reply, take_events, after_take};
+ghost use Rattle.hub_requests.specs.declared.bounds.TheConstants.{MOST_TAKEN};
 ghost use Rattle.hub_local.specs.Answers.{in_world, refusal_to_hold, subscribed, take_shown};
 ghost use Rattle.hub_local.specs.Desks.{Desk, Fifodir, GoesOn, without_held, without_all, world_of};
 ghost use Rattle.hub_requests.specs.Ranges.{IsTake};
 ghost use Rattle.hub_local.specs.Replies.{subscribe_reply};
 ghost use Rattle.hub_local.specs.Standing.{AreKept, Answers, AskedWith, HasSubscription, Stands, Unchanged};
-ghost use Rattle.hub_requests.specs.Texts.{text_of};
 ghost use Rattle.hub_requests.specs.declared.reply.Reply.TheVariants.{No};
 ghost use Rattle.hub_requests.specs.declared.request.Request.TheVariants.{Sub, Take, Cancel};
+ghost use Rattle.hub_requests.specs.Brief.{IsShort};
 
 use crate::local_desk::{Hearing, Holding, LocalDesk, LocalFifodir};
 use hub_letters::Letter;
@@ -22,7 +23,7 @@ use std::alloc::{AllocError, Global};
 impl LocalDesk {
     pub(super) fn subscribe(&mut self, name: &Name) -> Reply
         ensures step { AskedWith false self.old (Sub name.now) result self.new }
-        ensures short { length (text_of result) ≤ 4101 }
+        ensures short { IsShort result }
     {
         match self.refusal_to_hold(name) {
             Some(refusal) => Reply::No(refusal),
@@ -34,7 +35,7 @@ impl LocalDesk {
     pub(super) fn refusal_to_hold(&self, name: &Name) -> Option<Refusal>
         ensures own { (desk : Desk) → Stands self.now desk
             → result ≡ refusal_to_hold desk name.now }
-        ensures short { IfSome result (λ refusal. length (text_of (No refusal)) ≤ 4101) }
+        ensures short { IfSome result (λ refusal. IsShort (No refusal)) }
     {
         if !self.fifodirs.contains_key(name) {
             return Some(Refusal::Name);
@@ -50,7 +51,7 @@ impl LocalDesk {
         ensures step { Answers self.old true (λ desk. refusal_to_hold desk name.now)
             (λ desk. in_world desk (λ w. subscribed desk name.now hearing w (subscribe_reply w))
             (world_of desk.fifodirs name.now)) Unchanged result self.new }
-        ensures short { length (text_of result) ≤ 4101 }
+        ensures short { IsShort result }
     {
         let Ok(key) = name.copy() else {
             return Reply::No(Refusal::Memory);
@@ -79,7 +80,7 @@ impl LocalDesk {
     pub(super) fn take(&mut self, id: u64, max: u64) -> Reply
         requires { IsTake max }
         ensures step { AskedWith false self.old (Take id max) result self.new }
-        ensures short { length (text_of result) ≤ 4101 }
+        ensures short { IsShort result }
     {
         let Some(holding) = self.holdings.get(&id) else {
             return Reply::No(Refusal::Id);
@@ -98,7 +99,7 @@ impl LocalDesk {
 
     pub(super) fn cancel(&mut self, id: u64) -> Reply
         ensures step { AskedWith false self.old (Cancel id) result self.new }
-        ensures short { length (text_of result) ≤ 4101 }
+        ensures short { IsShort result }
     {
         let Some(holding) = self.holdings.shift_remove(&id) else {
             return Reply::No(Refusal::Id);
@@ -135,13 +136,13 @@ pub(super) fn release_all(
 /// memory runs out, nothing was taken.
 fn take_waiting(alloc: Global, kept: &mut Record, id: u64, most: usize) -> Result<Reply, AllocError>
     requires stands { HasSubscription kept.old id }
-    requires few { most ≤ 256 }
+    requires few { most ≤ MOST_TAKEN }
     ensures reply { (w : World) → StandsFor kept.old w
         → IfOk result (λ reply. reply ≡ take_shown (letters (take_events w id most))
         (take_reply w id most)) }
     ensures after { (w : World) → StandsFor kept.old w
         → OnOk result (StandsFor kept.new (after_take w id most)) }
-    ensures short { IfOk result (λ reply. length (text_of reply) ≤ 4101) }
+    ensures short { IfOk result IsShort }
     ensures err { OnErr result (kept.new ≡ kept.old) }
 {
     let Some(waiting) = kept.waiting(id) else {
@@ -159,13 +160,13 @@ fn take_letters(
     room: &mut [Event],
 ) -> Result<Reply, AllocError>
     requires stands { HasSubscription kept.old id }
-    requires few { length room.old ≤ 256 }
+    requires few { length room.old ≤ MOST_TAKEN }
     ensures reply { (w : World) → StandsFor kept.old w
         → IfOk result (λ reply. reply ≡ take_shown
         (letters (take_events w id (length room.old))) (take_reply w id (length room.old))) }
     ensures after { (w : World) → StandsFor kept.old w
         → OnOk result (StandsFor kept.new (after_take w id (length room.old))) }
-    ensures short { IfOk result (λ reply. length (text_of reply) ≤ 4101) }
+    ensures short { IfOk result IsShort }
     ensures err { OnErr result (kept.new ≡ kept.old) }
 {
     let letters = Vec::with_capacity(alloc, room.len())?;

@@ -1,11 +1,12 @@
 //! The request about several services at once: whether they are as wanted.
 ghost use Rattle.std.specs.Prelude.{◌≡◌, ◌≤◌, ◌<◌, ◌^◌, List, length, IfErr, IfSome, true, vec_len, vec_capacity};
 ghost use Rattle.std.specs.List.{list_all};
+ghost use Rattle.hub_requests.specs.declared.bounds.TheConstants.{MOST_SERVICES};
 ghost use Rattle.hub_local.specs.Answers.{refusal_to_wait};
 ghost use Rattle.hub_local.specs.Desks.{Fifodir};
 ghost use Rattle.hub_local.specs.Standing.{AreKept, Answers};
-ghost use Rattle.hub_requests.specs.Texts.{text_of};
 ghost use Rattle.hub_requests.specs.declared.reply.Reply.TheVariants.{No};
+ghost use Rattle.hub_requests.specs.Brief.{IsShort};
 ghost use Rattle.hub_local.specs.Waits.{without_subscription, without_posts, number_of, verdict_shown, waited, LeftByWait};
 ghost use Rattle.hub_local.specs.Opening.{is_there, is_service, refusal_among, OpensPost, OpensAll};
 
@@ -27,11 +28,11 @@ struct Post {
 impl LocalDesk {
     /// Answers at once, since nothing can change during a wait of the only session.
     pub(super) fn wait(&mut self, span: Span, want: Want, names: &Names) -> Reply
-        requires { length names.now ≤ 32 }
+        requires { length names.now ≤ MOST_SERVICES }
         ensures step { Answers self.old true (λ desk. refusal_to_wait desk names.now)
             (λ desk. waited desk span want names.now)
             (λ desk left. LeftByWait desk want names.now left) result self.new }
-        ensures short { length (text_of result) ≤ 4101 }
+        ensures short { IsShort result }
     {
         let names = names.items();
         if let Some(refusal) = refusal_by_names(&self.fifodirs, names) {
@@ -94,7 +95,7 @@ fn open(
 ) -> Result<Post, Refusal>
     ensures opens { (model : List Fifodir) → AreKept fifodirs.old.entries model
         → OpensPost want name.now model result fifodirs.new.entries }
-    ensures short { IfErr result (λ refusal. length (text_of (No refusal)) ≤ 4101) }
+    ensures short { IfErr result (λ refusal. IsShort (No refusal)) }
 {
     let Some(fifodir) = fifodirs.get_mut(name) else {
         return Err(Refusal::Name);
@@ -125,7 +126,7 @@ fn open_all(
     ensures opens { (model : List Fifodir) → AreKept fifodirs.old.entries model
         → OpensAll want names.now model result fifodirs.new.entries posts.new.items }
     ensures few { vec_len posts.new ≤ length names.now }
-    ensures short { IfErr result (λ refusal. length (text_of (No refusal)) ≤ 4101) }
+    ensures short { IfErr result (λ refusal. IsShort (No refusal)) }
 {
     for name in names {
         let post = open(fifodirs, name, want)?;
@@ -171,9 +172,9 @@ fn number_of(post: &Post) -> Option<u64>
 fn verdict_shown(span: Span, posts: &[Post], mut numbers: Vec<Option<u64>>) -> Reply
     requires empty { vec_len numbers ≡ 0 }
     requires fits { length posts.now ≤ vec_capacity numbers }
-    requires few { length posts.now ≤ 32 }
+    requires few { length posts.now ≤ MOST_SERVICES }
     ensures reply { result ≡ verdict_shown span posts.now }
-    ensures short { length (text_of result) ≤ 4101 }
+    ensures short { IsShort result }
 {
     let mut tally = Tally::new(span);
     for post in posts {

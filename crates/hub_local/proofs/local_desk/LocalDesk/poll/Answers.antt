@@ -13,19 +13,19 @@ returns-in_default-hearing-clause-step c =
 pub invariant_of-self-in_default-hearing : goal.invariant_of-self-in_default-hearing
 invariant_of-self-in_default-hearing c = stands_on _ c.args.self.now _ _ _ _ _ _ c.self.view_is (returns-in_default-hearing-clause-step c) c.self.invariant
 
-pub returns-then-text-ge-ROOM-clause-step : goal.returns-then-text-ge-ROOM-clause-step
-returns-then-text-ge-ROOM-clause-step c =
+pub returns-then-text-ge-MOST_GATHERED-clause-step : goal.returns-then-text-ge-MOST_GATHERED-clause-step
+returns-then-text-ge-MOST_GATHERED-clause-step c =
     answers_from c.self.view_is (poll_overlong _ _ c.args.id c.in-Some.holding.now c.in-Some.ensures.value c.in-Some-hearing.hearing c.in-Some-hearing.is
-    (let l = ap length c.text.ensures.value in let t = c.if-text-ge-ROOM.true in omega arith)
+    (let l = ap length c.text.ensures.value in let t = c.if-text-ge-MOST_GATHERED.true in omega arith)
     (same_parts _ _ refl ((c.get_mut.follows.holds _).0 ∙ same_hearing c.self.inside.holdings.entries c.args.id c.in-Some.holding.now _ c.in-Some-hearing.is (sym c.in-Some.ensures.value)) refl))
 
-pub invariant_of-self-then-text-ge-ROOM : goal.invariant_of-self-then-text-ge-ROOM
-invariant_of-self-then-text-ge-ROOM c = stands_on _ c.args.self.now _ _ _ _ _ _ c.self.view_is (returns-then-text-ge-ROOM-clause-step c) c.self.invariant
+pub invariant_of-self-then-text-ge-MOST_GATHERED : goal.invariant_of-self-then-text-ge-MOST_GATHERED
+invariant_of-self-then-text-ge-MOST_GATHERED c = stands_on _ c.args.self.now _ _ _ _ _ _ c.self.view_is (returns-then-text-ge-MOST_GATHERED-clause-step c) c.self.invariant
 
 pub returns-in_default-with_capacity-clause-step : goal.returns-in_default-with_capacity-clause-step
 returns-in_default-with_capacity-clause-step c =
     answers_from c.self.view_is (poll_lacks _ _ c.args.id c.in-Some.holding.now c.in-Some.ensures.value c.in-Some-hearing.hearing c.in-Some-hearing.is
-    (let l = ap length c.text.ensures.value in let t = c.if-text-ge-ROOM.false in omega arith)
+    (let l = ap length c.text.ensures.value in let t = c.if-text-ge-MOST_GATHERED.false in omega arith)
     (same_parts _ _ refl ((c.get_mut.follows.holds _).0 ∙ same_hearing c.self.inside.holdings.entries c.args.id c.in-Some.holding.now _ c.in-Some-hearing.is (sym c.in-Some.ensures.value)) refl))
 
 pub invariant_of-self-in_default-with_capacity : goal.invariant_of-self-in_default-with_capacity
@@ -44,56 +44,56 @@ hear-requires-clause-unspent c =
 pub returns-in-Nothing-clause-step : goal.returns-in-Nothing-clause-step
 returns-in-Nothing-clause-step c =
     answers_from c.self.view_is (poll_nothing _ _ c.args.id c.in-Some.holding.now c.in-Some.ensures.value c.in-Some-hearing.hearing c.in-Some-hearing.is
-    (let l = ap length c.text.ensures.value in let t = c.if-text-ge-ROOM.false in omega arith) c.hear.new.hearing c.in-Some-get_mut.fifodir.now c.hear.new.kept
+    (let l = ap length c.text.ensures.value in let t = c.if-text-ge-MOST_GATHERED.false in omega arith) c.hear.new.hearing c.in-Some-get_mut.fifodir.now c.hear.new.kept
     (record { was = sym c.in-Some-get_mut.ensures.value; fifodirs = (c.get_mut-2.follows.holds _).0; holdings = (c.get_mut.follows.holds _).0; given = refl })
     c.in-Nothing.ensures)
 
 pub invariant_of-self-in-Nothing-1 : goal.invariant_of-self-in-Nothing-1
 invariant_of-self-in-Nothing-1 c = stands_on _ c.args.self.now _ _ _ _ _ _ c.self.view_is
     (answers_from c.self.view_is (poll_nothing _ _ c.args.id c.in-Some.holding.now c.in-Some.ensures.value c.in-Some-hearing.hearing c.in-Some-hearing.is
-    (let l = ap length c.text.ensures.value in let t = c.if-text-ge-ROOM.false in omega arith) c.hear.new.hearing c.in-Some-get_mut.fifodir.now c.hear.new.kept
+    (let l = ap length c.text.ensures.value in let t = c.if-text-ge-MOST_GATHERED.false in omega arith) c.hear.new.hearing c.in-Some-get_mut.fifodir.now c.hear.new.kept
     (record { was = sym c.in-Some-get_mut.ensures.value; fifodirs = (c.get_mut-2.follows.holds _).0; holdings = (c.get_mut.follows.holds _).0; given = refl })
     c.in-Nothing.ensures)) c.self.invariant
 
 pub returns-in-End-clause-step : goal.returns-in-End-clause-step
 returns-in-End-clause-step c =
     answers_from c.self.view_is (poll_end _ _ c.args.id c.in-Some.holding.now c.in-Some.ensures.value c.in-Some-hearing.hearing c.in-Some-hearing.is
-    (let l = ap length c.text.ensures.value in let t = c.if-text-ge-ROOM.false in omega arith) c.hear.new.hearing c.in-Some-get_mut.fifodir.now c.hear.new.kept
+    (let l = ap length c.text.ensures.value in let t = c.if-text-ge-MOST_GATHERED.false in omega arith) c.hear.new.hearing c.in-Some-get_mut.fifodir.now c.hear.new.kept
     (record { was = sym c.in-Some-get_mut.ensures.value; fifodirs = (c.get_mut-2.follows.holds _).0; holdings = (c.get_mut.follows.holds _).0; given = refl })
     c.in-End.ensures)
 
 pub invariant_of-self-in-End-1 : goal.invariant_of-self-in-End-1
 invariant_of-self-in-End-1 c = stands_on _ c.args.self.now _ _ _ _ _ _ c.self.view_is
     (answers_from c.self.view_is (poll_end _ _ c.args.id c.in-Some.holding.now c.in-Some.ensures.value c.in-Some-hearing.hearing c.in-Some-hearing.is
-    (let l = ap length c.text.ensures.value in let t = c.if-text-ge-ROOM.false in omega arith) c.hear.new.hearing c.in-Some-get_mut.fifodir.now c.hear.new.kept
+    (let l = ap length c.text.ensures.value in let t = c.if-text-ge-MOST_GATHERED.false in omega arith) c.hear.new.hearing c.in-Some-get_mut.fifodir.now c.hear.new.kept
     (record { was = sym c.in-Some-get_mut.ensures.value; fifodirs = (c.get_mut-2.follows.holds _).0; holdings = (c.get_mut.follows.holds _).0; given = refl })
     c.in-End.ensures)) c.self.invariant
 
 pub returns-in-Lacking-clause-step : goal.returns-in-Lacking-clause-step
 returns-in-Lacking-clause-step c =
     answers_from c.self.view_is (poll_stops _ _ c.args.id c.in-Some.holding.now c.in-Some.ensures.value c.in-Some-hearing.hearing c.in-Some-hearing.is
-    (let l = ap length c.text.ensures.value in let t = c.if-text-ge-ROOM.false in omega arith) c.hear.new.hearing c.in-Some-get_mut.fifodir.now c.hear.new.kept
+    (let l = ap length c.text.ensures.value in let t = c.if-text-ge-MOST_GATHERED.false in omega arith) c.hear.new.hearing c.in-Some-get_mut.fifodir.now c.hear.new.kept
     (record { was = sym c.in-Some-get_mut.ensures.value; fifodirs = (c.get_mut-2.follows.holds _).0; holdings = (c.get_mut.follows.holds _).0; given = refl })
     c.in-Lacking.ensures)
 
 pub invariant_of-self-in-Lacking-1 : goal.invariant_of-self-in-Lacking-1
 invariant_of-self-in-Lacking-1 c = stands_on _ c.args.self.now _ _ _ _ _ _ c.self.view_is
     (answers_from c.self.view_is (poll_stops _ _ c.args.id c.in-Some.holding.now c.in-Some.ensures.value c.in-Some-hearing.hearing c.in-Some-hearing.is
-    (let l = ap length c.text.ensures.value in let t = c.if-text-ge-ROOM.false in omega arith) c.hear.new.hearing c.in-Some-get_mut.fifodir.now c.hear.new.kept
+    (let l = ap length c.text.ensures.value in let t = c.if-text-ge-MOST_GATHERED.false in omega arith) c.hear.new.hearing c.in-Some-get_mut.fifodir.now c.hear.new.kept
     (record { was = sym c.in-Some-get_mut.ensures.value; fifodirs = (c.get_mut-2.follows.holds _).0; holdings = (c.get_mut.follows.holds _).0; given = refl })
     c.in-Lacking.ensures)) c.self.invariant
 
 pub invariant_of-self-in-Once : goal.invariant_of-self-in-Once
 invariant_of-self-in-Once c =
     hit_stands _ _ c.args.id c.in-Some.holding.now c.in-Some.ensures.value c.in-Some-hearing.hearing c.in-Some-hearing.is
-    (let l = ap length c.text.ensures.value in let t = c.if-text-ge-ROOM.false in omega arith) c.hear.new.hearing c.in-Some-get_mut.fifodir.now c.hear.new.kept
+    (let l = ap length c.text.ensures.value in let t = c.if-text-ge-MOST_GATHERED.false in omega arith) c.hear.new.hearing c.in-Some-get_mut.fifodir.now c.hear.new.kept
     (record { was = sym c.in-Some-get_mut.ensures.value; fifodirs = (c.get_mut-2.follows.holds _).0; holdings = (c.get_mut.follows.holds _).0; given = refl })
     c.in-Hit.ensures c.self.invariant.desk c.self.invariant.stands
 
 pub invariant_of-self-in-Repeat : goal.invariant_of-self-in-Repeat
 invariant_of-self-in-Repeat c =
     hit_stands _ _ c.args.id c.in-Some.holding.now c.in-Some.ensures.value c.in-Some-hearing.hearing c.in-Some-hearing.is
-    (let l = ap length c.text.ensures.value in let t = c.if-text-ge-ROOM.false in omega arith) c.hear.new.hearing c.in-Some-get_mut.fifodir.now c.hear.new.kept
+    (let l = ap length c.text.ensures.value in let t = c.if-text-ge-MOST_GATHERED.false in omega arith) c.hear.new.hearing c.in-Some-get_mut.fifodir.now c.hear.new.kept
     (record { was = sym c.in-Some-get_mut.ensures.value; fifodirs = (c.get_mut-2.follows.holds _).0; holdings = (c.get_mut.follows.holds _).0; given = refl })
     c.in-Hit.ensures c.self.invariant.desk c.self.invariant.stands
 
@@ -102,11 +102,11 @@ returns-after-hearing-clause-step c =
     let shows : c.of.result ≡ c.hear.new.hearing.listener.hit =
     c.of.ensures ∙ (rw c.unwrap.ensures at c.extend_from_slice.ensures.items) ∙ ap (λ (x : List ℕ). x ++ c.hit.result.now) c.in-Ok.ensures.items ∙ c.hit.ensures.value in
     let ends = poll_ended _ _ c.args.id c.in-Some.holding.now c.in-Some.ensures.value c.in-Some-hearing.hearing c.in-Some-hearing.is
-    (let l = ap length c.text.ensures.value in let t = c.if-text-ge-ROOM.false in omega arith) c.hear.new.hearing c.in-Some-get_mut.fifodir.now c.hear.new.kept
+    (let l = ap length c.text.ensures.value in let t = c.if-text-ge-MOST_GATHERED.false in omega arith) c.hear.new.hearing c.in-Some-get_mut.fifodir.now c.hear.new.kept
     (record { was = sym c.in-Some-get_mut.ensures.value; fifodirs = (c.get_mut-2.follows.holds _).0; holdings = (c.get_mut.follows.holds _).0; given = refl })
     c.in-Hit.ensures c.of.result shows in
     let goes_on = poll_goes_on _ _ c.args.id c.in-Some.holding.now c.in-Some.ensures.value c.in-Some-hearing.hearing c.in-Some-hearing.is
-    (let l = ap length c.text.ensures.value in let t = c.if-text-ge-ROOM.false in omega arith) c.hear.new.hearing c.in-Some-get_mut.fifodir.now c.hear.new.kept
+    (let l = ap length c.text.ensures.value in let t = c.if-text-ge-MOST_GATHERED.false in omega arith) c.hear.new.hearing c.in-Some-get_mut.fifodir.now c.hear.new.kept
     (record { was = sym c.in-Some-get_mut.ensures.value; fifodirs = (c.get_mut-2.follows.holds _).0; holdings = (c.get_mut.follows.holds _).0; given = refl })
     c.in-Hit.ensures c.of.result shows in
     answers_from c.self.view_is (elim c.match-hearing.branch [

@@ -1,12 +1,12 @@
-use Rattle.std.proofs.Common.{◌≤◌, false, refl, ap, sym, subst, ◌∙◌, List, ℕ, length, Result, Ok, Err, arith}
+use Rattle.std.proofs.Common.{false, refl, ap, sym, subst, ◌∙◌, List, ℕ, Result, Ok, Err, arith}
 use Rattle.hub_record.specs.World.{World, PublishReply, after_publish}
 use Rattle.hub_record.specs.Kept.{StandsFor}
 use Rattle.hub_record.specs.declared.PubError.{PubError}
 use Rattle.hub_requests.specs.declared.reply.Reply.{Reply}
 use Rattle.hub_requests.specs.declared.reply.Reply.TheVariants.{No}
 use Rattle.hub_requests.specs.declared.reply.Refusal.{Refusal}
-use Rattle.hub_requests.specs.Texts.{text_of}
 use Rattle.hub_requests.proofs.ShortReplies.{short_number}
+use Rattle.hub_requests.specs.Brief.{IsShort}
 use Rattle.hub_local.proofs.ShortRefusals.{short_refused}
 use Rattle.hub_local.proofs.KeptFifodirs.{some_kept}
 use Rattle.hub_local.proofs.Asking.{same_parts, replaces, no_name, stands_on}
@@ -36,10 +36,10 @@ invariant_of-self-2 c = stands_on _ c.args.self.now _ _ _ _ _ _ c.self.view_is (
 
 pub returns-clause-short : goal.returns-clause-short
 returns-clause-short c = elim c.match-publish.branch [
-  | in-Ok w ↦ subst (λ (r : Reply). length (text_of r) ≤ 4101) (sym w.result-is) (short_number w.in-Ok.first (omega arith))
+  | in-Ok w ↦ subst IsShort (sym w.result-is) (short_number w.in-Ok.first (omega arith))
   | in-Err w ↦ (
       let t = some_kept c.args.name.now _ _ c.in-Some.fifodir.now c.self.invariant.stands.fifodirs (sym c.in-Some.ensures.value) in
       let fits = c.items.type_inv in
-      subst (λ (r : Reply). length (text_of r) ≤ 4101) (sym (w.result-is ∙ ap (λ (r : Refusal). No r) w.from.ensures))
+      subst IsShort (sym (w.result-is ∙ ap (λ (r : Refusal). No r) w.from.ensures))
       (short_refused t.0 c.items.result.now w.in-Err.error (w.in-Err.ensures.reply t.0 t.2) (omega arith)))
 ]
