@@ -11,6 +11,7 @@ use Rattle.hub_io.specs.declared.fault.FrontError.TheVariants as fault
 use Rattle.hub_io.specs.declared.fault.FrontError.TheVariants.{Read, Write, Turns}
 use Rattle.hub_protocol.specs.Reading.{IsReading}
 use Rattle.hub_protocol.specs.Refusing.{refusal_of}
+use Rattle.hub_io.specs.declared.reading.TheConstants.{MAX_READS}
 use Rattle.hub_io.specs.Lines.{complete_of, lines_of}
 use Rattle.hub_io.specs.Faults.{AppendsPart}
 use Rattle.hub_io.specs.Telling.{Grows}
@@ -82,7 +83,7 @@ pub record Finished {D : Type 0} (asks : Asking D) (ends : D → D → Type 0) (
 abbrev pub StopsAt : {D : Type 0} → Asking D → D → List ℕ → (held holds has : Option (List ℕ)) → D → FrontError → Type 0
 StopsAt asks old input held holds has mid Read = Served asks old (complete_of input) held holds mid
 StopsAt asks old input held holds has mid Turns =
-    Served asks old (complete_of input) held holds mid × (10000000 ≤ length input)
+    Served asks old (complete_of input) held holds mid × (MAX_READS ≤ length input)
 StopsAt asks old input held holds has mid Write =
     (lines : List (List ℕ)) × AreDue input has lines × BreaksOff asks old lines held holds mid
 StopsAt asks old input held holds has mid fault.Memory = (input ≡ []) × Served asks old [] held holds mid
@@ -96,6 +97,6 @@ pub record Stopped {D : Type 0} (asks : Asking D) (ends : D → D → Type 0) (o
   pub stopped : StopsAt asks old input held holds has mid e
   pub ended : ends mid new
 
--- At most 10,000,000 reads were made, and exactly that many at Turns. made and makes are the counts before and after.
+-- At most MAX_READS reads were made, and exactly that many at Turns. made and makes are the counts before and after.
 abbrev pub ReadsWithin : {T : Type 0} → (made makes : Option ℕ) → Result T FrontError → Type 0
-ReadsWithin made makes result = (n : ℕ) × (n ≤ 10000000) × Grows made makes n × (result ≡ Err Turns → n ≡ 10000000)
+ReadsWithin made makes result = (n : ℕ) × (n ≤ MAX_READS) × Grows made makes n × (result ≡ Err Turns → n ≡ MAX_READS)

@@ -24,11 +24,11 @@ fn serve_reads<H: Wait, D: Desk, R: Source, W: Sink>(
 ) -> Result<(), FrontError>
     requires line { session.old.line.items ≡ [] }
     requires count { session.old.count ≡ 0 }
-    requires chunk { length chunk.old ≡ 65536 }
+    requires chunk { length chunk.old ≡ CHUNK }
     ensures under_way { OnOk result (IsUnderWay D.asks desk.old desk.new
         (W.contents writer.old) (W.contents writer.new) (R.remaining reader.old) (R.remaining reader.new)
         session.new.line.items session.new.count 0) }
-    ensures few { OnOk result (session.new.count ≤ 10000000 * 65536) }
+    ensures few { OnOk result (session.new.count ≤ MAX_READS * CHUNK) }
     ensures end { OnOk result (IsAtEnd (R.remaining reader.new)) }
     ensures err { IfErr result (λ e. (input : List ℕ)
         × Consumes (R.remaining reader.old) (R.remaining reader.new) input
@@ -97,7 +97,7 @@ pub fn serve<H: Wait, D: Desk, R: Source, W: Sink>(
     ensures memory { result ≡ Err FrontError.Memory → (reader.new ≡ reader.old)
         × (writer.new ≡ writer.old) }
 
-    // It makes at most 10,000,000 reads.
+    // It makes at most `MAX_READS` reads.
     ensures reads { ReadsWithin (R.reads reader.old) (R.reads reader.new) result }
 
     // An error is reported if its fault was counted, and only then.

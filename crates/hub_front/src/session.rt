@@ -1,7 +1,8 @@
 //! What a session keeps between two reads, and how it answers the bytes of one read.
 ghost use Rattle.std.specs.Prelude.{◌≡◌, ◌+◌, ◌<◌, ◌≤◌, ◌^◌, List, [], ◌∷◌, length, OnOk, OnErr, IfOk, IfErr, vec_len, vec_capacity};
 ghost use Rattle.std.specs.Io.KnownBytes.{Appends};
-ghost use Rattle.hub_requests.specs.Texts.{text_of};
+ghost use Rattle.hub_requests.specs.declared.bounds.TheConstants.{LONGEST_REPLY};
+ghost use Rattle.hub_requests.specs.Brief.{IsShort};
 ghost use Rattle.hub_io.specs.Lines.{last_line};
 ghost use Rattle.hub_io.specs.Telling.{Grows};
 ghost use Rattle.hub_io.specs.Faults.{AppendsPart, write_faults};
@@ -10,14 +11,12 @@ ghost use Rattle.hub_front.specs.Pieces.{done, left};
 
 use hub_io::{FrontError, Sink, write_whole};
 use hub_protocol::{parse, write_reply};
-use hub_requests::{Desk, Refusal, Reply};
+use hub_requests::{Desk, LONGEST_REPLY, Refusal, Reply};
 use std::alloc::{AllocError, Global};
 use std::sync::Wait;
 
 // One byte more than a line may have, which is enough to know that a line is too long.
 const KEPT: usize = 513;
-
-const LONGEST_REPLY: usize = 4_101;
 
 const LF: u8 = b'\n';
 
@@ -30,7 +29,7 @@ pub(crate) struct Session {
     text: Vec<u8>,
     count: u64,
     ghost line_room: { 513 ≤ vec_capacity line },
-    ghost text_room: { 4101 ≤ vec_capacity text },
+    ghost text_room: { LONGEST_REPLY ≤ vec_capacity text },
     ghost short: { vec_len line ≤ 513 },
 }
 
@@ -154,7 +153,7 @@ impl Session {
 // The reply to a line: the desk's if it spells a request, and else the refusal of the first rule that it breaks.
 fn reply_to<H: Wait, D: Desk>(rt: &H, alloc: Global, desk: &mut D, line: &[u8]) -> Reply
     ensures step { Answers D.asks desk.old line.now result desk.new }
-    ensures short { length (text_of result) ≤ 4101 }
+    ensures short { IsShort result }
 {
     match parse(alloc, line) {
         Ok(request) => desk.ask(rt, &request),
