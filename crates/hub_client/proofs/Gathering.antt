@@ -3,6 +3,7 @@ use Rattle.std.proofs.Common.{◌≡◌, ℕ, ◌+◌, ◌-◌, ◌<◌, ◌≤�
 use Rattle.std.proofs.lemmas.List.{append_cancel_left, take_at, drop_at, take-append-le, drop-append-le, drop-take, length-take-le, with_items_is}
 use Rattle.std.specs.Vec.{with_items}
 use Rattle.std.specs.Io.KnownBytes.{IsAtEnd}
+use Rattle.hub_io.specs.declared.reading.TheConstants.{CHUNK}
 use borrow.Rule.Slice.PartMut.{post_of}
 use lib.Seq.{take-add}
 use Rattle.hub_client.specs.declared.buffer.Came.{Came}
@@ -98,8 +99,8 @@ pub not_found_between : (o : Option ℕ) (items seen : List ℕ) (start end : �
 not_found_between o items seen start end same e is = not_found o (between items start end) (e ∙ ap (λ l. position (λ b. b == 10) (between l start end)) same) is
 
 -- nothing more came
-pub stays_short : (items : List ℕ) (start end : ℕ) (after : List ℕ) → after ≡ between items start end → has_lf (between items start end) ≡ false → end < 65536 → IsShort after
-stays_short items start end after e cut less = (ap has_lf e ∙ cut, subst (λ l. length l < 65536) (sym e) (length-between-lt items start end 65536 less))
+pub stays_short : (items : List ℕ) (start end : ℕ) (after : List ℕ) → after ≡ between items start end → has_lf (between items start end) ≡ false → end < CHUNK → IsShort after
+stays_short items start end after e cut less = (ap has_lf e ∙ cut, subst (λ l. length l < CHUNK) (sym e) (length-between-lt items start end CHUNK less))
 
 module _ {had has : Option (List ℕ)} {made makes : Option ℕ} {left left' slack : ℕ} {before after : List ℕ} (m : Moves had has made makes before after left left' slack []) where
   pub ends_short : m.bytes ≡ [] → after ≡ before

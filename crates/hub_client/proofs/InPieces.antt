@@ -2,6 +2,7 @@
 use Rattle.std.proofs.Common.{◌≡◌, ℕ, ◌+◌, ◌≤◌, false, List, [], ◌∷◌, ◌++◌, length, Option, inl, inr, refl, sym, ap, ◌∙◌, subst, arith, append-nil, append_assoc, length-append}
 use Rattle.std.specs.Io.KnownBytes.{Appends, IsAtEnd}
 use Rattle.std.proofs.KnownBytes.{Appends-nil, Appends-trans}
+use Rattle.hub_io.specs.declared.reading.TheConstants.{CHUNK}
 use Rattle.hub_io.specs.declared.fault.FrontError.{FrontError}
 use Rattle.hub_io.specs.declared.fault.FrontError.TheVariants.{Read, Write, Turns, Memory}
 use Rattle.hub_client.specs.Passing.{has_lf, IsLine, Moves, IsInPieces, IsReady, IsShort, slack_at, FailsAs, FailsInPieces}
@@ -71,7 +72,7 @@ module _ {had mid has held holds : Option (List ℕ)} {made much makes : Option 
       → Appends holds held' piece → IsInPieces had has held held' made makes before after left left'
   goes_on {held' = held'} {pending = pending} piece after m ready e empty cut a =
       let same : pending ≡ piece = e ∙ ap (λ l. piece ++ l) empty ∙ append-nil piece in
-      let size : length pending ≡ 65536 = elim ready [ inl lf ↦ let other : has_lf pending ≡ false = ap has_lf same ∙ cut in cc | inr full ↦ full ] in
+      let size : length pending ≡ CHUNK = elim ready [ inl lf ↦ let other : has_lf pending ≡ false = ap has_lf same ∙ cut in cc | inr full ↦ full ] in
       record {
         passed = w.passed ++ piece;
         moved = moves_piece piece after e (moves_reads w.moved m);

@@ -3,6 +3,7 @@ use Rattle.std.proofs.Common.{◌≡◌, ℕ, ◌+◌, ◌-◌, ◌<◌, ◌≤�
 use Rattle.std.proofs.lemmas.List.{length-take-le, drop-take, drop-drop}
 use Rattle.std.specs.Io.KnownBytes.{Keeps, Consumes}
 use Rattle.std.proofs.KnownBytes.{Consumes-nil, Consumes-trans, Consumes-kept}
+use Rattle.hub_io.specs.declared.reading.TheConstants.{CHUNK}
 use Rattle.hub_io.specs.Telling.{Grows}
 use Rattle.hub_io.proofs.Told.{Grows-none, Grows-add}
 use Rattle.hub_client.specs.Passing.{Moves}
@@ -24,7 +25,7 @@ pub stays_so : (has : Option (List ℕ)) (makes : Option ℕ) (p q : List ℕ) (
 stays_so has makes p q left slack e = subst (λ l. Moves has has makes makes p l left left slack []) (sym e) (stays has makes p left slack)
 
 -- a read of some bytes, or of none
-pub reads_some : (had has : Option (List ℕ)) (made makes : Option ℕ) (left left' n : ℕ) (bytes : List ℕ) → n ≤ length bytes → length bytes ≤ 65536 → Consumes had has (take n bytes) → left' + 1 ≡ left → Grows made makes 1
+pub reads_some : (had has : Option (List ℕ)) (made makes : Option ℕ) (left left' n : ℕ) (bytes : List ℕ) → n ≤ length bytes → length bytes ≤ CHUNK → Consumes had has (take n bytes) → left' + 1 ≡ left → Grows made makes 1
     → Moves had has made makes [] (take n bytes) left left' (1 - n) []
 reads_some had has made makes left left' n bytes within few consumed spent told = record {
   bytes = take n bytes;

@@ -3,6 +3,7 @@ use Rattle.std.proofs.Common.{◌≡◌, ℕ, ◌+◌, ◌<◌, ◌≤◌, false
 use Rattle.std.proofs.Math.Seq.{take-append_seam}
 use Rattle.std.specs.Io.KnownBytes.{Appends, Consumes, IsAtEnd}
 use Rattle.std.proofs.KnownBytes.{Consumes-nil, Consumes-trans, Appends-nil, Appends-trans}
+use Rattle.hub_io.specs.declared.reading.TheConstants.{CHUNK, MAX_READS}
 use Rattle.hub_io.specs.Lines.{complete_of, rest_of, lines_of}
 use Rattle.hub_io.specs.Telling.{Grows}
 use Rattle.hub_io.proofs.Told.{Grows-none, Grows-add}
@@ -172,14 +173,14 @@ awaits lines replies passed rest due c d cut cut' one none e =
     let no_lf : has_lf (passed ++ rest) ≡ false = has_lf-append passed rest cut ∙ cut' in
     record {
       passed = is;
-      withheld = λ (short : length (rest_of heard) < 65536). is ∙ writable_short heard short;
+      withheld = λ (short : length (rest_of heard) < CHUNK). is ∙ writable_short heard short;
       missing = omega (arith, count-ended lines c, one, count-ended_part replies (passed ++ rest) d no_lf, ap line_count all);
     }
 
 -- The sending of the next line failed. a and b are the two directions before it.
 module _ {had mid has held between had' has' held' holds' : Option (List ℕ)} {made much makes made' makes' : Option ℕ} {before rest passed pending' : List ℕ} {count reads reads' left left' : ℕ}
     (a : HasPassed had mid held between made much before count reads) (b : HasPassed had' has' held' holds' made' makes' pending' count reads') (cut : has_lf passed ≡ false) where
-  send_stops_at : (e : RelayError) → Moves mid has much makes before rest left left' (slack_for e) passed → FailsToSend e passed rest left' → reads + reads' + left ≡ 10000000
+  send_stops_at : (e : RelayError) → Moves mid has much makes before rest left left' (slack_for e) passed → FailsToSend e passed rest left' → reads + reads' + left ≡ MAX_READS
       → StopsAt ((ended_lines a.lines ++ passed) ++ rest) (ended_lines a.lines ++ passed) (ended_lines b.lines ++ pending') (ended_lines b.lines) has' e
   send_stops_at Input m f spent = (nothing_left (ended_lines a.lines ++ passed) rest f, answered_part a.lines b.lines passed pending' a.cut b.cut cut (a.counted ∙ sym b.counted))
   send_stops_at Output m f spent = absurd f
@@ -189,7 +190,7 @@ module _ {had mid has held between had' has' held' holds' : Option (List ℕ)} {
   send_stops_at Turns m f spent = (omega (arith, least_all a m, b.least, m.spent, f.1), inl (nothing_left (ended_lines a.lines ++ passed) rest f.0, answered_part a.lines b.lines passed pending' a.cut b.cut cut (a.counted ∙ sym b.counted)))
   send_stops_at Memory m f spent = absurd f
 
-  pub send_stops : {holds : Option (List ℕ)} (e : RelayError) → Moves mid has much makes before rest left left' (slack_for e) passed → FailsToSend e passed rest left' → reads + reads' + left ≡ 10000000
+  pub send_stops : {holds : Option (List ℕ)} (e : RelayError) → Moves mid has much makes before rest left left' (slack_for e) passed → FailsToSend e passed rest left' → reads + reads' + left ≡ MAX_READS
       → Appends between holds passed → Stopped had has held holds had' has' held' holds' e
   send_stops {holds} e m f spent appended =
       let (ending, lines) = front ((ended_lines a.lines ++ passed) ++ rest) in
@@ -213,7 +214,7 @@ module _ {had mid has held between had' has' held' holds' : Option (List ℕ)} {
 module _ {had has held holds had' mid' has' held' between' : Option (List ℕ)} {made makes made' much' makes' : Option ℕ} {more : List (List ℕ)} {before rest passed : List ℕ} {count reads reads' left left' : ℕ}
     (s : HasSent had has held holds made makes more (count + 1) reads) (b : HasPassed had' mid' held' between' made' much' before count reads') (cut : has_lf passed ≡ false)
     (due : List ℕ) (e : writable (passed ++ rest) ≡ passed ++ due) where
-  receive_stops_at : (fault : RelayError) → Moves mid' has' much' makes' before rest left left' (slack_for fault) passed → FailsToReceive fault due rest has' left' → reads + reads' + left ≡ 10000000
+  receive_stops_at : (fault : RelayError) → Moves mid' has' much' makes' before rest left left' (slack_for fault) passed → FailsToReceive fault due rest has' left' → reads + reads' + left ≡ MAX_READS
       → StopsAt s.input (ended_lines s.lines) ((ended_lines b.lines ++ passed) ++ rest) (ended_lines b.lines ++ passed) has' fault
   receive_stops_at Input m f spent = absurd f
   receive_stops_at Output m f spent = (
@@ -226,7 +227,7 @@ module _ {had has held holds had' mid' has' held' between' : Option (List ℕ)} 
   receive_stops_at Turns m f spent = (omega (arith, s.least, least_all b m, m.spent, f.2), inr (awaits s.lines b.lines passed rest due s.cut b.cut cut f.1 (omega (arith, s.counted, b.counted)) f.0 e))
   receive_stops_at Memory m f spent = absurd f
 
-  pub receive_stops : {holds' : Option (List ℕ)} (fault : RelayError) → Moves mid' has' much' makes' before rest left left' (slack_for fault) passed → FailsToReceive fault due rest has' left' → reads + reads' + left ≡ 10000000
+  pub receive_stops : {holds' : Option (List ℕ)} (fault : RelayError) → Moves mid' has' much' makes' before rest left left' (slack_for fault) passed → FailsToReceive fault due rest has' left' → reads + reads' + left ≡ MAX_READS
       → Appends between' holds' passed → Stopped had has held holds had' has' held' holds' fault
   receive_stops {holds'} fault m f spent appended = record {
     input = s.input;
@@ -247,7 +248,7 @@ module _ {had has held holds had' mid' has' held' between' : Option (List ℕ)} 
 -- ---- between two turns
 
 pub begins : (has held has' held' : Option (List ℕ)) (makes makes' : Option ℕ) (pending pending' : List ℕ) → pending ≡ [] → pending' ≡ []
-    → IsUnderWay has has held held has' has' held' held' makes makes makes' makes' pending pending' 0 10000000
+    → IsUnderWay has has held held has' has' held' held' makes makes makes' makes' pending pending' 0 MAX_READS
 begins has held has' held' makes makes' pending pending' empty empty' = record {
   reads = 0;
   reads' = 0;
@@ -275,7 +276,7 @@ goes_on {before = before} {after} {passed} u m line appended m' line' appended' 
   few = omega (arith, u.few, m.spent, m'.spent, m.most, ap length m.kept, length-append before m.bytes, length-append passed after, line_some passed line);
 }
 
-pub within : {T : Type 0} (made makes made' makes' : Option ℕ) (r : Result T RelayError) (n m left : ℕ) → n + m + left ≡ 10000000 → Grows made makes n → Grows made' makes' m → (r ≡ Err Turns → left ≡ 0)
+pub within : {T : Type 0} (made makes made' makes' : Option ℕ) (r : Result T RelayError) (n m left : ℕ) → n + m + left ≡ MAX_READS → Grows made makes n → Grows made' makes' m → (r ≡ Err Turns → left ≡ 0)
     → ReadsWithin made makes made' makes' r
 within made makes made' makes' r n m left spent told told' turns = (n, m, omega arith, told, told', λ e. let none : left ≡ 0 = turns e in omega arith)
 

@@ -2,6 +2,7 @@
 use Rattle.std.proofs.Common.{◌≡◌, ℕ, ◌+◌, ◌*◌, ◌/◌, ◌<◌, ◌≤◌, true, false, List, [], ◌∷◌, ◌++◌, length, take, inl, inr, refl, sym, ap, ◌∙◌, arith, append-nil, append_assoc, length-append}
 use Rattle.std.proofs.lemmas.Bool.{cases_Bool}
 use Rattle.std.proofs.lemmas.List.{take_at}
+use Rattle.hub_io.specs.declared.reading.TheConstants.{CHUNK}
 use Rattle.hub_io.specs.Lines.{complete_of, rest_of}
 use Rattle.hub_client.specs.Passing.{has_lf, IsReady}
 use Rattle.hub_client.specs.Relaying.{ended_lines, full_buffers, writable}
@@ -10,10 +11,10 @@ use Rattle.hub_client.proofs.EndedLines.{complete-none, rest-none, complete-ende
 use Rattle.hub_client.proofs.OnTheWay.{has_lf-append}
 
 -- whole buffers, and less than one more
-full-front : (front rest : List ℕ) (buffers : ℕ) → length front ≡ buffers * 65536 → length rest < 65536 → full_buffers (front ++ rest) ≡ front
+full-front : (front rest : List ℕ) (buffers : ℕ) → length front ≡ buffers * CHUNK → length rest < CHUNK → full_buffers (front ++ rest) ≡ front
 full-front front rest buffers full short =
-    let size : length (front ++ rest) / 65536 * 65536 ≡ length front = omega (arith, length-append front rest) in
-    take_at front rest (length (front ++ rest) / 65536 * 65536) (sym size)
+    let size : length (front ++ rest) / CHUNK * CHUNK ≡ length front = omega (arith, length-append front rest) in
+    take_at front rest (length (front ++ rest) / CHUNK * CHUNK) (sym size)
 
 writable-part : (part : List ℕ) → has_lf part ≡ false → writable part ≡ full_buffers part
 writable-part part cut = ap (λ ls. ended_lines ls ++ full_buffers (rest_of part)) (complete-none part cut) ∙ ap full_buffers (rest-none part cut)
@@ -35,12 +36,12 @@ writable-line : (line after : List ℕ) → has_lf line ≡ false → writable (
 writable-line line after cut = ap writable (sym (ended_first line [] after)) ∙ writable-ended (line ∷ []) after (cut, tt) ∙ ended_first line [] (writable after)
 
 -- nothing of an unfinished reply that is shorter than a buffer
-pub writable_short : (heard : List ℕ) → length (rest_of heard) < 65536 → writable heard ≡ ended_lines (complete_of heard)
+pub writable_short : (heard : List ℕ) → length (rest_of heard) < CHUNK → writable heard ≡ ended_lines (complete_of heard)
 writable_short heard short =
-    let none : length (rest_of heard) / 65536 * 65536 ≡ 0 = omega arith in
+    let none : length (rest_of heard) / CHUNK * CHUNK ≡ 0 = omega arith in
     ap (λ n. ended_lines (complete_of heard) ++ take n (rest_of heard)) none ∙ append-nil (ended_lines (complete_of heard))
 
-pub writable-front : (front rest : List ℕ) (buffers : ℕ) → has_lf front ≡ false → has_lf rest ≡ false → length front ≡ buffers * 65536 → length rest < 65536 → writable (front ++ rest) ≡ front
+pub writable-front : (front rest : List ℕ) (buffers : ℕ) → has_lf front ≡ false → has_lf rest ≡ false → length front ≡ buffers * CHUNK → length rest < CHUNK → writable (front ++ rest) ≡ front
 writable-front front rest buffers cut none full short = writable-part (front ++ rest) (has_lf-append front rest cut ∙ none) ∙ full-front front rest buffers full short
 
 -- the LF has come
@@ -53,13 +54,13 @@ due_line front rest cut lf =
     )
 
 -- the buffer is full
-due_full : (front rest : List ℕ) (buffers : ℕ) → has_lf front ≡ false → has_lf rest ≡ false → length (front ++ rest) ≡ buffers * 65536 → 1 ≤ length rest → (due : List ℕ) × (writable (front ++ rest) ≡ front ++ due) × (1 ≤ length due)
+due_full : (front rest : List ℕ) (buffers : ℕ) → has_lf front ≡ false → has_lf rest ≡ false → length (front ++ rest) ≡ buffers * CHUNK → 1 ≤ length rest → (due : List ℕ) × (writable (front ++ rest) ≡ front ++ due) × (1 ≤ length due)
 due_full front rest buffers cut none full some =
     let all : front ++ rest ≡ (front ++ rest) ++ [] = sym (append-nil (front ++ rest)) in
     (rest, ap writable all ∙ writable-front (front ++ rest) [] buffers (has_lf-append front rest cut ∙ none) refl full (omega arith), some)
 
 -- a piece of what may be written wasn't written whole
-pub due : (front piece rest : List ℕ) (buffers : ℕ) → has_lf front ≡ false → length front ≡ buffers * 65536 → has_lf piece ≡ false → 1 ≤ length rest → IsReady (piece ++ rest)
+pub due : (front piece rest : List ℕ) (buffers : ℕ) → has_lf front ≡ false → length front ≡ buffers * CHUNK → has_lf piece ≡ false → 1 ≤ length rest → IsReady (piece ++ rest)
     → (due : List ℕ) × (writable ((front ++ piece) ++ rest) ≡ (front ++ piece) ++ due) × (1 ≤ length due)
 due front piece rest buffers cut full cut' some ready =
     let none : has_lf (front ++ piece) ≡ false = has_lf-append front piece cut ∙ cut' in

@@ -2,6 +2,7 @@
 use Rattle.std.specs.Prelude.{◌≡◌, ◌⊎◌, ℕ, ◌<◌, ◌+◌, ◌*◌, ◌≤◌, Bool, true, false, List, [], ◌∷◌, ◌++◌, ◌==◌, length, Option, MatchBool}
 use Rattle.std.specs.List.{list_any}
 use Rattle.std.specs.Io.KnownBytes.{Appends, Consumes, IsAtEnd}
+use Rattle.hub_io.specs.declared.reading.TheConstants.{CHUNK}
 use Rattle.hub_io.specs.Telling.{Grows}
 use Rattle.hub_io.specs.declared.fault.FrontError.{FrontError}
 use Rattle.hub_io.specs.declared.fault.FrontError.TheVariants.{Read, Write, Turns, Memory}
@@ -31,7 +32,7 @@ pub record Moves (had has : Option (List ℕ)) (made makes : Option ℕ) (before
   pub kept : before ++ bytes ≡ passed ++ after
   pub spent : left' + reads ≡ left
   pub told : Grows made makes reads
-  pub most : length bytes ≤ reads * 65536
+  pub most : length bytes ≤ reads * CHUNK
   pub least : reads ≤ length bytes + slack
 
 -- A line on its way: a prefix of it passed and was written, and its end is still to come. some says whether the prefix
@@ -90,11 +91,11 @@ EndsWhen End has = IsAtEnd has
 
 -- the pending part of a reply may be written: it has an LF, or it fills the buffer
 abbrev pub IsReady : List ℕ → Type 0
-IsReady pending = (has_lf pending ≡ true) ⊎ (length pending ≡ 65536)
+IsReady pending = (has_lf pending ≡ true) ⊎ (length pending ≡ CHUNK)
 
 -- the pending part of a reply is withheld
 abbrev pub IsShort : List ℕ → Type 0
-IsShort pending = (has_lf pending ≡ false) × (length pending < 65536)
+IsShort pending = (has_lf pending ≡ false) × (length pending < CHUNK)
 
 -- A reply on its way: the buffers that it filled passed and were written, and had no LF.
 pub record IsInPieces (had has held holds : Option (List ℕ)) (made makes : Option ℕ) (before after : List ℕ) (left left' : ℕ) : Type 0 where
@@ -103,7 +104,7 @@ pub record IsInPieces (had has held holds : Option (List ℕ)) (made makes : Opt
   pub written : Appends held holds passed
   pub cut : has_lf passed ≡ false
   pub buffers : ℕ
-  pub full : length passed ≡ buffers * 65536
+  pub full : length passed ≡ buffers * CHUNK
 
 -- how a reply fails to pass: rest was read and not written, and due is the part of rest that may be written
 abbrev pub FailsInPieces : FrontError → (due rest : List ℕ) → (left' : ℕ) → Type 0

@@ -1,6 +1,7 @@
 -- What a relay sends and writes.
 use Rattle.std.specs.Prelude.{◌≡◌, ◌⊎◌, ℕ, suc, ◌+◌, ◌*◌, ◌/◌, ◌<◌, ◌≤◌, List, [], ◌∷◌, ◌++◌, length, take, flat_map, Option, Result, Err}
 use Rattle.std.specs.Io.KnownBytes.{Appends, Consumes, IsAtEnd}
+use Rattle.hub_io.specs.declared.reading.TheConstants.{CHUNK, MAX_READS}
 use Rattle.hub_io.specs.Lines.{complete_of, rest_of, lines_of}
 use Rattle.hub_io.specs.Telling.{Grows}
 use Rattle.hub_client.specs.declared.fault.RelayError.{RelayError}
@@ -14,9 +15,9 @@ ended_lines lines = flat_map (λ line. line ++ 10 ∷ []) lines
 abbrev pub line_count : List ℕ → ℕ
 line_count bytes = length (complete_of bytes)
 
--- the bytes of an unfinished reply that filled whole buffers of 64 KiB; none if it is shorter than a buffer
+-- the bytes of an unfinished reply that filled whole buffers; none if it is shorter than a buffer
 abbrev pub full_buffers : List ℕ → List ℕ
-full_buffers part = take (length part / 65536 * 65536) part
+full_buffers part = take (length part / CHUNK * CHUNK) part
 
 -- the part of the peer's bytes that may be written: each whole reply with its LF, and the full buffers of an unfinished
 -- one
@@ -50,7 +51,7 @@ pub record AreAnswered (sent heard written : List ℕ) : Type 0 where
 -- unfinished reply is shorter than a buffer, that is the replies before it, and nothing of it.
 pub record AwaitsReply (sent heard written : List ℕ) : Type 0 where
   pub passed : written ≡ writable heard
-  pub withheld : length (rest_of heard) < 65536 → written ≡ ended_lines (complete_of heard)
+  pub withheld : length (rest_of heard) < CHUNK → written ≡ ended_lines (complete_of heard)
   pub missing : line_count sent ≡ suc (line_count heard)
 
 -- What a relay did before it stopped. input and heard are what was read of the input and of the peer, and sent and
@@ -62,7 +63,7 @@ StopsAt input sent heard written has' Receive = AwaitsReply sent heard written
 StopsAt input sent heard written has' Ended = AwaitsReply sent heard written × IsAtEnd has'
 StopsAt input sent heard written has' Output = (length written < length (writable heard)) × (line_count sent ≡ suc (line_count written))
 StopsAt input sent heard written has' Turns =
-    (10000000 ≤ length input + length heard + 1) × (((sent ≡ input) × AreAnswered sent heard written) ⊎ AwaitsReply sent heard written)
+    (MAX_READS ≤ length input + length heard + 1) × (((sent ≡ input) × AreAnswered sent heard written) ⊎ AwaitsReply sent heard written)
 StopsAt input sent heard written has' Memory = (input ≡ []) × (heard ≡ [])
 
 -- A relay that stopped: a prefix of the input's lines was sent. What was written is a prefix of the peer's bytes, and
@@ -82,8 +83,8 @@ pub record Stopped (had has held holds had' has' held' holds' : Option (List ℕ
   pub writable_front : writable heard ≡ written ++ due
   pub stopped : StopsAt input sent heard written has' e
 
--- At most 10,000,000 reads were made, of both readers together, and exactly that many at Turns. made and makes are the
+-- At most MAX_READS reads were made, of both readers together, and exactly that many at Turns. made and makes are the
 -- counts of one reader before and after, made' and makes' those of the other.
 abbrev pub ReadsWithin : {T : Type 0} → (made makes made' makes' : Option ℕ) → Result T RelayError → Type 0
 ReadsWithin made makes made' makes' result =
-    (n m : ℕ) × (n + m ≤ 10000000) × Grows made makes n × Grows made' makes' m × (result ≡ Err Turns → n + m ≡ 10000000)
+    (n m : ℕ) × (n + m ≤ MAX_READS) × Grows made makes n × Grows made' makes' m × (result ≡ Err Turns → n + m ≡ MAX_READS)

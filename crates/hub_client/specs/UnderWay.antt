@@ -1,6 +1,7 @@
 -- A relay on its way.
 use Rattle.std.specs.Prelude.{◌≡◌, ℕ, ◌+◌, ◌*◌, ◌≤◌, List, [], ◌∷◌, ◌++◌, length, false, Option}
 use Rattle.std.specs.Io.KnownBytes.{Appends, Consumes, IsAtEnd}
+use Rattle.hub_io.specs.declared.reading.TheConstants.{CHUNK, MAX_READS}
 use Rattle.hub_io.specs.Lines.{lines_of}
 use Rattle.hub_io.specs.Telling.{Grows}
 use Rattle.hub_client.specs.declared.fault.RelayError.{RelayError}
@@ -81,5 +82,5 @@ pub record IsUnderWay (had has held holds had' has' held' holds' : Option (List 
   pub reads' : ℕ
   pub asked : HasPassed had has held holds made makes pending count reads
   pub answered : HasPassed had' has' held' holds' made' makes' pending' count reads'
-  pub spent : reads + reads' + left ≡ 10000000
-  pub few : count + length pending + left * 65536 ≤ 10000000 * 65536
+  pub spent : reads + reads' + left ≡ MAX_READS
+  pub few : count + length pending + left * CHUNK ≤ MAX_READS * CHUNK

@@ -1,6 +1,7 @@
 //! Lines on their way through a buffer, from a reader to a writer.
 ghost use Rattle.std.specs.Prelude.{◌≡◌, ◌≢◌, ◌+◌, ◌-◌, ◌<◌, ◌≤◌, ℕ, List, [], ◌++◌, ◌==◌, length, take, position, true, false, OnErr, IfOk, IfErr, IsTrue, MatchBool, vec_len};
 ghost use Rattle.std.specs.Io.KnownBytes.{Appends, IsAtEnd};
+ghost use Rattle.hub_io.specs.declared.reading.TheConstants.{CHUNK};
 ghost use Rattle.hub_io.specs.Telling.{Grows};
 ghost use Rattle.hub_io.specs.Faults.{read_faults, write_faults};
 ghost use Rattle.hub_client.specs.Passing.{has_lf, IsLine, Moves, slack_of, slack_at, slack_when, EndsAs, EndsWhen, ComesAs, FailsAs, FailsInPieces, IsReady, IsShort};
@@ -41,7 +42,7 @@ pub(crate) struct Buffer {
     end: usize,
     ghost ordered: { start ≤ end },
     ghost within: { end ≤ vec_len bytes },
-    ghost size: { vec_len bytes ≡ 65536 },
+    ghost size: { vec_len bytes ≡ CHUNK },
 }
 
 // The place of the first LF.
@@ -58,7 +59,7 @@ fn read_once<R: Source>(
     left: &mut u64,
 ) -> Result<usize, FrontError>
     requires some { 1 ≤ length bytes.old }
-    requires few { length bytes.old ≤ 65536 }
+    requires few { length bytes.old ≤ CHUNK }
     ensures ok { IfOk result (λ n. (n ≤ length bytes.new) × (left.new < left.old)
         × Moves (R.remaining reader.old) (R.remaining reader.new) (R.reads reader.old) (R.reads reader.new)
         [] (take n bytes.new) left.old left.new (1 - n) []
@@ -203,7 +204,7 @@ impl Buffer {
 
     // Reads once, and puts the bytes after those that are pending.
     fn read_on<R: Source>(&mut self, reader: &mut R, left: &mut u64) -> Result<Came, FrontError>
-        requires room { self.old.end < 65536 }
+        requires room { self.old.end < CHUNK }
         ensures ok { IfOk result (λ came.
             (moved : Moves (R.remaining reader.old) (R.remaining reader.new) (R.reads reader.old) (R.reads reader.new)
             (pending self.old) (pending self.new) left.old left.new (slack_when came) [])

@@ -20,11 +20,11 @@ pub enum RelayError {
     Send,
     /// A read of the peer's stream failed. If a reply was unfinished, it wasn't written, as at `Ended`.
     Receive,
-    /// The peer's stream ended before the LF of a reply. The unfinished reply wasn't written, except for the buffers of
-    /// 64 KiB that it filled.
+    /// The peer's stream ended before the LF of a reply. The unfinished reply wasn't written, except for the whole
+    /// buffers that it filled.
     Ended,
-    /// 10,000,000 reads were made, of the input and the peer's stream together, and more were needed. If a reply was
-    /// unfinished, it wasn't written, as at `Ended`.
+    /// [`MAX_READS`](hub_io::MAX_READS) reads were made, of the input and the peer's stream together, and more were
+    /// needed. If a reply was unfinished, it wasn't written, as at `Ended`.
     Turns,
     /// There was no memory for the two buffers.
     Memory,

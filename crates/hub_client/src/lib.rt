@@ -4,8 +4,8 @@
 //! it sends the next line. So the replies come in the order of the lines, and a peer that answers each line is never
 //! ahead and at most one line behind.
 //!
-//! Lines and replies may have any length. Their bytes pass through two buffers of 64 KiB. What a read gave beyond the
-//! end of a line stays in its buffer for the next line.
+//! Lines and replies may have any length. Their bytes pass through two buffers of [`CHUNK`](hub_io::CHUNK) bytes. What a
+//! read gave beyond the end of a line stays in its buffer for the next line.
 //!
 //! A line is sent piece by piece, as it comes. A reply is written once its LF has come, so a peer whose stream ends
 //! within a reply can't make `yes 12` look like `yes 1`. A reply that is longer than the buffer is written in pieces:

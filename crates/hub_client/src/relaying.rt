@@ -118,7 +118,7 @@ fn relay_lines<R: Source, W: Sink, SR: Source, SW: Sink>(
 /// Sends each line of the input to the peer, writes one reply line for each, and returns how many lines there were. A
 /// reply is read only after its line was sent whole, and the next line is sent only after the reply was written.
 ///
-/// Nothing of a reply is written before its LF has come, except the full buffers of a reply that is longer than 64 KiB.
+/// Nothing of a reply is written before its LF has come, except the full buffers of a reply that is longer than a buffer.
 /// A last line without an LF gets one. After an error the streams are where they stopped. The call waits for its peer
 /// as long as the streams do.
 pub fn relay<H: Wait, R: Source, W: Sink, SR: Source, SW: Sink>(
@@ -135,8 +135,7 @@ pub fn relay<H: Wait, R: Source, W: Sink, SR: Source, SW: Sink>(
         (SR.remaining receiver.old) (SR.remaining receiver.new) (W.contents output.old) (W.contents output.new)) }
 
     // At an error, a prefix of the lines was sent, and whole replies were written. Of a reply whose LF is missing, only
-    // the buffers that it filled were written: nothing if it has fewer than 65,536 bytes, at Ended, Receive and Turns
-    // alike.
+    // the buffers that it filled were written: nothing if it is shorter than a buffer, at Ended, Receive and Turns alike.
     ensures stopped { IfErr result (Stopped
         (R.remaining input.old) (R.remaining input.new) (SW.contents sender.old) (SW.contents sender.new)
         (SR.remaining receiver.old) (SR.remaining receiver.new) (W.contents output.old) (W.contents output.new)) }
@@ -145,7 +144,7 @@ pub fn relay<H: Wait, R: Source, W: Sink, SR: Source, SW: Sink>(
     ensures memory { result ≡ Err RelayError.Memory → (input.new ≡ input.old) × (output.new ≡ output.old)
         × (receiver.new ≡ receiver.old) × (sender.new ≡ sender.old) }
 
-    // It makes at most 10,000,000 reads.
+    // It makes at most `MAX_READS` reads.
     ensures reads { ReadsWithin (R.reads input.old) (R.reads input.new)
         (SR.reads receiver.old) (SR.reads receiver.new) result }
 

@@ -27,7 +27,7 @@ pub fn script<H: Wait, R: Source, W: Sink>(
     ensures memory { result ≡ Err FrontError.Memory → (reader.new ≡ reader.old)
         × (writer.new ≡ writer.old) }
 
-    // It makes at most 10,000,000 reads. An error is reported if its fault was counted, and only then.
+    // It makes at most `MAX_READS` reads. An error is reported if its fault was counted, and only then.
     ensures reads { ReadsWithin (R.reads reader.old) (R.reads reader.new) result }
     ensures read_faults { Grows (R.faults reader.old) (R.faults reader.new) (read_faults result) }
     ensures write_faults { Grows (W.faults writer.old) (W.faults writer.new) (write_faults result) }

@@ -1,4 +1,5 @@
 use Rattle.std.proofs.Common.{◌+◌, ◌*◌, length}
+use Rattle.hub_io.specs.declared.reading.TheConstants.{CHUNK}
 use Rattle.hub_io.specs.Telling.{Grows}
 use Rattle.hub_client.specs.Pending.{pending}
 use Rattle.hub_client.specs.UnderWay.{IsUnderWay}
@@ -18,4 +19,4 @@ invariant-turns g l = record {
 }
 
 abbrev pub decreases-turns : goal.decreases-turns
-decreases-turns g l = l.left * 65536 + length (pending l.lines)
+decreases-turns g l = l.left * CHUNK + length (pending l.lines)
