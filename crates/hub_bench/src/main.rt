@@ -98,7 +98,7 @@ fn rate(letters: u64, took: Duration) -> u128 {
 }
 
 /// A record with this many subscriptions, and their ids.
-fn subscribed(alloc: Global, listeners: u64) -> Result<(Record, Vec<u64>)> {
+fn subscribe_all(alloc: Global, listeners: u64) -> Result<(Record, Vec<u64>)> {
     let limits = Limits::of(WAITING as u64, 1_000_000_000_000, listeners.max(1)).ok_or_else(
         || anyhow!("no limits"),
     )?;
@@ -119,7 +119,7 @@ fn through_record(
     message: &[Letter],
     bursts: u32,
 ) -> Result<Duration> {
-    let (mut record, ids) = subscribed(alloc, listeners)?;
+    let (mut record, ids) = subscribe_all(alloc, listeners)?;
     let mut out = vec![in alloc; Event::FILLER; message.len()]?;
     let start = Instant::now(rt)?;
     for _ in 0..bursts {
@@ -151,7 +151,7 @@ fn through_vector(
             })?;
         }
         for next in nexts.iter_mut() {
-            *next = copied(&events, *next, &mut out);
+            *next = copy_events(&events, *next, &mut out);
         }
         events.clear();
         for next in nexts.iter_mut() {
@@ -162,7 +162,7 @@ fn through_vector(
 }
 
 /// Copies the events from a place on, as many as fit, and returns the next place.
-fn copied(events: &[Event], from: usize, out: &mut [Event]) -> usize {
+fn copy_events(events: &[Event], from: usize, out: &mut [Event]) -> usize {
     let from = from.min(events.len());
     let count = (events.len() - from).min(out.len());
     out[..count].copy_from_slice(&events[from..from + count]);
@@ -177,7 +177,7 @@ fn publishing_alone(
     message: &[Letter],
     rounds: u32,
 ) -> Result<Duration> {
-    let (mut record, ids) = subscribed(alloc, listeners)?;
+    let (mut record, ids) = subscribe_all(alloc, listeners)?;
     let mut out = vec![in alloc; Event::FILLER; WAITING]?;
     let mut total = Duration::ZERO;
     for _ in 0..rounds {

@@ -4,8 +4,8 @@ use Rattle.std.proofs.lemmas.List.{length-take-le, drop-take, drop-drop}
 use Rattle.std.specs.Io.KnownBytes.{Keeps, Consumes}
 use Rattle.std.proofs.KnownBytes.{Consumes-nil, Consumes-trans, Consumes-kept}
 use Rattle.hub_io.specs.declared.reading.TheConstants.{CHUNK}
-use Rattle.hub_io.specs.Telling.{Grows}
-use Rattle.hub_io.proofs.Told.{Grows-none, Grows-add}
+use Rattle.hub_io.specs.Telling.{Rises}
+use Rattle.hub_io.proofs.Told.{Grows-none, Rises-add}
 use Rattle.hub_client.specs.Passing.{Moves}
 
 -- without a read
@@ -25,7 +25,7 @@ pub stays_so : (has : Option (List ℕ)) (makes : Option ℕ) (p q : List ℕ) (
 stays_so has makes p q left slack e = subst (λ l. Moves has has makes makes p l left left slack []) (sym e) (stays has makes p left slack)
 
 -- a read of some bytes, or of none
-pub reads_some : (had has : Option (List ℕ)) (made makes : Option ℕ) (left left' n : ℕ) (bytes : List ℕ) → n ≤ length bytes → length bytes ≤ CHUNK → Consumes had has (take n bytes) → left' + 1 ≡ left → Grows made makes 1
+pub reads_some : (had has : Option (List ℕ)) (made makes : Option ℕ) (left left' n : ℕ) (bytes : List ℕ) → n ≤ length bytes → length bytes ≤ CHUNK → Consumes had has (take n bytes) → left' + 1 ≡ left → Rises made makes 1
     → Moves had has made makes [] (take n bytes) left left' (1 - n) []
 reads_some had has made makes left left' n bytes within few consumed spent told = record {
   bytes = take n bytes;
@@ -57,7 +57,7 @@ pub reads_nothing : {had has : Option (List ℕ)} {made makes : Option ℕ} {lef
 reads_nothing before after m e = reads_behind before after _ m (e ∙ sym (append-nil before)) (omega arith)
 
 -- a read that failed
-pub reads_none : (had has : Option (List ℕ)) (made makes : Option ℕ) (before : List ℕ) (left left' : ℕ) → before ≡ [] → Keeps had has → left' + 1 ≡ left → Grows made makes 1
+pub reads_none : (had has : Option (List ℕ)) (made makes : Option ℕ) (before : List ℕ) (left left' : ℕ) → before ≡ [] → Keeps had has → left' + 1 ≡ left → Rises made makes 1
     → Moves had has made makes before [] left left' 1 []
 reads_none had has made makes before left left' empty kept spent told = record {
   bytes = [];
@@ -107,7 +107,7 @@ moves_reads {had} {mid} {has} {made} {much} {makes} {before} {between} {after} {
   consumed = Consumes-trans had mid has m.bytes n.bytes m.consumed n.consumed;
   kept = sym (append_assoc before m.bytes n.bytes) ∙ ap (λ l. l ++ n.bytes) m.kept ∙ append_assoc passed between n.bytes ∙ ap (λ l. passed ++ l) n.kept;
   spent = omega (arith, m.spent, n.spent);
-  told = Grows-add made much makes m.reads n.reads m.told n.told;
+  told = Rises-add made much makes m.reads n.reads m.told n.told;
   most = omega (arith, m.most, n.most, length-append m.bytes n.bytes);
   least = omega (arith, m.least, n.least, length-append m.bytes n.bytes);
 }

@@ -5,8 +5,8 @@ use Rattle.std.specs.Io.KnownBytes.{Appends, Consumes, IsAtEnd}
 use Rattle.std.proofs.KnownBytes.{Consumes-nil, Consumes-trans, Appends-nil, Appends-trans}
 use Rattle.hub_io.specs.declared.reading.TheConstants.{CHUNK, MAX_READS}
 use Rattle.hub_io.specs.Lines.{complete_of, rest_of, lines_of}
-use Rattle.hub_io.specs.Telling.{Grows}
-use Rattle.hub_io.proofs.Told.{Grows-none, Grows-add}
+use Rattle.hub_io.specs.Telling.{Rises}
+use Rattle.hub_io.proofs.Told.{Grows-none, Rises-add}
 use Rattle.hub_client.specs.declared.fault.RelayError.{RelayError}
 use Rattle.hub_client.specs.declared.fault.RelayError.TheVariants.{Input, Output, Send, Receive, Ended, Turns, Memory}
 use Rattle.hub_client.specs.Relaying.{ended_lines, line_count, writable, Finished, Stopped, StopsAt, AreAnswered, AwaitsReply, ReadsWithin}
@@ -40,8 +40,8 @@ module _ {had mid has held between : Option (List ℕ)} {made much makes : Optio
   consumed_all : Consumes had has ((ended_lines p.lines ++ passed) ++ after)
   consumed_all = subst (Consumes had has) whole (Consumes-trans had mid has (ended_lines p.lines ++ before) m.bytes p.consumed m.consumed)
 
-  told_all : Grows made makes (reads + m.reads)
-  told_all = Grows-add made much makes reads m.reads p.told m.told
+  told_all : Rises made makes (reads + m.reads)
+  told_all = Rises-add made much makes reads m.reads p.told m.told
 
   least_all : reads + m.reads ≤ length ((ended_lines p.lines ++ passed) ++ after) + slack
   least_all = omega (arith, p.least, m.least, ap length whole, length-append (ended_lines p.lines ++ before) m.bytes)
@@ -276,7 +276,7 @@ goes_on {before = before} {after} {passed} u m line appended m' line' appended' 
   few = omega (arith, u.few, m.spent, m'.spent, m.most, ap length m.kept, length-append before m.bytes, length-append passed after, line_some passed line);
 }
 
-pub within : {T : Type 0} (made makes made' makes' : Option ℕ) (r : Result T RelayError) (n m left : ℕ) → n + m + left ≡ MAX_READS → Grows made makes n → Grows made' makes' m → (r ≡ Err Turns → left ≡ 0)
+pub within : {T : Type 0} (made makes made' makes' : Option ℕ) (r : Result T RelayError) (n m left : ℕ) → n + m + left ≡ MAX_READS → Rises made makes n → Rises made' makes' m → (r ≡ Err Turns → left ≡ 0)
     → ReadsWithin made makes made' makes' r
 within made makes made' makes' r n m left spent told told' turns = (n, m, omega arith, told, told', λ e. let none : left ≡ 0 = turns e in omega arith)
 

@@ -3,7 +3,7 @@ use Rattle.std.specs.Prelude.{◌≡◌, ◌⊎◌, ℕ, ◌<◌, ◌+◌, ◌*�
 use Rattle.std.specs.List.{list_any}
 use Rattle.std.specs.Io.KnownBytes.{Appends, Consumes, IsAtEnd}
 use Rattle.hub_io.specs.declared.reading.TheConstants.{CHUNK}
-use Rattle.hub_io.specs.Telling.{Grows}
+use Rattle.hub_io.specs.Telling.{Rises}
 use Rattle.hub_io.specs.declared.fault.FrontError.{FrontError}
 use Rattle.hub_io.specs.declared.fault.FrontError.TheVariants.{Read, Write, Turns, Memory}
 use Rattle.hub_client.specs.declared.buffer.Came.{Came}
@@ -31,7 +31,7 @@ pub record Moves (had has : Option (List ℕ)) (made makes : Option ℕ) (before
   pub consumed : Consumes had has bytes
   pub kept : before ++ bytes ≡ passed ++ after
   pub spent : left' + reads ≡ left
-  pub told : Grows made makes reads
+  pub told : Rises made makes reads
   pub most : length bytes ≤ reads * CHUNK
   pub least : reads ≤ length bytes + slack
 

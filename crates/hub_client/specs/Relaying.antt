@@ -3,7 +3,7 @@ use Rattle.std.specs.Prelude.{◌≡◌, ◌⊎◌, ℕ, suc, ◌+◌, ◌*◌, 
 use Rattle.std.specs.Io.KnownBytes.{Appends, Consumes, IsAtEnd}
 use Rattle.hub_io.specs.declared.reading.TheConstants.{CHUNK, MAX_READS}
 use Rattle.hub_io.specs.Lines.{complete_of, rest_of, lines_of}
-use Rattle.hub_io.specs.Telling.{Grows}
+use Rattle.hub_io.specs.Telling.{Rises}
 use Rattle.hub_client.specs.declared.fault.RelayError.{RelayError}
 use Rattle.hub_client.specs.declared.fault.RelayError.TheVariants.{Input, Output, Send, Receive, Ended, Turns, Memory}
 
@@ -87,4 +87,4 @@ pub record Stopped (had has held holds had' has' held' holds' : Option (List ℕ
 -- counts of one reader before and after, made' and makes' those of the other.
 abbrev pub ReadsWithin : {T : Type 0} → (made makes made' makes' : Option ℕ) → Result T RelayError → Type 0
 ReadsWithin made makes made' makes' result =
-    (n m : ℕ) × (n + m ≤ MAX_READS) × Grows made makes n × Grows made' makes' m × (result ≡ Err Turns → n + m ≡ MAX_READS)
+    (n m : ℕ) × (n + m ≤ MAX_READS) × Rises made makes n × Rises made' makes' m × (result ≡ Err Turns → n + m ≡ MAX_READS)

@@ -3,7 +3,7 @@ use Rattle.std.specs.Prelude.{◌≡◌, ℕ, ◌+◌, ◌*◌, ◌≤◌, List,
 use Rattle.std.specs.Io.KnownBytes.{Appends, Consumes, IsAtEnd}
 use Rattle.hub_io.specs.declared.reading.TheConstants.{CHUNK, MAX_READS}
 use Rattle.hub_io.specs.Lines.{lines_of}
-use Rattle.hub_io.specs.Telling.{Grows}
+use Rattle.hub_io.specs.Telling.{Rises}
 use Rattle.hub_client.specs.declared.fault.RelayError.{RelayError}
 use Rattle.hub_client.specs.declared.fault.RelayError.TheVariants.{Input, Output, Send, Receive, Ended, Turns, Memory}
 use Rattle.hub_client.specs.declared.buffer.Passed.{Passed}
@@ -59,7 +59,7 @@ pub record HasPassed (had has held holds : Option (List ℕ)) (made makes : Opti
   pub counted : length lines ≡ count
   pub consumed : Consumes had has (ended_lines lines ++ pending)
   pub appended : Appends held holds (ended_lines lines)
-  pub told : Grows made makes reads
+  pub told : Rises made makes reads
   pub least : reads ≤ length (ended_lines lines ++ pending)
 
 -- The lines before a reply: count of them were sent, with an LF each, and more are the lines of the other bytes that
@@ -72,7 +72,7 @@ pub record HasSent (had has held holds : Option (List ℕ)) (made makes : Option
   pub consumed : Consumes had has input
   pub appended : Appends held holds (ended_lines lines)
   pub split : lines_of input ≡ lines ++ more
-  pub told : Grows made makes reads
+  pub told : Rises made makes reads
   pub least : reads ≤ length input + 1
 
 -- A relay between two turns: as many replies were written as lines were sent.

@@ -2,7 +2,7 @@
 ghost use Rattle.std.specs.Prelude.{◌≡◌, ◌≢◌, ◌+◌, ◌-◌, ◌<◌, ◌≤◌, ℕ, List, [], ◌++◌, ◌==◌, length, take, position, true, false, OnErr, IfOk, IfErr, IsTrue, MatchBool, vec_len};
 ghost use Rattle.std.specs.Io.KnownBytes.{Appends, IsAtEnd};
 ghost use Rattle.hub_io.specs.declared.reading.TheConstants.{CHUNK};
-ghost use Rattle.hub_io.specs.Telling.{Grows};
+ghost use Rattle.hub_io.specs.Telling.{Rises};
 ghost use Rattle.hub_io.specs.Faults.{read_faults, write_faults};
 ghost use Rattle.hub_client.specs.Passing.{has_lf, IsLine, Moves, slack_of, slack_at, slack_when, EndsAs, EndsWhen, ComesAs, FailsAs, FailsInPieces, IsReady, IsShort};
 ghost use Rattle.hub_client.specs.Relaying.{writable};
@@ -67,7 +67,7 @@ fn read_once<R: Source>(
     ensures err { IfErr result (λ e.
         Moves (R.remaining reader.old) (R.remaining reader.new) (R.reads reader.old) (R.reads reader.new)
         [] [] left.old left.new (slack_at e) [] × FailsAs e [] left.new) }
-    ensures told { Grows (R.faults reader.old) (R.faults reader.new) (read_faults result) }
+    ensures told { Rises (R.faults reader.old) (R.faults reader.new) (read_faults result) }
 {
     if *left == 0 {
         return Err(FrontError::Turns);
@@ -111,9 +111,9 @@ impl Buffer {
             (pending self.old) rest left.old left.new (slack_at e) passed
             × FailsAs e rest left.new × (has_lf passed ≡ false)
             × Appends (W.contents writer.old) (W.contents writer.new) passed) }
-        ensures read_faults { Grows (R.faults reader.old) (R.faults reader.new)
+        ensures read_faults { Rises (R.faults reader.old) (R.faults reader.new)
             (read_faults result) }
-        ensures write_faults { Grows (W.faults writer.old) (W.faults writer.new)
+        ensures write_faults { Rises (W.faults writer.old) (W.faults writer.new)
             (write_faults result) }
     {
         let mut some = false;
@@ -149,9 +149,9 @@ impl Buffer {
             (pending self.old) rest left.old left.new (slack_at e) passed × (has_lf passed ≡ false)
             × (writable (passed ++ rest) ≡ passed ++ due) × FailsInPieces e due rest left.new
             × Appends (W.contents writer.old) (W.contents writer.new) passed) }
-        ensures read_faults { Grows (R.faults reader.old) (R.faults reader.new)
+        ensures read_faults { Rises (R.faults reader.old) (R.faults reader.new)
             (read_faults result) }
-        ensures write_faults { Grows (W.faults writer.old) (W.faults writer.new)
+        ensures write_faults { Rises (W.faults writer.old) (W.faults writer.new)
             (write_faults result) }
     {
         'pieces: loop {
@@ -176,7 +176,7 @@ impl Buffer {
             Moves (R.remaining reader.old) (R.remaining reader.new) (R.reads reader.old) (R.reads reader.new)
             (pending self.old) (pending self.new) left.old left.new (slack_at e) [] × FailsAs e [] left.new
             × IsShort (pending self.new)) }
-        ensures told { Grows (R.faults reader.old) (R.faults reader.new) (read_faults result) }
+        ensures told { Rises (R.faults reader.old) (R.faults reader.new) (read_faults result) }
     {
         if line_feed(&self.bytes[self.start..self.end]).is_some() {
             return Ok(true);
@@ -214,7 +214,7 @@ impl Buffer {
             (pending self.old) (pending self.new) left.old left.new (slack_at e) [] × FailsAs e [] left.new) }
         ensures front { self.new.start ≡ self.old.start }
         ensures kept { OnErr result (pending self.new ≡ pending self.old) }
-        ensures told { Grows (R.faults reader.old) (R.faults reader.new) (read_faults result) }
+        ensures told { Rises (R.faults reader.old) (R.faults reader.new) (read_faults result) }
     {
         let end = self.end;
         let n = read_once(&mut self.bytes[end..], reader, left)?;
@@ -235,7 +235,7 @@ impl Buffer {
         ensures err { IfErr result (λ e.
             Moves (R.remaining reader.old) (R.remaining reader.new) (R.reads reader.old) (R.reads reader.new)
             (pending self.old) [] left.old left.new (slack_at e) [] × FailsAs e [] left.new) }
-        ensures told { Grows (R.faults reader.old) (R.faults reader.new) (read_faults result) }
+        ensures told { Rises (R.faults reader.old) (R.faults reader.new) (read_faults result) }
     {
         if self.start < self.end {
             return Ok(true);
@@ -255,7 +255,7 @@ impl Buffer {
         ensures err { OnErr result ((piece rest : List ℕ) × (pending self.old ≡ piece ++ rest) × (1 ≤ length rest)
             × (has_lf piece ≡ false) × Appends (W.contents writer.old) (W.contents writer.new) piece) }
         ensures fault { IfErr result (λ e. e ≡ FrontError.Write) }
-        ensures told { Grows (W.faults writer.old) (W.faults writer.new) (write_faults result) }
+        ensures told { Rises (W.faults writer.old) (W.faults writer.new) (write_faults result) }
     {
         let piece = &self.bytes[self.start..self.end];
         match line_feed(piece) {

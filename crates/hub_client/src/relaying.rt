@@ -1,7 +1,7 @@
 //! The turns of a relay.
 ghost use Rattle.std.specs.Prelude.{◌≡◌, ◌≢◌, ℕ, List, [], ◌++◌, length, false, Err, OnOk, IfOk, IfErr};
 ghost use Rattle.std.specs.Io.KnownBytes.{Appends};
-ghost use Rattle.hub_io.specs.Telling.{Grows};
+ghost use Rattle.hub_io.specs.Telling.{Rises};
 ghost use Rattle.hub_client.specs.Faults.{input_faults, output_faults, send_faults, receive_faults};
 ghost use Rattle.hub_client.specs.Relaying.{writable, Finished, Stopped, ReadsWithin};
 ghost use Rattle.hub_client.specs.Pending.{pending};
@@ -31,8 +31,8 @@ fn send_line<R: Source, SW: Sink>(
         (pending lines.old) rest left.old left.new (slack_for e) passed
         × FailsToSend e passed rest left.new × (has_lf passed ≡ false)
         × Appends (SW.contents sender.old) (SW.contents sender.new) passed) }
-    ensures input_faults { Grows (R.faults input.old) (R.faults input.new) (input_faults result) }
-    ensures send_faults { Grows (SW.faults sender.old) (SW.faults sender.new) (send_faults result) }
+    ensures input_faults { Rises (R.faults input.old) (R.faults input.new) (input_faults result) }
+    ensures send_faults { Rises (SW.faults sender.old) (SW.faults sender.new) (send_faults result) }
 {
     match lines.pass_line(input, sender, left) {
         Ok(Passed::Part) => match write_whole(sender, b"\n") {
@@ -61,9 +61,9 @@ fn receive_reply<SR: Source, W: Sink>(
         × (writable (passed ++ rest) ≡ passed ++ due)
         × FailsToReceive e due rest (SR.remaining receiver.new) left.new
         × Appends (W.contents output.old) (W.contents output.new) passed) }
-    ensures receive_faults { Grows (SR.faults receiver.old) (SR.faults receiver.new)
+    ensures receive_faults { Rises (SR.faults receiver.old) (SR.faults receiver.new)
         (receive_faults result) }
-    ensures output_faults { Grows (W.faults output.old) (W.faults output.new)
+    ensures output_faults { Rises (W.faults output.old) (W.faults output.new)
         (output_faults result) }
 {
     match replies.pass_reply(receiver, output, left) {
@@ -93,11 +93,11 @@ fn relay_lines<R: Source, W: Sink, SR: Source, SW: Sink>(
     ensures memory { result ≢ Err RelayError.Memory }
     ensures reads { ReadsWithin (R.reads input.old) (R.reads input.new)
         (SR.reads receiver.old) (SR.reads receiver.new) result }
-    ensures input_faults { Grows (R.faults input.old) (R.faults input.new) (input_faults result) }
-    ensures output_faults { Grows (W.faults output.old) (W.faults output.new)
+    ensures input_faults { Rises (R.faults input.old) (R.faults input.new) (input_faults result) }
+    ensures output_faults { Rises (W.faults output.old) (W.faults output.new)
         (output_faults result) }
-    ensures send_faults { Grows (SW.faults sender.old) (SW.faults sender.new) (send_faults result) }
-    ensures receive_faults { Grows (SR.faults receiver.old) (SR.faults receiver.new)
+    ensures send_faults { Rises (SW.faults sender.old) (SW.faults sender.new) (send_faults result) }
+    ensures receive_faults { Rises (SR.faults receiver.old) (SR.faults receiver.new)
         (receive_faults result) }
 {
     let mut left = MAX_READS;
@@ -149,11 +149,11 @@ pub fn relay<H: Wait, R: Source, W: Sink, SR: Source, SW: Sink>(
         (SR.reads receiver.old) (SR.reads receiver.new) result }
 
     // An error is reported if its fault was counted, and only then.
-    ensures input_faults { Grows (R.faults input.old) (R.faults input.new) (input_faults result) }
-    ensures output_faults { Grows (W.faults output.old) (W.faults output.new)
+    ensures input_faults { Rises (R.faults input.old) (R.faults input.new) (input_faults result) }
+    ensures output_faults { Rises (W.faults output.old) (W.faults output.new)
         (output_faults result) }
-    ensures send_faults { Grows (SW.faults sender.old) (SW.faults sender.new) (send_faults result) }
-    ensures receive_faults { Grows (SR.faults receiver.old) (SR.faults receiver.new)
+    ensures send_faults { Rises (SW.faults sender.old) (SW.faults sender.new) (send_faults result) }
+    ensures receive_faults { Rises (SR.faults receiver.old) (SR.faults receiver.new)
         (receive_faults result) }
 {
     let mut lines = Buffer::new(alloc)?;

@@ -1,12 +1,12 @@
 -- What the result of a session shows.
 use Rattle.std.proofs.Common.{◌≡◌, ℕ, ◌+◌, Option, None, Some, Err, refl, ap, arith}
 use Rattle.hub_front.specs.Serving.{Asking}
-use Rattle.hub_io.specs.Telling.{Grows}
+use Rattle.hub_io.specs.Telling.{Rises}
 use Rattle.hub_io.specs.declared.fault.FrontError.TheVariants.{Memory}
 use Rattle.hub_server.specs.Sessions.{Reading, Writing, IsResult}
 
 -- a count that stays grew by none
-grows_by_none : (told : Option ℕ) → Grows told told 0
+grows_by_none : (told : Option ℕ) → Rises told told 0
 grows_by_none None = tt
 grows_by_none (Some k) = let same : k ≡ k + 0 = omega arith in ap Some same
 

@@ -6,7 +6,7 @@ use Rattle.hub_client.specs.declared.fault.RelayError.{RelayError}
 use Rattle.hub_client.specs.declared.fault.RelayError.TheVariants as relay
 use Rattle.hub_commands.specs.declared.fault.Fault.{Fault}
 use Rattle.hub_commands.specs.declared.fault.Fault.TheVariants.{Relay}
-use Rattle.hub_io.specs.Telling.{Grows}
+use Rattle.hub_io.specs.Telling.{Rises}
 use Rattle.hub_server.specs.Sessions.{Reading, Writing}
 
 -- the result of a call whose relay ended so
@@ -28,5 +28,5 @@ pub record IsRelayed {R W : Type 0} (r : Reading R) (w : Writing W) (input rest 
   pub stopped : IfErr outcome (Stopped (r.remaining input) (r.remaining rest) sent sends heard hears (w.contents output) (w.contents written))
   pub memory : outcome ≡ Err relay.Memory → (rest ≡ input) × (written ≡ output)
   pub reads : ReadsWithin (r.reads input) (r.reads rest) made makes outcome
-  pub input_faults : Grows (r.faults input) (r.faults rest) (input_faults outcome)
-  pub output_faults : Grows (w.faults output) (w.faults written) (output_faults outcome)
+  pub input_faults : Rises (r.faults input) (r.faults rest) (input_faults outcome)
+  pub output_faults : Rises (w.faults output) (w.faults written) (output_faults outcome)

@@ -1,7 +1,7 @@
 use crate::fixtures::{BLANK, are_events, none_is_unlike, word};
 use crate::passes::{
-    Reader, Sender, Shared, cancel_all, joined, keep_reader, keep_sender, leave_all, open,
-    publisher, subscribed, ticket,
+    Reader, Sender, Shared, cancel_all, keep_reader, keep_sender, leave_all, new_reader,
+    new_sender, open, publisher, ticket,
 };
 use hub_fifodir::together::{Unsent, send_both, send_on};
 use hub_fifodir::{Fifodir, PassError, word as front_word};
@@ -282,7 +282,7 @@ impl Scene {
 
     fn shows(&mut self, place: usize, wanted: (u64, u64, bool)) -> bool {
         match self.readers.get_mut(place) {
-            Some(reader) => shown(reader) == wanted,
+            Some(reader) => status_by(reader) == wanted,
             None => false,
         }
     }
@@ -384,7 +384,7 @@ impl Scene {
 }
 
 /// The number, the flags' code and whether it is closed.
-fn shown(reader: &mut Reader) -> (u64, u64, bool) {
+fn status_by(reader: &mut Reader) -> (u64, u64, bool) {
     let status = reader.status();
     (status.number, status.flags.code(), status.closed)
 }
@@ -442,9 +442,9 @@ fn letters_go_on<R: Abort + Wait>(rt: &R, alloc: Global) -> Result<bool, Fail> {
     let letters = word(alloc, "ab")?;
     let from = open(alloc, Kind::Plain, (64, 1000, 10))?;
     let to = open(alloc, Kind::Plain, (64, 1, 10))?;
-    let mut ticket = subscribed(rt, &from);
-    let mut source = joined(rt, &from);
-    let mut sink = joined(rt, &to);
+    let mut ticket = new_reader(rt, &from);
+    let mut source = new_sender(rt, &from);
+    let mut sink = new_sender(rt, &to);
     let published = source.send(rt, &letters);
     let is_so = published == Ok(0) && second_is_refused(rt, &mut ticket, &mut sink);
     ticket.cancel(rt);
@@ -488,8 +488,8 @@ fn passes_meet_and_letters_go_on(rt: HostRuntime) -> Result<(), Fail> {
 fn a_status_is_fresh_after_a_thread_published(rt: HostRuntime) -> Result<(), Fail> {
     let fifodir = open(rt.alloc(), Kind::Service, (64, 1000, 10))?;
     let letters = word(rt.alloc(), "su")?;
-    let mut ticket = subscribed(&rt, &fifodir);
-    let before = shown(&mut ticket);
+    let mut ticket = new_reader(&rt, &fifodir);
+    let before = status_by(&mut ticket);
     let child = thread::spawn(&rt, move || -> Result<u64, PubError> {
         match Sender::of(&rt, fifodir) {
             Ok(mut sender) => {
@@ -502,7 +502,7 @@ fn a_status_is_fresh_after_a_thread_published(rt: HostRuntime) -> Result<(), Fai
     })
     .expect(&rt, "a thread");
     let sent = child.join(&rt);
-    let after = shown(&mut ticket);
+    let after = status_by(&mut ticket);
     ticket.cancel(&rt);
     assert!(rt; before == (0, 0, false) && sent == Ok(0) && after == (2, 5, false));
     Ok(())

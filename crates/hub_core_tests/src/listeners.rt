@@ -1,5 +1,5 @@
 ghost use Rattle.std.specs.Prelude.{◌≡◌, IfOk};
-ghost use Rattle.hub_listen.specs.Listening.{unheard};
+ghost use Rattle.hub_listen.specs.Listening.{new_listening};
 
 use crate::fixtures::{SIZES_TRIED, none_is_unlike, run_of, size_at, word};
 use hub_letters::Letter;
@@ -10,7 +10,7 @@ use std::test::Fail;
 
 /// Makes a listener.
 fn listener_for(alloc: Global, pattern: &str, mode: Mode) -> Result<Listener, ListenError>
-    ensures { IfOk result (λ listener. listener ≡ unheard pattern.now mode) }
+    ensures { IfOk result (λ listener. listener ≡ new_listening pattern.now mode) }
 {
     Listener::new(alloc, pattern, mode)
 }

@@ -1,8 +1,8 @@
 //! Calls that take no memory. Whether they take none is counted by `tests/no-memory`, which runs this program over a
 //! `malloc` that counts (`tests/count.c`): it counts between two marks.
 use crate::fixtures::word;
-use crate::passes::{Sender, Shared, joined, open, publisher, ticket};
-use crate::waits::{Deed, Doing, opened};
+use crate::passes::{Sender, Shared, new_sender, open, publisher, ticket};
+use crate::waits::{Deed, Doing, open_post};
 use hub_fifodir::{Fifodir, Locked};
 use hub_letters::{Flags, Letter, Stage, Want};
 use hub_listen::{Feed, Listener, Mode};
@@ -213,7 +213,7 @@ fn posts_are_used<R: Abort + Wait>(
         at_call: 1,
         calls: 0,
     };
-    let mut posts = [opened(rt, fifodir, Want::Up, true)];
+    let mut posts = [open_post(rt, fifodir, Want::Up, true)];
     mark();
     let heard = svlisten(rt, &mut posts, Span::All, 0, &mut pause, |_posts| 7);
     let verdict = svwait(rt, &mut posts, Span::All, 1, &mut pause);
@@ -247,7 +247,7 @@ fn these_calls_take_no_memory(rt: HostRuntime) -> Result<(), Fail> {
     assert!(rt; passes_are_used(&rt, &plain, &ab));
     assert!(rt; a_listener_is_shown(rt.alloc())?);
     assert!(rt; a_watch_is_judged());
-    let supervisor = joined(&rt, &service);
+    let supervisor = new_sender(&rt, &service);
     assert!(rt; posts_are_used(&rt, service, supervisor, u, &s));
     Ok(())
 }

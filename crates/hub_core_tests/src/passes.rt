@@ -64,7 +64,7 @@ pub(crate) fn publisher<R: Abort + Wait>(rt: &R, fifodir: &Fifodir) -> Publisher
 }
 
 /// The same, beside the fifodir that made it.
-pub(crate) fn joined<R: Abort + Wait>(rt: &R, fifodir: &Shared) -> Sender {
+pub(crate) fn new_sender<R: Abort + Wait>(rt: &R, fifodir: &Shared) -> Sender {
     let fifodir = Arc::try_clone(fifodir).expect(rt, "the fifodir");
     Sender::of(rt, fifodir).expect(rt, "a publisher")
 }
@@ -127,7 +127,7 @@ pub(crate) fn ticket<R: Abort + Wait>(rt: &R, fifodir: &Fifodir) -> Ticket
 }
 
 /// The same, beside the fifodir that made it.
-pub(crate) fn subscribed<R: Abort + Wait>(rt: &R, fifodir: &Shared) -> Reader {
+pub(crate) fn new_reader<R: Abort + Wait>(rt: &R, fifodir: &Shared) -> Reader {
     let fifodir = Arc::try_clone(fifodir).expect(rt, "the fifodir");
     Reader::of(rt, fifodir).expect(rt, "a ticket")
 }

@@ -1,7 +1,7 @@
 //! Posts: how many there may be, how much one catches up with, and a wait at three of them.
 use crate::fixtures::{run_of, word};
-use crate::passes::{Shared, joined, open};
-use crate::waits::{Deed, Doing, opened};
+use crate::passes::{Shared, new_sender, open};
+use crate::waits::{Deed, Doing, open_post};
 use hub_letters::{Letter, Want};
 use hub_record::{Kind, SubError};
 use hub_wait::{Post, Span, Verdict, svwait};
@@ -50,7 +50,7 @@ fn end_all<R: Wait>(rt: &R, mut posts: Vec<Post>) {
 /// Whether 1,024 posts are opened and no more, as many again when those have ended, and none at a closed fifodir.
 fn opens_1024<R: Abort + Wait>(rt: &R, alloc: Global) -> Result<bool, Fail> {
     let fifodir = open(alloc, Kind::Service, (64, 1000, 1_000_000))?;
-    let mut supervisor = joined(rt, &fifodir);
+    let mut supervisor = new_sender(rt, &fifodir);
     let mut posts = Vec::new(alloc);
     let first = open_all(rt, &fifodir, &mut posts);
     end_all(rt, posts);
@@ -84,9 +84,9 @@ fn catches_up<R: Abort + Wait>(rt: &R, alloc: Global, count: usize) -> Result<bo
     let first = word(alloc, "s")?;
     let letters = letters_up(alloc, count)?;
     let fifodir = open(alloc, Kind::Service, (4096, 100_000, 10))?;
-    let mut supervisor = joined(rt, &fifodir);
+    let mut supervisor = new_sender(rt, &fifodir);
     let began = supervisor.send(rt, &first);
-    let mut post = opened(rt, fifodir, Want::Up, true);
+    let mut post = open_post(rt, fifodir, Want::Up, true);
     let sent = supervisor.send(rt, &letters);
     post.catch_up(rt);
     let watch = *post.watch();
@@ -144,9 +144,9 @@ fn last_starts<R: Abort + Wait>(rt: &R, alloc: Global, row: &Row) -> Result<bool
     let before = word(alloc, before)?;
     let (began, letters) = (word(alloc, "s")?, word(alloc, "u")?);
     let (one, other, last) = (service(alloc)?, service(alloc)?, service(alloc)?);
-    let mut first = joined(rt, &one);
-    let mut second = joined(rt, &other);
-    let mut supervisor = joined(rt, &last);
+    let mut first = new_sender(rt, &one);
+    let mut second = new_sender(rt, &other);
+    let mut supervisor = new_sender(rt, &last);
     let sent = (
         first.send(rt, &before),
         second.send(rt, &before),
@@ -160,9 +160,9 @@ fn last_starts<R: Abort + Wait>(rt: &R, alloc: Global, row: &Row) -> Result<bool
         calls: 0,
     };
     let mut posts = [
-        opened(rt, one, Want::Up, true),
-        opened(rt, other, Want::Up, true),
-        opened(rt, last, Want::Up, true),
+        open_post(rt, one, Want::Up, true),
+        open_post(rt, other, Want::Up, true),
+        open_post(rt, last, Want::Up, true),
     ];
     let answer = svwait(rt, &mut posts, *span, 1, &mut pause);
     let found = end_at(rt, posts);

@@ -177,7 +177,7 @@ fn reply_among_subscriptions(place: usize) -> Said {
 }
 
 /// How many events the ids gathered.
-fn gathered(world: &World) -> usize {
+fn count_gathered(world: &World) -> usize {
     let mut count: usize = 0;
     for (_, events) in world.gathered.iter() {
         count = count.wrapping_add(events.len());
@@ -198,7 +198,7 @@ fn runs_with_messages(alloc: Global, limits: Limits, calls: &[Call]) -> Result<b
         world.replies.len() == count
             && world.state.end() == (count / 2) as u64
             && world.gathered.len() == count.min(1)
-            && gathered(&world) == count.saturating_sub(1) / 2,
+            && count_gathered(&world) == count.saturating_sub(1) / 2,
     )
 }
 
@@ -256,7 +256,7 @@ fn message_unlike(alloc: Global, limits: Limits) -> Result<Option<usize>, AllocE
         let count = size_at(place);
         let calls = message_and_take(alloc, count)?;
         let world = replay(alloc, Kind::Plain, limits, &calls)?;
-        if gathered(&world) != count || world.state.base() != count as u64 {
+        if count_gathered(&world) != count || world.state.base() != count as u64 {
             return Ok(Some(count));
         }
     }

@@ -1,4 +1,4 @@
-use crate::passes::{Reader, Sender, joined, open, subscribed};
+use crate::passes::{Reader, Sender, new_reader, new_sender, open};
 use hub_letters::Letter;
 use hub_record::{Event, Kind, Taken};
 use std::alloc::{AllocError, Global};
@@ -115,11 +115,11 @@ fn gathered_one_list(gathered: (Gathered, Gathered)) -> Result<bool, AllocError>
 #[test]
 fn threads_see_one_list(rt: HostRuntime) -> Result<(), Fail> {
     let fifodir = open(rt.alloc(), Kind::Plain, (4096, 10_000, 10))?;
-    let mut one = joined(&rt, &fifodir);
-    let mut early = subscribed(&rt, &fifodir);
-    let mut other = joined(&rt, &fifodir);
+    let mut one = new_sender(&rt, &fifodir);
+    let mut early = new_reader(&rt, &fifodir);
+    let mut other = new_sender(&rt, &fifodir);
     let first = one.send(&rt, &[nth(b'a', 0)]);
-    let mut late = subscribed(&rt, &fifodir);
+    let mut late = new_reader(&rt, &fifodir);
     let second = other.send(&rt, &[nth(b'A', 0)]);
     let given = (one.me.number(), early.me.id(), late.me.mark());
     let gathered = send_and_gather(

@@ -1,5 +1,5 @@
 use crate::fixtures::{none_is_unlike, word};
-use crate::passes::{Sender, Shared, joined, open};
+use crate::passes::{Sender, Shared, new_sender, open};
 use hub_letters::{Letter, Want};
 use hub_record::{Kind, PubError};
 use hub_wait::{Backoff, Go, Pause, Post, Span, Verdict, svlisten, svwait};
@@ -117,16 +117,21 @@ static ROWS: [Row; 6] = [
 ];
 
 /// A service's fifodir whose supervisor has started.
-fn started<R: Abort + Wait>(rt: &R, alloc: Global) -> Result<(Shared, Sender), Fail> {
+fn start_service<R: Abort + Wait>(rt: &R, alloc: Global) -> Result<(Shared, Sender), Fail> {
     let letters = word(alloc, "s")?;
     let fifodir = open(alloc, Kind::Service, (64, 1000, 10))?;
-    let mut supervisor = joined(rt, &fifodir);
+    let mut supervisor = new_sender(rt, &fifodir);
     supervisor.send(rt, &letters).expect(rt, "its first letter");
     Ok((fifodir, supervisor))
 }
 
 /// A post at a fifodir that has room for one more ticket.
-pub(crate) fn opened<R: Abort + Wait>(rt: &R, fifodir: Shared, want: Want, notifies: bool) -> Post {
+pub(crate) fn open_post<R: Abort + Wait>(
+    rt: &R,
+    fifodir: Shared,
+    want: Want,
+    notifies: bool,
+) -> Post {
     Post::open(rt, fifodir, want, notifies).expect(rt, "a post")
 }
 
@@ -140,7 +145,7 @@ fn letters_of(alloc: Global, deed: Deed) -> Result<Vec<Letter>, Fail> {
 
 fn waits_so<R: Abort + Wait>(rt: &R, alloc: Global, row: &Row) -> Result<bool, Fail> {
     let letters = letters_of(alloc, row.deed)?;
-    let (fifodir, supervisor) = started(rt, alloc)?;
+    let (fifodir, supervisor) = start_service(rt, alloc)?;
     let mut pause = Doing {
         supervisor,
         deed: row.deed,
@@ -148,7 +153,7 @@ fn waits_so<R: Abort + Wait>(rt: &R, alloc: Global, row: &Row) -> Result<bool, F
         at_call: row.at_call,
         calls: 0,
     };
-    let mut posts = [opened(rt, fifodir, Want::Ready, true)];
+    let mut posts = [open_post(rt, fifodir, Want::Ready, true)];
     let verdict = svwait(rt, &mut posts, Span::All, row.turns, &mut pause);
     let at = posts[0].watch().at();
     let [post] = posts;
@@ -186,8 +191,8 @@ fn act_is_heard<R: Abort + Wait + Clock + Copy>(
     wanted: (Verdict, u64),
 ) -> Result<bool, Fail> {
     let up = word(alloc, "u")?;
-    let (fifodir, mut supervisor) = started(rt, alloc)?;
-    let mut posts = [opened(rt, fifodir, Want::Up, true)];
+    let (fifodir, mut supervisor) = start_service(rt, alloc)?;
+    let mut posts = [open_post(rt, fifodir, Want::Up, true)];
     let mut pause = Backoff::new(*rt);
     let (acted, verdict) = svlisten(rt, &mut posts, Span::All, turns, &mut pause, |_posts| {
         supervisor.send(rt, &up)
@@ -210,8 +215,8 @@ fn room_comes_with_a_wait<R: Abort + Wait + Clock + Copy>(
 ) -> Result<bool, Fail> {
     let two = word(alloc, "ab")?;
     let fifodir = open(alloc, Kind::Plain, (2, 100, 10))?;
-    let mut supervisor = joined(rt, &fifodir);
-    let mut posts = [opened(rt, fifodir, Want::Up, false)];
+    let mut supervisor = new_sender(rt, &fifodir);
+    let mut posts = [open_post(rt, fifodir, Want::Up, false)];
     let mut pause = Backoff::new(*rt);
     let was_full = sends_one_of_two(rt, &mut supervisor, &two, 0);
     let verdict = svwait(rt, &mut posts, Span::Any, 40, &mut pause);

@@ -60,14 +60,14 @@ fn the_next_session_finds_room(rt: HostRuntime) {
         let mut writer = Narrow::new(64, *write);
         let ended = serve_once(&rt, rt.alloc(), &mut first, &mut reader, &mut writer);
         assert_eq!(rt; ended, *result, "{name}");
-        assert_eq!(rt; writer.held(), written.as_bytes(), "{name}");
+        assert_eq!(rt; writer.bytes_held(), written.as_bytes(), "{name}");
 
         let mut second = session(&rt, &hub);
         let mut reader = Dripping::new(SECOND, 64, 0);
         let mut writer = Narrow::new(64, 0);
         let ended = serve_once(&rt, rt.alloc(), &mut second, &mut reader, &mut writer);
         assert_eq!(rt; ended, Ok(2), "{name}");
-        assert_eq!(rt; writer.held(), ROOM, "{name}");
+        assert_eq!(rt; writer.bytes_held(), ROOM, "{name}");
         second.release(&rt);
         first.release(&rt);
     }

@@ -23,7 +23,7 @@ static AGAIN: [Row; 8] = [
     (Ask::Poll(1), "none"),
 ];
 
-/// Letters that stand behind a hit begin the next one.
+/// Letters behind a hit begin the next one.
 static BEHIND: [Row; 10] = [
     (Ask::Dir("web", 64, 100), "ok"),
     (Ask::Listen("web", Mode::Repeat, "u.*U"), "ok 1"),
@@ -37,7 +37,7 @@ static BEHIND: [Row; 10] = [
     (Ask::Cancel(1), "ok"),
 ];
 
-/// One hit and many, what stands behind a hit, and the end.
+/// One hit and many, what is behind a hit, and the end.
 static ONCE_AND_AGAIN: [Row; 16] = [
     (Ask::Dir("web", 64, 1000), "ok"),
     (Ask::Listen("web", Mode::Once, "d"), "ok 1"),
@@ -105,7 +105,7 @@ static ONCE_FREES: [Row; 10] = [
     (Ask::Take(2, 9), "none"),
 ];
 
-/// What stands behind a hit goes on being held.
+/// What is behind a hit goes on being held.
 static HIT_HOLDS: [Row; 9] = [
     (Ask::Dir("web", 3, 1000), "ok"),
     (Ask::Listen("web", Mode::Repeat, "b"), "ok 1"),
@@ -162,7 +162,7 @@ static WEB: [Row; 1] = [(Ask::Dir("web", 1, 1), "ok")];
 
 const HEARS_A: Ask = Ask::Listen("web", Mode::Repeat, "a");
 
-/// 128 listeners and 128 subscriptions stand.
+/// 128 listeners and 128 subscriptions are current.
 static ALL_STAND: [Row; 6] = [
     (Ask::Sub("web"), "no Many"),
     (Ask::Listen("web", Mode::Once, "("), "no Many"),

@@ -1,7 +1,7 @@
 //! The end of a desk, and what lends the parts of a request, take no memory. It is counted by `tests/no-memory`, which
 //! runs this program over a `malloc` that counts (`tests/count.c`): it counts between two marks.
 use crate::desks::{alone, new_local};
-use crate::rows::{Ask, Row, named, run};
+use crate::rows::{Ask, Row, name_of, run};
 use hub_letters::Mode;
 use hub_requests::{Desk, Name, Names, Numbers, PatternText};
 use std::alloc::{AllocError, AllocGlobal, Global};
@@ -54,7 +54,7 @@ fn parts_are_lent(alloc: Global, name: Name) -> Result<bool, AllocError> {
 
 #[test]
 fn these_calls_take_no_memory(rt: HostRuntime) -> Result<(), Fail> {
-    let name = named(&rt, rt.alloc(), "web")?;
+    let name = name_of(&rt, rt.alloc(), "web")?;
     assert!(rt; parts_are_lent(rt.alloc(), name)?);
     hold_and_end(&rt, &mut new_local(&rt));
     let mut desk = alone(&rt);

@@ -2,7 +2,9 @@
 ghost use Rattle.hub_requests.specs.Ranges.{IsInRange};
 
 use crate::desks::{alone, new_hub, new_local, run_anew, session};
-use crate::rows::{Ask, Row, answered, expect, expect_number, expect_numbers, named, request, run};
+use crate::rows::{
+    Ask, Row, answer_to, expect, expect_number, expect_numbers, name_of, request, run,
+};
 use hub_letters::Mode;
 use hub_local::LocalDesk;
 use hub_requests::{Desk, Name, Request};
@@ -131,16 +133,16 @@ fn a_desk_serves_on_after_the_end(rt: HostRuntime) {
 
 fn try_counted(rt: &impl Abort, alloc: Global, number: u64) -> Result<Name, AllocError> {
     let text = format!(in alloc; "n{number}")?;
-    named(rt, alloc, &text)
+    name_of(rt, alloc, &text)
 }
 
-fn counted(rt: &impl Abort, alloc: Global, number: u64) -> Name {
+fn numbered_name(rt: &impl Abort, alloc: Global, number: u64) -> Name {
     try_counted(rt, alloc, number).expect(rt, "a name")
 }
 
 fn make_counted<H: AllocGlobal + Abort + Wait, D: Desk>(rt: &H, desk: &mut D, number: u64) {
     let dir = Request::Dir {
-        name: counted(rt, rt.alloc(), number),
+        name: numbered_name(rt, rt.alloc(), number),
         waiting: 1,
         total: 1,
     };
@@ -177,7 +179,7 @@ fn names_are_limited(rt: HostRuntime) {
 
 static WEB: [Row; 1] = [(Ask::Dir("web", 1, 1), "ok")];
 
-/// 256 subscriptions stand.
+/// 256 subscriptions are current.
 static ALL_STAND: [Row; 4] = [
     (Ask::Sub("web"), "no Many"),
     (Ask::Sub("db"), "no Name"),
@@ -200,7 +202,7 @@ fn standing_handles_are_limited(rt: HostRuntime) {
 }
 
 fn cancel<H: Wait>(rt: &H, desk: &mut LocalDesk, id: u64) {
-    let _ = answered(rt, desk, &Request::Cancel { id });
+    let _ = answer_to(rt, desk, &Request::Cancel { id });
 }
 
 /// Subscribes and cancels until every number was given.
@@ -212,7 +214,7 @@ fn spend_handles<H: AllocGlobal + Abort + Wait>(rt: &H, desk: &mut LocalDesk) {
     }
 }
 
-/// No number is left, and no handle stands.
+/// No number is left, and no handle is current.
 static ALL_SPENT: [Row; 3] = [
     (Ask::Sub("web"), "no Spent"),
     (Ask::Sub("db"), "no Name"),

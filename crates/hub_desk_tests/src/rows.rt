@@ -29,7 +29,7 @@ pub enum Ask {
 /// What is asked, and what it is answered.
 pub type Row = (Ask, &'static str);
 
-pub fn named(rt: &impl Abort, alloc: Global, text: &str) -> Result<Name, AllocError> {
+pub fn name_of(rt: &impl Abort, alloc: Global, text: &str) -> Result<Name, AllocError> {
     let name = Name::of(alloc, text.as_bytes())?;
     Ok(name.expect(rt, "a name"))
 }
@@ -54,9 +54,9 @@ fn wait(
     ensures { IfOk result IsInRange }
 {
     let mut names = Vec::with_capacity(alloc, 2)?;
-    names.push_reserved(named(rt, alloc, one)?);
+    names.push_reserved(name_of(rt, alloc, one)?);
     if let Some(other) = other {
-        names.push_reserved(named(rt, alloc, other)?);
+        names.push_reserved(name_of(rt, alloc, other)?);
     }
     Ok(Request::Wait {
         span,
@@ -119,7 +119,7 @@ fn request_once(rt: &impl Abort, alloc: Global, ask: Ask) -> Result<Request, All
         | Ask::Pub(name, _)
         | Ask::Close(name)
         | Ask::Status(name)
-        | Ask::Listen(name, _, _) => request_by_name(rt, alloc, ask, named(rt, alloc, name)?),
+        | Ask::Listen(name, _, _) => request_by_name(rt, alloc, ask, name_of(rt, alloc, name)?),
     }
 }
 
@@ -129,7 +129,7 @@ pub fn request(rt: &impl Abort, alloc: Global, ask: Ask) -> Request
     request_once(rt, alloc, ask).expect(rt, "a request")
 }
 
-fn spelled(alloc: Global, word: &str, letters: &Letters) -> Result<String, AllocError> {
+fn letters_text(alloc: Global, word: &str, letters: &Letters) -> Result<String, AllocError> {
     let mut text = String::from_str(alloc, word)?;
     for letter in letters.items() {
         text.push(char::from(letter.byte()))?;
@@ -137,7 +137,7 @@ fn spelled(alloc: Global, word: &str, letters: &Letters) -> Result<String, Alloc
     Ok(text)
 }
 
-fn numbered(alloc: Global, numbers: &[Option<u64>]) -> Result<String, AllocError> {
+fn numbers_text(alloc: Global, numbers: &[Option<u64>]) -> Result<String, AllocError> {
     let mut text = String::from_str(alloc, "yes")?;
     for number in numbers {
         let item = match number {
@@ -160,23 +160,23 @@ fn shown_once(alloc: Global, reply: &Reply) -> Result<String, AllocError> {
             let openness = if status.closed { "closed" } else { "open" };
             format!(in alloc; "ok {number} {code} {openness}")
         }
-        Reply::Got(letters) => spelled(alloc, "got ", letters),
-        Reply::Hit(letters) => spelled(alloc, "hit ", letters),
+        Reply::Got(letters) => letters_text(alloc, "got ", letters),
+        Reply::Hit(letters) => letters_text(alloc, "hit ", letters),
         Reply::Nothing => String::from_str(alloc, "none"),
         Reply::End => String::from_str(alloc, "end"),
-        Reply::Yes(numbers) => numbered(alloc, numbers.items()),
+        Reply::Yes(numbers) => numbers_text(alloc, numbers.items()),
         Reply::Never => String::from_str(alloc, "never"),
         Reply::Late => String::from_str(alloc, "late"),
         Reply::No(refusal) => format!(in alloc; "no {refusal:?}"),
     }
 }
 
-fn shown(rt: &impl Abort, alloc: Global, reply: &Reply) -> String {
+fn text_of(rt: &impl Abort, alloc: Global, reply: &Reply) -> String {
     shown_once(alloc, reply).expect(rt, "a text")
 }
 
 /// Asks, of which the prover knows nothing afterwards.
-pub fn answered<H: Wait, D: Desk>(rt: &H, desk: &mut D, request: &Request) -> Reply
+pub fn answer_to<H: Wait, D: Desk>(rt: &H, desk: &mut D, request: &Request) -> Reply
     requires { IsInRange request.now }
 {
     desk.ask(rt, request)
@@ -190,8 +190,8 @@ pub fn expect<H: AllocGlobal + Abort + Wait, D: Desk>(
 )
     requires { IsInRange request.now }
 {
-    let reply = answered(rt, desk, request);
-    let text = shown(rt, rt.alloc(), &reply);
+    let reply = answer_to(rt, desk, request);
+    let text = text_of(rt, rt.alloc(), &reply);
     assert_eq!(rt; text.as_str(), want);
 }
 
@@ -211,7 +211,7 @@ pub fn run<H: AllocGlobal + Abort + Wait, D: Desk>(rt: &H, desk: &mut D, rows: &
 pub fn expect_number<H: Abort + Wait, D: Desk>(rt: &H, desk: &mut D, request: &Request, number: u64)
     requires { IsInRange request.now }
 {
-    let reply = answered(rt, desk, request);
+    let reply = answer_to(rt, desk, request);
     assert!(rt; matches!(reply, Reply::Number(given) if given == number));
 }
 

@@ -1,6 +1,6 @@
 //! Several sessions over one hub.
 use crate::desks::{new_hub, session};
-use crate::rows::{Ask, Row, named, run};
+use crate::rows::{Ask, Row, name_of, run};
 use hub_requests::Desk;
 use hub_shared::Hub;
 use std::alloc::AllocGlobal;
@@ -44,7 +44,7 @@ fn a_session_that_ends_holds_no_one_up(rt: HostRuntime) {
 
 /// The number that the next publisher under the name gets.
 fn next_number<H: AllocGlobal + Abort + Wait>(rt: &H, hub: &Hub) -> Result<u64, Fail> {
-    let web = named(rt, rt.alloc(), "web")?;
+    let web = name_of(rt, rt.alloc(), "web")?;
     let found = hub.find(rt, &web)?.ok_or("found")?;
     let publisher = found.dir.publisher(rt)?;
     let number = publisher.number();

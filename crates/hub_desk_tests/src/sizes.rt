@@ -1,7 +1,7 @@
 //! Each size that a request may have, with ample memory. A reply `no memory` is a failure here.
 use crate::desks::{alone, new_local};
 use crate::listeners::many_letters;
-use crate::rows::{Ask, Row, answered, request, run};
+use crate::rows::{Ask, Row, answer_to, request, run};
 use hub_front::serve;
 use hub_letters::Mode;
 use hub_requests::{Desk, Name, Reply};
@@ -19,7 +19,7 @@ static BEGUN: [Row; 3] = [
 
 fn takes<H: AllocGlobal + Abort + Wait, D: Desk>(rt: &H, desk: &mut D, count: usize) -> bool {
     let take = request(rt, rt.alloc(), Ask::Take(1, 256));
-    match answered(rt, desk, &take) {
+    match answer_to(rt, desk, &take) {
         Reply::Got(letters) => letters.items().len() == count,
         _ => false,
     }
@@ -27,7 +27,7 @@ fn takes<H: AllocGlobal + Abort + Wait, D: Desk>(rt: &H, desk: &mut D, count: us
 
 fn hears<H: AllocGlobal + Abort + Wait, D: Desk>(rt: &H, desk: &mut D, count: usize) -> bool {
     let poll = request(rt, rt.alloc(), Ask::Poll(2));
-    match answered(rt, desk, &poll) {
+    match answer_to(rt, desk, &poll) {
         Reply::Hit(letters) => letters.items().len() == count,
         _ => false,
     }
@@ -37,9 +37,9 @@ fn hears<H: AllocGlobal + Abort + Wait, D: Desk>(rt: &H, desk: &mut D, count: us
 fn carries<H: AllocGlobal + Abort + Wait, D: Desk>(rt: &H, desk: &mut D, count: usize) -> bool {
     let message = many_letters(rt, rt.alloc(), count).expect(rt, "a message");
     let last = request(rt, rt.alloc(), Ask::Pub("web", "b"));
-    let sent = answered(rt, desk, &message);
+    let sent = answer_to(rt, desk, &message);
     let was_taken = takes(rt, desk, count);
-    let hit = answered(rt, desk, &last);
+    let hit = answer_to(rt, desk, &last);
     matches!((sent, hit), (Reply::Number(_), Reply::Number(_)))
         && was_taken
         && takes(rt, desk, 1)

@@ -7,7 +7,7 @@ use std::alloc::AllocGlobal;
 use std::process::Abort;
 use std::sync::Wait;
 
-/// Without a turn, and for a name that stands twice.
+/// Without a turn, and for a name that is given twice.
 static ZERO_TURNS: [Row; 5] = [
     (Ask::Svc("web", 64, 1000, true), "ok"),
     (Ask::Wait(Span::All, Want::Up, 0, "web", None), "late"),
@@ -184,7 +184,7 @@ static GIVEN_BACK: [Row; 12] = [
     (Ask::Sub("a"), "ok 1"),
 ];
 
-/// A wait leaves alone what stands.
+/// A wait leaves alone what is current.
 static OTHERS_STAND: [Row; 7] = [
     (Ask::Svc("web", 2, 1000, true), "ok"),
     (Ask::Sub("web"), "ok 1"),
@@ -203,7 +203,7 @@ fn a_wait_leaves_nothing_behind(rt: HostRuntime) {
 
 static WEB: [Row; 1] = [(Ask::Svc("web", 64, 1000, true), "ok")];
 
-/// 256 handles stand; a wait needs none.
+/// 256 handles are current; a wait needs none.
 static ALL_STAND: [Row; 4] = [
     (Ask::Sub("web"), "no Many"),
     (Ask::Pub("web", "su"), "ok 0"),

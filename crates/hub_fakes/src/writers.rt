@@ -36,7 +36,7 @@ impl Narrow {
     }
 
     /// What it took, up to 64 bytes.
-    pub fn held(&self) -> &[u8] {
+    pub fn bytes_held(&self) -> &[u8] {
         &self.held[..self.len]
     }
 

@@ -6,7 +6,7 @@ pub mod Locking
 pub mod Stores
 pub mod Unlocks
 pub mod Notes
-pub mod Asked
+pub mod AllowedSteps
 pub mod Meeting
 pub mod Subscriptions
 pub mod Rests

@@ -12,7 +12,7 @@ use Rattle.hub_fifodir.specs.declared.views.Rules.{Rules}
 use Rattle.hub_fifodir.specs.declared.views.Book.{Book}
 use Rattle.hub_fifodir.specs.declared.views.View.{View}
 use Rattle.hub_fifodir.specs.Events.{front_word}
-use Rattle.hub_fifodir.specs.Rule.{Turn, free, taken, turn_word, home, Account, IsGiven, IsBounded, IsSeat, Fits, sight, view, visitor, IsLive, HasId, HasSeen, HasHeld, HasClosed, IsNumbered, IsHome}
+use Rattle.hub_fifodir.specs.Rule.{LockState, free, held_by, lock_word, home, Account, IsGiven, IsBounded, IsSeat, Fits, sight, view, visitor, IsLive, HasId, HasSeen, HasHeld, HasClosed, IsNumbered, IsHome}
 use Rattle.hub_fifodir.specs.Steps.{locked_as, IsInBook, IsFresh}
 use Rattle.hub_fifodir.proofs.Logs.{by_absent}
 use Rattle.hub_fifodir.proofs.ViewLists.{all_set, at_kept, at_own, all_more, here}
@@ -37,7 +37,7 @@ module _ {B : Type 0} (book_of : B → Book) (stands_for : Rules → List Event 
   none_given n most e g = let a = g.0 in let b = g.1 in absurd (omega arith)
 
   pub begins : (b : B) → stands_for rules [] 0 b → sound rules [] → IsBounded (book_of b) → (book_of b).ids ≡ 0 → (book_of b).numbers ≡ 0 → R (opening (0 ∷ 0 ∷ []) (Some b ∷ []) (visitor rules [] 0))
-  begins b fits ok bounded no_ids no_numbers = let a : Account B = record { log = []; mark = 0; book = book_of b; turn = free b; ticket_at = λ _. 0; writer_at = λ _. 0 } in
+  begins b fits ok bounded no_ids no_numbers = let a : Account B = record { log = []; mark = 0; book = book_of b; lock = free b; ticket_at = λ _. 0; writer_at = λ _. 0 } in
       record {
         a = a;
         words_are = refl;
@@ -67,18 +67,18 @@ module _ {B : Type 0} (book_of : B → Book) (stands_for : Rules → List Event 
       let u = its_seat book_of stands_for sound rules s r (a.writer_at a.mark) t.0 t.1 (numbered_live a.mark t.0.role t.2.0) in
       (number_given a.book a.log a.ticket_at a.writer_at (a.writer_at a.mark) a.mark t.0.sight.seen t.0.role t.2.0 u.in_role).1)
 
-  locks_at : (s : St) (r : R s) (id : ℕ) (me : M) (t : Turn B) → r.a.turn ≡ t → IsLive me.0.role → me.0.held ≡ None → me.1 ≡ [] → get_elem? s.views id ≡ maybe.some me.0 → Goes s id me
+  locks_at : (s : St) (r : R s) (id : ℕ) (me : M) (t : LockState B) → r.a.lock ≡ t → IsLive me.0.role → me.0.held ≡ None → me.1 ≡ [] → get_elem? s.views id ≡ maybe.some me.0 → Goes s id me
   locks_at s r id me (free b) is live idle out at =
       let a = r.a in let v = me.0 in let seat = its_seat book_of stands_for sound rules s r id v at live in
       let w = view v.rules (sight a.log a.mark) v.role (Some (book_of b)) None in
-      let known = subst (λ (t : Turn B). IsHome book_of stands_for sound rules a t s.views) is r.locked in
-      let a' : Account B = record { log = a.log; mark = a.mark; book = a.book; turn = taken id; ticket_at = a.ticket_at; writer_at = a.writer_at } in
+      let known = subst (λ (t : LockState B). IsHome book_of stands_for sound rules a t s.views) is r.locked in
+      let a' : Account B = record { log = a.log; mark = a.mark; book = a.book; lock = held_by id; ticket_at = a.ticket_at; writer_at = a.writer_at } in
       let seat0 = renew rules a id v None seat tt in
       let seat' : IsSeat rules a' id w = record { ruled = seat0.ruled; part = seat0.part; met_part = tt; holds = (refl, known.1, refl); in_role = seat0.in_role } in
-      let zero_found : get_or s.words 1 0 ≡ 0 = ap (λ (l : List ℕ). get_or l 1 0) r.words_are ∙ ap turn_word is in (
+      let zero_found : get_or s.words 1 0 ≡ 0 = ap (λ (l : List ℕ). get_or l 1 0) r.words_are ∙ ap lock_word is in (
         w,
         takes 0 (Some b),
-        ap (λ (l : List (maybe.Option (Option B))). get_elem? l 0) r.homes_are ∙ ap (λ (t : Turn B). maybe.some (home t)) is,
+        ap (λ (l : List (maybe.Option (Option B))). get_elem? l 0) r.homes_are ∙ ap (λ (t : LockState B). maybe.some (home t)) is,
         record {
           a = a';
           words_are = ap (λ (l : List ℕ). set l 1 1) r.words_are;
@@ -116,9 +116,9 @@ module _ {B : Type 0} (book_of : B → Book) (stands_for : Rules → List Event 
           λ n. absurd (n zero_found),
         ),
       )
-  locks_at s r id me (taken j) is live idle out at =
-      let one : get_or s.words 1 0 ≡ 1 = ap (λ (l : List ℕ). get_or l 1 0) r.words_are ∙ ap turn_word is in
-      let words : set s.words 1 1 ≡ s.words = ap (λ (l : List ℕ). set l 1 1) r.words_are ∙ sym (r.words_are ∙ ap (λ (t : Turn B). front_word r.a.log r.a.mark ∷ turn_word t ∷ []) is) in
+  locks_at s r id me (held_by j) is live idle out at =
+      let one : get_or s.words 1 0 ≡ 1 = ap (λ (l : List ℕ). get_or l 1 0) r.words_are ∙ ap lock_word is in
+      let words : set s.words 1 1 ≡ s.words = ap (λ (l : List ℕ). set l 1 1) r.words_are ∙ sym (r.words_are ∙ ap (λ (t : LockState B). front_word r.a.log r.a.mark ∷ lock_word t ∷ []) is) in
       let views : set s.views id me.0 ≡ s.views = set_again s.views id me.0 at in (
         me.0,
         keeps,
@@ -128,4 +128,4 @@ module _ {B : Type 0} (book_of : B → Book) (stands_for : Rules → List Event 
       )
 
   pub locks : (slots id : ℕ) (me : M) → IsLive me.0.role → me.0.held ≡ None → me.1 ≡ [] → Allows R slots id me 1 (λ _. 1) (locked_as book_of stands_for sound (step slots 1 1 0 maybe.none) me)
-  locks slots id me live idle out s r _ at _ = locks_at s r id me r.a.turn refl live idle out at
+  locks slots id me live idle out s r _ at _ = locks_at s r id me r.a.lock refl live idle out at

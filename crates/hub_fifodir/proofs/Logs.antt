@@ -6,7 +6,7 @@ use lib.Seq.{take-add, drop-drop}
 use mathlib.Core.Option.{some, some-injective, some-ne-none}
 use lib.ListN.{get_elem?}
 use Rattle.hub_record.specs.declared.Event.{Event}
-use Rattle.hub_record.specs.World.{letters, stamped}
+use Rattle.hub_record.specs.World.{letters, as_events}
 use Rattle.hub_record.specs.Runs.{by}
 use Rattle.hub_fifodir.specs.Events.{StartsWith, slice}
 
@@ -46,25 +46,25 @@ slice_join a b c xs p q =
 pub letters-append : (xs ys : List Event) → letters (xs ++ ys) ≡ letters xs ++ letters ys
 letters-append xs ys = map-append (λ (e : Event). e.letter) xs ys
 
-pub letters-stamped : (p : ℕ) (message : List ℕ) → letters (stamped p message) ≡ message
+pub letters-stamped : (p : ℕ) (message : List ℕ) → letters (as_events p message) ≡ message
 letters-stamped p [] = refl
 letters-stamped p (x ∷ xs) = ap (λ (l : List ℕ). x ∷ l) (letters-stamped p xs)
 
-pub letters_longer : (log : List Event) (p : ℕ) (message : List ℕ) → letters (log ++ stamped p message) ≡ letters log ++ message
-letters_longer log p message = letters-append log (stamped p message) ∙ ap (λ (l : List ℕ). letters log ++ l) (letters-stamped p message)
+pub letters_longer : (log : List Event) (p : ℕ) (message : List ℕ) → letters (log ++ as_events p message) ≡ letters log ++ message
+letters_longer log p message = letters-append log (as_events p message) ∙ ap (λ (l : List ℕ). letters log ++ l) (letters-stamped p message)
 
-pub length-stamped : (p : ℕ) (message : List ℕ) → length (stamped p message) ≡ length message
+pub length-stamped : (p : ℕ) (message : List ℕ) → length (as_events p message) ≡ length message
 length-stamped p [] = refl
 length-stamped p (x ∷ xs) = ap suc (length-stamped p xs)
 
 pub by-append : (p : ℕ) (xs ys : List Event) → by p (xs ++ ys) ≡ by p xs ++ by p ys
 by-append p xs ys = ap (map (λ (e : Event). e.letter)) (filter-append (λ (e : Event). e.who == p) xs ys) ∙ map-append (λ (e : Event). e.letter) (filter (λ (e : Event). e.who == p) xs) (filter (λ (e : Event). e.who == p) ys)
 
-pub by_own : (p : ℕ) (message : List ℕ) → by p (stamped p message) ≡ message
+pub by_own : (p : ℕ) (message : List ℕ) → by p (as_events p message) ≡ message
 by_own p [] = refl
 by_own p (x ∷ xs) = let t = eq-eqb p p refl in simp t (ap (λ (l : List ℕ). x ∷ l) (by_own p xs))
 
-pub by_other : (q p : ℕ) (message : List ℕ) → p ≢ q → by q (stamped p message) ≡ []
+pub by_other : (q p : ℕ) (message : List ℕ) → p ≢ q → by q (as_events p message) ≡ []
 by_other q p [] n = refl
 by_other q p (x ∷ xs) n = let t = ne_eqb p q n in simp t (by_other q p xs n)
 
@@ -73,7 +73,7 @@ at_join [] ys k e at = inr (k, at)
 at_join (x ∷ xs) ys zero e at = inl at
 at_join (x ∷ xs) ys (suc k) e at = at_join xs ys k e at
 
-pub at_stamped : (p : ℕ) (message : List ℕ) (i : ℕ) (e : Event) → get_elem? (stamped p message) i ≡ some e → e.who ≡ p
+pub at_stamped : (p : ℕ) (message : List ℕ) (i : ℕ) (e : Event) → get_elem? (as_events p message) i ≡ some e → e.who ≡ p
 at_stamped p [] i e at = absurd (some-ne-none e (sym at))
 at_stamped p (x ∷ xs) zero e at = ap (λ (z : Event). z.who) (sym (some-injective (record { who = p; letter = x }) e at))
 at_stamped p (x ∷ xs) (suc i) e at = at_stamped p xs i e at

@@ -8,7 +8,7 @@ use Rattle.hub_record.specs.declared.Event.{Event}
 use Rattle.hub_fifodir.specs.declared.views.Rules.{Rules}
 use Rattle.hub_fifodir.specs.declared.views.Book.{Book}
 use Rattle.hub_fifodir.specs.declared.views.View.{View}
-use Rattle.hub_fifodir.specs.Rule.{Turn, free, taken, Account, IsSeat, Fits, sight, view, visitor, IsLive, HasId, HasSeen, HasHeld, HasClosed, IsNumbered, IsHome, Ordered}
+use Rattle.hub_fifodir.specs.Rule.{LockState, free, held_by, Account, IsSeat, Fits, sight, view, visitor, IsLive, HasId, HasSeen, HasHeld, HasClosed, IsNumbered, IsHome, Ordered}
 use Rattle.hub_fifodir.specs.Steps.{entered_as, looked_as, KnowsOwnClose}
 use Rattle.hub_fifodir.proofs.ViewLists.{all_set, at_kept, here, at_more, all_more, somewhere_more, same_at}
 use Rattle.hub_fifodir.proofs.OneSeat.{part_whole, live_seat, seated, role_sane, renew, part_grows, any_grows, numbered_live, number_seat}
@@ -38,9 +38,9 @@ module _ {B : Type 0} (book_of : B → Book) (stands_for : Rules → List Event 
       let same : t.0 ≡ v = same_at s.views id t.0 v (ap (get_elem? s.views) (sym place) ∙ t.1) at in
       subst (λ (x : View). x.sight ≡ sight a.log a.mark) same t.2.1
 
-  home_more : (a : Account B) (t : Turn B) (views : List View) (w : View) → IsHome book_of stands_for sound rules a t views → IsHome book_of stands_for sound rules a t (views ++ w ∷ [])
+  home_more : (a : Account B) (t : LockState B) (views : List View) (w : View) → IsHome book_of stands_for sound rules a t views → IsHome book_of stands_for sound rules a t (views ++ w ∷ [])
   home_more a (free b) views w h = h
-  home_more a (taken j) views w h = at_more (HasHeld a.book) views w j h
+  home_more a (held_by j) views w h = at_more (HasHeld a.book) views w j h
 
   -- a new view that fits, and doesn't have the lock
   pub joined_by : (s : St) (r : Rule s) (w : View) → Fits rules r.a (length s.views) w → Rule record { words = s.words; homes = s.homes; views = s.views ++ w ∷ [] }
@@ -50,7 +50,7 @@ module _ {B : Type 0} (book_of : B → Book) (stands_for : Rules → List Event 
     homes_are = r.homes_are;
     is_sound = r.is_sound;
     bounded = r.bounded;
-    locked = home_more a a.turn s.views w r.locked;
+    locked = home_more a a.lock s.views w r.locked;
     each = all_more (Fits rules a) s.views w fits r.each;
     reached = somewhere_more (HasSeen (sight a.log a.mark)) s.views w r.reached;
     closer = λ n. at_more (HasClosed a.mark a.log) s.views w (a.writer_at a.mark) (r.closer n);
@@ -66,10 +66,10 @@ module _ {B : Type 0} (book_of : B → Book) (stands_for : Rules → List Event 
     (refl, ap (λ (l : List ℕ). get_or l 0 0) r.words_are, subst (λ (x : Rules). sound x a.log) (sym ruled) r.is_sound),
   )
 
-  pub home_kept : (a : Account B) (t : Turn B) (views : List View) (j : ℕ) (v w : View) → get_elem? views j ≡ maybe.some v → (HasHeld a.book v → HasHeld a.book w)
+  pub home_kept : (a : Account B) (t : LockState B) (views : List View) (j : ℕ) (v w : View) → get_elem? views j ≡ maybe.some v → (HasHeld a.book v → HasHeld a.book w)
       → IsHome book_of stands_for sound rules a t views → IsHome book_of stands_for sound rules a t (set views j w)
   home_kept a (free b) views j v w at keep h = h
-  home_kept a (taken k) views j v w at keep h = at_kept (HasHeld a.book) views j v w k at keep h
+  home_kept a (held_by k) views j v w at keep h = at_kept (HasHeld a.book) views j v w k at keep h
 
   pub looks : (slots id : ℕ) (me : M) → IsLive me.0.role → me.0.held ≡ None → Allows Rule slots id me 0 (λ n. n) (looked_as book_of stands_for sound (step slots 0 0 0 maybe.none) me)
   looks slots id me live idle s r _ at _ =
@@ -85,7 +85,7 @@ module _ {B : Type 0} (book_of : B → Book) (stands_for : Rules → List Event 
           homes_are = r.homes_are;
           is_sound = r.is_sound;
           bounded = r.bounded;
-          locked = home_kept a a.turn s.views id v w at (λ h. absurd (none_some (sym idle ∙ h.1))) r.locked;
+          locked = home_kept a a.lock s.views id v w at (λ h. absurd (none_some (sym idle ∙ h.1))) r.locked;
           each = all_set (Fits rules a) s.views id w (seated rules a id w v.role seat') (λ k u _ p. r.each k u p);
           reached = here (HasSeen (sight a.log a.mark)) s.views id v w at (live, inl refl);
           closer = λ n. at_kept (HasClosed a.mark a.log) s.views id v w (a.writer_at a.mark) at (λ h. (h.0, refl)) (r.closer n);

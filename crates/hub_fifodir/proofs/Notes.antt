@@ -12,21 +12,21 @@ use Rattle.hub_fifodir.specs.declared.views.Book.{Book}
 use Rattle.hub_fifodir.specs.declared.views.Sight.{Sight}
 use Rattle.hub_fifodir.specs.declared.views.View.{View}
 use Rattle.hub_fifodir.specs.declared.views.Role.TheVariants.{Note}
-use Rattle.hub_fifodir.specs.Rule.{Fits, sight, spent, IsLive, HasId, HasSeen, HasClosed, Somewhere, IsNumbered}
+use Rattle.hub_fifodir.specs.Rule.{Fits, sight, spent_view, IsLive, HasId, HasSeen, HasClosed, Somewhere, IsNumbered}
 use Rattle.hub_fifodir.specs.Steps.{note_of, with_note}
 use Rattle.hub_fifodir.proofs.ViewLists.{all_set, at_kept, at_own, same_at, somewhere_kept}
 use Rattle.hub_fifodir.proofs.OneSeat.{seated}
 use Rattle.hub_fifodir.proofs.Looks.{Rule, its_seat, home_kept, joined_by, none_some}
 
 still_seen : (all : Sight) (views : List View) (id : ℕ) (v w : View) (other : ℕ) (u : View) → get_elem? views id ≡ maybe.some v → get_elem? (set views id w) other ≡ maybe.some u → ¬ (other ≡ id)
-    → u.met ≡ None → IsLive w.role → w.met ≡ Some u.sight → Somewhere (set views id w) (HasSeen all) → Somewhere (set (set views id w) other spent) (HasSeen all)
+    → u.met ≡ None → IsLive w.role → w.met ≡ Some u.sight → Somewhere (set views id w) (HasSeen all) → Somewhere (set (set views id w) other spent_view) (HasSeen all)
 still_seen all views id v w other u at there apart alone live has t = dite (ℕ_discrete t.0 other)
     (λ same. let is : t.1 ≡ u = same_at (set views id w) other t.1 u (ap (get_elem? (set views id w)) (sym same) ∙ t.2) there in
     let seen = subst (HasSeen all) is t.3 in
     let now : w.met ≡ Some all = ⊎_elim (λ (e : u.sight ≡ all). has ∙ ap Some e) (λ (e : u.met ≡ Some all). absurd (none_some (sym alone ∙ e))) seen.1 in
     let mine = at_own (HasSeen all) views id v w at (live, inr now) in
-    (id, mine.0, set_else (set views id w) other id spent (λ e. apart (sym e)) ∙ mine.1, mine.2))
-    (λ diff. (t.0, t.1, set_else (set views id w) other t.0 spent diff ∙ t.2, t.3))
+    (id, mine.0, set_else (set views id w) other id spent_view (λ e. apart (sym e)) ∙ mine.1, mine.2))
+    (λ diff. (t.0, t.1, set_else (set views id w) other t.0 spent_view diff ∙ t.2, t.3))
 
 module _ {B : Type 0} (book_of : B → Book) (stands_for : Rules → List Event → ℕ → B → Type 0) (sound : Rules → List Event → Type 0) (rules : Rules) where
   abbrev St : Type 0
@@ -50,7 +50,7 @@ module _ {B : Type 0} (book_of : B → Book) (stands_for : Rules → List Event 
     homes_are = r.homes_are;
     is_sound = r.is_sound;
     bounded = r.bounded;
-    locked = home_kept book_of stands_for sound rules a a.turn s.views id v w at (λ h. absurd (none_some (sym idle ∙ h.1))) r.locked;
+    locked = home_kept book_of stands_for sound rules a a.lock s.views id v w at (λ h. absurd (none_some (sym idle ∙ h.1))) r.locked;
     each = all_set (Fits rules a) s.views id w fits (λ j u n q. r.each j u q);
     reached = seen;
     closer = λ n. at_kept (HasClosed a.mark a.log) s.views id v w (a.writer_at a.mark) at (λ p. let t = named a.mark p.0 in (t.0, t.1 ∙ p.1)) (r.closer n);
@@ -59,7 +59,7 @@ module _ {B : Type 0} (book_of : B → Book) (stands_for : Rules → List Event 
     writers = λ n g. at_kept (λ u. IsNumbered n u.role) s.views id v w (a.writer_at n) at (λ p. (named n p).0) (r.writers n g);
   }
 
-  pub joins : (id : ℕ) (v : View) (other : ℕ) (u : View) → IsLive v.role → v.held ≡ None → v.met ≡ None → u.role ≡ Note → u.held ≡ None → u.met ≡ None → Joins R id v other u (with_note v u) spent
+  pub joins : (id : ℕ) (v : View) (other : ℕ) (u : View) → IsLive v.role → v.held ≡ None → v.met ≡ None → u.role ≡ Note → u.held ≡ None → u.met ≡ None → Joins R id v other u (with_note v u) spent_view
   joins id v other u live idle alone note idle' alone' s r at apart there =
       let a = r.a in let w = with_note v u in let all = sight a.log a.mark in
       let was : get_elem? s.views other ≡ maybe.some u = ⊎_elim (λ (t : (other ≡ id) × (w ≡ u)). absurd (apart t.0)) (λ (t : (other ≢ id) × (get_elem? s.views other ≡ maybe.some u)). t.1) (at_set s.views id other w u there) in
@@ -69,5 +69,5 @@ module _ {B : Type 0} (book_of : B → Book) (stands_for : Rules → List Event 
       let seen : Somewhere (set s.views id w) (HasSeen all) =
       somewhere_kept (HasSeen all) s.views id v w at (λ h. (live, ⊎_elim (λ (e : v.sight ≡ all). inl e) (λ (e : v.met ≡ Some all). absurd (none_some (sym alone ∙ e))) h.1)) r.reached in
       let first : R record { words = s.words; homes = s.homes; views = set s.views id w } = changed s r id v w at fits idle (λ i p. p) (λ n p. (p, refl)) seen in
-      changed record { words = s.words; homes = s.homes; views = set s.views id w } first other u spent there tt idle'
+      changed record { words = s.words; homes = s.homes; views = set s.views id w } first other u spent_view there tt idle'
       (λ i p. absurd (subst (HasId i) note p)) (λ n p. absurd (subst (IsNumbered n) note p)) (still_seen all s.views id v w other u at there apart alone' live refl seen)

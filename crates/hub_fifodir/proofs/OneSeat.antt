@@ -8,7 +8,7 @@ use Rattle.hub_fifodir.specs.declared.views.Sight.{Sight}
 use Rattle.hub_fifodir.specs.declared.views.View.{View}
 use Rattle.hub_fifodir.specs.declared.views.Role.{Role}
 use Rattle.hub_fifodir.specs.declared.views.Role.TheVariants.{Visitor, Note, Ticket, Publisher, Spent}
-use Rattle.hub_fifodir.specs.Rule.{Turn, free, taken, Account, IsPart, IsPartIfAny, IsGiven, InRole, IsSeat, IsSeatOr, Holds, IsSane, sight, view, IsLive, IsNumbered}
+use Rattle.hub_fifodir.specs.Rule.{LockState, free, held_by, Account, IsPart, IsPartIfAny, IsGiven, InRole, IsSeat, IsSeatOr, Holds, IsSane, sight, view, IsLive, IsNumbered}
 use Rattle.hub_fifodir.specs.Steps.{Grows, GrowsIfAny, IsInBook}
 use Rattle.hub_fifodir.proofs.Logs.{starts_self, starts_more, starts_length, slice_longer}
 
@@ -55,19 +55,19 @@ module _ {B : Type 0} (rules : Rules) (a : Account B) where
   any_grows None p = tt
   any_grows (Some s) p = part_grows s p
 
-  pub not_held : (b : B) (j : ℕ) (s : Sight) (held : Option Book) → a.turn ≡ free b → Holds rules a j s held → held ≡ None
+  pub not_held : (b : B) (j : ℕ) (s : Sight) (held : Option Book) → a.lock ≡ free b → Holds rules a j s held → held ≡ None
   not_held b j s None is h = refl
   not_held b j s (Some k) is h = absurd (cc (h.0, is))
 
   pub held_none : (j : ℕ) (s : Sight) (held : Option Book) → held ≡ None → Holds rules a j s held
   held_none j s held e = subst (Holds rules a j s) (sym e) tt
 
-  -- if another seat has the turn
-  pub held_elsewhere : (i j : ℕ) (s : Sight) (held : Option Book) → i ≢ j → a.turn ≡ taken i → Holds rules a j s held → held ≡ None
+  -- if another seat has the lock
+  pub held_elsewhere : (i j : ℕ) (s : Sight) (held : Option Book) → i ≢ j → a.lock ≡ held_by i → Holds rules a j s held → held ≡ None
   held_elsewhere i j s None n is h = refl
   held_elsewhere i j s (Some k) n is h = absurd (n (same (sym is ∙ h.0)))
     where
-      same : Path (Turn B) (taken i) (taken j) → i ≡ j
+      same : Path (LockState B) (held_by i) (held_by j) → i ≡ j
       same e = cc
 
 pub numbered_live : (n : ℕ) (r : Role) → IsNumbered n r → IsLive r

@@ -9,7 +9,7 @@ use Rattle.hub_record.specs.declared.Kind.{Kind}
 use Rattle.hub_record.specs.declared.limits.Limits.{Limits}
 use Rattle.hub_record.specs.declared.PubError.{PubError}
 use Rattle.hub_record.specs.declared.PubError.TheVariants as post
-use Rattle.hub_record.specs.World.{World, IsWorld, letters, stamped, load, IsLawfulIn, IsUnlawfulIn, PublishReply, after_publish, close_reply, after_close}
+use Rattle.hub_record.specs.World.{World, IsWorld, letters, as_events, load, IsLawfulIn, IsUnlawfulIn, PublishReply, after_publish, close_reply, after_close}
 use Rattle.hub_record.specs.declared.Closed.{Closed}
 use Rattle.hub_record.specs.Runs.{by}
 use Rattle.std.proofs.lemmas.Bool.{cases_Bool}
@@ -20,11 +20,11 @@ use Rattle.hub_fifodir.specs.declared.views.Writing.{Writing}
 use Rattle.hub_fifodir.specs.declared.views.Role.{Role}
 use Rattle.hub_fifodir.specs.declared.views.Role.TheVariants.{Publisher}
 use Rattle.hub_fifodir.specs.declared.locked.Locked.{Locked}
-use Rattle.hub_fifodir.specs.Word.{packed}
+use Rattle.hub_fifodir.specs.Word.{packed_word}
 use Rattle.hub_fifodir.specs.Events.{is_closed, front_word, StartsWith}
-use Rattle.hub_fifodir.specs.Locks.{Stands, KeepsPublishers}
+use Rattle.hub_fifodir.specs.Locks.{StandsForWorld, KeepsPublishers}
 use Rattle.hub_fifodir.specs.Rule.{IsLive, IsNumbered, IsSane, IsBehind, IsSound, book_of}
-use Rattle.hub_fifodir.specs.Steps.{M, Locks, Gives, Grows, IsWriter, WritesMessage, WritesMark, grown, closing, writing_of, mine_of, writer, rested}
+use Rattle.hub_fifodir.specs.Steps.{M, Locks, Gives, Grows, IsWriter, WritesMessage, WritesMark, view_with_letters, closing, writing_of, mine_of, writer, view_at_rest}
 use Rattle.hub_fifodir.specs.Passes.{IsRefusedBy}
 use Rattle.hub_fifodir.proofs.Logs.{by-append, by_own, starts_more, letters_longer, length-stamped}
 use Rattle.hub_fifodir.proofs.Rests.{rests, same_book}
@@ -67,10 +67,10 @@ refused_by rules s b message post.Full h r = let full = full_only h.world (lengt
 )
 
 -- the front word of a record that stands for a world
-pub word_is : (b : Locked) (w : World) (log : List Event) (mark : ℕ) (number : ℕ) (closed : Bool) (flags : Flags) (word : ℕ) → Stands b w → w.events ≡ log → w.closed ≡ is_closed mark
-    → number ≡ b.kept.end → flags ≡ b.kept.flags → closed ≡ b.kept.closed → word ≡ packed number closed flags → word ≡ front_word log mark
+pub word_is : (b : Locked) (w : World) (log : List Event) (mark : ℕ) (number : ℕ) (closed : Bool) (flags : Flags) (word : ℕ) → StandsForWorld b w → w.events ≡ log → w.closed ≡ is_closed mark
+    → number ≡ b.kept.end → flags ≡ b.kept.flags → closed ≡ b.kept.closed → word ≡ packed_word number closed flags → word ≡ front_word log mark
 word_is b w log mark number closed flags word h events shut n f c e =
-    e ∙ (λ i. packed ((n ∙ h.for.end ∙ ap length events) i) ((c ∙ h.for.closed ∙ shut) i) ((f ∙ h.for.flags ∙ ap (λ (l : List Event). flags_of (letters l)) events) i))
+    e ∙ (λ i. packed_word ((n ∙ h.for.end ∙ ap length events) i) ((c ∙ h.for.closed ∙ shut) i) ((f ∙ h.for.flags ∙ ap (λ (l : List Event). flags_of (letters l)) events) i))
 
 module _ (m0 m1 : M) (n : ℕ) (b : Locked) (w : IsWriter m0 n) (h : Locks book_of IsBehind IsSound m0.0 m1.0 b) where
   pub role_held : m1.0.role ≡ writer n (mine_of m0.0.role)
@@ -92,7 +92,7 @@ module _ (m0 m1 : M) (n : ℕ) (b : Locked) (w : IsWriter m0 n) (h : Locks book_
       let k : m0.0.sight.closed ≡ n = ap (λ (s : Sight). s.closed) same ∙ e in absurd (omega arith)
 
   -- nothing was changed
-  pub rests_refused : (b' : Locked) → b' ≡ b → Gives m1 b' (rested m1.0 m1.0.role)
+  pub rests_refused : (b' : Locked) → b' ≡ b → Gives m1 b' (view_at_rest m1.0 m1.0.role)
   rests_refused b' e = rests m1 b b' live_held is_held h.bounded (ap book_of e) (subst (IsBehind m1.0.rules m1.0.sight.seen m1.0.sight.closed) (sym e) h.behind)
 
   is_n : (writing_of m1.0.role).number ≡ n
@@ -102,55 +102,55 @@ module _ (m0 m1 : M) (n : ℕ) (b : Locked) (w : IsWriter m0 n) (h : Locks book_
   is_writing = subst (λ (r : Role). r ≡ Publisher (writing_of r)) (sym role_held) refl
 
   -- a message was added
-  module _ (b' : Locked) (message : List ℕ) (first : ℕ) (r : PublishReply h.behind.world message (Ok first)) (after : Stands b' (after_publish h.behind.world n message (Ok first))) (others : KeepsPublishers b b') where
+  module _ (b' : Locked) (message : List ℕ) (first : ℕ) (r : PublishReply h.behind.world message (Ok first)) (after : StandsForWorld b' (after_publish h.behind.world n message (Ok first))) (others : KeepsPublishers b b') where
     abbrev p : Writing
     p = writing_of m1.0.role
 
     pub is_open : m1.0.sight.closed ≡ 0
     is_open = open_when m1.0.sight.closed h.behind.world.closed h.behind.closed r.0.is_open
 
-    events_are : h.behind.world.events ++ stamped n message ≡ m1.0.sight.seen ++ stamped (writing_of m1.0.role).number message
-    events_are = λ i. h.behind.events i ++ stamped (sym is_n i) message
+    events_are : h.behind.world.events ++ as_events n message ≡ m1.0.sight.seen ++ as_events (writing_of m1.0.role).number message
+    events_are = λ i. h.behind.events i ++ as_events (sym is_n i) message
 
-    behind : IsBehind m1.0.rules (m1.0.sight.seen ++ stamped (writing_of m1.0.role).number message) m1.0.sight.closed b'
+    behind : IsBehind m1.0.rules (m1.0.sight.seen ++ as_events (writing_of m1.0.role).number message) m1.0.sight.closed b'
     behind = record { world = after_publish h.behind.world n message (Ok first); for = after; events = events_are; closed = h.behind.closed; kind = h.behind.kind; limits = h.behind.limits }
 
-    sound_longer : (k : ℕ) → IsSound m1.0.rules (m1.0.sight.seen ++ stamped k message)
+    sound_longer : (k : ℕ) → IsSound m1.0.rules (m1.0.sight.seen ++ as_events k message)
     sound_longer k =
         let total : length m1.0.sight.seen + length message ≤ m1.0.rules.limits.total =
         subst (λ (l : Limits). length m1.0.sight.seen + length message ≤ l.total) h.behind.limits (subst (λ (l : List Event). length l + length message ≤ h.behind.world.limits.total) h.behind.events r.0.within) in
-        let long : length (m1.0.sight.seen ++ stamped k message) ≡ length m1.0.sight.seen + length message = length-append m1.0.sight.seen (stamped k message) ∙ ap (λ (x : ℕ). length m1.0.sight.seen + x) (length-stamped k message) in
+        let long : length (m1.0.sight.seen ++ as_events k message) ≡ length m1.0.sight.seen + length message = length-append m1.0.sight.seen (as_events k message) ∙ ap (λ (x : ℕ). length m1.0.sight.seen + x) (length-stamped k message) in
         let word : List ℕ = letters m1.0.sight.seen ++ message in
         let lawful : IsLawfulIn m1.0.rules.kind (letters m1.0.sight.seen ++ message) =
         subst (λ (x : Kind). IsLawfulIn x (letters m1.0.sight.seen ++ message)) h.behind.kind (subst (λ (l : List Event). IsLawfulIn h.behind.world.kind (letters l ++ message)) h.behind.events r.0.lawful) in
         (omega arith, subst (IsLawfulIn m1.0.rules.kind) (sym (letters_longer m1.0.sight.seen k message)) lawful)
 
-    pub may_write : (number : ℕ) (closed : Bool) (flags : Flags) (word : ℕ) → number ≡ b'.kept.end → flags ≡ b'.kept.flags → closed ≡ b'.kept.closed → word ≡ packed number closed flags
-        → WritesMessage m1 word message (grown m1.0 (writing_of m1.0.role) message)
+    pub may_write : (number : ℕ) (closed : Bool) (flags : Flags) (word : ℕ) → number ≡ b'.kept.end → flags ≡ b'.kept.flags → closed ≡ b'.kept.closed → word ≡ packed_word number closed flags
+        → WritesMessage m1 word message (view_with_letters m1.0 (writing_of m1.0.role) message)
     may_write number closed flags word x y z e = (
       book_of b,
       is_held,
       is_open,
       is_writing,
-      word_is b' (after_publish h.behind.world n message (Ok first)) (m1.0.sight.seen ++ stamped (writing_of m1.0.role).number message) 0 number closed flags word after events_are (h.behind.closed ∙ ap is_closed is_open) x y z e,
+      word_is b' (after_publish h.behind.world n message (Ok first)) (m1.0.sight.seen ++ as_events (writing_of m1.0.role).number message) 0 number closed flags word after events_are (h.behind.closed ∙ ap is_closed is_open) x y z e,
       sound_longer (writing_of m1.0.role).number,
       refl,
     )
 
-    module _ (m2 : M) (e2 : m2 ≡ (grown m1.0 (writing_of m1.0.role) message, m1.1)) where
-      pub rests_longer : Gives m2 b' (rested m2.0 m2.0.role)
-      rests_longer = subst (λ (m : M). Gives m b' (rested m.0 m.0.role)) (sym e2)
-          (rests (grown m1.0 (writing_of m1.0.role) message, m1.1) b b' tt is_held h.bounded (same_book b b' h.behind.world (after_publish h.behind.world n message (Ok first)) h.behind.for after refl others) behind)
+    module _ (m2 : M) (e2 : m2 ≡ (view_with_letters m1.0 (writing_of m1.0.role) message, m1.1)) where
+      pub rests_longer : Gives m2 b' (view_at_rest m2.0 m2.0.role)
+      rests_longer = subst (λ (m : M). Gives m b' (view_at_rest m.0 m.0.role)) (sym e2)
+          (rests (view_with_letters m1.0 (writing_of m1.0.role) message, m1.1) b b' tt is_held h.bounded (same_book b b' h.behind.world (after_publish h.behind.world n message (Ok first)) h.behind.for after refl others) behind)
 
-      module _ (m3 : M) (e3 : m3 ≡ (rested m2.0 m2.0.role, [])) where
-        now : m3 ≡ (rested (grown m1.0 (writing_of m1.0.role) message) (grown m1.0 (writing_of m1.0.role) message).role, [])
-        now = e3 ∙ ap (λ (m : M). (rested m.0 m.0.role, [])) e2
+      module _ (m3 : M) (e3 : m3 ≡ (view_at_rest m2.0 m2.0.role, [])) where
+        now : m3 ≡ (view_at_rest (view_with_letters m1.0 (writing_of m1.0.role) message) (view_with_letters m1.0 (writing_of m1.0.role) message).role, [])
+        now = e3 ∙ ap (λ (m : M). (view_at_rest m.0 m.0.role, [])) e2
 
         role_is : m3.0.role ≡ writer n (mine_of m0.0.role ++ message)
         role_is = ap (λ (m : M). m.0.role) now ∙ ap (λ (r : Role). Publisher record { number = (writing_of r).number; mine = (writing_of r).mine ++ message; gone = (writing_of r).gone }) role_held
 
-        seen_is : m3.0.sight.seen ≡ m1.0.sight.seen ++ stamped n message
-        seen_is = ap (λ (m : M). m.0.sight.seen) now ∙ ap (λ (k : ℕ). m1.0.sight.seen ++ stamped k message) is_n
+        seen_is : m3.0.sight.seen ≡ m1.0.sight.seen ++ as_events n message
+        seen_is = ap (λ (m : M). m.0.sight.seen) now ∙ ap (λ (k : ℕ). m1.0.sight.seen ++ as_events k message) is_n
 
         pub closed_now : m3.0.sight.closed ≡ 0
         closed_now = ap (λ (m : M). m.0.sight.closed) now ∙ is_open
@@ -167,31 +167,31 @@ module _ (m0 m1 : M) (n : ℕ) (b : Locked) (w : IsWriter m0 n) (h : Locks book_
           held = ap (λ (m : M). m.0.held) now;
           out = ap (λ (m : M). m.1) now;
           met = ap (λ (m : M). m.0.met) now;
-          own = ap (by n) seen_is ∙ by-append n m1.0.sight.seen (stamped n message) ∙ (λ i. mine_held i ++ by_own n message i) ∙ sym mine_longer;
+          own = ap (by n) seen_is ∙ by-append n m1.0.sight.seen (as_events n message) ∙ (λ i. mine_held i ++ by_own n message i) ∙ sym mine_longer;
           within = sound_now.0;
         }
 
-        pub seen_longer : (others : List Event) × (m3.0.sight.seen ≡ (m0.0.sight.seen ++ others) ++ stamped n message)
-        seen_longer = (h.renews.grows.0.0, seen_is ∙ ap (λ (l : List Event). l ++ stamped n message) h.renews.grows.0.1)
+        pub seen_longer : (others : List Event) × (m3.0.sight.seen ≡ (m0.0.sight.seen ++ others) ++ as_events n message)
+        seen_longer = (h.renews.grows.0.0, seen_is ∙ ap (λ (l : List Event). l ++ as_events n message) h.renews.grows.0.1)
 
         pub grows_longer : Grows m0.0.sight m3.0.sight
         grows_longer = (
-          subst (λ (l : List Event). StartsWith l m0.0.sight.seen) (sym seen_is) (starts_more m1.0.sight.seen (stamped n message) m0.0.sight.seen h.renews.grows.0),
+          subst (λ (l : List Event). StartsWith l m0.0.sight.seen) (sym seen_is) (starts_more m1.0.sight.seen (as_events n message) m0.0.sight.seen h.renews.grows.0),
           λ k. absurd (k (sym (ap (λ (s : Sight). s.closed) (h.renews.grows.1 k)) ∙ is_open)),
         )
 
         pub count_longer : first + length message ≡ length m3.0.sight.seen
-        count_longer = ap (λ (x : ℕ). x + length message) (r.1 ∙ ap length h.behind.events) ∙ sym (ap length seen_is ∙ length-append m1.0.sight.seen (stamped n message) ∙ ap (λ (x : ℕ). length m1.0.sight.seen + x) (length-stamped n message))
+        count_longer = ap (λ (x : ℕ). x + length message) (r.1 ∙ ap length h.behind.events) ∙ sym (ap length seen_is ∙ length-append m1.0.sight.seen (as_events n message) ∙ ap (λ (x : ℕ). length m1.0.sight.seen + x) (length-stamped n message))
 
   -- the record was closed
-  module _ (b' : Locked) (shut : h.behind.world.closed ≡ false) (after : Stands b' (after_close h.behind.world)) (others : KeepsPublishers b b') (pos : 0 < n) where
+  module _ (b' : Locked) (shut : h.behind.world.closed ≡ false) (after : StandsForWorld b' (after_close h.behind.world)) (others : KeepsPublishers b b') (pos : 0 < n) where
     was_open : m1.0.sight.closed ≡ 0
     was_open = open_when m1.0.sight.closed h.behind.world.closed h.behind.closed shut
 
     is_shut : true ≡ is_closed (writing_of m1.0.role).number
     is_shut = sym (ap is_closed is_n ∙ ap not (ne_eqb n 0 (λ e. let p : 0 < n = pos in absurd (omega arith))))
 
-    pub may_mark : (number : ℕ) (closed : Bool) (flags : Flags) (word : ℕ) → number ≡ b'.kept.end → flags ≡ b'.kept.flags → closed ≡ b'.kept.closed → word ≡ packed number closed flags
+    pub may_mark : (number : ℕ) (closed : Bool) (flags : Flags) (word : ℕ) → number ≡ b'.kept.end → flags ≡ b'.kept.flags → closed ≡ b'.kept.closed → word ≡ packed_word number closed flags
         → WritesMark m1 word (closing m1.0 (writing_of m1.0.role))
     may_mark number closed flags word x y z e = (
       book_of b,
@@ -203,7 +203,7 @@ module _ (m0 m1 : M) (n : ℕ) (b : Locked) (w : IsWriter m0 n) (h : Locks book_
     )
 
     module _ (m2 : M) (e2 : m2 ≡ (closing m1.0 (writing_of m1.0.role), m1.1)) where
-      pub rests_shut : Gives m2 b' (rested m2.0 m2.0.role)
-      rests_shut = subst (λ (m : M). Gives m b' (rested m.0 m.0.role)) (sym e2)
+      pub rests_shut : Gives m2 b' (view_at_rest m2.0 m2.0.role)
+      rests_shut = subst (λ (m : M). Gives m b' (view_at_rest m.0 m.0.role)) (sym e2)
           (rests (closing m1.0 (writing_of m1.0.role), m1.1) b b' live_held is_held h.bounded (same_book b b' h.behind.world (after_close h.behind.world) h.behind.for after refl others)
           record { world = after_close h.behind.world; for = after; events = h.behind.events; closed = is_shut; kind = h.behind.kind; limits = h.behind.limits })

@@ -4,26 +4,26 @@ use Rattle.std.proofs.lemmas.Bool.{ne_eqb, eq-eqb}
 use mathlib.Core.Logic.{dite}
 use native.Mathlib.Decide.{ℕ_discrete}
 use Rattle.hub_record.specs.declared.Event.{Event}
-use Rattle.hub_record.specs.World.{World, Subscription, found, found_from, with_changed, moved_on, taken, stopped, new_subscription, after_subscribe, after_take, after_take_for, after_cancel, after_cancel_for}
+use Rattle.hub_record.specs.World.{World, Subscription, subscription_in, found_from, with_changed, moved_on, count_to_take, as_cancelled, new_subscription, after_subscribe, after_take, after_take_for, after_cancel, after_cancel_for}
 use Rattle.hub_record.specs.Kept.{Kept, StandsFor}
 use Rattle.hub_fifodir.specs.declared.views.Book.{Book}
 use Rattle.hub_fifodir.specs.declared.views.Role.{Role}
 use Rattle.hub_fifodir.specs.declared.views.Role.TheVariants.{Visitor}
 use Rattle.hub_fifodir.specs.declared.locked.Locked.{Locked}
-use Rattle.hub_fifodir.specs.Locks.{Stands, stands, KeepsPublishers, KeepsRecord, HasLeft}
+use Rattle.hub_fifodir.specs.Locks.{StandsForWorld, is_current, KeepsPublishers, KeepsRecord, HasLeft}
 use Rattle.hub_fifodir.specs.Rule.{IsLive, IsGiven, IsBounded, cursor_of, book_of, IsBehind}
-use Rattle.hub_fifodir.specs.Steps.{M, Changes, Gives, IsFresh, rested, writer, gone_writer}
+use Rattle.hub_fifodir.specs.Steps.{M, Changes, Gives, IsFresh, view_at_rest, writer, gone_writer}
 use Rattle.hub_fifodir.proofs.Subscriptions.{cursor_given}
 
 pub none_between : (n most : ℕ) → most < n → n ≤ most → ⊥
 none_between n most a b = absurd (omega arith)
 
 -- only what was given is current, and has a cursor
-pub bounded_after : (b : Locked) (w : World) → Stands b w → ((n : ℕ) → stands b.standing.keys n ≡ true → IsGiven n b.given) → IsBounded (book_of b)
+pub bounded_after : (b : Locked) (w : World) → StandsForWorld b w → ((n : ℕ) → is_current b.standing.keys n ≡ true → IsGiven n b.given) → IsBounded (book_of b)
 bounded_after b w h low = record { cursors = λ i next at. cursor_given b.kept w i next h.for at; standing = low }
 
 -- with the same record
-pub still_stands : (b b' : Locked) (w : World) → KeepsRecord b b' → Stands b w → Stands b' w
+pub still_stands : (b b' : Locked) (w : World) → KeepsRecord b b' → StandsForWorld b w → StandsForWorld b' w
 still_stands b b' w same h = record { for = subst (λ (r : Kept). StandsFor r w) (sym same.0) h.for; ids = same.1 ∙ h.ids }
 
 -- ---- as before
@@ -46,12 +46,12 @@ same_state seen r k live low = record {
   fits = λ f g j h _ _. h;
 }
 
-pub rests : (m : M) (b b' : Locked) → IsLive m.0.role → m.0.held ≡ Some (book_of b) → IsBounded (book_of b) → book_of b' ≡ book_of b → IsBehind m.0.rules m.0.sight.seen m.0.sight.closed b' → Gives m b' (rested m.0 m.0.role)
+pub rests : (m : M) (b b' : Locked) → IsLive m.0.role → m.0.held ≡ Some (book_of b) → IsBounded (book_of b) → book_of b' ≡ book_of b → IsBehind m.0.rules m.0.sight.seen m.0.sight.closed b' → Gives m b' (view_at_rest m.0 m.0.role)
 rests m b b' live held low same behind =
     let k : Book = book_of b in (k, m.0.role, suc k.ids, suc k.numbers, held, refl, behind, subst (λ (x : Book). Changes m.0.sight.seen m.0.role m.0.role k x (suc k.ids) (suc k.numbers)) (sym same) (same_state m.0.sight.seen m.0.role k live low))
 
 -- a call on the record alone that leaves the subscriptions as they are
-pub same_book : (b b' : Locked) (w w' : World) → Stands b w → Stands b' w' → w'.subscriptions ≡ w.subscriptions → KeepsPublishers b b' → book_of b' ≡ book_of b
+pub same_book : (b b' : Locked) (w w' : World) → StandsForWorld b w → StandsForWorld b' w' → w'.subscriptions ≡ w.subscriptions → KeepsPublishers b b' → book_of b' ≡ book_of b
 same_book b b' w w' h h' same others =
     let cursors : b'.kept.cursors ≡ b.kept.cursors = h'.for.cursors ∙ ap (λ (l : List Subscription). Rattle.hub_record.specs.World.standing_from 1 l) same ∙ sym h.for.cursors in
     let ids : b'.kept.given ≡ b.kept.given = h'.for.given ∙ ap length same ∙ sym h.for.given in
@@ -60,26 +60,26 @@ same_book b b' w w' h h' same others =
 -- ---- a visitor becomes the publisher with the next number
 
 pub rests_as_publisher : (m : M) (b b' : Locked) (n : ℕ) → m.0.role ≡ Visitor → m.0.held ≡ Some (book_of b) → IsBounded (book_of b) → IsFresh (book_of b) m.0.sight
-    → n ≡ b.given + 1 → ((x : ℕ) → stands b'.standing.keys x ≡ cond (nat_eq n x) true (stands b.standing.keys x)) → b'.given ≡ n
-    → IsBehind m.0.rules m.0.sight.seen m.0.sight.closed b → KeepsRecord b b' → Gives m b' (rested m.0 (writer b'.given []))
+    → n ≡ b.given + 1 → ((x : ℕ) → is_current b'.standing.keys x ≡ cond (nat_eq n x) true (is_current b.standing.keys x)) → b'.given ≡ n
+    → IsBehind m.0.rules m.0.sight.seen m.0.sight.closed b → KeepsRecord b b' → Gives m b' (view_at_rest m.0 (writer b'.given []))
 rests_as_publisher m b b' n role held low fresh next joined count behind keeps =
     let k : Book = book_of b in let n' : ℕ = b'.given in let up : n' ≡ b.given + 1 = count ∙ next in
-    let stands' = still_stands b b' behind.world keeps behind.for in
-    let cursors : b'.kept.cursors ≡ b.kept.cursors = stands'.for.cursors ∙ sym behind.for.for.cursors in
-    let ids : b'.kept.given ≡ b.kept.given = stands'.for.given ∙ sym behind.for.for.given in
-    let all : (x : ℕ) → stands b'.standing.keys x ≡ cond (nat_eq n' x) true (stands b.standing.keys x) = λ x. joined x ∙ ap (λ (y : ℕ). cond (nat_eq y x) true (stands b.standing.keys x)) (sym count) in (
+    let is_current' = still_stands b b' behind.world keeps behind.for in
+    let cursors : b'.kept.cursors ≡ b.kept.cursors = is_current'.for.cursors ∙ sym behind.for.for.cursors in
+    let ids : b'.kept.given ≡ b.kept.given = is_current'.for.given ∙ sym behind.for.for.given in
+    let all : (x : ℕ) → is_current b'.standing.keys x ≡ cond (nat_eq n' x) true (is_current b.standing.keys x) = λ x. joined x ∙ ap (λ (y : ℕ). cond (nat_eq y x) true (is_current b.standing.keys x)) (sym count) in (
       k,
       writer n' [],
       suc k.ids,
       n',
       held,
       refl,
-      record { world = behind.world; for = stands'; events = behind.events; closed = behind.closed; kind = behind.kind; limits = behind.limits },
+      record { world = behind.world; for = is_current'; events = behind.events; closed = behind.closed; kind = behind.kind; limits = behind.limits },
       subst (λ (r : Role). Changes m.0.sight.seen r (writer n' []) k (book_of b') (suc k.ids) n') (sym role) record {
         ids_up = omega arith;
         numbers_up = omega arith;
         cursors = λ i e. ap (λ c. cursor_of c i) cursors;
-        standing = λ x ne. all x ∙ ap (λ t. cond t true (stands b.standing.keys x)) (ne_eqb n' x (λ e. ne (sym e)));
+        standing = λ x ne. all x ∙ ap (λ t. cond t true (is_current b.standing.keys x)) (ne_eqb n' x (λ e. ne (sym e)));
         live = tt;
         live' = tt;
         own_id = λ f g j h. inl (omega arith);
@@ -88,15 +88,15 @@ rests_as_publisher m b b' n role held low fresh next joined count behind keeps =
         number_kept = λ x h. absurd h;
         id_given = λ i a c. absurd (none_between i b.kept.given a (omega arith));
         number_given = λ x a c. (omega arith, omega arith);
-        bounded = bounded_after b' behind.world stands' (λ x at. dite (ℕ_discrete n' x)
+        bounded = bounded_after b' behind.world is_current' (λ x at. dite (ℕ_discrete n' x)
             (λ e. (omega arith, omega arith))
-            (λ ne. let g = low.standing x (sym (all x ∙ ap (λ t. cond t true (stands b.standing.keys x)) (ne_eqb n' x ne)) ∙ at) in let a = g.0 in let c = g.1 in (omega arith, omega arith)));
+            (λ ne. let g = low.standing x (sym (all x ∙ ap (λ t. cond t true (is_current b.standing.keys x)) (ne_eqb n' x ne)) ∙ at) in let a = g.0 in let c = g.1 in (omega arith, omega arith)));
         fits = λ f g j h _ at. record {
           its_seat = at;
           given = (omega arith, omega arith);
           all = fresh.silent n' (omega arith);
           known = fresh.silent n' (omega arith);
-          standing = all n' ∙ ap (λ t. cond t true (stands b.standing.keys n')) (eq-eqb n' n' refl);
+          standing = all n' ∙ ap (λ t. cond t true (is_current b.standing.keys n')) (eq-eqb n' n' refl);
         };
       },
     )
@@ -104,27 +104,27 @@ rests_as_publisher m b b' n role held low fresh next joined count behind keeps =
 -- ---- a publisher leaves
 
 pub rests_left : (m : M) (b b' : Locked) (n : ℕ) (mine : List ℕ) → m.0.role ≡ writer n mine → m.0.held ≡ Some (book_of b) → IsBounded (book_of b) → IsBehind m.0.rules m.0.sight.seen m.0.sight.closed b
-    → HasLeft b n b' → KeepsRecord b b' → Gives m b' (rested m.0 (gone_writer m.0.role))
+    → HasLeft b n b' → KeepsRecord b b' → Gives m b' (view_at_rest m.0 (gone_writer m.0.role))
 rests_left m b b' n mine role held low behind left keeps =
     let k : Book = book_of b in
-    let stands' = still_stands b b' behind.world keeps behind.for in
-    let cursors : b'.kept.cursors ≡ b.kept.cursors = stands'.for.cursors ∙ sym behind.for.for.cursors in
-    let ids : b'.kept.given ≡ b.kept.given = stands'.for.given ∙ sym behind.for.for.given in
+    let is_current' = still_stands b b' behind.world keeps behind.for in
+    let cursors : b'.kept.cursors ≡ b.kept.cursors = is_current'.for.cursors ∙ sym behind.for.for.cursors in
+    let ids : b'.kept.given ≡ b.kept.given = is_current'.for.given ∙ sym behind.for.for.given in
     let numbers : b'.given ≡ b.given = left.1 in
     let book_ids : (book_of b').ids ≡ k.ids = ids in
-    subst (λ (r : Role). Gives m b' (rested m.0 (gone_writer r))) (sym role) (
+    subst (λ (r : Role). Gives m b' (view_at_rest m.0 (gone_writer r))) (sym role) (
       k,
       gone_writer (writer n mine),
       suc k.ids,
       n,
       held,
       refl,
-      record { world = behind.world; for = stands'; events = behind.events; closed = behind.closed; kind = behind.kind; limits = behind.limits },
+      record { world = behind.world; for = is_current'; events = behind.events; closed = behind.closed; kind = behind.kind; limits = behind.limits },
       subst (λ (r : Role). Changes m.0.sight.seen r (gone_writer (writer n mine)) k (book_of b') (suc k.ids) n) (sym role) record {
         ids_up = omega arith;
         numbers_up = omega arith;
         cursors = λ i e. ap (λ c. cursor_of c i) cursors;
-        standing = λ x ne. left.0 x ∙ ap (λ t. cond t false (stands b.standing.keys x)) (ne_eqb n x (λ e. ne (sym e)));
+        standing = λ x ne. left.0 x ∙ ap (λ t. cond t false (is_current b.standing.keys x)) (ne_eqb n x (λ e. ne (sym e)));
         live = tt;
         live' = tt;
         own_id = λ f g j h. inl (omega arith);
@@ -133,15 +133,15 @@ rests_left m b b' n mine role held low behind left keeps =
         number_kept = λ x h. h;
         id_given = λ i a c. absurd (none_between i b.kept.given a (omega arith));
         number_given = λ x a c. absurd (none_between x b.given a (omega arith));
-        bounded = bounded_after b' behind.world stands' (λ x at. dite (ℕ_discrete n x)
-            (λ e. let no : false ≡ true = sym (left.0 x ∙ ap (λ t. cond t false (stands b.standing.keys x)) (eq-eqb n x e)) ∙ at in cc)
-            (λ ne. let g = low.standing x (sym (left.0 x ∙ ap (λ t. cond t false (stands b.standing.keys x)) (ne_eqb n x ne)) ∙ at) in let a = g.0 in let c = g.1 in (omega arith, omega arith)));
+        bounded = bounded_after b' behind.world is_current' (λ x at. dite (ℕ_discrete n x)
+            (λ e. let no : false ≡ true = sym (left.0 x ∙ ap (λ t. cond t false (is_current b.standing.keys x)) (eq-eqb n x e)) ∙ at in cc)
+            (λ ne. let g = low.standing x (sym (left.0 x ∙ ap (λ t. cond t false (is_current b.standing.keys x)) (ne_eqb n x ne)) ∙ at) in let a = g.0 in let c = g.1 in (omega arith, omega arith)));
         fits = λ f g j h _ _. record {
           its_seat = h.its_seat;
           given = (h.given.0, let a = h.given.1 in omega arith);
           all = h.all;
           known = h.known;
-          standing = left.0 n ∙ ap (λ t. cond t false (stands b.standing.keys n)) (eq-eqb n n refl);
+          standing = left.0 n ∙ ap (λ t. cond t false (is_current b.standing.keys n)) (eq-eqb n n refl);
         };
       },
     )

@@ -9,7 +9,7 @@ use lib.Seq.{drop-drop}
 use Rattle.atomic_table.specs.Table.{State}
 use Rattle.hub_record.specs.declared.Event.{Event}
 use Rattle.hub_letters.specs.Flags.{flags_of}
-use Rattle.hub_fifodir.specs.Word.{packed}
+use Rattle.hub_fifodir.specs.Word.{packed_word}
 use Rattle.std.proofs.Common.{get_or}
 use Rattle.std.proofs.lemmas.Bool.{ne_eqb}
 use Rattle.hub_record.specs.World.{letters, World, least, base}
@@ -22,18 +22,18 @@ use Rattle.hub_fifodir.specs.declared.views.Role.{Role}
 use Rattle.hub_fifodir.specs.declared.views.Role.TheVariants.{Visitor, Note, Ticket, Publisher, Spent}
 use Rattle.hub_fifodir.specs.declared.locked.Locked.{Locked}
 use Rattle.hub_fifodir.specs.Events.{StartsWith, slice}
-use Rattle.hub_fifodir.specs.Locks.{stands}
-use Rattle.hub_fifodir.specs.Rule.{Turn, free, taken, home, Kept, book_of, IsBehind, IsSound, IsHome, InRole, IsTicket, IsPublisher, IsLive, HasId, IsNumbered, cursor_of, cursor_if}
+use Rattle.hub_fifodir.specs.Locks.{is_current}
+use Rattle.hub_fifodir.specs.Rule.{LockState, free, held_by, home, RuleHolds, book_of, IsBehind, IsSound, IsHome, InRole, IsTicket, IsPublisher, IsLive, HasId, IsNumbered, cursor_of, cursor_if}
 use Rattle.hub_fifodir.specs.Laws.{HasTicket, HasPublisher, IsFree, TicketsDiffer, PublishersDiffer, SeatsAgree, RecordIsHistory, TicketsHaveCursors, CursorsHaveTickets, StandingHavePublishers, BaseIsBehind}
 use Rattle.hub_fifodir.proofs.Looks.{its_seat}
 
 abbrev S : Type 0
 S = State (Option Locked) View
 
-ticket_at : (rules : Rules) (s : S) (r : Kept rules s) (j : ℕ) (t : Taking) (h : HasTicket s j t) → IsTicket r.a.book r.a.ticket_at j h.0.sight.seen t
+ticket_at : (rules : Rules) (s : S) (r : RuleHolds rules s) (j : ℕ) (t : Taking) (h : HasTicket s j t) → IsTicket r.a.book r.a.ticket_at j h.0.sight.seen t
 ticket_at rules s r j t h = subst (InRole r.a.book r.a.log r.a.ticket_at r.a.writer_at j h.0.sight.seen) h.2 (its_seat book_of IsBehind IsSound rules s r j h.0 h.1 (subst IsLive (sym h.2) tt)).in_role
 
-publisher_at : (rules : Rules) (s : S) (r : Kept rules s) (j : ℕ) (p : Writing) (h : HasPublisher s j p) → IsPublisher r.a.book r.a.log r.a.writer_at j h.0.sight.seen p
+publisher_at : (rules : Rules) (s : S) (r : RuleHolds rules s) (j : ℕ) (p : Writing) (h : HasPublisher s j p) → IsPublisher r.a.book r.a.log r.a.writer_at j h.0.sight.seen p
 publisher_at rules s r j p h = subst (InRole r.a.book r.a.log r.a.ticket_at r.a.writer_at j h.0.sight.seen) h.2 (its_seat book_of IsBehind IsSound rules s r j h.0 h.1 (subst IsLive (sym h.2) tt)).in_role
 
 pub tickets_differ : TicketsDiffer
@@ -65,19 +65,19 @@ abbrev at_home : List (maybe.Option (Option Locked)) → maybe.Option (Option Lo
 at_home [] = maybe.none
 at_home (x ∷ xs) = x
 
-same_value : (t : Turn Locked) (b : Locked) → Path (maybe.Option (Option Locked)) (home t) (maybe.some (Some b)) → Path (Turn Locked) t (free b)
+same_value : (t : LockState Locked) (b : Locked) → Path (maybe.Option (Option Locked)) (home t) (maybe.some (Some b)) → Path (LockState Locked) t (free b)
 same_value (free c) b e = ap free (inside c b (maybe.some-injective (Some c) (Some b) e))
   where
     inside : (c b : Locked) → Path (Option Locked) (Some c) (Some b) → c ≡ b
     inside c b p = cc
-same_value (taken j) b e = absurd (maybe.some-ne-none (Some b) (sym e))
+same_value (held_by j) b e = absurd (maybe.some-ne-none (Some b) (sym e))
 
-home_behind : (rules : Rules) (s : S) (b : Locked) (r : Kept rules s) → IsFree s b → IsBehind rules r.a.log r.a.mark b × (book_of b ≡ r.a.book)
+home_behind : (rules : Rules) (s : S) (b : Locked) (r : RuleHolds rules s) → IsFree s b → IsBehind rules r.a.log r.a.mark b × (book_of b ≡ r.a.book)
 home_behind rules s b r homes =
-    let is = same_value r.a.turn b (ap at_home (sym r.homes_are ∙ homes)) in
-    subst (λ (x : Turn Locked). IsHome book_of IsBehind IsSound rules r.a x s.views) is r.locked
+    let is = same_value r.a.lock b (ap at_home (sym r.homes_are ∙ homes)) in
+    subst (λ (x : LockState Locked). IsHome book_of IsBehind IsSound rules r.a x s.views) is r.locked
 
-book_behind : (rules : Rules) (s : S) (b : Locked) (r : Kept rules s) → IsFree s b → book_of b ≡ r.a.book
+book_behind : (rules : Rules) (s : S) (b : Locked) (r : RuleHolds rules s) → IsFree s b → book_of b ≡ r.a.book
 book_behind rules s b r homes = (home_behind rules s b r homes).1
 
 pub record_is_history : RecordIsHistory
@@ -87,7 +87,7 @@ record_is_history rules s b r homes = let h = (home_behind rules s b r homes).0 
     stands = h.for;
     kind = h.kind;
     limits = h.limits;
-    front = ap (λ (l : List ℕ). get_or l 0 0) r.words_are ∙ (λ i. packed (length (sym h.events i)) (sym h.closed i) (flags_of (letters (sym h.events i))));
+    front = ap (λ (l : List ℕ). get_or l 0 0) r.words_are ∙ (λ i. packed_word (length (sym h.events i)) (sym h.closed i) (flags_of (letters (sym h.events i))));
     seen = λ j v at live. subst (λ (l : List Event). StartsWith l v.sight.seen) (sym h.events) (its_seat book_of IsBehind IsSound rules s r j v at live).part.0;
     shut = λ j v at live closed. let t = (its_seat book_of IsBehind IsSound rules s r j v at live).part.1 closed in
         (t.0 ∙ sym h.events, h.closed ∙ ap not (ne_eqb r.a.mark 0 (λ z. closed (t.1 ∙ z))));
@@ -128,11 +128,11 @@ cursors_have_tickets rules s b id next r homes at =
 
 pub standing_have_publishers : StandingHavePublishers
 standing_have_publishers rules s b n r homes at =
-    let here : stands r.a.book.standing n ≡ true = sym (ap (λ (k : Book). stands k.standing n) (book_behind rules s b r homes)) ∙ at in
+    let here : is_current r.a.book.standing n ≡ true = sym (ap (λ (k : Book). is_current k.standing n) (book_behind rules s b r homes)) ∙ at in
     let o = r.writers n (r.bounded.standing n here) in let p = number_of n o.0.role o.2 in
     let h : HasPublisher s (r.a.writer_at n) p.0 = (o.0, o.1, p.1) in
     let seat = publisher_at rules s r (r.a.writer_at n) p.0 h in
-    (r.a.writer_at n, p.0, h, p.2, stays p.0.gone (sym seat.standing ∙ ap (stands r.a.book.standing) p.2 ∙ here))
+    (r.a.writer_at n, p.0, h, p.2, stays p.0.gone (sym seat.standing ∙ ap (is_current r.a.book.standing) p.2 ∙ here))
   where
     stays : (gone : Bool) → not gone ≡ true → gone ≡ false
     stays true e = cc
@@ -147,9 +147,9 @@ least_below d test (c ∷ cs) v e = elim (cases_Bool (test c.0)) [
 ]
 
 pub base_is_behind : BaseIsBehind
-base_is_behind rules s b w j t r homes stands h stays =
+base_is_behind rules s b w j t r homes is_current h stays =
     let at = tickets_have_cursors rules s b j t r homes h stays in
-    least_below (length w.events) (nat_eq t.id) (Rattle.hub_record.specs.World.standing w) t.next (ap (λ c. cursor_of c t.id) (sym stands.for.cursors) ∙ at)
+    least_below (length w.events) (nat_eq t.id) (Rattle.hub_record.specs.World.standing w) t.next (ap (λ c. cursor_of c t.id) (sym is_current.for.cursors) ∙ at)
 
 -- ---- a ticket's events
 

@@ -4,7 +4,7 @@ use mathlib.Core.Option as maybe
 use lib.ListN.{get_elem?}
 use Rattle.atomic_table.specs.Table.{State, Me, keeps, Allows}
 use Rattle.hub_record.specs.declared.Event.{Event}
-use Rattle.hub_record.specs.World.{stamped}
+use Rattle.hub_record.specs.World.{as_events}
 use Rattle.hub_record.specs.Runs.{by}
 use Rattle.hub_fifodir.specs.declared.views.Rules.{Rules}
 use Rattle.hub_fifodir.specs.declared.views.Book.{Book}
@@ -14,21 +14,21 @@ use Rattle.hub_fifodir.specs.declared.views.View.{View}
 use Rattle.hub_fifodir.specs.declared.views.Role.{Role}
 use Rattle.hub_fifodir.specs.declared.views.Role.TheVariants.{Visitor, Note, Ticket, Publisher, Spent}
 use Rattle.hub_fifodir.specs.Events.{front_word}
-use Rattle.hub_fifodir.specs.Rule.{Turn, taken, turn_word, Account, IsGiven, IsPart, IsPartIfAny, InRole, IsSeat, Fits, Holds, sight, IsLive, HasId, HasSeen, HasHeld, HasClosed, At, IsNumbered, IsHome}
-use Rattle.hub_fifodir.specs.Steps.{grown, closing}
+use Rattle.hub_fifodir.specs.Rule.{LockState, held_by, lock_word, Account, IsGiven, IsPart, IsPartIfAny, InRole, IsSeat, Fits, Holds, sight, IsLive, HasId, HasSeen, HasHeld, HasClosed, At, IsNumbered, IsHome}
+use Rattle.hub_fifodir.specs.Steps.{view_with_letters, closing}
 use Rattle.hub_fifodir.proofs.Logs.{by-append, by_own, by_other, at_join, at_stamped}
 use Rattle.hub_fifodir.proofs.ViewLists.{all_set, at_kept, at_own, here}
 use Rattle.hub_fifodir.proofs.OneSeat.{part_whole, seated, fits_map, held_none, held_elsewhere, numbered_live, part_longer, any_longer, part_marked, any_marked}
 use Rattle.hub_fifodir.proofs.Looks.{Rule, its_seat}
 
 -- a publisher's own letters after a message of p: those of another publisher stay
-role_longer : (book : Book) (log : List Event) (f g : ℕ → ℕ) (id j p : ℕ) (message : List ℕ) (seen : List Event) (r : Role) → j ≢ id → g p ≡ id → InRole book log f g j seen r → InRole book (log ++ stamped p message) f g j seen r
+role_longer : (book : Book) (log : List Event) (f g : ℕ → ℕ) (id j p : ℕ) (message : List ℕ) (seen : List Event) (r : Role) → j ≢ id → g p ≡ id → InRole book log f g j seen r → InRole book (log ++ as_events p message) f g j seen r
 role_longer book log f g id j p message s Visitor n own h = tt
 role_longer book log f g id j p message s Note n own h = tt
 role_longer book log f g id j p message s (Ticket t) n own h = h
 role_longer book log f g id j p message s (Publisher q) n own h =
     let other : p ≢ q.number = λ e. n (sym h.its_seat ∙ ap g (sym e) ∙ own) in
-    record { its_seat = h.its_seat; given = h.given; all = by-append q.number log (stamped p message) ∙ ap (λ (l : List ℕ). by q.number log ++ l) (by_other q.number p message other) ∙ append-nil (by q.number log) ∙ h.all; known = h.known; standing = h.standing }
+    record { its_seat = h.its_seat; given = h.given; all = by-append q.number log (as_events p message) ∙ ap (λ (l : List ℕ). by q.number log ++ l) (by_other q.number p message other) ∙ append-nil (by q.number log) ∙ h.all; known = h.known; standing = h.standing }
 role_longer book log f g id j p message s Spent n own h = tt
 
 module _ {B : Type 0} (book_of : B → Book) (stands_for : Rules → List Event → ℕ → B → Type 0) (sound : Rules → List Event → Type 0) (rules : Rules) where
@@ -42,17 +42,17 @@ module _ {B : Type 0} (book_of : B → Book) (stands_for : Rules → List Event 
   R = Rule book_of stands_for sound rules
 
   -- what the seat that has the lock knows
-  holding : (s : St) (r : R s) (id : ℕ) (v : View) (k : Book) → get_elem? s.views id ≡ maybe.some v → IsLive v.role → v.held ≡ Some k → (r.a.turn ≡ taken id) × (k ≡ r.a.book) × (v.sight ≡ sight r.a.log r.a.mark)
+  holding : (s : St) (r : R s) (id : ℕ) (v : View) (k : Book) → get_elem? s.views id ≡ maybe.some v → IsLive v.role → v.held ≡ Some k → (r.a.lock ≡ held_by id) × (k ≡ r.a.book) × (v.sight ≡ sight r.a.log r.a.mark)
   holding s r id v k at live is = let seat = its_seat book_of stands_for sound rules s r id v at live in subst (Holds rules r.a id v.sight) is seat.holds
 
-  home_taken : (a : Account B) (id : ℕ) (views : List View) → a.turn ≡ taken id → IsHome book_of stands_for sound rules a a.turn views → At views id (HasHeld a.book)
-  home_taken a id views is h = subst (λ (t : Turn B). IsHome book_of stands_for sound rules a t views) is h
+  home_taken : (a : Account B) (id : ℕ) (views : List View) → a.lock ≡ held_by id → IsHome book_of stands_for sound rules a a.lock views → At views id (HasHeld a.book)
+  home_taken a id views is h = subst (λ (t : LockState B). IsHome book_of stands_for sound rules a t views) is h
 
   pub publishes : (slots id : ℕ) (me : M) (p : Writing) (message : List ℕ) (k : Book) (new : ℕ) → me.0.role ≡ Publisher p → me.0.held ≡ Some k → me.0.sight.closed ≡ 0
-      → new ≡ front_word (me.0.sight.seen ++ stamped p.number message) 0 → sound me.0.rules (me.0.sight.seen ++ stamped p.number message)
-      → Allows R slots id me 0 (λ _. new) (λ _ m. (m.0 ≡ grown me.0 p message) × (m.1 ≡ me.1))
+      → new ≡ front_word (me.0.sight.seen ++ as_events p.number message) 0 → sound me.0.rules (me.0.sight.seen ++ as_events p.number message)
+      → Allows R slots id me 0 (λ _. new) (λ _ m. (m.0 ≡ view_with_letters me.0 p message) × (m.1 ≡ me.1))
   publishes slots id me p message k new role held unclosed is ok s r _ at _ =
-      let a = r.a in let v = me.0 in let x = stamped p.number message in let w = grown v p message in
+      let a = r.a in let v = me.0 in let x = as_events p.number message in let w = view_with_letters v p message in
       let live = numbered_live p.number v.role (subst (IsNumbered p.number) (sym role) refl) in
       let seat = its_seat book_of stands_for sound rules s r id v at live in
       let h = holding s r id v k at live held in
@@ -60,7 +60,7 @@ module _ {B : Type 0} (book_of : B → Book) (stands_for : Rules → List Event 
       let seen : v.sight.seen ≡ a.log = ap (λ (t : Sight). t.seen) h.2 in
       let unmarked : a.mark ≡ 0 = sym (ap (λ (t : Sight). t.closed) h.2) ∙ unclosed in
       let log : List Event = a.log ++ x in
-      let a' : Account B = record { log = log; mark = 0; book = a.book; turn = a.turn; ticket_at = a.ticket_at; writer_at = a.writer_at } in
+      let a' : Account B = record { log = log; mark = 0; book = a.book; lock = a.lock; ticket_at = a.ticket_at; writer_at = a.writer_at } in
       let same : w.sight ≡ sight log 0 = λ i. sight (seen i ++ x) (unclosed i) in
       let grew : by p.number log ≡ p.mine ++ message = by-append p.number a.log x ∙ (λ i. mine.all i ++ by_own p.number message i) in
       let seat' : IsSeat rules a' id w = record {
@@ -77,11 +77,11 @@ module _ {B : Type 0} (book_of : B → Book) (stands_for : Rules → List Event 
         tt,
         record {
           a = a';
-          words_are = ap (λ (l : List ℕ). set l 0 new) r.words_are ∙ ap (λ (n : ℕ). n ∷ turn_word a.turn ∷ []) word;
+          words_are = ap (λ (l : List ℕ). set l 0 new) r.words_are ∙ ap (λ (n : ℕ). n ∷ lock_word a.lock ∷ []) word;
           homes_are = r.homes_are;
           is_sound = subst (λ (x : Rules). sound x log) seat.ruled (subst (λ (l : List Event). sound v.rules (l ++ x)) seen ok);
           bounded = r.bounded;
-          locked = subst (λ (t : Turn B). IsHome book_of stands_for sound rules a' t (set s.views id w)) (sym h.0) (at_kept (HasHeld a.book) s.views id v w id at (λ e. (tt, e.1)) taken_home);
+          locked = subst (λ (t : LockState B). IsHome book_of stands_for sound rules a' t (set s.views id w)) (sym h.0) (at_kept (HasHeld a.book) s.views id v w id at (λ e. (tt, e.1)) taken_home);
           each = all_set (Fits rules a') s.views id w (seated rules a' id w w.role seat')
               (λ j u n q. fits_map rules a a' j u u.role (λ f. record {
                 ruled = f.ruled;
@@ -113,7 +113,7 @@ module _ {B : Type 0} (book_of : B → Book) (stands_for : Rules → List Event 
       let mine = subst (InRole a.book a.log a.ticket_at a.writer_at id v.sight.seen) role seat.in_role in
       let seen : v.sight.seen ≡ a.log = ap (λ (t : Sight). t.seen) h.2 in
       let unmarked : a.mark ≡ 0 = sym (ap (λ (t : Sight). t.closed) h.2) ∙ unclosed in
-      let a' : Account B = record { log = a.log; mark = p.number; book = a.book; turn = a.turn; ticket_at = a.ticket_at; writer_at = a.writer_at } in
+      let a' : Account B = record { log = a.log; mark = p.number; book = a.book; lock = a.lock; ticket_at = a.ticket_at; writer_at = a.writer_at } in
       let same : w.sight ≡ sight a.log p.number = ap (λ (l : List Event). sight l p.number) seen in
       let seat' : IsSeat rules a' id w = record {
         ruled = seat.ruled;
@@ -129,11 +129,11 @@ module _ {B : Type 0} (book_of : B → Book) (stands_for : Rules → List Event 
         tt,
         record {
           a = a';
-          words_are = ap (λ (l : List ℕ). set l 0 new) r.words_are ∙ ap (λ (n : ℕ). n ∷ turn_word a.turn ∷ []) word;
+          words_are = ap (λ (l : List ℕ). set l 0 new) r.words_are ∙ ap (λ (n : ℕ). n ∷ lock_word a.lock ∷ []) word;
           homes_are = r.homes_are;
           is_sound = r.is_sound;
           bounded = r.bounded;
-          locked = subst (λ (t : Turn B). IsHome book_of stands_for sound rules a' t (set s.views id w)) (sym h.0) (at_kept (HasHeld a.book) s.views id v w id at (λ e. e) taken_home);
+          locked = subst (λ (t : LockState B). IsHome book_of stands_for sound rules a' t (set s.views id w)) (sym h.0) (at_kept (HasHeld a.book) s.views id v w id at (λ e. e) taken_home);
           each = all_set (Fits rules a') s.views id w (seated rules a' id w w.role seat')
               (λ j u n q. fits_map rules a a' j u u.role (λ f. record {
                 ruled = f.ruled;

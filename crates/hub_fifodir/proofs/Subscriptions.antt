@@ -2,25 +2,25 @@
 use Rattle.std.proofs.Common.{ℕ, suc, ◌≡◌, ◌≢◌, ◌+◌, ◌<◌, ◌≤◌, true, false, List, [], ◌∷◌, ◌++◌, length, Option, Some, None, nat_eq, refl, sym, ap, ◌∙◌, inl, inr, arith}
 use Rattle.std.proofs.lemmas.Bool.{ne_eqb, eq-eqb, eqb-true, cases_Bool}
 use Rattle.std.specs.Option.{option_map}
-use Rattle.hub_record.specs.World.{World, Subscription, found, found_from, changed_from, stopped}
+use Rattle.hub_record.specs.World.{World, Subscription, subscription_in, found_from, changed_from, as_cancelled}
 use Rattle.hub_record.specs.Kept.{Kept, StandsFor}
 use Rattle.hub_record.proofs.Cursors.{lookup_standing}
 use Rattle.hub_fifodir.specs.Rule.{cursor_of, IsGiven}
 
-pub found_changed : (f : Subscription → Subscription) (from : ℕ) (subs : List Subscription) (id : ℕ) (s : Subscription) → found_from from subs id ≡ Some s → (f s).stands ≡ true → found_from from (changed_from f from subs id) id ≡ Some (f s)
+pub found_changed : (f : Subscription → Subscription) (from : ℕ) (subs : List Subscription) (id : ℕ) (s : Subscription) → found_from from subs id ≡ Some s → (f s).current ≡ true → found_from from (changed_from f from subs id) id ≡ Some (f s)
 found_changed f from [] id s h st = cc
 found_changed f from (x ∷ rest) id s h st =
     elim (cases_Bool (nat_eq id from)) [
-      | inl e ↦ elim (cases_Bool x.stands) [
+      | inl e ↦ elim (cases_Bool x.current) [
         | inl xs ↦ (let k = simp (e, xs) at h in let is : x ≡ s = cc in
-            let also : (f x).stands ≡ true = ap (λ (z : Subscription). (f z).stands) is ∙ st in
+            let also : (f x).current ≡ true = ap (λ (z : Subscription). (f z).current) is ∙ st in
             simp (e, also) (ap (λ (z : Subscription). Some (f z)) is))
         | inr xs ↦ (let k = simp (e, xs) at h in cc)
       ]
       | inr e ↦ simp (e, e) (found_changed f (from + 1) rest id s (simp e at h) st)
     ]
 
-pub found_stopped : (from : ℕ) (subs : List Subscription) (id : ℕ) (s : Subscription) → found_from from subs id ≡ Some s → found_from from (changed_from stopped from subs id) id ≡ None
+pub found_stopped : (from : ℕ) (subs : List Subscription) (id : ℕ) (s : Subscription) → found_from from subs id ≡ Some s → found_from from (changed_from as_cancelled from subs id) id ≡ None
 found_stopped from [] id s h = cc
 found_stopped from (x ∷ rest) id s h =
     elim (cases_Bool (nat_eq id from)) [
@@ -39,7 +39,7 @@ found_else f from (x ∷ rest) id i n =
       ]
     ]
 
-pub found_new : (from : ℕ) (subs : List Subscription) (s : Subscription) (id : ℕ) → id ≡ from + length subs → s.stands ≡ true → found_from from (subs ++ s ∷ []) id ≡ Some s
+pub found_new : (from : ℕ) (subs : List Subscription) (s : Subscription) (id : ℕ) → id ≡ from + length subs → s.current ≡ true → found_from from (subs ++ s ∷ []) id ≡ Some s
 found_new from [] s id is st = let e : nat_eq id from ≡ true = eq-eqb id from (omega arith) in simp (e, st)
 found_new from (x ∷ rest) s id is st = let e : nat_eq id from ≡ false = ne_eqb id from (λ k. absurd (omega arith)) in simp e (found_new (from + 1) rest s id (omega arith) st)
 
@@ -64,7 +64,7 @@ found_given from (x ∷ rest) i s h =
 abbrev pub next_of : Option Subscription → Option ℕ
 next_of o = option_map (λ (s : Subscription). s.next) o
 
-pub cursor_found : (r : Kept) (w : World) (i : ℕ) → StandsFor r w → cursor_of r.cursors i ≡ next_of (found w i)
+pub cursor_found : (r : Kept) (w : World) (i : ℕ) → StandsFor r w → cursor_of r.cursors i ≡ next_of (subscription_in w i)
 cursor_found r w i h = ap (λ c. cursor_of c i) h.cursors ∙ lookup_standing 1 w.subscriptions i
 
 -- the current subscription of a cursor
@@ -74,16 +74,16 @@ subscription_of (Some s) next h = (s, refl, cc)
 
 pub cursor_given : (r : Kept) (w : World) (i next : ℕ) → StandsFor r w → cursor_of r.cursors i ≡ Some next → IsGiven i r.given
 cursor_given r w i next h at =
-    let s = subscription_of (found w i) next (sym (cursor_found r w i h) ∙ at) in
+    let s = subscription_of (subscription_in w i) next (sym (cursor_found r w i h) ∙ at) in
     let g = found_given 1 w.subscriptions i s.0 s.1 in
     let a = g.0 in let b = g.1 in let n = h.given in (omega arith, omega arith)
 
-pub found_stands : (from : ℕ) (subs : List Subscription) (i : ℕ) (s : Subscription) → found_from from subs i ≡ Some s → s.stands ≡ true
+pub found_stands : (from : ℕ) (subs : List Subscription) (i : ℕ) (s : Subscription) → found_from from subs i ≡ Some s → s.current ≡ true
 found_stands from [] i s h = cc
 found_stands from (x ∷ rest) i s h =
     elim (cases_Bool (nat_eq i from)) [
-      | inl e ↦ elim (cases_Bool x.stands) [
-        | inl xs ↦ (let k = simp (e, xs) at h in let is : x ≡ s = cc in ap (λ (z : Subscription). z.stands) (sym is) ∙ xs)
+      | inl e ↦ elim (cases_Bool x.current) [
+        | inl xs ↦ (let k = simp (e, xs) at h in let is : x ≡ s = cc in ap (λ (z : Subscription). z.current) (sym is) ∙ xs)
         | inr xs ↦ (let k = simp (e, xs) at h in cc)
       ]
       | inr e ↦ found_stands (from + 1) rest i s (simp e at h)

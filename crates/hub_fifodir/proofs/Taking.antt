@@ -6,7 +6,7 @@ use Rattle.hub_record.specs.declared.Event.{Event}
 use Rattle.hub_record.specs.declared.NoId.{NoId}
 use Rattle.hub_record.specs.declared.Taken.{Taken}
 use Rattle.hub_record.specs.declared.Taken.TheVariants.{Got, Nothing, End}
-use Rattle.hub_record.specs.World.{World, Subscription, found, with_changed, moved_on, taken, stopped, new_subscription, after_subscribe, take_reply, reply_for, take_events, moved_for, after_take, after_take_for, cancel_reply, cancel_for, after_cancel, after_cancel_for}
+use Rattle.hub_record.specs.World.{World, Subscription, subscription_in, with_changed, moved_on, count_to_take, as_cancelled, new_subscription, after_subscribe, take_reply, reply_for, take_events, moved_for, after_take, after_take_for, cancel_reply, cancel_for, after_cancel, after_cancel_for}
 use Rattle.hub_fifodir.specs.declared.views.Book.{Book}
 use Rattle.hub_fifodir.specs.declared.views.Sight.{Sight}
 use Rattle.hub_fifodir.specs.declared.views.View.{View}
@@ -15,22 +15,22 @@ use Rattle.hub_fifodir.specs.declared.views.Role.TheVariants.{Visitor, Ticket}
 use Rattle.hub_fifodir.specs.declared.views.Taking.{Taking}
 use Rattle.hub_fifodir.specs.declared.locked.Locked.{Locked}
 use Rattle.hub_fifodir.specs.Events.{slice}
-use Rattle.hub_fifodir.specs.Locks.{Stands, stands, KeepsPublishers}
+use Rattle.hub_fifodir.specs.Locks.{StandsForWorld, is_current, KeepsPublishers}
 use Rattle.hub_fifodir.specs.Rule.{IsSane, IsGiven, IsBounded, cursor_of, cursor_if, book_of, IsBehind, IsSound}
-use Rattle.hub_fifodir.specs.Steps.{M, Locks, Changes, Gives, IsInBook, IsTaker, rested, taker, new_taker, moved, taking_of, got_of, gone_taker}
+use Rattle.hub_fifodir.specs.Steps.{M, Locks, Changes, Gives, IsInBook, IsTaker, view_at_rest, taker, new_taker, taker_after, taking_of, got_of, gone_taker}
 use Rattle.hub_fifodir.proofs.Logs.{slice_none, slice_join}
 use Rattle.hub_fifodir.proofs.Subscriptions.{found_changed, found_stopped, found_else, found_new, found_old, found_stands, length-changed, next_of, cursor_found, subscription_of}
 use Rattle.hub_fifodir.proofs.Publishing.{open_when, closed_when}
 use Rattle.hub_fifodir.proofs.Rests.{none_between, bounded_after}
 
 -- the same publishers are current, so only numbers that were given are
-still_low : (b b' : Locked) → IsBounded (book_of b) → KeepsPublishers b b' → (n : ℕ) → stands b'.standing.keys n ≡ true → IsGiven n b'.given
-still_low b b' low others n at = let g = low.standing n (sym (ap (λ (l : List ℕ). stands l n) others.0) ∙ at) in let e = others.1 in (g.0, let a = g.1 in omega arith)
+still_low : (b b' : Locked) → IsBounded (book_of b) → KeepsPublishers b b' → (n : ℕ) → is_current b'.standing.keys n ≡ true → IsGiven n b'.given
+still_low b b' low others n at = let g = low.standing n (sym (ap (λ (l : List ℕ). is_current l n) others.0) ∙ at) in let e = others.1 in (g.0, let a = g.1 in omega arith)
 
 -- ---- a visitor becomes the ticket with the next id
 
 pub rests_as_ticket : (m : M) (b b' : Locked) → m.0.role ≡ Visitor → m.0.held ≡ Some (book_of b) → IsBounded (book_of b) → (h : IsBehind m.0.rules m.0.sight.seen m.0.sight.closed b) → (given : ℕ × ℕ)
-    → Stands b' (after_subscribe h.world (Ok given)) → KeepsPublishers b b' → Gives m b' (rested m.0 (new_taker b' m.0.sight.seen))
+    → StandsForWorld b' (after_subscribe h.world (Ok given)) → KeepsPublishers b b' → Gives m b' (view_at_rest m.0 (new_taker b' m.0.sight.seen))
 rests_as_ticket m b b' role held low h given after others =
     let k : Book = book_of b in let w : World = h.world in let w' : World = after_subscribe h.world (Ok given) in
     let i0 : ℕ = b'.kept.given in let len : ℕ = length m.0.sight.seen in
@@ -51,7 +51,7 @@ rests_as_ticket m b b' role held low h given after others =
         ids_up = omega arith;
         numbers_up = omega arith;
         cursors = λ i ne. cursor_found b'.kept w' i after.for ∙ ap next_of (found_old 1 w.subscriptions (new_subscription w) i (λ e. ne (e ∙ sym place))) ∙ sym (cursor_found b.kept w i h.for.for);
-        standing = λ n ne. ap (λ (l : List ℕ). stands l n) others.0;
+        standing = λ n ne. ap (λ (l : List ℕ). is_current l n) others.0;
         live = tt;
         live' = tt;
         own_id = λ f g j x. inl (omega arith);
@@ -71,7 +71,7 @@ rests_as_ticket m b b' role held low h given after others =
     )
 
 -- the ticket that was made
-pub is_new_taker : (m m3 : M) (b' : Locked) (id mark : ℕ) → id ≡ b'.kept.given → mark ≡ length m.0.sight.seen → IsSound m.0.rules m.0.sight.seen → m3 ≡ (rested m.0 (new_taker b' m.0.sight.seen), []) → IsTaker m3 id mark mark
+pub is_new_taker : (m m3 : M) (b' : Locked) (id mark : ℕ) → id ≡ b'.kept.given → mark ≡ length m.0.sight.seen → IsSound m.0.rules m.0.sight.seen → m3 ≡ (view_at_rest m.0 (new_taker b' m.0.sight.seen), []) → IsTaker m3 id mark mark
 is_new_taker m m3 b' id mark is at ok e = subst (λ (x : M). IsTaker x id mark mark) (sym e) record {
   role = λ i. taker (sym is i) (sym at i) (sym at i) [];
   held = refl;
@@ -85,9 +85,9 @@ is_new_taker m m3 b' id mark is at ok e = subst (λ (x : M). IsTaker x id mark m
 
 -- ---- what the answer to a take shows of a current subscription
 
-got_says : (w : World) (most : ℕ) (s : Subscription) (n : ℕ) → Ok (Got n) ≡ reply_for w most (Some s) → (s.next < length w.events) × (n ≡ taken w s most)
+got_says : (w : World) (most : ℕ) (s : Subscription) (n : ℕ) → Ok (Got n) ≡ reply_for w most (Some s) → (s.next < length w.events) × (n ≡ count_to_take w s most)
 got_says w most s n e = elim (cases_Bool (nat_lt s.next (length w.events))) [
-  | inl t ↦ (let k = simp t at e in let is : n ≡ taken w s most = cc in let lt : s.next < length w.events = ltb-true s.next (length w.events) t in (lt, is))
+  | inl t ↦ (let k = simp t at e in let is : n ≡ count_to_take w s most = cc in let lt : s.next < length w.events = ltb-true s.next (length w.events) t in (lt, is))
   | inr f ↦ (let k = simp f at e in elim (cases_Bool w.closed) [ inl c ↦ (let j = simp c at k in cc) | inr o ↦ (let j = simp o at k in cc) ])
 ]
 
@@ -104,7 +104,7 @@ end_says w most s e = elim (cases_Bool (nat_lt s.next (length w.events))) [
 ]
 
 -- the id and the mark that a subscription is given
-pub id_given : (b' : Locked) (w : World) (given : ℕ × ℕ) → given ≡ (length w.subscriptions + 1, length w.events) → Stands b' (after_subscribe w (Ok given)) → given.0 ≡ b'.kept.given
+pub id_given : (b' : Locked) (w : World) (given : ℕ × ℕ) → given ≡ (length w.subscriptions + 1, length w.events) → StandsForWorld b' (after_subscribe w (Ok given)) → given.0 ≡ b'.kept.given
 id_given b' w given e after = ap (λ (p : ℕ × ℕ). p.0) e ∙ sym (after.for.given ∙ length-append w.subscriptions (new_subscription w ∷ []))
 
 -- a current subscription has an answer
@@ -125,21 +125,21 @@ module _ (m0 m1 : M) (id mark next : ℕ) (b : Locked) (w : IsTaker m0 id mark n
   sane_is = subst (IsSane m1.0.sight.seen) role_is h.renews.sane
 
   -- its subscription
-  subscribed : (s : Subscription) × (found h.behind.world id ≡ Some s) × (s.next ≡ next)
-  subscribed = subscription_of (found h.behind.world id) next (sym (cursor_found b.kept h.behind.world id h.behind.for.for) ∙ in_book.1)
+  subscribed : (s : Subscription) × (subscription_in h.behind.world id ≡ Some s) × (s.next ≡ next)
+  subscribed = subscription_of (subscription_in h.behind.world id) next (sym (cursor_found b.kept h.behind.world id h.behind.for.for) ∙ in_book.1)
 
-  pub got_still : (m3 : M) → m3 ≡ (rested m1.0 m1.0.role, []) → got_of m3.0.role ≡ got_of m0.0.role
+  pub got_still : (m3 : M) → m3 ≡ (view_at_rest m1.0 m1.0.role, []) → got_of m3.0.role ≡ got_of m0.0.role
   got_still m3 e = ap (λ (m : M). got_of m.0.role) e ∙ ap got_of role_is
 
   -- ---- a call that makes `f` of its subscription
 
-  module _ (b' : Locked) (f : Subscription → Subscription) (after : Stands b' (with_changed h.behind.world id f)) (others : KeepsPublishers b b') where
-    cursor_now : (s : Option Subscription) → found (with_changed h.behind.world id f) id ≡ s → cursor_of b'.kept.cursors id ≡ next_of s
+  module _ (b' : Locked) (f : Subscription → Subscription) (after : StandsForWorld b' (with_changed h.behind.world id f)) (others : KeepsPublishers b b') where
+    cursor_now : (s : Option Subscription) → subscription_in (with_changed h.behind.world id f) id ≡ s → cursor_of b'.kept.cursors id ≡ next_of s
     cursor_now s e = cursor_found b'.kept (with_changed h.behind.world id f) id after.for ∙ ap next_of e
 
     -- the ticket as it is then, with its cursor, or none if it is gone
     gives : (next' : ℕ) (got' : List Event) (gone : Bool) → let t : Taking = record { id = id; mark = mark; next = next'; got = got'; gone = gone } in
-        IsSane m1.0.sight.seen (Ticket t) → cursor_of b'.kept.cursors id ≡ cursor_if gone next' → Gives m1 b' (rested m1.0 (Ticket t))
+        IsSane m1.0.sight.seen (Ticket t) → cursor_of b'.kept.cursors id ≡ cursor_if gone next' → Gives m1 b' (view_at_rest m1.0 (Ticket t))
     gives next' got' gone sane cursor =
         let t : Taking = record { id = id; mark = mark; next = next'; got = got'; gone = gone } in
         let numbers : b'.given ≡ b.given = others.1 in
@@ -155,7 +155,7 @@ module _ (m0 m1 : M) (id mark next : ℕ) (b : Locked) (w : IsTaker m0 id mark n
             ids_up = omega arith;
             numbers_up = omega arith;
             cursors = λ i ne. cursor_found b'.kept (with_changed h.behind.world id f) i after.for ∙ ap next_of (found_else f 1 h.behind.world.subscriptions id i ne) ∙ sym (cursor_found b.kept h.behind.world i h.behind.for.for);
-            standing = λ n ne. ap (λ (l : List ℕ). stands l n) others.0;
+            standing = λ n ne. ap (λ (l : List ℕ). is_current l n) others.0;
             live = tt;
             live' = tt;
             own_id = λ f g j x. inr x.its_seat;
@@ -178,7 +178,7 @@ module _ (m0 m1 : M) (id mark next : ℕ) (b : Locked) (w : IsTaker m0 id mark n
   abbrev pub count : ℕ → ℕ
   count most = min most (length m1.0.sight.seen - next)
 
-  count_is : (most : ℕ) → taken h.behind.world subscribed.0 most ≡ count most
+  count_is : (most : ℕ) → count_to_take h.behind.world subscribed.0 most ≡ count most
   count_is most = λ i. min most (length (h.behind.events i) - subscribed.2 i)
 
   says : (most : ℕ) (answer : Result Taken NoId) (x : Taken) → answer ≡ take_reply h.behind.world id most → answer ≡ Ok x → Ok x ≡ reply_for h.behind.world most (Some subscribed.0)
@@ -212,19 +212,19 @@ module _ (m0 m1 : M) (id mark next : ℕ) (b : Locked) (w : IsTaker m0 id mark n
       → out' ≡ slice next (next + count most) m1.0.sight.seen ++ drop (count most) out
   filled_moved most out out' e = e ∙ (λ i. events_moved most i ++ drop (length (events_moved most i)) out) ∙ ap (λ (n : ℕ). slice next (next + count most) m1.0.sight.seen ++ drop n out) (length_moved most)
 
-  module _ (b' : Locked) (most : ℕ) (after : Stands b' (after_take h.behind.world id most)) (others : KeepsPublishers b b') where
-    stands' : Stands b' (with_changed h.behind.world id (moved_on h.behind.world most))
-    stands' = subst (λ (o : Option Subscription). Stands b' (after_take_for h.behind.world id most o)) subscribed.1 after
+  module _ (b' : Locked) (most : ℕ) (after : StandsForWorld b' (after_take h.behind.world id most)) (others : KeepsPublishers b b') where
+    is_current' : StandsForWorld b' (with_changed h.behind.world id (moved_on h.behind.world most))
+    is_current' = subst (λ (o : Option Subscription). StandsForWorld b' (after_take_for h.behind.world id most o)) subscribed.1 after
 
     cursor_own : cursor_of b'.kept.cursors id ≡ Some (next + count most)
     cursor_own = let s = subscribed in let subs = h.behind.world.subscriptions in let f = moved_on h.behind.world most in
-        cursor_now b' f stands' others (Some (f s.0)) (found_changed f 1 subs id s.0 s.1 (found_stands 1 subs id s.0 s.1)) ∙ (λ i. Some (s.2 i + count_is most i))
+        cursor_now b' f is_current' others (Some (f s.0)) (found_changed f 1 subs id s.0 s.1 (found_stands 1 subs id s.0 s.1)) ∙ (λ i. Some (s.2 i + count_is most i))
 
     -- nothing was taken
-    pub rests_still : next ≡ length m1.0.sight.seen → Gives m1 b' (rested m1.0 m1.0.role)
+    pub rests_still : next ≡ length m1.0.sight.seen → Gives m1 b' (view_at_rest m1.0 m1.0.role)
     rests_still at = let none : next + count most ≡ next = omega arith in
-        subst (λ (r : Role). Gives m1 b' (rested m1.0 r)) (sym role_is)
-        (gives b' (moved_on h.behind.world most) stands' others next (got_of m0.0.role) false sane_is (cursor_own ∙ ap (λ (n : ℕ). Some n) none))
+        subst (λ (r : Role). Gives m1 b' (view_at_rest m1.0 r)) (sym role_is)
+        (gives b' (moved_on h.behind.world most) is_current' others next (got_of m0.0.role) false sane_is (cursor_own ∙ ap (λ (n : ℕ). Some n) none))
 
     within_moved : (n : ℕ) → n ≡ count most → next + n ≤ length m1.0.sight.seen
     within_moved n is = let p : next ≤ length m1.0.sight.seen = sane_is.1 in omega arith
@@ -233,15 +233,15 @@ module _ (m0 m1 : M) (id mark next : ℕ) (b : Locked) (w : IsTaker m0 id mark n
     got_longer n = ap (λ (l : List Event). l ++ slice next (next + n) m1.0.sight.seen) sane_is.2 ∙ slice_join mark next (next + n) m1.0.sight.seen sane_is.0 (omega arith)
 
     -- n events were taken
-    pub rests_moved : (n : ℕ) → n ≡ count most → Gives m1 b' (rested m1.0 (moved m1.0.sight.seen (taking_of m1.0.role) n))
+    pub rests_moved : (n : ℕ) → n ≡ count most → Gives m1 b' (view_at_rest m1.0 (taker_after m1.0.sight.seen (taking_of m1.0.role) n))
     rests_moved n is = let le = sane_is.0 in
-        subst (λ (r : Role). Gives m1 b' (rested m1.0 (moved m1.0.sight.seen (taking_of r) n))) (sym role_is)
-        (gives b' (moved_on h.behind.world most) stands' others (next + n) (got_of m0.0.role ++ slice next (next + n) m1.0.sight.seen) false
+        subst (λ (r : Role). Gives m1 b' (view_at_rest m1.0 (taker_after m1.0.sight.seen (taking_of r) n))) (sym role_is)
+        (gives b' (moved_on h.behind.world most) is_current' others (next + n) (got_of m0.0.role ++ slice next (next + n) m1.0.sight.seen) false
         (omega arith, within_moved n is, got_longer n) (cursor_own ∙ ap (λ (k : ℕ). Some (next + k)) (sym is)))
 
-    module _ (n : ℕ) (is : n ≡ count most) (m3 : M) (e3 : m3 ≡ (rested m1.0 (moved m1.0.sight.seen (taking_of m1.0.role) n), [])) where
-      now : m3 ≡ (rested m1.0 (taker id mark (next + n) (got_of m0.0.role ++ slice next (next + n) m1.0.sight.seen)), [])
-      now = e3 ∙ ap (λ (r : Role). (rested m1.0 (moved m1.0.sight.seen (taking_of r) n), [])) role_is
+    module _ (n : ℕ) (is : n ≡ count most) (m3 : M) (e3 : m3 ≡ (view_at_rest m1.0 (taker_after m1.0.sight.seen (taking_of m1.0.role) n), [])) where
+      now : m3 ≡ (view_at_rest m1.0 (taker id mark (next + n) (got_of m0.0.role ++ slice next (next + n) m1.0.sight.seen)), [])
+      now = e3 ∙ ap (λ (r : Role). (view_at_rest m1.0 (taker_after m1.0.sight.seen (taking_of r) n), [])) role_is
 
       pub moved_taker : IsTaker m3 id mark (next + n)
       moved_taker = let le = sane_is.0 in subst (λ (m : M). IsTaker m id mark (next + n)) (sym now) record {
@@ -266,11 +266,11 @@ module _ (m0 m1 : M) (id mark next : ℕ) (b : Locked) (w : IsTaker m0 id mark n
   pub is_cancelled : (answer : Result (Unit {0}) NoId) → answer ≡ cancel_reply h.behind.world id → IsOk answer
   is_cancelled answer e = subst IsOk (sym (e ∙ ap cancel_for subscribed.1)) refl
 
-  module _ (b' : Locked) (after : Stands b' (after_cancel h.behind.world id)) (others : KeepsPublishers b b') where
-    stands_on : Stands b' (with_changed h.behind.world id stopped)
-    stands_on = subst (λ (o : Option Subscription). Stands b' (after_cancel_for h.behind.world id o)) subscribed.1 after
+  module _ (b' : Locked) (after : StandsForWorld b' (after_cancel h.behind.world id)) (others : KeepsPublishers b b') where
+    stands_on : StandsForWorld b' (with_changed h.behind.world id as_cancelled)
+    stands_on = subst (λ (o : Option Subscription). StandsForWorld b' (after_cancel_for h.behind.world id o)) subscribed.1 after
 
-    pub rests_cancelled : Gives m1 b' (rested m1.0 (gone_taker m1.0.role))
+    pub rests_cancelled : Gives m1 b' (view_at_rest m1.0 (gone_taker m1.0.role))
     rests_cancelled = let none = found_stopped 1 h.behind.world.subscriptions id subscribed.0 subscribed.1 in
-        subst (λ (r : Role). Gives m1 b' (rested m1.0 (gone_taker r))) (sym role_is)
-        (gives b' stopped stands_on others next (got_of m0.0.role) true sane_is (cursor_now b' stopped stands_on others None none))
+        subst (λ (r : Role). Gives m1 b' (view_at_rest m1.0 (gone_taker r))) (sym role_is)
+        (gives b' as_cancelled stands_on others next (got_of m0.0.role) true sane_is (cursor_now b' as_cancelled stands_on others None none))

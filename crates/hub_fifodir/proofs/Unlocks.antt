@@ -14,23 +14,23 @@ use Rattle.hub_fifodir.specs.declared.views.Sight.{Sight}
 use Rattle.hub_fifodir.specs.declared.views.View.{View}
 use Rattle.hub_fifodir.specs.declared.views.Role.{Role}
 use Rattle.hub_fifodir.specs.declared.views.Role.TheVariants.{Visitor, Note, Ticket, Publisher, Spent}
-use Rattle.hub_fifodir.specs.Locks.{stands}
+use Rattle.hub_fifodir.specs.Locks.{is_current}
 use Rattle.hub_fifodir.specs.Rule.{free, Account, IsGiven, InRole, IsSeat, Fits, Holds, sight, resting, HasId, HasSeen, HasClosed, At, IsNumbered, cursor_of}
-use Rattle.hub_fifodir.specs.Steps.{put, Changes}
+use Rattle.hub_fifodir.specs.Steps.{with_value_at, Changes}
 use Rattle.hub_fifodir.proofs.ViewLists.{all_set, at_kept, at_own, here}
 use Rattle.hub_fifodir.proofs.OneSeat.{seated, fits_map, held_none, held_elsewhere, numbered_live, number_given}
 use Rattle.hub_fifodir.proofs.Looks.{Rule, its_seat}
 
-put_new : (f : ℕ → ℕ) (n j : ℕ) → put f n j n ≡ j
+put_new : (f : ℕ → ℕ) (n j : ℕ) → with_value_at f n j n ≡ j
 put_new f n j = ap (λ b. cond b j (f n)) (eq-eqb n n refl)
 
-put_else : (f : ℕ → ℕ) (n0 j n : ℕ) → n ≢ n0 → put f n0 j n ≡ f n
+put_else : (f : ℕ → ℕ) (n0 j n : ℕ) → n ≢ n0 → with_value_at f n0 j n ≡ f n
 put_else f n0 j n ne = ap (λ b. cond b j (f n)) (ne_eqb n n0 ne)
 
 -- if n0 wasn't given before, or is the seat's own, all numbers that were given keep their seats
-put_same : (f : ℕ → ℕ) (n0 j most n : ℕ) → (most < n0) ⊎ (f n0 ≡ j) → n ≤ most → put f n0 j n ≡ f n
+put_same : (f : ℕ → ℕ) (n0 j most n : ℕ) → (most < n0) ⊎ (f n0 ≡ j) → n ≤ most → with_value_at f n0 j n ≡ f n
 put_same f n0 j most n own le = dite (ℕ_discrete n n0)
-    (λ same. ⊎_elim (λ (lt : most < n0). absurd (omega arith)) (λ (e : f n0 ≡ j). ap (put f n0 j) same ∙ (put_new f n0 j ∙ sym e) ∙ ap f (sym same)) own)
+    (λ same. ⊎_elim (λ (lt : most < n0). absurd (omega arith)) (λ (e : f n0 ≡ j). ap (with_value_at f n0 j) same ∙ (put_new f n0 j ∙ sym e) ∙ ap f (sym same)) own)
     (λ other. put_else f n0 j n other)
 
 -- an n that another seat has isn't n0
@@ -41,8 +41,8 @@ given_more : (n most more : ℕ) → most ≤ more → IsGiven n most → IsGive
 given_more n most more up g = (g.0, let a = g.1 in omega arith)
 
 role_ported : (k k' : Book) (log : List Event) (f g : ℕ → ℕ) (i0 n0 id j : ℕ) (seen : List Event) (r : Role) → k.ids ≤ k'.ids → k.numbers ≤ k'.numbers
-    → ((i : ℕ) → i ≢ i0 → cursor_of k'.cursors i ≡ cursor_of k.cursors i) → ((n : ℕ) → n ≢ n0 → stands k'.standing n ≡ stands k.standing n)
-    → (k.ids < i0) ⊎ (f i0 ≡ id) → (k.numbers < n0) ⊎ (g n0 ≡ id) → j ≢ id → InRole k log f g j seen r → InRole k' log (put f i0 id) (put g n0 id) j seen r
+    → ((i : ℕ) → i ≢ i0 → cursor_of k'.cursors i ≡ cursor_of k.cursors i) → ((n : ℕ) → n ≢ n0 → is_current k'.standing n ≡ is_current k.standing n)
+    → (k.ids < i0) ⊎ (f i0 ≡ id) → (k.numbers < n0) ⊎ (g n0 ≡ id) → j ≢ id → InRole k log f g j seen r → InRole k' log (with_value_at f i0 id) (with_value_at g n0 id) j seen r
 role_ported k k' log f g i0 n0 id j s Visitor iu nu cs ss oi on ne h = tt
 role_ported k k' log f g i0 n0 id j s Note iu nu cs ss oi on ne h = tt
 role_ported k k' log f g i0 n0 id j s (Ticket t) iu nu cs ss oi on ne h =
@@ -51,9 +51,9 @@ role_ported k k' log f g i0 n0 id j s (Publisher p) iu nu cs ss oi on ne h =
     record { its_seat = put_same g n0 id k.numbers p.number on h.given.1 ∙ h.its_seat; given = given_more p.number k.numbers k'.numbers nu h.given; all = h.all; known = h.known; standing = ss p.number (apart g n0 id j k.numbers p.number on h.given.1 h.its_seat ne) ∙ h.standing }
 role_ported k k' log f g i0 n0 id j s Spent iu nu cs ss oi on ne h = tt
 
--- what a seat shows of itself, after `put` has given it its id and its number
+-- what a seat shows of itself, after `with_value_at` has given it its id and its number
 own_ported : (k : Book) (log : List Event) (f g : ℕ → ℕ) (i0 n0 id : ℕ) (seen : List Event) (r : Role) → (k.ids < i0) ⊎ (f i0 ≡ id) → (k.numbers < n0) ⊎ (g n0 ≡ id)
-    → InRole k log f g id seen r → InRole k log (put f i0 id) (put g n0 id) id seen r
+    → InRole k log f g id seen r → InRole k log (with_value_at f i0 id) (with_value_at g n0 id) id seen r
 own_ported k log f g i0 n0 id s Visitor oi on h = tt
 own_ported k log f g i0 n0 id s Note oi on h = tt
 own_ported k log f g i0 n0 id s (Ticket t) oi on h = record { its_seat = put_same f i0 id k.ids t.id oi h.given.1 ∙ h.its_seat; given = h.given; sane = h.sane; cursor = h.cursor }
@@ -63,10 +63,10 @@ own_ported k log f g i0 n0 id s Spent oi on h = tt
 -- what was given has its seat, and what is given now has this one
 owners : (P : ℕ → View → Type 0) (views : List View) (f : ℕ → ℕ) (n0 id most more : ℕ) (v w : View) → get_elem? views id ≡ maybe.some v
     → (most < n0) ⊎ (f n0 ≡ id) → ((n : ℕ) → P n v → P n w) → ((n : ℕ) → most < n → n ≤ more → (n ≡ n0) × P n w)
-    → ((n : ℕ) → IsGiven n most → At views (f n) (P n)) → (n : ℕ) → IsGiven n more → At (set views id w) (put f n0 id n) (P n)
+    → ((n : ℕ) → IsGiven n most → At views (f n) (P n)) → (n : ℕ) → IsGiven n more → At (set views id w) (with_value_at f n0 id n) (P n)
 owners P views f n0 id most more v w at own keep new old n g = ⊎_elim
     (λ (above : most < n). let t = new n above g.1 in
-    subst (λ (i : ℕ). At (set views id w) i (P n)) (sym (ap (put f n0 id) t.0 ∙ put_new f n0 id)) (at_own (P n) views id v w at t.1))
+    subst (λ (i : ℕ). At (set views id w) i (P n)) (sym (ap (with_value_at f n0 id) t.0 ∙ put_new f n0 id)) (at_own (P n) views id v w at t.1))
     (λ (le : n ≤ most). subst (λ (i : ℕ). At (set views id w) i (P n)) (sym (put_same f n0 id most n own le)) (at_kept (P n) views id v w (f n) at (keep n) (old n (g.0, le))))
     (cases_lt most n)
 
@@ -90,8 +90,8 @@ module _ {B : Type 0} (book_of : B → Book) (stands_for : Rules → List Event 
       let seen : v.sight.seen ≡ a.log = ap (λ (t : Sight). t.seen) h.2 in
       let closed : v.sight.closed ≡ a.mark = ap (λ (t : Sight). t.closed) h.2 in
       let k' : Book = book_of b in
-      let f' : ℕ → ℕ = put a.ticket_at i0 id in let g' : ℕ → ℕ = put a.writer_at n0 id in
-      let a' : Account B = record { log = a.log; mark = a.mark; book = k'; turn = free b; ticket_at = f'; writer_at = g' } in
+      let f' : ℕ → ℕ = with_value_at a.ticket_at i0 id in let g' : ℕ → ℕ = with_value_at a.writer_at n0 id in
+      let a' : Account B = record { log = a.log; mark = a.mark; book = k'; lock = free b; ticket_at = f'; writer_at = g' } in
       let was = subst (λ (l : List Event). InRole k l a.ticket_at a.writer_at id v.sight.seen v.role) (sym seen) (subst (λ (x : Book). InRole x a.log a.ticket_at a.writer_at id v.sight.seen v.role) (sym h.1) seat.in_role) in
       let oi = c.own_id a.ticket_at a.writer_at id was in
       let on = c.own_number a.ticket_at a.writer_at id was in

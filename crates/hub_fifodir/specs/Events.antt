@@ -3,7 +3,7 @@ use Rattle.std.specs.Prelude.{◌≡◌, ◌==◌, ℕ, ◌-◌, Bool, not, List
 use Rattle.hub_letters.specs.Flags.{flags_of}
 use Rattle.hub_record.specs.declared.Event.{Event}
 use Rattle.hub_record.specs.World.{letters}
-use Rattle.hub_fifodir.specs.Word.{packed}
+use Rattle.hub_fifodir.specs.Word.{packed_word}
 
 abbrev pub StartsWith : List Event → List Event → Type 0
 StartsWith log seen = (rest : List Event) × (log ≡ seen ++ rest)
@@ -16,4 +16,4 @@ abbrev pub is_closed : ℕ → Bool
 is_closed mark = not (mark == 0)
 
 abbrev pub front_word : List Event → ℕ → ℕ
-front_word log mark = packed (length log) (is_closed mark) (flags_of (letters log))
+front_word log mark = packed_word (length log) (is_closed mark) (flags_of (letters log))

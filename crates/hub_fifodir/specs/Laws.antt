@@ -12,9 +12,9 @@ use Rattle.hub_fifodir.specs.declared.views.Writing.{Writing}
 use Rattle.hub_fifodir.specs.declared.views.Role.TheVariants.{Ticket, Publisher}
 use Rattle.hub_fifodir.specs.declared.locked.Locked.{Locked}
 use Rattle.hub_fifodir.specs.Events.{StartsWith}
-use Rattle.hub_fifodir.specs.Word.{packed}
-use Rattle.hub_fifodir.specs.Locks.{Stands, stands}
-use Rattle.hub_fifodir.specs.Rule.{Kept, IsLive, cursor_of}
+use Rattle.hub_fifodir.specs.Word.{packed_word}
+use Rattle.hub_fifodir.specs.Locks.{StandsForWorld, is_current}
+use Rattle.hub_fifodir.specs.Rule.{RuleHolds, IsLive, cursor_of}
 
 abbrev Board : Type 0
 Board = State (Option Locked) View
@@ -32,42 +32,42 @@ IsFree s b = s.homes ≡ some (Some b) ∷ []
 
 -- two tickets have different ids, and two publishers different numbers
 abbrev pub TicketsDiffer : Type 0
-TicketsDiffer = (rules : Rules) (s : Board) (j k : ℕ) (t u : Taking) → Kept rules s → HasTicket s j t → HasTicket s k u → t.id ≡ u.id → j ≡ k
+TicketsDiffer = (rules : Rules) (s : Board) (j k : ℕ) (t u : Taking) → RuleHolds rules s → HasTicket s j t → HasTicket s k u → t.id ≡ u.id → j ≡ k
 
 abbrev pub PublishersDiffer : Type 0
-PublishersDiffer = (rules : Rules) (s : Board) (j k : ℕ) (p q : Writing) → Kept rules s → HasPublisher s j p → HasPublisher s k q → p.number ≡ q.number → j ≡ k
+PublishersDiffer = (rules : Rules) (s : Board) (j k : ℕ) (p q : Writing) → RuleHolds rules s → HasPublisher s j p → HasPublisher s k q → p.number ≡ q.number → j ≡ k
 
 -- of what two seats have seen, one is a prefix of the other
 abbrev pub SeatsAgree : Type 0
-SeatsAgree = (rules : Rules) (s : Board) (j k : ℕ) (v w : View) → Kept rules s → get_elem? s.views j ≡ some v → get_elem? s.views k ≡ some w → IsLive v.role → IsLive w.role
+SeatsAgree = (rules : Rules) (s : Board) (j k : ℕ) (v w : View) → RuleHolds rules s → get_elem? s.views j ≡ some v → get_elem? s.views k ≡ some w → IsLive v.role → IsLive w.role
     → StartsWith v.sight.seen w.sight.seen ⊎ StartsWith w.sight.seen v.sight.seen
 
 -- a current ticket has its cursor, and a cursor has its ticket
 abbrev pub TicketsHaveCursors : Type 0
-TicketsHaveCursors = (rules : Rules) (s : Board) (b : Locked) (j : ℕ) (t : Taking) → Kept rules s → IsFree s b → HasTicket s j t → t.gone ≡ false → cursor_of b.kept.cursors t.id ≡ Some t.next
+TicketsHaveCursors = (rules : Rules) (s : Board) (b : Locked) (j : ℕ) (t : Taking) → RuleHolds rules s → IsFree s b → HasTicket s j t → t.gone ≡ false → cursor_of b.kept.cursors t.id ≡ Some t.next
 
 abbrev pub CursorsHaveTickets : Type 0
-CursorsHaveTickets = (rules : Rules) (s : Board) (b : Locked) (id next : ℕ) → Kept rules s → IsFree s b → cursor_of b.kept.cursors id ≡ Some next
+CursorsHaveTickets = (rules : Rules) (s : Board) (b : Locked) (id next : ℕ) → RuleHolds rules s → IsFree s b → cursor_of b.kept.cursors id ≡ Some next
     → (j : ℕ) × (t : Taking) × HasTicket s j t × (t.id ≡ id) × (t.next ≡ next) × (t.gone ≡ false)
 
 -- a current number has its publisher
 abbrev pub StandingHavePublishers : Type 0
-StandingHavePublishers = (rules : Rules) (s : Board) (b : Locked) (n : ℕ) → Kept rules s → IsFree s b → stands b.standing.keys n ≡ true
+StandingHavePublishers = (rules : Rules) (s : Board) (b : Locked) (n : ℕ) → RuleHolds rules s → IsFree s b → is_current b.standing.keys n ≡ true
     → (j : ℕ) × (p : Writing) × HasPublisher s j p × (p.number ≡ n) × (p.gone ≡ false)
 
 -- the base hasn't passed what a current ticket takes next
 abbrev pub BaseIsBehind : Type 0
-BaseIsBehind = (rules : Rules) (s : Board) (b : Locked) (w : World) (j : ℕ) (t : Taking) → Kept rules s → IsFree s b → Stands b w → HasTicket s j t → t.gone ≡ false → base w ≤ t.next
+BaseIsBehind = (rules : Rules) (s : Board) (b : Locked) (w : World) (j : ℕ) (t : Taking) → RuleHolds rules s → IsFree s b → StandsForWorld b w → HasTicket s j t → t.gone ≡ false → base w ≤ t.next
 
 -- the record behind the lock stands for one history; each seat has seen a prefix of it, and all of it if it has seen
 -- the close; the front word shows its status
 pub record IsHistory (rules : Rules) (s : State (Option Locked) View) (b : Locked) (w : World) : Type 0 where
-  pub stands : Stands b w
+  pub stands : StandsForWorld b w
   pub kind : w.kind ≡ rules.kind
   pub limits : w.limits ≡ rules.limits
-  pub front : slice_index s.words 0 ≡ packed (length w.events) w.closed (flags_of (letters w.events))
+  pub front : slice_index s.words 0 ≡ packed_word (length w.events) w.closed (flags_of (letters w.events))
   pub seen : (j : ℕ) (v : View) → get_elem? s.views j ≡ some v → IsLive v.role → StartsWith w.events v.sight.seen
   pub shut : (j : ℕ) (v : View) → get_elem? s.views j ≡ some v → IsLive v.role → v.sight.closed ≢ 0 → (v.sight.seen ≡ w.events) × (w.closed ≡ true)
 
 abbrev pub RecordIsHistory : Type 0
-RecordIsHistory = (rules : Rules) (s : Board) (b : Locked) → Kept rules s → IsFree s b → (w : World) × IsHistory rules s b w
+RecordIsHistory = (rules : Rules) (s : Board) (b : Locked) → RuleHolds rules s → IsFree s b → (w : World) × IsHistory rules s b w

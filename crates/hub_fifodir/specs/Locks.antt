@@ -20,7 +20,7 @@ abbrev pub given_by : Locked → ℕ
 given_by b = b.given
 
 -- its record stands for the world
-pub record Stands (b : Locked) (w : World) : Type 0 where
+pub record StandsForWorld (b : Locked) (w : World) : Type 0 where
   pub for : StandsFor b.kept w
   pub ids : b.ids ≡ w.limits.ids
 
@@ -29,8 +29,8 @@ abbrev pub KeepsRecord : Locked → Locked → Type 0
 KeepsRecord old new = (new.kept ≡ old.kept) × (new.ids ≡ old.ids)
 
 -- whether a number is that of a current publisher
-abbrev pub stands : List ℕ → ℕ → Bool
-stands numbers n = list_any (nat_eq n) numbers
+abbrev pub is_current : List ℕ → ℕ → Bool
+is_current numbers n = list_any (nat_eq n) numbers
 
 abbrev pub PublisherReply : Locked → Result ℕ PassError → Type 0
 PublisherReply b (Ok n) = (length b.standing.keys < MOST_PASSES) × (b.given < b.ids) × (n ≡ b.given + 1)
@@ -43,9 +43,9 @@ abbrev pub KeepsPublishers : Locked → Locked → Type 0
 KeepsPublishers old new = (new.standing.keys ≡ old.standing.keys) × (new.given ≡ old.given) × (new.ids ≡ old.ids)
 
 abbrev pub IsAfterPublisher : Locked → Result ℕ PassError → Locked → Type 0
-IsAfterPublisher old (Ok n) new = ((m : ℕ) → stands new.standing.keys m ≡ cond (nat_eq n m) true (stands old.standing.keys m)) × (new.given ≡ n)
+IsAfterPublisher old (Ok n) new = ((m : ℕ) → is_current new.standing.keys m ≡ cond (nat_eq n m) true (is_current old.standing.keys m)) × (new.given ≡ n)
 IsAfterPublisher old (Err e) new = KeepsPublishers old new
 
 -- the number n isn't current any more, and the others are as before
 abbrev pub HasLeft : Locked → ℕ → Locked → Type 0
-HasLeft old n new = ((m : ℕ) → stands new.standing.keys m ≡ cond (nat_eq n m) false (stands old.standing.keys m)) × (new.given ≡ old.given)
+HasLeft old n new = ((m : ℕ) → is_current new.standing.keys m ≡ cond (nat_eq n m) false (is_current old.standing.keys m)) × (new.given ≡ old.given)

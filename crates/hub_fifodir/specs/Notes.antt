@@ -8,7 +8,7 @@ use Rattle.hub_fifodir.specs.declared.views.View.{View}
 use Rattle.hub_fifodir.specs.declared.views.Role.TheVariants.{Note}
 use Rattle.hub_fifodir.specs.Rule.{resting}
 
--- the two words are the front word and the turn, and the one slot has the locked value
+-- the two words are the front word and the lock, and the one slot has the locked value
 abbrev pub IsSized : TableId → Type 0
 IsSized z = (z.words ≡ 2) × (z.slots ≡ 1)
 

@@ -10,7 +10,7 @@ use Rattle.hub_record.specs.declared.Taken.{Taken}
 use Rattle.hub_record.specs.declared.Taken.TheVariants.{Got, Nothing, End}
 use Rattle.hub_record.specs.declared.PubError.{PubError}
 use Rattle.hub_record.specs.declared.PubError.TheVariants as post
-use Rattle.hub_record.specs.World.{letters, stamped, IsLawfulIn, IsUnlawfulIn}
+use Rattle.hub_record.specs.World.{letters, as_events, IsLawfulIn, IsUnlawfulIn}
 use Rattle.hub_fifodir.specs.declared.views.Rules.{Rules}
 use Rattle.hub_fifodir.specs.declared.views.Sight.{Sight}
 use Rattle.hub_fifodir.specs.declared.views.Role.{Role}
@@ -89,8 +89,8 @@ IsPublisherOf f p = IsOf f (publisher_view p)
 abbrev pub publisher_sight : Publisher → Sight
 publisher_sight p = (publisher_view p).sight
 
-abbrev pub seen : Publisher → List Event
-seen p = (publisher_sight p).seen
+abbrev pub seen_by : Publisher → List Event
+seen_by p = (publisher_sight p).seen
 
 -- 0, or the number of the publisher that closed
 abbrev pub closed_mark : Publisher → ℕ
@@ -145,8 +145,8 @@ KnewOwnClose old new = closed_mark new ≡ publisher_number new → closed_mark 
 
 -- a message was accepted: it is last in what is seen now
 abbrev pub HasPublished : Publisher → List ℕ → ℕ → Publisher → Type 0
-HasPublished old message n new = (closed_mark new ≡ 0) × (n + length message ≡ length (seen new)) × (mine new ≡ mine old ++ message)
-    × ((others : List Event) × (seen new ≡ (seen old ++ others) ++ stamped (publisher_number old) message))
+HasPublished old message n new = (closed_mark new ≡ 0) × (n + length message ≡ length (seen_by new)) × (mine new ≡ mine old ++ message)
+    × ((others : List Event) × (seen_by new ≡ (seen_by old ++ others) ++ as_events (publisher_number old) message))
 
 -- why a message was refused, by what the publisher has then seen
 abbrev pub IsRefusedBy : Rules → Sight → List ℕ → PubError → Type 0
@@ -171,10 +171,10 @@ HasTaken old most Nothing new = (ticket_next old ≡ length (ticket_seen new)) �
 HasTaken old most End new = (ticket_next old ≡ length (ticket_seen new)) × (ticket_closed new ≢ 0) × (ticket_next new ≡ ticket_next old) × (got new ≡ got old)
 
 -- the slice after that take
-abbrev pub filled : Ticket → Taken → Ticket → List Event → List Event
-filled old (Got n) new out = slice (ticket_next old) (ticket_next old + n) (ticket_seen new) ++ drop n out
-filled old Nothing new out = out
-filled old End new out = out
+abbrev pub slice_after_take : Ticket → Taken → Ticket → List Event → List Event
+slice_after_take old (Got n) new out = slice (ticket_next old) (ticket_next old + n) (ticket_seen new) ++ drop n out
+slice_after_take old Nothing new out = out
+slice_after_take old End new out = out
 
 -- the letters of what was taken
 abbrev pub sent_on : Ticket → Taken → Ticket → List ℕ

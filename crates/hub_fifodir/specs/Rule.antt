@@ -18,7 +18,7 @@ use Rattle.hub_fifodir.specs.declared.views.Role.{Role}
 use Rattle.hub_fifodir.specs.declared.views.Role.TheVariants.{Visitor, Ticket, Publisher, Spent}
 use Rattle.hub_fifodir.specs.declared.locked.Locked.{Locked}
 use Rattle.hub_fifodir.specs.Events.{StartsWith, slice, is_closed, front_word}
-use Rattle.hub_fifodir.specs.Locks.{Stands, stands}
+use Rattle.hub_fifodir.specs.Locks.{StandsForWorld, is_current}
 
 -- ---- views
 
@@ -36,8 +36,8 @@ abbrev pub visitor : Rules → List Event → ℕ → View
 visitor rules seen closed = resting rules (sight seen closed) Visitor
 
 -- a seat that is spent has nothing of any fifodir
-abbrev pub spent : View
-spent = resting (record { kind = Plain; limits = least_limits }) (sight [] 0) Spent
+abbrev pub spent_view : View
+spent_view = resting (record { kind = Plain; limits = least_limits }) (sight [] 0) Spent
 
 abbrev pub IsLive : Role → Type 0
 IsLive Spent = ⊥
@@ -69,21 +69,21 @@ IsGiven n most = (0 < n) × (n ≤ most)
 -- only ids that were given have cursors, and only numbers that were given are current
 pub record IsBounded (book : Book) : Type 0 where
   pub cursors : (i next : ℕ) → cursor_of book.cursors i ≡ Some next → IsGiven i book.ids
-  pub standing : (n : ℕ) → stands book.standing n ≡ true → IsGiven n book.numbers
+  pub standing : (n : ℕ) → is_current book.standing n ≡ true → IsGiven n book.numbers
 
 -- free, with the locked value in its slot, or taken by a seat
-pub data Turn (B : Type 0) : Type 0 where
-  free : B → Turn B
-  taken : ℕ → Turn B
+pub data LockState (B : Type 0) : Type 0 where
+  free : B → LockState B
+  held_by : ℕ → LockState B
 
 module _ {B : Type 0} where
-  abbrev pub turn_word : Turn B → ℕ
-  turn_word (free b) = 0
-  turn_word (taken j) = 1
+  abbrev pub lock_word : LockState B → ℕ
+  lock_word (free b) = 0
+  lock_word (held_by j) = 1
 
-  abbrev pub home : Turn B → maybe.Option (Option B)
+  abbrev pub home : LockState B → maybe.Option (Option B)
   home (free b) = maybe.some (Some b)
-  home (taken j) = maybe.none
+  home (held_by j) = maybe.none
 
 -- the record with its closed mark, and the state; ticket_at says which seat has an id, and writer_at which seat has a
 -- publisher's number
@@ -91,7 +91,7 @@ pub record Account (B : Type 0) : Type 0 where
   pub log : List Event
   pub mark : ℕ
   pub book : Book
-  pub turn : Turn B
+  pub lock : LockState B
   pub ticket_at : ℕ → ℕ
   pub writer_at : ℕ → ℕ
 
@@ -120,7 +120,7 @@ pub record IsPublisher (book : Book) (log : List Event) (writer_at : ℕ → ℕ
   pub given : IsGiven p.number book.numbers
   pub all : by p.number log ≡ p.mine
   pub known : by p.number seen ≡ p.mine
-  pub standing : stands book.standing p.number ≡ not p.gone
+  pub standing : is_current book.standing p.number ≡ not p.gone
 
 abbrev pub InRole : Book → List Event → (ℕ → ℕ) → (ℕ → ℕ) → ℕ → List Event → Role → Type 0
 InRole book log ticket_at writer_at j seen (Ticket t) = IsTicket book ticket_at j seen t
@@ -131,7 +131,7 @@ module _ {B : Type 0} (rules : Rules) (a : Account B) where
   -- a seat that has the lock has seen the whole record, and knows the state
   abbrev pub Holds : ℕ → Sight → Option Book → Type 0
   Holds j s None = Unit {0}
-  Holds j s (Some b) = (a.turn ≡ taken j) × (b ≡ a.book) × (s ≡ sight a.log a.mark)
+  Holds j s (Some b) = (a.lock ≡ held_by j) × (b ≡ a.book) × (s ≡ sight a.log a.mark)
 
   pub record IsSeat (j : ℕ) (v : View) : Type 0 where
     pub ruled : v.rules ≡ rules
@@ -164,17 +164,17 @@ abbrev pub At : List View → ℕ → (View → Type 0) → Type 0
 At views j P = (v : View) × (get_elem? views j ≡ maybe.some v) × P v
 
 module _ {B : Type 0} (book_of : B → Book) (stands_for : Rules → List Event → ℕ → B → Type 0) (sound : Rules → List Event → Type 0) where
-  abbrev pub IsHome : Rules → Account B → Turn B → List View → Type 0
+  abbrev pub IsHome : Rules → Account B → LockState B → List View → Type 0
   IsHome rules a (free b) views = stands_for rules a.log a.mark b × (book_of b ≡ a.book)
-  IsHome rules a (taken j) views = At views j (HasHeld a.book)
+  IsHome rules a (held_by j) views = At views j (HasHeld a.book)
 
   pub record Ordered (rules : Rules) (s : State (Option B) View) : Type 0 where
     pub a : Account B
-    pub words_are : s.words ≡ front_word a.log a.mark ∷ turn_word a.turn ∷ []
-    pub homes_are : s.homes ≡ home a.turn ∷ []
+    pub words_are : s.words ≡ front_word a.log a.mark ∷ lock_word a.lock ∷ []
+    pub homes_are : s.homes ≡ home a.lock ∷ []
     pub is_sound : sound rules a.log
     pub bounded : IsBounded a.book
-    pub locked : IsHome rules a a.turn s.views
+    pub locked : IsHome rules a a.lock s.views
     pub each : (j : ℕ) (v : View) → get_elem? s.views j ≡ maybe.some v → Fits rules a j v
     -- some seat has seen the whole record, and the publisher that closed it has
     pub reached : Somewhere s.views (HasSeen (sight a.log a.mark))
@@ -192,7 +192,7 @@ book_of b = record { cursors = b.kept.cursors; ids = b.kept.given; standing = b.
 -- while the lock is free: the locked value stands for a world with this history
 pub record IsBehind (rules : Rules) (log : List Event) (mark : ℕ) (b : Locked) : Type 0 where
   pub world : World
-  pub for : Stands b world
+  pub for : StandsForWorld b world
   pub events : world.events ≡ log
   pub closed : world.closed ≡ is_closed mark
   pub kind : world.kind ≡ rules.kind
@@ -201,5 +201,5 @@ pub record IsBehind (rules : Rules) (log : List Event) (mark : ℕ) (b : Locked)
 abbrev pub IsSound : Rules → List Event → Type 0
 IsSound rules log = (length log ≤ rules.limits.total) × IsLawfulIn rules.kind (letters log)
 
-abbrev pub Kept : Rules → State (Option Locked) View → Type 0
-Kept = Ordered book_of IsBehind IsSound
+abbrev pub RuleHolds : Rules → State (Option Locked) View → Type 0
+RuleHolds = Ordered book_of IsBehind IsSound

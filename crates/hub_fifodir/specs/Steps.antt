@@ -2,7 +2,7 @@
 use Rattle.std.specs.Prelude.{◌≡◌, ◌≢◌, ℕ, List, [], ◌∷◌, ◌++◌, ◌⊎◌, ◌<◌, ◌≤◌, ◌==◌, ◌+◌, cond, not, length, Option, Some, None, true, false}
 use Rattle.atomic_table.specs.Table.{Me, Step}
 use Rattle.hub_record.specs.declared.Event.{Event}
-use Rattle.hub_record.specs.World.{stamped}
+use Rattle.hub_record.specs.World.{as_events}
 use Rattle.hub_record.specs.Runs.{by}
 use Rattle.hub_fifodir.specs.declared.views.Rules.{Rules}
 use Rattle.hub_fifodir.specs.declared.views.Book.{Book}
@@ -14,7 +14,7 @@ use Rattle.hub_fifodir.specs.declared.views.Role.{Role}
 use Rattle.hub_fifodir.specs.declared.views.Role.TheVariants.{Note, Ticket, Publisher}
 use Rattle.hub_fifodir.specs.declared.locked.Locked.{Locked}
 use Rattle.hub_fifodir.specs.Events.{StartsWith, slice, front_word}
-use Rattle.hub_fifodir.specs.Locks.{stands}
+use Rattle.hub_fifodir.specs.Locks.{is_current}
 use Rattle.hub_fifodir.specs.Rule.{sight, view, resting, visitor, IsLive, IsSane, HasId, IsNumbered, cursor_of, cursor_if, IsGiven, IsBounded, InRole, book_of, IsBehind, IsSound}
 
 -- ---- what a seat learns
@@ -39,7 +39,7 @@ pub record IsFresh (book : Book) (s : Sight) : Type 0 where
 -- a ticket has its cursor, or none if it was cancelled; a publisher is current unless it left
 abbrev pub IsInBook : Book → Role → Type 0
 IsInBook book (Ticket t) = IsGiven t.id book.ids × (cursor_of book.cursors t.id ≡ cursor_if t.gone t.next)
-IsInBook book (Publisher p) = IsGiven p.number book.numbers × (stands book.standing p.number ≡ not p.gone)
+IsInBook book (Publisher p) = IsGiven p.number book.numbers × (is_current book.standing p.number ≡ not p.gone)
 IsInBook book _ = Unit {0}
 
 abbrev pub Front : ℕ → Sight → Type 0
@@ -78,14 +78,14 @@ module _ {B : Type 0} (book_of : B → Book) (stands_for : Rules → List Event 
 abbrev pub M : Type 0
 M = Me (Option Locked) View
 
-abbrev pub entered : Step (Option Locked) → M → ℕ → M → Type 0
-entered = entered_as book_of IsBehind IsSound
+abbrev pub enter_step : Step (Option Locked) → M → ℕ → M → Type 0
+enter_step = entered_as book_of IsBehind IsSound
 
-abbrev pub looked : Step (Option Locked) → M → ℕ → M → Type 0
-looked = looked_as book_of IsBehind IsSound
+abbrev pub look_step : Step (Option Locked) → M → ℕ → M → Type 0
+look_step = looked_as book_of IsBehind IsSound
 
-abbrev pub locked : Step (Option Locked) → M → ℕ → M → Type 0
-locked = locked_as book_of IsBehind IsSound
+abbrev pub lock_step : Step (Option Locked) → M → ℕ → M → Type 0
+lock_step = locked_as book_of IsBehind IsSound
 
 -- the seat has taken the lock, and has moved the value b out of the slot
 abbrev pub Holding : M → Locked → M → Type 0
@@ -147,28 +147,28 @@ pub record IsTaker (m : M) (id mark next : ℕ) : Type 0 where
 -- ---- what a seat that has the lock may do
 
 -- the view v of the publisher p after one more message
-abbrev pub grown : View → Writing → List ℕ → View
-grown v p message = view v.rules (sight (v.sight.seen ++ stamped p.number message) v.sight.closed) (Publisher record { number = p.number; mine = p.mine ++ message; gone = p.gone }) v.held v.met
+abbrev pub view_with_letters : View → Writing → List ℕ → View
+view_with_letters v p message = view v.rules (sight (v.sight.seen ++ as_events p.number message) v.sight.closed) (Publisher record { number = p.number; mine = p.mine ++ message; gone = p.gone }) v.held v.met
 
 -- the view v after the publisher p closed the record
 abbrev pub closing : View → Writing → View
 closing v p = view v.rules (sight v.sight.seen p.number) v.role v.held v.met
 
-abbrev pub rested : View → Role → View
-rested v r = resting v.rules v.sight r
+abbrev pub view_at_rest : View → Role → View
+view_at_rest v r = resting v.rules v.sight r
 
 abbrev pub WritesMessage : M → ℕ → List ℕ → View → Type 0
 WritesMessage m new message w = (k : Book) × (m.0.held ≡ Some k) × (m.0.sight.closed ≡ 0) × (m.0.role ≡ Publisher (writing_of m.0.role))
-    × (new ≡ front_word (m.0.sight.seen ++ stamped (writing_of m.0.role).number message) 0) × IsSound m.0.rules (m.0.sight.seen ++ stamped (writing_of m.0.role).number message)
-    × (w ≡ grown m.0 (writing_of m.0.role) message)
+    × (new ≡ front_word (m.0.sight.seen ++ as_events (writing_of m.0.role).number message) 0) × IsSound m.0.rules (m.0.sight.seen ++ as_events (writing_of m.0.role).number message)
+    × (w ≡ view_with_letters m.0 (writing_of m.0.role) message)
 
 abbrev pub WritesMark : M → ℕ → View → Type 0
 WritesMark m new w = (k : Book) × (m.0.held ≡ Some k) × (m.0.sight.closed ≡ 0) × (m.0.role ≡ Publisher (writing_of m.0.role))
     × (new ≡ front_word m.0.sight.seen (writing_of m.0.role).number) × (w ≡ closing m.0 (writing_of m.0.role))
 
 -- the number or id n0 is given to the seat j
-abbrev pub put : (ℕ → ℕ) → ℕ → ℕ → ℕ → ℕ
-put f n0 j n = cond (n == n0) j (f n)
+abbrev pub with_value_at : (ℕ → ℕ) → ℕ → ℕ → ℕ → ℕ
+with_value_at f n0 j n = cond (n == n0) j (f n)
 
 -- How the state changes while a seat in the role r, which becomes r', has the lock: only at the id i0 and the number
 -- n0, which are the seat's own or new.
@@ -176,7 +176,7 @@ pub record Changes (seen : List Event) (r r' : Role) (k k' : Book) (i0 n0 : ℕ)
   pub ids_up : k.ids ≤ k'.ids
   pub numbers_up : k.numbers ≤ k'.numbers
   pub cursors : (i : ℕ) → i ≢ i0 → cursor_of k'.cursors i ≡ cursor_of k.cursors i
-  pub standing : (n : ℕ) → n ≢ n0 → stands k'.standing n ≡ stands k.standing n
+  pub standing : (n : ℕ) → n ≢ n0 → is_current k'.standing n ≡ is_current k.standing n
   pub live : IsLive r
   pub live' : IsLive r'
   pub own_id : (f g : ℕ → ℕ) (j : ℕ) → InRole k seen f g j seen r → (k.ids < i0) ⊎ (f i0 ≡ j)
@@ -191,7 +191,7 @@ pub record Changes (seen : List Event) (r r' : Role) (k k' : Book) (i0 n0 : ℕ)
 
 -- A seat that has the lock may put b into the slot, release the lock, and then have the view w.
 abbrev pub Gives : M → Locked → View → Type 0
-Gives m b w = (k : Book) × (r : Role) × (i0 : ℕ) × (n0 : ℕ) × (m.0.held ≡ Some k) × (w ≡ rested m.0 r)
+Gives m b w = (k : Book) × (r : Role) × (i0 : ℕ) × (n0 : ℕ) × (m.0.held ≡ Some k) × (w ≡ view_at_rest m.0 r)
     × IsBehind m.0.rules m.0.sight.seen m.0.sight.closed b × Changes m.0.sight.seen m.0.role r k (book_of b) i0 n0
 
 -- ---- the roles of a seat that releases the lock
@@ -201,8 +201,8 @@ abbrev pub new_taker : Locked → List Event → Role
 new_taker b seen = taker b.kept.given (length seen) (length seen) []
 
 -- the ticket t after it took n more events of what was seen
-abbrev pub moved : List Event → Taking → ℕ → Role
-moved seen t n = taker t.id t.mark (t.next + n) (t.got ++ slice t.next (t.next + n) seen)
+abbrev pub taker_after : List Event → Taking → ℕ → Role
+taker_after seen t n = taker t.id t.mark (t.next + n) (t.got ++ slice t.next (t.next + n) seen)
 
 -- a ticket that was cancelled, and a publisher that left
 abbrev pub gone_taker : Role → Role

@@ -3,7 +3,7 @@ ghost use Rattle.std.specs.Prelude.{◌≡◌, ◌≤◌, ◌++◌, drop, length
 ghost use Rattle.hub_record.specs.Runs.{by};
 ghost use Rattle.hub_fifodir.specs.Laws.{TicketsDiffer, PublishersDiffer, SeatsAgree, RecordIsHistory};
 ghost use Rattle.hub_fifodir.specs.Laws.{TicketsHaveCursors, CursorsHaveTickets, StandingHavePublishers, BaseIsBehind};
-ghost use Rattle.hub_fifodir.specs.Passes.{publisher_number, seen, mine};
+ghost use Rattle.hub_fifodir.specs.Passes.{publisher_number, seen_by, mine};
 ghost use Rattle.hub_fifodir.specs.Passes.{ticket_mark, ticket_next, ticket_seen, ticket_rules, got};
 
 use crate::publisher::Publisher;
@@ -58,7 +58,7 @@ pub fn takes_each_once(_ticket: &Ticket)
 
 /// The record has exactly those events of a publisher that it published, in their order.
 pub fn publishes_each_once(_publisher: &Publisher)
-    ensures { by (publisher_number _publisher.now) (seen _publisher.now) ≡ mine _publisher.now }
+    ensures { by (publisher_number _publisher.now) (seen_by _publisher.now) ≡ mine _publisher.now }
 {}
 
 /// A record never has more events than the total of its limits.

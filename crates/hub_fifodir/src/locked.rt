@@ -3,7 +3,7 @@ ghost use Rattle.std.specs.Prelude.{◌≡◌, ◌++◌, [], length, drop, IfOk,
 ghost use Rattle.hub_record.specs.World.{World, empty_world, SubscribeReply, after_subscribe, PublishReply, after_publish};
 ghost use Rattle.hub_record.specs.World.{take_reply, take_events, after_take};
 ghost use Rattle.hub_record.specs.World.{cancel_reply, after_cancel, close_reply, after_close};
-ghost use Rattle.hub_fifodir.specs.Locks.{Stands, record_of, numbers_of, given_by};
+ghost use Rattle.hub_fifodir.specs.Locks.{StandsForWorld, record_of, numbers_of, given_by};
 ghost use Rattle.hub_fifodir.specs.Locks.{PublisherReply, IsAfterPublisher, HasLeft, KeepsPublishers, KeepsRecord};
 
 use crate::PassError;
@@ -30,7 +30,7 @@ pub struct Locked {
 impl Locked {
     /// An open record without events, and no publisher.
     pub fn new(alloc: Global, kind: Kind, limits: Limits) -> Result<Locked, AllocError>
-        ensures { IfOk result (λ b. Stands b (empty_world kind limits) × (numbers_of b ≡ [])
+        ensures { IfOk result (λ b. StandsForWorld b (empty_world kind limits) × (numbers_of b ≡ [])
             × (given_by b ≡ 0)) }
     {
         Ok(Locked {
@@ -65,9 +65,9 @@ impl Locked {
 
     /// Gives the next id, and its mark: the number of events so far.
     pub fn subscribe(&mut self) -> Result<(u64, u64), SubError>
-        ensures reply { (w : World) → Stands self.old w → SubscribeReply w result }
-        ensures world { (w : World) → Stands self.old w
-            → Stands self.new (after_subscribe w result) }
+        ensures reply { (w : World) → StandsForWorld self.old w → SubscribeReply w result }
+        ensures world { (w : World) → StandsForWorld self.old w
+            → StandsForWorld self.new (after_subscribe w result) }
         ensures others { KeepsPublishers self.old self.new }
         ensures err { OnErr result (self.new ≡ self.old) }
     {
@@ -76,9 +76,10 @@ impl Locked {
 
     /// Adds the whole message, or nothing. It doesn't check whether the publisher is current.
     pub fn publish(&mut self, number: u64, letters: &[Letter]) -> Result<u64, PubError>
-        ensures reply { (w : World) → Stands self.old w → PublishReply w letters.now result }
-        ensures world { (w : World) → Stands self.old w
-            → Stands self.new (after_publish w number letters.now result) }
+        ensures reply { (w : World) → StandsForWorld self.old w
+            → PublishReply w letters.now result }
+        ensures world { (w : World) → StandsForWorld self.old w
+            → StandsForWorld self.new (after_publish w number letters.now result) }
         ensures others { KeepsPublishers self.old self.new }
         ensures err { OnErr result (self.new ≡ self.old) }
     {
@@ -87,11 +88,11 @@ impl Locked {
 
     /// Takes what is pending behind a cursor, as far as it fits. An error says that the id has no cursor.
     pub fn take_into(&mut self, id: u64, out: &mut [Event]) -> Result<Taken, NoId>
-        ensures reply { (w : World) → Stands self.old w
+        ensures reply { (w : World) → StandsForWorld self.old w
             → result ≡ take_reply w id (length out.old) }
-        ensures world { (w : World) → Stands self.old w
-            → Stands self.new (after_take w id (length out.old)) }
-        ensures filled { (w : World) → Stands self.old w
+        ensures world { (w : World) → StandsForWorld self.old w
+            → StandsForWorld self.new (after_take w id (length out.old)) }
+        ensures filled { (w : World) → StandsForWorld self.old w
             → out.new ≡ take_events w id (length out.old) ++ drop
             (length (take_events w id (length out.old))) out.old }
         ensures others { KeepsPublishers self.old self.new }
@@ -102,8 +103,9 @@ impl Locked {
 
     /// Ends a subscription. An error says that the id has no subscription.
     pub fn cancel(&mut self, id: u64) -> Result<(), NoId>
-        ensures reply { (w : World) → Stands self.old w → result ≡ cancel_reply w id }
-        ensures world { (w : World) → Stands self.old w → Stands self.new (after_cancel w id) }
+        ensures reply { (w : World) → StandsForWorld self.old w → result ≡ cancel_reply w id }
+        ensures world { (w : World) → StandsForWorld self.old w
+            → StandsForWorld self.new (after_cancel w id) }
         ensures others { KeepsPublishers self.old self.new }
         ensures err { OnErr result (self.new ≡ self.old) }
     {
@@ -120,8 +122,9 @@ impl Locked {
 
     /// Closes the record for good. An error says that it was closed before.
     pub fn close(&mut self) -> Result<(), Closed>
-        ensures reply { (w : World) → Stands self.old w → result ≡ close_reply w }
-        ensures world { (w : World) → Stands self.old w → Stands self.new (after_close w) }
+        ensures reply { (w : World) → StandsForWorld self.old w → result ≡ close_reply w }
+        ensures world { (w : World) → StandsForWorld self.old w
+            → StandsForWorld self.new (after_close w) }
         ensures others { KeepsPublishers self.old self.new }
         ensures err { OnErr result (self.new ≡ self.old) }
     {

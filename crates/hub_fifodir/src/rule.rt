@@ -1,4 +1,4 @@
-//! The rule of the table, and the names of its steps. Word 0 is the front word and word 1 the turn. The one slot has
+//! The rule of the table, and the names of its steps. Word 0 is the front word and word 1 the lock. The one slot has
 //! the locked value.
 use crate::locked::Locked;
 use crate::views::{Rules, View};
@@ -10,9 +10,9 @@ pub struct OneHistory;
 
 impl TableRule<Option<Locked>, View, Rules> for OneHistory {
     ghost use Rattle.std.specs.Prelude.{[]};
-    ghost use Rattle.hub_fifodir.specs.Rule.{Kept, visitor};
+    ghost use Rattle.hub_fifodir.specs.Rule.{RuleHolds, visitor};
 
-    ghost holds = { Kept };
+    ghost holds = { RuleHolds };
 
     ghost first = { λ rules. visitor rules [] 0 };
 }
@@ -27,40 +27,40 @@ pub type Seat = atomic_table::Seat<Option<Locked>, View>;
 pub struct Enter;
 
 impl Play<Option<Locked>, View> for Enter {
-    ghost use Rattle.hub_fifodir.specs.Steps.{entered};
+    ghost use Rattle.hub_fifodir.specs.Steps.{enter_step};
 
-    ghost then = { entered };
+    ghost then = { enter_step };
 }
 
 /// A load of the front word.
 pub struct Look;
 
 impl Play<Option<Locked>, View> for Look {
-    ghost use Rattle.hub_fifodir.specs.Steps.{looked};
+    ghost use Rattle.hub_fifodir.specs.Steps.{look_step};
 
-    ghost then = { looked };
+    ghost then = { look_step };
 }
 
-/// The swap of 1 into the turn, which takes the lock if the turn was 0.
+/// The swap of 1 into the lock's word, which takes the lock if the word was 0.
 pub struct Lock;
 
 impl Play<Option<Locked>, View> for Lock {
-    ghost use Rattle.hub_fifodir.specs.Steps.{locked};
+    ghost use Rattle.hub_fifodir.specs.Steps.{lock_step};
 
-    ghost then = { locked };
+    ghost then = { lock_step };
 }
 
 /// The view that a store leaves in its seat. Each call chooses it.
-pub trait Next {
+pub trait ViewAfter {
     ghost use Rattle.hub_fifodir.specs.declared.views.View.{View};
 
     ghost view: { View };
 }
 
-impl Next for Brand {
-    ghost use Rattle.hub_fifodir.specs.Rule.{spent};
+impl ViewAfter for Brand {
+    ghost use Rattle.hub_fifodir.specs.Rule.{spent_view};
 
-    ghost view = { spent };
+    ghost view = { spent_view };
 }
 
 /// A store to the front word.
@@ -68,18 +68,18 @@ pub struct Write<N> {
     next: PhantomData<N>,
 }
 
-impl<N: Next> Play<Option<Locked>, View> for Write<N> {
+impl<N: ViewAfter> Play<Option<Locked>, View> for Write<N> {
     ghost use Rattle.std.specs.Prelude.{◌≡◌};
 
     ghost then = { λ st m n r. (r.0 ≡ N.view) × (r.1 ≡ m.1) };
 }
 
-/// The store of 0 into the turn, which releases the lock.
+/// The store of 0 into the lock's word, which releases the lock.
 pub struct Unlock<N> {
     next: PhantomData<N>,
 }
 
-impl<N: Next> Play<Option<Locked>, View> for Unlock<N> {
+impl<N: ViewAfter> Play<Option<Locked>, View> for Unlock<N> {
     ghost use Rattle.std.specs.Prelude.{◌≡◌, []};
 
     ghost then = { λ st m n r. (r.0 ≡ N.view) × (r.1 ≡ []) };
@@ -98,9 +98,9 @@ impl Split<View> for Notes {
 
 impl Join<View> for Notes {
     ghost use Rattle.hub_fifodir.specs.Steps.{with_note};
-    ghost use Rattle.hub_fifodir.specs.Rule.{spent};
+    ghost use Rattle.hub_fifodir.specs.Rule.{spent_view};
 
     ghost both = { with_note };
 
-    ghost spent = { spent };
+    ghost spent = { spent_view };
 }

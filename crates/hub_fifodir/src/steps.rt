@@ -2,20 +2,20 @@
 ghost use Rattle.std.specs.Prelude.{◌≡◌, ◌∷◌, [], None};
 ghost use Rattle.hub_fifodir.specs.Rule.{visitor};
 ghost use Rattle.hub_fifodir.specs.Steps.{IsIdle, Holding, Gives, Front, WritesMessage, WritesMark, Looks, Grows};
-ghost use Rattle.hub_fifodir.specs.Steps.{grown, closing, writing_of, taking_of, rested};
-ghost use Rattle.hub_fifodir.specs.Steps.{writer, new_taker, moved, gone_taker, gone_writer};
+ghost use Rattle.hub_fifodir.specs.Steps.{view_with_letters, closing, writing_of, taking_of, view_at_rest};
+ghost use Rattle.hub_fifodir.specs.Steps.{writer, new_taker, taker_after, gone_taker, gone_writer};
 ghost use Rattle.hub_fifodir.specs.Notes.{IsSized, IsNote, note_sight};
 
 use crate::fifodir::Fifodir;
 use crate::locked::Locked;
-use crate::rule::{Board, Enter, Lock, Look, Next, Notes, Seat, Unlock, Write};
+use crate::rule::{Board, Enter, Lock, Look, Notes, Seat, Unlock, ViewAfter, Write};
 use hub_letters::Letter;
 use std::marker::Brand;
 use std::sync::Wait;
 use std::sync::atomic::{AtomicU64, Ordering};
 
 // This type has no `Drop`, so the compiler finds each path that doesn't release the lock.
-struct Key<'a> {
+struct LockGuard<'a> {
     sleepers: &'a AtomicU64,
 }
 
@@ -23,7 +23,7 @@ struct Key<'a> {
 /// releases the lock.
 pub(crate) struct Held<'a> {
     pub(crate) locked: Locked,
-    key: Key<'a>,
+    guard: LockGuard<'a>,
 }
 
 impl Fifodir {
@@ -32,8 +32,8 @@ impl Fifodir {
     // Takes the lock, and the value behind it.
     //
     // A thread that has to wait is counted among the sleepers meanwhile, so that a release wakes a thread only if one
-    // may be asleep. No sleeper is passed over. The count and the turn are stored and read in one order for all threads:
-    // here the count goes up before the park reads the turn, and a release stores 0 in the turn before it reads the
+    // may be asleep. No sleeper is passed over. The count and the lock are stored and read in one order for all threads:
+    // here the count goes up before the park reads the lock, and a release stores 0 in the lock before it reads the
     // count. So if a release reads a count without this thread, this thread's park finds 0 in the turn, and doesn't sleep.
     pub(crate) fn lock<R: Wait>(&self, rt: &R, seat: &mut Seat) -> Held<'_>
         requires table { seat.old.table_id ≡ table_of self.now }
@@ -49,7 +49,7 @@ impl Fifodir {
                 let locked = board.exchange(seat, 0, None).unwrap();
                 return Held {
                     locked,
-                    key: Key { sleepers },
+                    guard: LockGuard { sleepers },
                 };
             }
             sleepers.fetch_add(1, Ordering::SeqCst);
@@ -62,7 +62,7 @@ impl Fifodir {
 
 // Puts the value back into the slot, and releases the lock. `N` is the view afterwards; `_taken`, the number of events
 // taken, only helps to say it.
-fn give_back<N: Next>(board: &Board, seat: &mut Seat, held: Held<'_>, _taken: u64)
+fn give_back<N: ViewAfter>(board: &Board, seat: &mut Seat, held: Held<'_>, _taken: u64)
     requires table { (seat.old.table_id ≡ board.now.table_id) × IsSized board.now.table_id }
     requires held { seat.old.me.1 ≡ (0, None) ∷ [] }
     requires gives { Gives seat.old.me held.locked N.view }
@@ -71,7 +71,7 @@ fn give_back<N: Next>(board: &Board, seat: &mut Seat, held: Held<'_>, _taken: u6
 {
     let Held {
         locked,
-        key: Key { sleepers },
+        guard: LockGuard { sleepers },
     } = held;
     drop(board.exchange(seat, 0, Some(locked)));
     board.store::<Unlock<N>>(seat, 1, 0);
@@ -84,9 +84,9 @@ fn give_back<N: Next>(board: &Board, seat: &mut Seat, held: Held<'_>, _taken: u6
 pub(crate) fn rest(board: &Board, seat: &mut Seat, held: Held<'_>)
     requires table { (seat.old.table_id ≡ board.now.table_id) × IsSized board.now.table_id }
     requires held { seat.old.me.1 ≡ (0, None) ∷ [] }
-    requires gives { Gives seat.old.me held.locked (rested seat.old.me.0 seat.old.me.0.role) }
+    requires gives { Gives seat.old.me held.locked (view_at_rest seat.old.me.0 seat.old.me.0.role) }
     ensures table { (seat.new.table_id ≡ seat.old.table_id) × (seat.new.id ≡ seat.old.id) }
-    ensures view { seat.new.me ≡ (rested seat.old.me.0 seat.old.me.0.role, []) }
+    ensures view { seat.new.me ≡ (view_at_rest seat.old.me.0 seat.old.me.0.role, []) }
 {
     give_back::<Brand>(board, seat, held, 0);
 }
@@ -96,9 +96,10 @@ pub(crate) fn rest_as_publisher(board: &Board, seat: &mut Seat, held: Held<'_>)
     requires table { (seat.old.table_id ≡ board.now.table_id) × IsSized board.now.table_id }
     requires held { seat.old.me.1 ≡ (0, None) ∷ [] }
     requires gives { Gives seat.old.me held.locked
-        (rested seat.old.me.0 (writer held.locked.given [])) }
+        (view_at_rest seat.old.me.0 (writer held.locked.given [])) }
     ensures table { (seat.new.table_id ≡ seat.old.table_id) × (seat.new.id ≡ seat.old.id) }
-    ensures view { seat.new.me ≡ (rested seat.old.me.0 (writer held.entry.locked.given []), []) }
+    ensures view { seat.new.me
+        ≡ (view_at_rest seat.old.me.0 (writer held.entry.locked.given []), []) }
 {
     give_back::<Brand>(board, seat, held, 0);
 }
@@ -108,10 +109,10 @@ pub(crate) fn rest_as_ticket(board: &Board, seat: &mut Seat, held: Held<'_>)
     requires table { (seat.old.table_id ≡ board.now.table_id) × IsSized board.now.table_id }
     requires held { seat.old.me.1 ≡ (0, None) ∷ [] }
     requires gives { Gives seat.old.me held.locked
-        (rested seat.old.me.0 (new_taker held.locked seat.old.me.0.sight.seen)) }
+        (view_at_rest seat.old.me.0 (new_taker held.locked seat.old.me.0.sight.seen)) }
     ensures table { (seat.new.table_id ≡ seat.old.table_id) × (seat.new.id ≡ seat.old.id) }
     ensures view { seat.new.me ≡ (
-      rested seat.old.me.0
+      view_at_rest seat.old.me.0
           (new_taker held.entry.locked seat.old.me.0.sight.seen),
       [],
     ) }
@@ -124,12 +125,12 @@ pub(crate) fn rest_moved(board: &Board, seat: &mut Seat, held: Held<'_>, taken: 
     requires table { (seat.old.table_id ≡ board.now.table_id) × IsSized board.now.table_id }
     requires held { seat.old.me.1 ≡ (0, None) ∷ [] }
     requires gives { Gives seat.old.me held.locked
-        (rested seat.old.me.0 (moved seat.old.me.0.sight.seen
+        (view_at_rest seat.old.me.0 (taker_after seat.old.me.0.sight.seen
         (taking_of seat.old.me.0.role) taken)) }
     ensures table { (seat.new.table_id ≡ seat.old.table_id) × (seat.new.id ≡ seat.old.id) }
     ensures view { seat.new.me ≡ (
-      rested seat.old.me.0
-          (moved seat.old.me.0.sight.seen (taking_of seat.old.me.0.role) taken),
+      view_at_rest seat.old.me.0
+          (taker_after seat.old.me.0.sight.seen (taking_of seat.old.me.0.role) taken),
       [],
     ) }
 {
@@ -141,9 +142,9 @@ pub(crate) fn rest_cancelled(board: &Board, seat: &mut Seat, held: Held<'_>)
     requires table { (seat.old.table_id ≡ board.now.table_id) × IsSized board.now.table_id }
     requires held { seat.old.me.1 ≡ (0, None) ∷ [] }
     requires gives { Gives seat.old.me held.locked
-        (rested seat.old.me.0 (gone_taker seat.old.me.0.role)) }
+        (view_at_rest seat.old.me.0 (gone_taker seat.old.me.0.role)) }
     ensures table { (seat.new.table_id ≡ seat.old.table_id) × (seat.new.id ≡ seat.old.id) }
-    ensures view { seat.new.me ≡ (rested seat.old.me.0 (gone_taker seat.old.me.0.role), []) }
+    ensures view { seat.new.me ≡ (view_at_rest seat.old.me.0 (gone_taker seat.old.me.0.role), []) }
 {
     give_back::<Brand>(board, seat, held, 0);
 }
@@ -153,15 +154,15 @@ pub(crate) fn rest_left(board: &Board, seat: &mut Seat, held: Held<'_>)
     requires table { (seat.old.table_id ≡ board.now.table_id) × IsSized board.now.table_id }
     requires held { seat.old.me.1 ≡ (0, None) ∷ [] }
     requires gives { Gives seat.old.me held.locked
-        (rested seat.old.me.0 (gone_writer seat.old.me.0.role)) }
+        (view_at_rest seat.old.me.0 (gone_writer seat.old.me.0.role)) }
     ensures table { (seat.new.table_id ≡ seat.old.table_id) × (seat.new.id ≡ seat.old.id) }
-    ensures view { seat.new.me ≡ (rested seat.old.me.0 (gone_writer seat.old.me.0.role), []) }
+    ensures view { seat.new.me ≡ (view_at_rest seat.old.me.0 (gone_writer seat.old.me.0.role), []) }
 {
     give_back::<Brand>(board, seat, held, 0);
 }
 
 // Stores the front word after a message was added.
-fn store_message<N: Next>(board: &Board, seat: &mut Seat, word: u64, _message: &[Letter])
+fn store_message<N: ViewAfter>(board: &Board, seat: &mut Seat, word: u64, _message: &[Letter])
     requires table { (seat.old.table_id ≡ board.now.table_id) × IsSized board.now.table_id }
     requires writes { WritesMessage seat.old.me word _message.now N.view }
     ensures table { (seat.new.table_id ≡ seat.old.table_id) × (seat.new.id ≡ seat.old.id) }
@@ -171,7 +172,7 @@ fn store_message<N: Next>(board: &Board, seat: &mut Seat, word: u64, _message: &
 }
 
 // Stores the front word after the record was closed.
-fn store_mark<N: Next>(board: &Board, seat: &mut Seat, word: u64)
+fn store_mark<N: ViewAfter>(board: &Board, seat: &mut Seat, word: u64)
     requires table { (seat.old.table_id ≡ board.now.table_id) × IsSized board.now.table_id }
     requires writes { WritesMark seat.old.me word N.view }
     ensures table { (seat.new.table_id ≡ seat.old.table_id) × (seat.new.id ≡ seat.old.id) }
@@ -184,10 +185,10 @@ fn store_mark<N: Next>(board: &Board, seat: &mut Seat, word: u64)
 pub(crate) fn write_message(board: &Board, seat: &mut Seat, word: u64, message: &[Letter])
     requires table { (seat.old.table_id ≡ board.now.table_id) × IsSized board.now.table_id }
     requires writes { WritesMessage seat.old.me word message.now
-        (grown seat.old.me.0 (writing_of seat.old.me.0.role) message.now) }
+        (view_with_letters seat.old.me.0 (writing_of seat.old.me.0.role) message.now) }
     ensures table { (seat.new.table_id ≡ seat.old.table_id) × (seat.new.id ≡ seat.old.id) }
     ensures view { seat.new.me ≡ (
-      grown seat.old.me.0
+      view_with_letters seat.old.me.0
           (writing_of seat.old.me.0.role) message.now,
       seat.old.me.1,
     ) }

@@ -48,7 +48,7 @@ impl Ticket {
 
 impl Fifodir {
     ghost use Rattle.hub_fifodir.specs.Passes.{IsTicketOf, Remains, HasSoundSight, HasSubscribed, HasTaken};
-    ghost use Rattle.hub_fifodir.specs.Passes.{ticket_mark, ticket_view, filled};
+    ghost use Rattle.hub_fifodir.specs.Passes.{ticket_mark, ticket_view, slice_after_take};
 
     /// A new ticket, which begins at the end of the record.
     pub fn subscribe<R: Wait>(&self, rt: &R) -> Result<Ticket, SubError>
@@ -81,7 +81,7 @@ impl Fifodir {
         ensures remains { Remains self.now (ticket_view me.old) (ticket_view me.new) }
         ensures mark { ticket_mark me.new ≡ ticket_mark me.old }
         ensures took { HasTaken me.old (length out.old) result me.new }
-        ensures filled { out.new ≡ filled me.old result me.new out.old }
+        ensures filled { out.new ≡ slice_after_take me.old result me.new out.old }
     {
         let board = self.board();
         let mut held = self.lock(rt, &mut me.seat);

@@ -2,7 +2,7 @@
 ghost use Rattle.std.specs.Prelude.{◌≡◌, ℕ, ◌++◌, [], ◌∷◌, OnOk, OnErr, IfOk, IfErr};
 ghost use Rattle.hub_record.specs.Runs.{by};
 ghost use Rattle.hub_fifodir.specs.Passes.{IsPublisherOf, IsTicketOf, HasTaken, IsRefusedAt};
-ghost use Rattle.hub_fifodir.specs.Passes.{publisher_number, got, seen, mine, sent_on};
+ghost use Rattle.hub_fifodir.specs.Passes.{publisher_number, got, seen_by, mine, sent_on};
 
 use crate::fifodir::Fifodir;
 use crate::publisher::Publisher;
@@ -45,12 +45,12 @@ pub fn send_both<R: Threads + Wait + Sync>(
     requires one { IsPublisherOf fifodir.now one × (mine one ≡ []) }
     requires other { IsPublisherOf fifodir.now other × (mine other ≡ []) }
     ensures one { IsPublisherOf fifodir.now result.0.0
-        × OnOk result.0.1 (by (publisher_number result.0.0) (seen result.0.0) ≡ first.now) }
+        × OnOk result.0.1 (by (publisher_number result.0.0) (seen_by result.0.0) ≡ first.now) }
     ensures other { IsPublisherOf fifodir.now result.1.0
-        × OnOk result.1.1 (by (publisher_number result.1.0) (seen result.1.0) ≡ second.now) }
+        × OnOk result.1.1 (by (publisher_number result.1.0) (seen_by result.1.0) ≡ second.now) }
     ensures numbers { (publisher_number result.0.0 ≡ publisher_number one)
         × (publisher_number result.1.0 ≡ publisher_number other) }
-    ensures same { seen result.1.0 ≡ seen result.0.0 }
+    ensures same { seen_by result.1.0 ≡ seen_by result.0.0 }
 {
     let (one_sent, other_sent) = thread::join_mut(
         rt,

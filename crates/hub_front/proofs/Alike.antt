@@ -10,7 +10,7 @@ use Rattle.hub_requests.specs.Texts.{text_of}
 use Rattle.hub_protocol.specs.declared.parsing.Bad.{Bad}
 use Rattle.hub_protocol.specs.declared.parsing.Bad.TheVariants as bad
 use Rattle.hub_protocol.specs.Refusing.{refusal_of}
-use Rattle.hub_front.specs.Serving.{Asking, Answers, AnswersRead, Run, Finished}
+use Rattle.hub_front.specs.Serving.{Asking, AnswersLine, AnswersRead, Run, Finished}
 use Rattle.hub_io.specs.Lines.{lines_of}
 use Rattle.hub_front.specs.Places.{NoneIsMemory, IsFunction}
 use Rattle.hub_protocol.proofs.OneReading.{one_reading}
@@ -39,7 +39,7 @@ same_answer asks alike stay old old' new new' (Err why) reply reply' a given giv
     (answered.0 ∙ sym answered'.0, subst (λ d. alike d new') (sym answered.1) (subst (λ d. alike old d) (sym answered'.1) a))
 
 same_line : {D : Type 0} (asks : Asking D) (alike : D → D → Type 0) → StayAlike asks alike → (old old' new new' : D) (line : List ℕ) (reply reply' : Reply)
-    → alike old old' → reply ≢ No Memory → reply' ≢ No Memory → Answers asks old line reply new → Answers asks old' line reply' new' → (reply ≡ reply') × alike new new'
+    → alike old old' → reply ≢ No Memory → reply' ≢ No Memory → AnswersLine asks old line reply new → AnswersLine asks old' line reply' new' → (reply ≡ reply') × alike new new'
 same_line asks alike stay old old' new new' line reply reply' a given given' p q =
     let read : p.read ≡ q.read = one_reading line p.read q.read (read_whole asks old new p.read reply p.answered given) (read_whole asks old' new' q.read reply' q.answered given') p.reading q.reading in
     same_answer asks alike stay old old' new new' q.read reply reply' a given given' (subst (λ r. AnswersRead asks old r reply new) read p.answered) q.answered

@@ -1,6 +1,6 @@
 pub mod Runs
 pub mod Cuts
-pub mod Kept
+pub mod CutLines
 pub mod UnderWay
 pub mod Placed
 pub mod Alike

@@ -6,7 +6,7 @@ use Rattle.std.proofs.lemmas.Grind.{flat_map-append}
 use Rattle.hub_requests.specs.declared.reply.Reply.{Reply}
 use Rattle.hub_requests.specs.Texts.{text_of}
 use Rattle.hub_io.specs.Faults.{AppendsPart}
-use Rattle.hub_front.specs.Serving.{Asking, Answers, Run, Served, BreaksOff}
+use Rattle.hub_front.specs.Serving.{Asking, AnswersLine, Run, Served, BreaksOff}
 
 -- one run after another
 pub run_then : {D : Type 0} (asks : Asking D) (old mid new : D) (l1 l2 : List (List ℕ)) (r1 r2 : List Reply)
@@ -22,15 +22,15 @@ served_none asks old held = record { replies = []; run = refl; written = Appends
 
 -- one line served
 pub served_one : {D : Type 0} {asks : Asking D} {old new : D} {line : List ℕ} {held holds : Option (List ℕ)} (reply : Reply)
-    → Answers asks old line reply new → Appends held holds (text_of reply) → Served asks old (line ∷ []) held holds new
+    → AnswersLine asks old line reply new → Appends held holds (text_of reply) → Served asks old (line ∷ []) held holds new
 served_one {asks} {old} {new} {line} {held} {holds} reply answered appended = record {
   replies = reply ∷ [];
   run = (new, answered, refl);
   written = subst (Appends held holds) (sym (append-nil (text_of reply))) appended;
 }
 
-pub answers_same : {D : Type 0} {asks : Asking D} {old new : D} {line line' : List ℕ} {reply : Reply} → line ≡ line' → Answers asks old line reply new → Answers asks old line' reply new
-answers_same {asks} {old} {new} {reply = reply} e a = subst (λ l. Answers asks old l reply new) e a
+pub answers_same : {D : Type 0} {asks : Asking D} {old new : D} {line line' : List ℕ} {reply : Reply} → line ≡ line' → AnswersLine asks old line reply new → AnswersLine asks old line' reply new
+answers_same {asks} {old} {new} {reply = reply} e a = subst (λ l. AnswersLine asks old l reply new) e a
 
 pub served_same : {D : Type 0} {asks : Asking D} {old new : D} {lines lines' : List (List ℕ)} {held holds : Option (List ℕ)} → lines ≡ lines'
     → Served asks old lines held holds new → Served asks old lines' held holds new
@@ -51,7 +51,7 @@ served_then {asks} {old} {mid} {new} {l1} {l2} {held} {between} {holds} p q = re
 
 -- the first line was answered, but its reply wasn't written whole
 pub breaks_at_once : {D : Type 0} {asks : Asking D} {old new : D} {line : List ℕ} {held holds : Option (List ℕ)} (reply : Reply)
-    → Answers asks old line reply new → AppendsPart held holds (text_of reply) → BreaksOff asks old (line ∷ []) held holds new
+    → AnswersLine asks old line reply new → AppendsPart held holds (text_of reply) → BreaksOff asks old (line ∷ []) held holds new
 breaks_at_once {asks} {old} {new} {line} {held} {holds} reply answered part = record {
   front = [];
   line = line;

@@ -25,12 +25,12 @@ in_place (Ok request ∷ reads) (reply ∷ given) = reply ∷ in_place reads giv
 in_place (Err bad ∷ reads) given = No (refusal_of bad) ∷ in_place reads given
 
 -- a desk gives these replies to the requests, one after another
-abbrev pub Asked : {D : Type 0} → Asking D → D → List Request → List Reply → D → Type 0
-Asked asks old [] [] new = new ≡ old
-Asked {D} asks old (request ∷ requests) (reply ∷ replies) new =
-    (mid : D) × asks old request reply mid × Asked asks mid requests replies new
-Asked asks old [] (reply ∷ replies) new = ⊥
-Asked asks old (request ∷ requests) [] new = ⊥
+abbrev pub AsksEach : {D : Type 0} → Asking D → D → List Request → List Reply → D → Type 0
+AsksEach asks old [] [] new = new ≡ old
+AsksEach {D} asks old (request ∷ requests) (reply ∷ replies) new =
+    (mid : D) × asks old request reply mid × AsksEach asks mid requests replies new
+AsksEach asks old [] (reply ∷ replies) new = ⊥
+AsksEach asks old (request ∷ requests) [] new = ⊥
 
 -- no reply is `no memory`
 abbrev pub NoneIsMemory : List Reply → Type 0
@@ -42,7 +42,7 @@ pub record AreInPlace {D : Type 0} (asks : Asking D) (old : D) (lines : List (Li
   pub reads : List (Result Request Bad)
   pub readings : AllZip IsReading lines reads
   pub given : List Reply
-  pub asked : Asked asks old (requests_of reads) given new
+  pub asked : AsksEach asks old (requests_of reads) given new
   pub placed : replies ≡ in_place reads given
   pub read_whole : NoneIsMemory replies → All (λ read. read ≢ Err bad.Memory) reads
   pub given_whole : NoneIsMemory replies → NoneIsMemory given

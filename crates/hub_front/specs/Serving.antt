@@ -14,7 +14,7 @@ use Rattle.hub_protocol.specs.Refusing.{refusal_of}
 use Rattle.hub_io.specs.declared.reading.TheConstants.{MAX_READS}
 use Rattle.hub_io.specs.Lines.{complete_of, lines_of}
 use Rattle.hub_io.specs.Faults.{AppendsPart}
-use Rattle.hub_io.specs.Telling.{Grows}
+use Rattle.hub_io.specs.Telling.{Rises}
 
 -- how a desk answers: the desk before, the request, the reply, the desk after
 abbrev pub Asking : Type 0 → Type 1
@@ -26,7 +26,7 @@ AnswersRead asks old (Ok request) reply new = asks old request reply new
 AnswersRead asks old (Err bad) reply new = (reply ≡ No (refusal_of bad)) × (new ≡ old)
 
 -- a line is answered by what it is read as
-pub record Answers {D : Type 0} (asks : Asking D) (old : D) (line : List ℕ) (reply : Reply) (new : D) : Type 0 where
+pub record AnswersLine {D : Type 0} (asks : Asking D) (old : D) (line : List ℕ) (reply : Reply) (new : D) : Type 0 where
   pub read : Result Request Bad
   pub reading : IsReading line read
   pub answered : AnswersRead asks old read reply new
@@ -35,7 +35,7 @@ pub record Answers {D : Type 0} (asks : Asking D) (old : D) (line : List ℕ) (r
 abbrev pub Run : {D : Type 0} → Asking D → D → List (List ℕ) → List Reply → D → Type 0
 Run asks old [] [] new = new ≡ old
 Run {D} asks old (line ∷ lines) (reply ∷ replies) new =
-    (mid : D) × Answers asks old line reply mid × Run asks mid lines replies new
+    (mid : D) × AnswersLine asks old line reply mid × Run asks mid lines replies new
 Run asks old [] (reply ∷ replies) new = ⊥
 Run asks old (line ∷ lines) [] new = ⊥
 
@@ -58,7 +58,7 @@ pub record BreaksOff {D : Type 0} (asks : Asking D) (old : D) (lines : List (Lis
   pub between : Option (List ℕ)
   pub served : Served asks old front held between mid
   pub reply : Reply
-  pub answered : Answers asks mid line reply new
+  pub answered : AnswersLine asks mid line reply new
   pub written : AppendsPart between holds (text_of reply)
 
 -- the lines that are due after the input was read: the complete ones, and also the last piece if nothing is left to
@@ -99,4 +99,4 @@ pub record Stopped {D : Type 0} (asks : Asking D) (ends : D → D → Type 0) (o
 
 -- At most MAX_READS reads were made, and exactly that many at Turns. made and makes are the counts before and after.
 abbrev pub ReadsWithin : {T : Type 0} → (made makes : Option ℕ) → Result T FrontError → Type 0
-ReadsWithin made makes result = (n : ℕ) × (n ≤ MAX_READS) × Grows made makes n × (result ≡ Err Turns → n ≡ MAX_READS)
+ReadsWithin made makes result = (n : ℕ) × (n ≤ MAX_READS) × Rises made makes n × (result ≡ Err Turns → n ≡ MAX_READS)

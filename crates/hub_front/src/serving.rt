@@ -2,7 +2,7 @@
 ghost use Rattle.std.specs.Prelude.{◌≡◌, ◌≢◌, ◌+◌, ◌*◌, ◌≤◌, List, ℕ, [], length, Err, OnOk, IfOk, IfErr, vec_len};
 ghost use Rattle.std.specs.Io.KnownBytes.{Consumes, IsAtEnd};
 ghost use Rattle.hub_io.specs.Lines.{lines_of};
-ghost use Rattle.hub_io.specs.Telling.{Grows};
+ghost use Rattle.hub_io.specs.Telling.{Rises};
 ghost use Rattle.hub_io.specs.Faults.{read_faults, write_faults};
 ghost use Rattle.hub_front.specs.Serving.{Finished, Stopped, StopsAt, Served, ReadsWithin};
 ghost use Rattle.hub_front.specs.Pieces.{IsUnderWay};
@@ -36,8 +36,8 @@ fn serve_reads<H: Wait, D: Desk, R: Source, W: Sink>(
         (R.remaining reader.new) desk.new e) }
     ensures memory { result ≢ Err FrontError.Memory }
     ensures reads { ReadsWithin (R.reads reader.old) (R.reads reader.new) result }
-    ensures read_faults { Grows (R.faults reader.old) (R.faults reader.new) (read_faults result) }
-    ensures write_faults { Grows (W.faults writer.old) (W.faults writer.new) (write_faults result) }
+    ensures read_faults { Rises (R.faults reader.old) (R.faults reader.new) (read_faults result) }
+    ensures write_faults { Rises (W.faults writer.old) (W.faults writer.new) (write_faults result) }
 {
     'reads: for _read in 0..MAX_READS {
         let n = match reader.pull(chunk) {
@@ -69,8 +69,8 @@ fn serve_lines<H: Wait, D: Desk, R: Source, W: Sink>(
     ensures memory { result ≡ Err FrontError.Memory → (reader.new ≡ reader.old)
         × (writer.new ≡ writer.old) }
     ensures reads { ReadsWithin (R.reads reader.old) (R.reads reader.new) result }
-    ensures read_faults { Grows (R.faults reader.old) (R.faults reader.new) (read_faults result) }
-    ensures write_faults { Grows (W.faults writer.old) (W.faults writer.new) (write_faults result) }
+    ensures read_faults { Rises (R.faults reader.old) (R.faults reader.new) (read_faults result) }
+    ensures write_faults { Rises (W.faults writer.old) (W.faults writer.new) (write_faults result) }
 {
     let mut session = Session::new(alloc)?;
     let mut chunk = new_chunk(alloc, CHUNK)?;
@@ -101,8 +101,8 @@ pub fn serve<H: Wait, D: Desk, R: Source, W: Sink>(
     ensures reads { ReadsWithin (R.reads reader.old) (R.reads reader.new) result }
 
     // An error is reported if its fault was counted, and only then.
-    ensures read_faults { Grows (R.faults reader.old) (R.faults reader.new) (read_faults result) }
-    ensures write_faults { Grows (W.faults writer.old) (W.faults writer.new) (write_faults result) }
+    ensures read_faults { Rises (R.faults reader.old) (R.faults reader.new) (read_faults result) }
+    ensures write_faults { Rises (W.faults writer.old) (W.faults writer.new) (write_faults result) }
 {
     let served = serve_lines(rt, alloc, desk, reader, writer);
     desk.end(rt);

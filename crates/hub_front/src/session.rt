@@ -4,10 +4,10 @@ ghost use Rattle.std.specs.Io.KnownBytes.{Appends};
 ghost use Rattle.hub_requests.specs.declared.bounds.TheConstants.{LONGEST_REPLY};
 ghost use Rattle.hub_requests.specs.Brief.{IsShort};
 ghost use Rattle.hub_io.specs.Lines.{last_line};
-ghost use Rattle.hub_io.specs.Telling.{Grows};
+ghost use Rattle.hub_io.specs.Telling.{Rises};
 ghost use Rattle.hub_io.specs.Faults.{AppendsPart, write_faults};
-ghost use Rattle.hub_front.specs.Serving.{Answers, Served, BreaksOff};
-ghost use Rattle.hub_front.specs.Pieces.{done, left};
+ghost use Rattle.hub_front.specs.Serving.{AnswersLine, Served, BreaksOff};
+ghost use Rattle.hub_front.specs.Pieces.{complete_pieces, piece_left};
 
 use hub_io::{FrontError, Sink, write_whole};
 use hub_protocol::{parse, write_reply};
@@ -57,15 +57,18 @@ impl Session {
         bytes: &[u8],
     ) -> Result<(), FrontError>
         requires { self.old.count + length bytes.now < 2 ^ 64 }
-        ensures ok { OnOk result (Served D.asks desk.old (done bytes.now self.old.line.items)
+        ensures ok { OnOk result
+            (Served D.asks desk.old (complete_pieces bytes.now self.old.line.items)
             (W.contents writer.old) (W.contents writer.new) desk.new) }
-        ensures line { OnOk result (self.new.line.items ≡ left bytes.now self.old.line.items) }
+        ensures line { OnOk result
+            (self.new.line.items ≡ piece_left bytes.now self.old.line.items) }
         ensures count { OnOk result (self.new.count ≡ self.old.count + length
-            (done bytes.now self.old.line.items)) }
-        ensures err { OnErr result (BreaksOff D.asks desk.old (done bytes.now self.old.line.items)
+            (complete_pieces bytes.now self.old.line.items)) }
+        ensures err { OnErr result
+            (BreaksOff D.asks desk.old (complete_pieces bytes.now self.old.line.items)
             (W.contents writer.old) (W.contents writer.new) desk.new) }
         ensures fault { IfErr result (λ e. e ≡ FrontError.Write) }
-        ensures told { Grows (W.faults writer.old) (W.faults writer.new) (write_faults result) }
+        ensures told { Rises (W.faults writer.old) (W.faults writer.new) (write_faults result) }
     {
         for byte in bytes {
             self.take_byte(rt, desk, writer, *byte)?;
@@ -82,15 +85,18 @@ impl Session {
         byte: u8,
     ) -> Result<(), FrontError>
         requires { self.old.count + 1 < 2 ^ 64 }
-        ensures ok { OnOk result (Served D.asks desk.old (done (byte ∷ []) self.old.line.items)
+        ensures ok { OnOk result
+            (Served D.asks desk.old (complete_pieces (byte ∷ []) self.old.line.items)
             (W.contents writer.old) (W.contents writer.new) desk.new) }
-        ensures line { OnOk result (self.new.line.items ≡ left (byte ∷ []) self.old.line.items) }
+        ensures line { OnOk result
+            (self.new.line.items ≡ piece_left (byte ∷ []) self.old.line.items) }
         ensures count { OnOk result (self.new.count ≡ self.old.count + length
-            (done (byte ∷ []) self.old.line.items)) }
-        ensures err { OnErr result (BreaksOff D.asks desk.old (done (byte ∷ []) self.old.line.items)
+            (complete_pieces (byte ∷ []) self.old.line.items)) }
+        ensures err { OnErr result
+            (BreaksOff D.asks desk.old (complete_pieces (byte ∷ []) self.old.line.items)
             (W.contents writer.old) (W.contents writer.new) desk.new) }
         ensures fault { IfErr result (λ e. e ≡ FrontError.Write) }
-        ensures told { Grows (W.faults writer.old) (W.faults writer.new) (write_faults result) }
+        ensures told { Rises (W.faults writer.old) (W.faults writer.new) (write_faults result) }
     {
         if byte == LF {
             return self.answer_line(rt, desk, writer);
@@ -115,7 +121,7 @@ impl Session {
         ensures err { OnErr result (BreaksOff D.asks desk.old (last_line self.line.items)
             (W.contents writer.old) (W.contents writer.new) desk.new) }
         ensures fault { IfErr result (λ e. e ≡ FrontError.Write) }
-        ensures told { Grows (W.faults writer.old) (W.faults writer.new) (write_faults result) }
+        ensures told { Rises (W.faults writer.old) (W.faults writer.new) (write_faults result) }
     {
         if !self.line.is_empty() {
             self.answer_line(rt, desk, writer)?;
@@ -138,7 +144,7 @@ impl Session {
         ensures err { OnErr result (BreaksOff D.asks desk.old (self.old.line.items ∷ [])
             (W.contents writer.old) (W.contents writer.new) desk.new) }
         ensures fault { IfErr result (λ e. e ≡ FrontError.Write) }
-        ensures told { Grows (W.faults writer.old) (W.faults writer.new) (write_faults result) }
+        ensures told { Rises (W.faults writer.old) (W.faults writer.new) (write_faults result) }
     {
         let reply = reply_to(rt, self.alloc, desk, &self.line);
         self.text.clear();
@@ -152,7 +158,7 @@ impl Session {
 
 // The reply to a line: the desk's if it spells a request, and else the refusal of the first rule that it breaks.
 fn reply_to<H: Wait, D: Desk>(rt: &H, alloc: Global, desk: &mut D, line: &[u8]) -> Reply
-    ensures step { Answers D.asks desk.old line.now result desk.new }
+    ensures step { AnswersLine D.asks desk.old line.now result desk.new }
     ensures short { IsShort result }
 {
     match parse(alloc, line) {

@@ -1,7 +1,7 @@
 //! Lines and what they are read as.
 
 use crate::relay_sizes::text_of;
-use crate::told::told;
+use crate::told::words_of;
 use hub_protocol::{Bad, parse};
 use hub_requests::Request;
 use std::alloc::Global;
@@ -86,7 +86,7 @@ fn expect_request(rt: &impl Abort, alloc: Global, line: &str, want: &str) {
     let request = read(alloc, line.as_bytes());
     assert!(rt; request.is_ok(), "{line}");
     if let Ok(request) = request {
-        if let Ok(told) = told(alloc, &request) {
+        if let Ok(told) = words_of(alloc, &request) {
             assert_eq!(rt; told.as_str(), want);
         }
     }

@@ -51,8 +51,8 @@ fn expect<H: AllocGlobal + Abort + Wait>(rt: &H, streams: Streams, outcome: &Out
         &mut sender,
     );
     assert_eq!(rt; relayed, outcome.0, "row {row}");
-    assert_eq!(rt; sender.held(), outcome.1.as_bytes(), "row {row}");
-    assert_eq!(rt; output.held(), outcome.2.as_bytes(), "row {row}");
+    assert_eq!(rt; sender.bytes_held(), outcome.1.as_bytes(), "row {row}");
+    assert_eq!(rt; output.bytes_held(), outcome.2.as_bytes(), "row {row}");
 }
 
 /// An input, the peer's replies, and what they come to.
@@ -193,7 +193,7 @@ fn writers_that_take_nothing(rt: HostRuntime) {
     let mut lines = Dripping::new(b"ab\nc", 64, 0);
     let relayed = run(&rt, alloc, &mut lines, &mut stuck, &mut replies, &mut taken);
     assert_eq!(rt; relayed, Err(RelayError::Output));
-    assert_eq!(rt; taken.held(), b"ab\n".as_slice());
+    assert_eq!(rt; taken.bytes_held(), b"ab\n".as_slice());
 }
 
 #[test]
@@ -214,11 +214,11 @@ fn a_reply_without_end(rt: HostRuntime) {
     assert_eq!(rt; relayed, Err(RelayError::Turns));
     assert_eq!(rt; lines.reads, 11);
     assert_eq!(rt; replies.reads, 9_999_989);
-    assert_eq!(rt; to_peer.held(), b"status web\n".as_slice());
+    assert_eq!(rt; to_peer.bytes_held(), b"status web\n".as_slice());
     // 152 buffers of 65,536 bytes filled, each in 1,024 writes of 64 bytes. The 38,517 bytes after them weren't written.
     assert_eq!(rt; output.writes, 155_648);
-    assert!(rt; output.held().iter().all(|byte| *byte == b'a'));
-    assert_eq!(rt; output.held().len(), 64);
+    assert!(rt; output.bytes_held().iter().all(|byte| *byte == b'a'));
+    assert_eq!(rt; output.bytes_held().len(), 64);
 }
 
 // Passes with ample memory, and with any one growth refused.

@@ -36,9 +36,13 @@ fn expect<H: AllocGlobal + Abort + Wait>(
     assert_eq!(rt; served, want, "{reads} reads, {writes} writes");
     assert_eq!(rt; reader.reads, reads, "{reads} reads, {writes} writes");
     assert_eq!(rt; writer.writes, writes, "{reads} reads, {writes} writes");
-    assert_eq!(rt; writer.held().len(), size, "{reads} reads, {writes} writes");
+    assert_eq!(rt;
+        writer.bytes_held().len(),
+        size,
+        "{reads} reads, {writes} writes"
+    );
     assert!(rt;
-        OUTPUT.starts_with(writer.held()),
+        OUTPUT.starts_with(writer.bytes_held()),
         "{reads} reads, {writes} writes"
     );
 }

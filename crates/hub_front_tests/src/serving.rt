@@ -71,7 +71,7 @@ fn expect<H: AllocGlobal + Abort + Wait>(
     assert_eq!(rt; served, outcome.0, "row {at}");
     assert_eq!(rt; desk.asked, outcome.1, "row {at}");
     assert_eq!(rt; writer.writes, outcome.2, "row {at}");
-    assert_eq!(rt; writer.held(), outcome.3.as_bytes(), "row {at}");
+    assert_eq!(rt; writer.bytes_held(), outcome.3.as_bytes(), "row {at}");
     assert!(rt; desk.ended, "row {at}");
 }
 
@@ -199,7 +199,7 @@ fn a_refused_growth(rt: HostRuntime) {
         assert_eq!(rt; served, Ok(2));
         let is_one = WITHOUT_MEMORY
             .iter()
-            .any(|text| text.as_bytes() == writer.held());
+            .any(|text| text.as_bytes() == writer.bytes_held());
         assert!(rt; is_one);
     }
     assert!(rt; desk.ended);

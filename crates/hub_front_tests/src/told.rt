@@ -5,7 +5,7 @@ use hub_requests::{Name, Names, Request};
 use std::alloc::{AllocError, Global};
 
 /// The request in words.
-pub fn told(alloc: Global, request: &Request) -> Result<String, AllocError> {
+pub fn words_of(alloc: Global, request: &Request) -> Result<String, AllocError> {
     match request {
         Request::Dir {
             name,

@@ -16,7 +16,7 @@ use Rattle.hub_letters.specs.declared.mode.Mode.TheVariants.{Repeat}
 use Rattle.hub_listen.proofs.Cuts.{cuts_anywhere}
 use Rattle.hub_listen.proofs.Singly.{nothing_is_quiet}
 use Rattle.hub_record.specs.World.{letters}
-use Rattle.hub_handles.specs.declared.hearing.Hearing.{Hearing}
+use Rattle.hub_handles.specs.declared.session_listener.SessionListener.{SessionListener}
 use Rattle.hub_handles.specs.declared.subscription.Subscription.{Subscription}
 use Rattle.hub_handles.specs.Taking.{HasLooked, IsSameTicket, TakesOne}
 use Rattle.hub_handles.specs.Hearings.{held_letters, Comes, Hears, Stops, Gives, HearsOne, Polls}
@@ -34,7 +34,7 @@ same_ticket_through a b c p q = record {
 
 -- ---- letters come
 
-comes_none : (h : Hearing) → Comes h [] h
+comes_none : (h : SessionListener) → Comes h [] h
 comes_none h = record {
   ticket = same_ticket h.subscription;
   mode = refl;
@@ -43,7 +43,7 @@ comes_none h = record {
   once = append-nil (held_letters h.held);
 }
 
-comes_on : (a b c : Hearing) (come more : List ℕ) → Comes a come b → Comes b more c → Comes a (come ++ more) c
+comes_on : (a b c : SessionListener) (come more : List ℕ) → Comes a come b → Comes b more c → Comes a (come ++ more) c
 comes_on a b c come more p q = record {
   ticket = same_ticket_through a.subscription b.subscription c.subscription p.ticket q.ticket;
   mode = q.mode ∙ p.mode;
@@ -55,7 +55,7 @@ comes_on a b c come more p q = record {
 }
 
 -- the letter that was held
-pub gives_held : (old new : Hearing) (letter : ℕ) → old.held ≡ Some letter → new.held ≡ None → new.subscription ≡ old.subscription → new.mode ≡ old.mode
+pub gives_held : (old new : SessionListener) (letter : ℕ) → old.held ≡ Some letter → new.held ≡ None → new.subscription ≡ old.subscription → new.mode ≡ old.mode
     → Gives old (Ok letter) new
 gives_held old new letter was is same mode = (
   record {
@@ -69,7 +69,7 @@ gives_held old new letter was is same mode = (
 )
 
 -- no letter came
-comes_nothing : (old new : Hearing) → IsSameTicket old.subscription new.subscription → new.mode ≡ old.mode → got new.subscription.ticket ≡ got old.subscription.ticket → new.held ≡ old.held
+comes_nothing : (old new : SessionListener) → IsSameTicket old.subscription new.subscription → new.mode ≡ old.mode → got new.subscription.ticket ≡ got old.subscription.ticket → new.held ≡ old.held
     → Comes old [] new
 comes_nothing old new same mode none held = record {
   ticket = same;
@@ -80,7 +80,7 @@ comes_nothing old new same mode none held = record {
 }
 
 -- the letter that was taken, or none
-pub gives_taken : (old new : Hearing) (result : Result ℕ Reply) → old.held ≡ None → new.held ≡ None → new.mode ≡ old.mode
+pub gives_taken : (old new : SessionListener) (result : Result ℕ Reply) → old.held ≡ None → new.held ≡ None → new.mode ≡ old.mode
     → TakesOne old.subscription result new.subscription → Gives old result new
 gives_taken old new (Ok letter) was is mode takes =
     let shows = takes.shows in (
@@ -110,11 +110,11 @@ gives_taken old new (Err (answer.No r)) was is mode takes = absurd takes
 unspent : (l : Listening) → l.mode ≡ Repeat → is_spent l ≡ false
 unspent l e = ap (λ (m : Mode). spent_by m l.hit) e
 
-pub hears_none : (h : Hearing) → h.listener.mode ≡ Repeat → length h.listener.gathered ≤ MOST_GATHERED → Hears h [] (Ok Quiet) h
+pub hears_none : (h : SessionListener) → h.listener.mode ≡ Repeat → length h.listener.gathered ≤ MOST_GATHERED → Hears h [] (Ok Quiet) h
 hears_none h repeats fits = record { comes = comes_none h; feeds = nothing_is_quiet h.listener (unspent h.listener repeats) fits }
 
 -- what came wasn't heard: it is held, or there was none
-pub hears_nothing : (old new : Hearing) → Comes old [] new → new.listener ≡ old.listener → old.listener.mode ≡ Repeat → length old.listener.gathered ≤ MOST_GATHERED
+pub hears_nothing : (old new : SessionListener) → Comes old [] new → new.listener ≡ old.listener → old.listener.mode ≡ Repeat → length old.listener.gathered ≤ MOST_GATHERED
     → Hears old [] (Ok Quiet) new
 hears_nothing old new comes same repeats fits = record {
   comes = comes;
@@ -122,11 +122,11 @@ hears_nothing old new comes same repeats fits = record {
 }
 
 -- it only looked
-pub hears_looked : (old new : Hearing) → HasLooked old.subscription new.subscription → new.mode ≡ old.mode → new.listener ≡ old.listener → new.held ≡ old.held → old.listener.mode ≡ Repeat
+pub hears_looked : (old new : SessionListener) → HasLooked old.subscription new.subscription → new.mode ≡ old.mode → new.listener ≡ old.listener → new.held ≡ old.held → old.listener.mode ≡ Repeat
     → length old.listener.gathered ≤ MOST_GATHERED → Hears old [] (Ok Quiet) new
 hears_looked old new looks mode same held repeats fits = hears_nothing old new (comes_nothing old new looks.same mode looks.got held) same repeats fits
 
-pub stops_idle : (old new : Hearing) (idle : Option Reply) → IfSome idle (λ reply. TakesOne old.subscription (Err reply) new.subscription) → old.held ≡ None → new.held ≡ None → new.mode ≡ old.mode
+pub stops_idle : (old new : SessionListener) (idle : Option Reply) → IfSome idle (λ reply. TakesOne old.subscription (Err reply) new.subscription) → old.held ≡ None → new.held ≡ None → new.mode ≡ old.mode
     → IfSome idle (λ reply. Stops reply new)
 stops_idle old new None takes was is mode = tt
 stops_idle old new (Some reply) takes was is mode = (gives_taken old new (Err reply) was is mode takes).1
@@ -135,7 +135,7 @@ pub none_held : (held : Option ℕ) → is_some held ≡ false → held ≡ None
 none_held None e = refl
 none_held (Some letter) e = absurd (let k : ⊥ = cc in k)
 
-hears_on : (a b c : Hearing) (fed more : List ℕ) (heard : Feed) → Hears a fed (Ok Quiet) b → Hears b more (Ok heard) c
+hears_on : (a b c : SessionListener) (fed more : List ℕ) (heard : Feed) → Hears a fed (Ok Quiet) b → Hears b more (Ok heard) c
     → Hears a (fed ++ more) (counted_from (length fed) (Ok heard)) c
 hears_on a b c fed more heard p q = record {
   comes = comes_on a b c fed more p.comes q.comes;
@@ -147,18 +147,18 @@ hears_on a b c fed more heard p q = record {
     cuts old between new first second feed f g = cuts_anywhere old between new first second (Ok feed) f g
 
 -- one letter more, quietly
-pub hears_quietly : (a b c : Hearing) (fed : List ℕ) → Hears a fed (Ok Quiet) b → HearsOne b false c → (more : List ℕ) × Hears a more (Ok Quiet) c
+pub hears_quietly : (a b c : SessionListener) (fed : List ℕ) → Hears a fed (Ok Quiet) b → HearsOne b false c → (more : List ℕ) × Hears a more (Ok Quiet) c
 hears_quietly a b c fed p q = (fed ++ q.0 ∷ [], hears_on a b c fed (q.0 ∷ []) Quiet p q.1)
 
-pub gathers_one : (b c : Hearing) → HearsOne b false c → length c.listener.gathered ≡ length b.listener.gathered + 1
+pub gathers_one : (b c : SessionListener) → HearsOne b false c → length c.listener.gathered ≡ length b.listener.gathered + 1
 gathers_one b c q = ap (λ (l : Listening). length l.gathered) q.1.feeds.3 ∙ length-append b.listener.gathered (q.0 ∷ [])
 
-pub hit_polls : (a b c : Hearing) (fed hit : List ℕ) → Hears a fed (Ok Quiet) b → HearsOne b true c → hit ≡ c.listener.hit → Polls a (answer.Hit hit) c
+pub hit_polls : (a b c : SessionListener) (fed hit : List ℕ) → Hears a fed (Ok Quiet) b → HearsOne b true c → hit ≡ c.listener.hit → Polls a (answer.Hit hit) c
 hit_polls a b c fed hit p q same =
     let long : length fed + 1 ≡ length (fed ++ q.0 ∷ []) = sym (length-append fed (q.0 ∷ [])) in
     (fed ++ q.0 ∷ [], subst (λ (n : ℕ). Hears a (fed ++ q.0 ∷ []) (Ok (Hit n)) c) long (hears_on a b c fed (q.0 ∷ []) (Hit 1) p q.1), same, q.2)
 
-pub stop_polls : (a b c : Hearing) (reply : Reply) (fed : List ℕ) → Hears a fed (Ok Quiet) b → Hears b [] (Ok Quiet) c → Stops reply c
+pub stop_polls : (a b c : SessionListener) (reply : Reply) (fed : List ℕ) → Hears a fed (Ok Quiet) b → Hears b [] (Ok Quiet) c → Stops reply c
     → length a.listener.gathered < MOST_GATHERED → Polls a reply c
 stop_polls a b c answer.Nothing fed p q stops few = (few, (fed ++ [], hears_on a b c fed [] Quiet p q), inl stops)
 stop_polls a b c answer.End fed p q stops few = (few, (fed ++ [], hears_on a b c fed [] Quiet p q), stops)
@@ -174,10 +174,10 @@ stop_polls a b c answer.Late fed p q stops few = absurd stops
 
 -- ---- after a poll
 
-pub gone_if : (h : Hearing) (o : Option Hearing) (ends : Bool) → ends ≡ true → o ≡ None → o ≡ (if ends then None else Some h)
+pub gone_if : (h : SessionListener) (o : Option SessionListener) (ends : Bool) → ends ≡ true → o ≡ None → o ≡ (if ends then None else Some h)
 gone_if h o true e gone = gone
 gone_if h o false e gone = absurd (let k : ⊥ = cc in k)
 
-pub stays_if : (h : Hearing) (o : Option Hearing) (ends : Bool) → ends ≡ false → o ≡ Some h → o ≡ (if ends then None else Some h)
+pub stays_if : (h : SessionListener) (o : Option SessionListener) (ends : Bool) → ends ≡ false → o ≡ Some h → o ≡ (if ends then None else Some h)
 stays_if h o true e stays = absurd (let k : ⊥ = cc in k)
 stays_if h o false e stays = stays

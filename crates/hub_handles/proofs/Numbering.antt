@@ -3,11 +3,11 @@ use Rattle.std.proofs.Common.{◌≡◌, ℕ, ◌+◌, ◌<◌, List, None, Some
 use Rattle.hub_requests.specs.declared.reply.Refusal.{Refusal}
 use Rattle.hub_requests.proofs.NextHandle.{room_for_handle}
 use Rattle.hub_fifodir.specs.declared.fifodir.Fifodir.{Fifodir}
-use Rattle.hub_listen.specs.Listening.{unheard}
+use Rattle.hub_listen.specs.Listening.{new_listening}
 use Rattle.hub_letters.specs.declared.mode.Mode.{Mode}
 use Rattle.hub_letters.specs.declared.mode.Mode.TheVariants.{Repeat}
 use Rattle.hub_handles.specs.declared.handles.Handles.{Handles}
-use Rattle.hub_handles.specs.declared.hearing.Hearing.{Hearing}
+use Rattle.hub_handles.specs.declared.session_listener.SessionListener.{SessionListener}
 use Rattle.hub_handles.specs.declared.subscription.Subscription.{Subscription}
 use Rattle.hub_handles.specs.Taking.{Begins}
 use Rattle.hub_handles.specs.Handles.{IsInPlace, IsNext, AddsSubscription, AddsListener, refusal_of, standing, subscription_of, listener_of}
@@ -30,14 +30,14 @@ pub adds_subscription : (old new : Handles) (fifodir : Fifodir) (s : Subscriptio
     → ((other : ℕ) → nat_eq (old.given + 1) other ≡ false → subscription_of new other ≡ subscription_of old other)
     → AddsSubscription old fifodir (old.given + 1) new
 adds_subscription old new fifodir s room begins given listeners stands others =
-    record { is_next = is_next old new room given; subscription = s; begins = begins; stands = stands; others = others; listeners = listeners }
+    record { is_next = is_next old new room given; subscription = s; begins = begins; placed = stands; others = others; listeners = listeners }
 
-pub adds_listener : (old new : Handles) (fifodir : Fifodir) (mode : Mode) (pattern : List ℕ) (h : Hearing) → refusal_of old ≡ None → Begins fifodir h.subscription
-    → h.listener ≡ unheard pattern Repeat → h.mode ≡ mode → h.held ≡ None → new.given ≡ old.given + 1 → new.subscriptions.entries ≡ old.subscriptions.entries
+pub adds_listener : (old new : Handles) (fifodir : Fifodir) (mode : Mode) (pattern : List ℕ) (h : SessionListener) → refusal_of old ≡ None → Begins fifodir h.subscription
+    → h.listener ≡ new_listening pattern Repeat → h.mode ≡ mode → h.held ≡ None → new.given ≡ old.given + 1 → new.subscriptions.entries ≡ old.subscriptions.entries
     → listener_of new (old.given + 1) ≡ Some h → ((other : ℕ) → nat_eq (old.given + 1) other ≡ false → listener_of new other ≡ listener_of old other)
     → AddsListener old fifodir mode pattern (old.given + 1) new
 adds_listener old new fifodir mode pattern h room begins heard mode_is unheld given subscriptions stands others =
-    record { is_next = is_next old new room given; hearing = h; begins = begins; heard = heard; mode_is = mode_is; unheld = unheld; stands = stands; others = others; subscriptions = subscriptions }
+    record { is_next = is_next old new room given; hearing = h; begins = begins; heard = heard; mode_is = mode_is; unheld = unheld; placed = stands; others = others; subscriptions = subscriptions }
 
 -- ---- refusals
 

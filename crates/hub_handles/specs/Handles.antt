@@ -8,12 +8,12 @@ use Rattle.hub_requests.specs.declared.reply.Refusal.TheVariants as no
 use Rattle.hub_requests.specs.declared.reply.Reply.{Reply}
 use Rattle.hub_requests.specs.declared.reply.Reply.TheVariants.{Done, Number, No}
 use Rattle.hub_fifodir.specs.declared.fifodir.Fifodir.{Fifodir}
-use Rattle.hub_listen.specs.Listening.{unheard}
+use Rattle.hub_listen.specs.Listening.{new_listening}
 use Rattle.hub_letters.specs.declared.mode.Mode.{Mode}
 use Rattle.hub_letters.specs.declared.mode.Mode.TheVariants.{Repeat}
 use Rattle.hub_requests.specs.declared.bounds.TheConstants.{MOST_HANDLES, MOST_NUMBERS}
 use Rattle.hub_handles.specs.declared.handles.Handles.{Handles}
-use Rattle.hub_handles.specs.declared.hearing.Hearing.{Hearing}
+use Rattle.hub_handles.specs.declared.session_listener.SessionListener.{SessionListener}
 use Rattle.hub_handles.specs.declared.subscription.Subscription.{Subscription}
 use Rattle.hub_handles.specs.Taking.{Begins, TakesFrom}
 use Rattle.hub_handles.specs.Hearings.{Polls, ends_by}
@@ -22,19 +22,19 @@ use Rattle.hub_handles.specs.Hearings.{Polls, ends_by}
 abbrev pub given_of : Handles → ℕ
 given_of hs = hs.given
 
--- no handle stands
+-- no handle is current
 pub record HoldsNone (hs : Handles) : Type 0 where
   pub subscriptions : hs.subscriptions.entries ≡ []
   pub listeners : hs.listeners.entries ≡ []
 
--- what stands under the number
+-- what has the number
 abbrev pub subscription_of : Handles → ℕ → Option Subscription
 subscription_of hs id = lookup (nat_eq id) hs.subscriptions.entries
 
-abbrev pub listener_of : Handles → ℕ → Option Hearing
+abbrev pub listener_of : Handles → ℕ → Option SessionListener
 listener_of hs id = lookup (nat_eq id) hs.listeners.entries
 
--- how many handles stand
+-- how many handles are current
 abbrev pub standing : Handles → ℕ
 standing hs = index_map_len hs.subscriptions + index_map_len hs.listeners
 
@@ -46,7 +46,7 @@ refusal_of hs = refusal_of_handle (standing hs) (given_of hs)
 abbrev pub IsInPlace : Handles → Refusal → Type 0
 IsInPlace hs refusal = (first : Refusal) → refusal_of hs ≡ Some first → refusal ≡ first
 
--- the same handles stand, and as many were given
+-- the same handles are current, and as many were given
 pub record IsStill (old new : Handles) : Type 0 where
   pub given : new.given ≡ old.given
   pub subscriptions : new.subscriptions.entries ≡ old.subscriptions.entries
@@ -61,24 +61,24 @@ pub record IsNext (old : Handles) (number : ℕ) (new : Handles) : Type 0 where
   pub unsubscribed : subscription_of old number ≡ None
   pub unheard : listener_of old number ≡ None
 
--- a subscription to the fifodir that begins now stands under the next number
+-- a subscription to the fifodir that begins now has the next number
 pub record AddsSubscription (old : Handles) (fifodir : Fifodir) (number : ℕ) (new : Handles) : Type 0 where
   pub is_next : IsNext old number new
   pub subscription : Subscription
   pub begins : Begins fifodir subscription
-  pub stands : subscription_of new number ≡ Some subscription
+  pub placed : subscription_of new number ≡ Some subscription
   pub others : (other : ℕ) → nat_eq number other ≡ false → subscription_of new other ≡ subscription_of old other
   pub listeners : new.listeners.entries ≡ old.listeners.entries
 
 -- a listener in this mode that has heard nothing hears such a subscription
 pub record AddsListener (old : Handles) (fifodir : Fifodir) (mode : Mode) (pattern : List ℕ) (number : ℕ) (new : Handles) : Type 0 where
   pub is_next : IsNext old number new
-  pub hearing : Hearing
+  pub hearing : SessionListener
   pub begins : Begins fifodir hearing.subscription
-  pub heard : hearing.listener ≡ unheard pattern Repeat
+  pub heard : hearing.listener ≡ new_listening pattern Repeat
   pub mode_is : hearing.mode ≡ mode
   pub unheld : hearing.held ≡ None
-  pub stands : listener_of new number ≡ Some hearing
+  pub placed : listener_of new number ≡ Some hearing
   pub others : (other : ℕ) → nat_eq number other ≡ false → listener_of new other ≡ listener_of old other
   pub subscriptions : new.subscriptions.entries ≡ old.subscriptions.entries
 
@@ -118,8 +118,8 @@ TakesAt old id max reply new = TakesHere old id max reply new ⊎ TakesNone old 
 
 -- the listener under the number is polled, and is gone where that was its one hit; nothing else has changed
 pub record PollsHere (old : Handles) (id : ℕ) (reply : Reply) (new : Handles) : Type 0 where
-  pub before : Hearing
-  pub after : Hearing
+  pub before : SessionListener
+  pub after : SessionListener
   pub held : listener_of old id ≡ Some before
   pub polls : Polls before reply after
   pub kept : listener_of new id ≡ (if ends_by after.mode reply then None else Some after)

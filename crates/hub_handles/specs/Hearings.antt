@@ -13,15 +13,15 @@ use Rattle.hub_listen.specs.declared.feed.FeedError.{FeedError}
 use Rattle.hub_letters.specs.declared.mode.Mode.{Mode}
 use Rattle.hub_letters.specs.declared.mode.Mode.TheVariants.{Once, Repeat}
 use Rattle.hub_record.specs.World.{letters}
-use Rattle.hub_handles.specs.declared.hearing.Hearing.{Hearing}
+use Rattle.hub_handles.specs.declared.session_listener.SessionListener.{SessionListener}
 use Rattle.hub_handles.specs.declared.subscription.Subscription.{Subscription}
 use Rattle.hub_handles.specs.Taking.{IsSameTicket}
 
-abbrev pub mode_of : Hearing → Mode
+abbrev pub mode_of : SessionListener → Mode
 mode_of h = h.mode
 
 -- a listener that hears this subscription from now on, and holds no letter
-pub record BeginsHearing (subscription : Subscription) (listener : Listening) (mode : Mode) (h : Hearing) : Type 0 where
+pub record BeginsHearing (subscription : Subscription) (listener : Listening) (mode : Mode) (h : SessionListener) : Type 0 where
   pub subscription_is : h.subscription ≡ subscription
   pub listener_is : h.listener ≡ listener
   pub mode_is : h.mode ≡ mode
@@ -32,7 +32,7 @@ held_letters None = []
 held_letters (Some letter) = letter ∷ []
 
 -- What was held and what its ticket took meanwhile are these letters and what is held now: each once, in order.
-pub record Comes (old : Hearing) (come : List ℕ) (new : Hearing) : Type 0 where
+pub record Comes (old : SessionListener) (come : List ℕ) (new : SessionListener) : Type 0 where
   pub ticket : IsSameTicket old.subscription new.subscription
   pub mode : new.mode ≡ old.mode
   pub taken : List ℕ
@@ -40,7 +40,7 @@ pub record Comes (old : Hearing) (come : List ℕ) (new : Hearing) : Type 0 wher
   pub once : held_letters old.held ++ taken ≡ come ++ held_letters new.held
 
 -- and its listener heard them, with this answer
-pub record Hears (old : Hearing) (fed : List ℕ) (heard : Result Feed FeedError) (new : Hearing) : Type 0 where
+pub record Hears (old : SessionListener) (fed : List ℕ) (heard : Result Feed FeedError) (new : SessionListener) : Type 0 where
   pub comes : Comes old fed new
   pub feeds : Feeds old.listener fed heard new.listener
 
@@ -52,25 +52,25 @@ abbrev pub IsOver : Ticket → Type 0
 IsOver t = (ticket_next t ≡ length (ticket_seen t)) × (ticket_closed t ≢ 0)
 
 -- why no further letter is heard
-abbrev pub Stops : Reply → Hearing → Type 0
+abbrev pub Stops : Reply → SessionListener → Type 0
 Stops answer.Nothing h = (h.held ≡ None) × IsIdle h.subscription.ticket
 Stops answer.End h = (h.held ≡ None) × IsOver h.subscription.ticket
 Stops (answer.No refusal) h = refusal ≡ no.Memory
 Stops _ h = ⊥
 
 -- the letter that is to be heard next, or why there is none
-abbrev pub Gives : Hearing → Result ℕ Reply → Hearing → Type 0
+abbrev pub Gives : SessionListener → Result ℕ Reply → SessionListener → Type 0
 Gives old (Ok letter) new = Comes old (letter ∷ []) new × (new.held ≡ None)
 Gives old (Err reply) new = Comes old [] new × Stops reply new
 
 -- one letter was heard, and did or didn't complete a hit
-abbrev pub HearsOne : Hearing → Bool → Hearing → Type 0
+abbrev pub HearsOne : SessionListener → Bool → SessionListener → Type 0
 HearsOne old true new = (letter : ℕ) × Hears old (letter ∷ []) (Ok (Hit 1)) new × (new.held ≡ None)
 HearsOne old false new = (letter : ℕ) × Hears old (letter ∷ []) (Ok Quiet) new × (new.held ≡ None)
 
 -- A hit ends with the last letter that was heard. Without one all were heard quietly, until none waits or as many are
 -- gathered as may be.
-abbrev pub Polls : Hearing → Reply → Hearing → Type 0
+abbrev pub Polls : SessionListener → Reply → SessionListener → Type 0
 Polls old (answer.Hit hit) new = (fed : List ℕ) × Hears old fed (Ok (Hit (length fed))) new × (hit ≡ new.listener.hit) × (new.held ≡ None)
 Polls old answer.Nothing new = (length old.listener.gathered < MOST_GATHERED) × ((fed : List ℕ) × Hears old fed (Ok Quiet) new) × (Stops answer.Nothing new ⊎ (MOST_GATHERED ≤ length new.listener.gathered))
 Polls old answer.End new = (length old.listener.gathered < MOST_GATHERED) × ((fed : List ℕ) × Hears old fed (Ok Quiet) new) × Stops answer.End new

@@ -5,8 +5,8 @@ ghost use Rattle.std.specs.Map.{lookup};
 ghost use Rattle.hub_requests.specs.Ranges.{IsTake};
 ghost use Rattle.hub_requests.specs.Brief.{IsBrief, IsShort};
 
-use crate::hearing::Hearing;
 use crate::room::Room;
+use crate::session_listener::SessionListener;
 use crate::subscription::Subscription;
 use hub_fifodir::Fifodir;
 use hub_listen::{ListenError, Listener, Mode};
@@ -24,7 +24,7 @@ pub struct Handles {
     /// How many handles were given.
     given: u64,
     subscriptions: IndexMap<u64, Subscription>,
-    listeners: IndexMap<u64, Hearing>,
+    listeners: IndexMap<u64, SessionListener>,
     /// Shared by all takes.
     room: Room,
     ghost subscribed: { (id : ℕ) → given < id → lookup (nat_eq id) subscriptions.entries ≡ None },
@@ -136,7 +136,7 @@ impl Handles {
         }
         let subscription = Subscription::new(rt, dir)?;
         let number = self.given + 1;
-        let hearing = Hearing::new(subscription, listener, mode);
+        let hearing = SessionListener::new(subscription, listener, mode);
         let replaced = self.listeners.insert(number, hearing).unwrap();
         let None = replaced else { unreachable!() };
         self.given = number;
@@ -173,7 +173,7 @@ impl Handles {
         reply
     }
 
-    /// Ends a listener that stands.
+    /// Ends a listener that is current.
     fn end_listener<H: Wait>(&mut self, rt: &H, id: u64)
         ensures gone { listener_of self.new id ≡ None }
         ensures others { (other : ℕ) → nat_eq id other ≡ false

@@ -9,8 +9,8 @@
 #![tactic(auto)]
 
 mod handles;
-mod hearing;
 mod room;
+mod session_listener;
 mod subscription;
 
 pub use handles::Handles;

@@ -2,10 +2,10 @@
 use Rattle.std.specs.Prelude.{ℕ, List, [], ◌∷◌, ◌++◌, ◌==◌, if◌then◌else◌}
 use Rattle.std.specs.List.{list_any}
 
--- with front put before the first line, if there is one
+-- with prefix put before the first line, if there is one
 abbrev pub onto_first : List ℕ → List (List ℕ) → List (List ℕ)
-onto_first front [] = []
-onto_first front (line ∷ lines) = (front ++ line) ∷ lines
+onto_first prefix [] = []
+onto_first prefix (line ∷ lines) = (prefix ++ line) ∷ lines
 
 -- the pieces before each LF
 abbrev pub complete_of : List ℕ → List (List ℕ)

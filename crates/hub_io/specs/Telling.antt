@@ -2,9 +2,9 @@
 use Rattle.std.specs.Prelude.{◌≡◌, ℕ, zero, suc, ◌+◌, ⊤, Option, None, Some, Result, Ok, Err}
 
 -- a count, if it is known, grew by n
-abbrev pub Grows : Option ℕ → Option ℕ → ℕ → Type 0
-Grows None new n = ⊤
-Grows (Some k) new n = new ≡ Some (k + n)
+abbrev pub Rises : Option ℕ → Option ℕ → ℕ → Type 0
+Rises None new n = ⊤
+Rises (Some k) new n = new ≡ Some (k + n)
 
 -- a read that fails is a fault
 abbrev pub faults_of_read : {E : Type 0} → Result ℕ E → ℕ

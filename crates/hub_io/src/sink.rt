@@ -3,7 +3,7 @@ ghost use Rattle.std.specs.Prelude.{◌≡◌, ℕ, ◌<◌, length, Option, Non
 ghost use Rattle.std.specs.Io.{WritesAtMost};
 ghost use Rattle.std.specs.Io.KnownBytes.{WriteAppends};
 ghost use Rattle.std.specs.IoError.{error_kind};
-ghost use Rattle.hub_io.specs.Telling.{Grows, faults_of_write};
+ghost use Rattle.hub_io.specs.Telling.{Rises, faults_of_write};
 
 use crate::again::write_again;
 use std::io;
@@ -22,7 +22,7 @@ pub trait Sink: Write {
         ensures bound { WritesAtMost result bytes.now }
         ensures bytes { WriteAppends (Self.contents self.old)
             (Self.contents self.new) result bytes.now }
-        ensures told { Grows (faults self.old) (faults self.new) (faults_of_write result) };
+        ensures told { Rises (faults self.old) (faults self.new) (faults_of_write result) };
 }
 
 // A write fails if memory runs out, and else takes all bytes.

@@ -2,7 +2,7 @@
 ghost use Rattle.std.specs.Prelude.{ℕ, Option, Some, None};
 ghost use Rattle.std.specs.Io.{ReadsAtMost};
 ghost use Rattle.std.specs.Io.KnownBytes.{ReadConsumes};
-ghost use Rattle.hub_io.specs.Telling.{Grows, faults_of_read};
+ghost use Rattle.hub_io.specs.Telling.{Rises, faults_of_read};
 
 use crate::again::read_again;
 use std::io;
@@ -22,8 +22,8 @@ pub trait Source: Read {
         ensures bound { ReadsAtMost result buf.new }
         ensures bytes { ReadConsumes (Self.remaining self.old)
             (Self.remaining self.new) result buf.new }
-        ensures counted { Grows (reads self.old) (reads self.new) 1 }
-        ensures told { Grows (faults self.old) (faults self.new) (faults_of_read result) };
+        ensures counted { Rises (reads self.old) (reads self.new) 1 }
+        ensures told { Rises (faults self.old) (faults self.new) (faults_of_read result) };
 
     /// A descriptor of its own for the connection that is read, by which a session can see during a wait whether its
     /// client is still there. None if no connection is read, or if the system has no descriptor left.

@@ -2,7 +2,7 @@
 ghost use Rattle.std.specs.Prelude.{◌≡◌, OnOk, OnErr, IfErr};
 ghost use Rattle.std.specs.Io.KnownBytes.{Appends};
 ghost use Rattle.hub_io.specs.Faults.{AppendsPart, write_faults};
-ghost use Rattle.hub_io.specs.Telling.{Grows};
+ghost use Rattle.hub_io.specs.Telling.{Rises};
 
 use crate::fault::FrontError;
 use crate::sink::Sink;
@@ -13,7 +13,7 @@ pub fn write_whole<W: Sink>(writer: &mut W, bytes: &[u8]) -> Result<(), FrontErr
     ensures err { OnErr result (AppendsPart (W.contents writer.old)
         (W.contents writer.new) bytes.now) }
     ensures fault { IfErr result (λ e. e ≡ FrontError.Write) }
-    ensures told { Grows (W.faults writer.old) (W.faults writer.new) (write_faults result) }
+    ensures told { Rises (W.faults writer.old) (W.faults writer.new) (write_faults result) }
 {
     let mut written = 0;
     'parts: while written < bytes.len() {

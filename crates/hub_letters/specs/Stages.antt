@@ -78,8 +78,8 @@ abbrev pub follow_by : Option Stage → List Mark → Option Stage
 follow_by q [] = q
 follow_by q (m ∷ ms) = follow_by (next_in q m) ms
 
-abbrev pub followed : Stage → List ℕ → Option Stage
-followed stage word = follow_by (Some stage) (map mark word)
+abbrev pub stage_by_code : Stage → List ℕ → Option Stage
+stage_by_code stage word = follow_by (Some stage) (map mark word)
 
 -- ---- a message after a word
 

@@ -2,7 +2,7 @@
 ghost use Rattle.std.specs.Prelude.{◌≡◌, ℕ, List, Some};
 ghost use Rattle.hub_letters.specs.Marks.{mark};
 ghost use Rattle.hub_letters.specs.Lawful.{IsLawful};
-ghost use Rattle.hub_letters.specs.Stages.{stage_of, next_by, followed, Follows};
+ghost use Rattle.hub_letters.specs.Stages.{stage_of, next_by, stage_by_code, Follows};
 
 use crate::letter::Letter;
 
@@ -59,8 +59,8 @@ impl Stage {
     /// A law: the stages, followed from `Off`, accept exactly the lawful words, and end in the word's stage.
     pub fn accept_just_the_lawful_words()
         ensures all { (word : List ℕ) → IsLawful word
-            → followed Stage.Off word ≡ Some (stage_of word) }
-        ensures only { (word : List ℕ) (stage : Stage) → followed Stage.Off word ≡ Some stage
+            → stage_by_code Stage.Off word ≡ Some (stage_of word) }
+        ensures only { (word : List ℕ) (stage : Stage) → stage_by_code Stage.Off word ≡ Some stage
             → IsLawful word × (stage ≡ stage_of word) }
     {}
 }

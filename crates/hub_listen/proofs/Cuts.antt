@@ -9,7 +9,7 @@ use Rattle.hub_listen.specs.declared.feed.Feed.{Feed}
 use Rattle.hub_listen.specs.declared.feed.Feed.TheVariants.{Spent, Hit, Quiet}
 use Rattle.hub_listen.specs.declared.feed.FeedError.{FeedError}
 use Rattle.hub_listen.specs.declared.feed.FeedError.TheVariants.{Overlong, Memory}
-use Rattle.hub_listen.proofs.Fronts.{finds-front}
+use Rattle.hub_listen.proofs.Prefixes.{finds-prefix}
 
 -- ---- the cut
 
@@ -30,7 +30,7 @@ module _ (p g a b : List ℕ) where
   finds_nothing quiet fits j some later =
       ⊎_elim (λ (lt : length a < j). let e : j ≡ length a + (j - length a) = omega arith in
       ap (λ n. finds p (g ++ take n (a ++ b))) e ∙ ap (finds p) (past (j - length a)) ∙ later (j - length a) (omega arith) e)
-      (λ (le : j ≤ length a). finds-front p g a b j le ∙ quiet j some le (omega arith))
+      (λ (le : j ≤ length a). finds-prefix p g a b j le ∙ quiet j some le (omega arith))
       (cases_lt (length a) j)
 
   IsHit-past : HasNoHit p g a → length g + length a ≤ MOST_GATHERED → (k : ℕ) → IsHit p (g ++ a) b k → IsHit p g (a ++ b) (length a + k)

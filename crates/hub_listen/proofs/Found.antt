@@ -23,7 +23,7 @@ use Rattle.regex.proofs.Utf8Lemmas.{test_of_IsCharBoundary}
 use Rattle.hub_listen.specs.Hit.{finds}
 use Rattle.hub_listen.specs.Searches.{finds_by, SearchesFor}
 use Rattle.hub_listen.specs.Alive.{Reaches, begins, reads, skips, AreAlive, HasMatch}
-use Rattle.hub_listen.proofs.Reached.{AreAlive-longer, HasMatch-front}
+use Rattle.hub_listen.proofs.Reached.{AreAlive-longer, HasMatch-prefix}
 
 -- ---- what the NFA of a pattern finds
 
@@ -93,7 +93,7 @@ module _ (nfa : Nfa) (pattern : List ℕ) (searches : SearchesFor nfa pattern) w
       let len = length-append text (b ∷ []) in
       ⊎_elim
       (λ (inside : m.0 < length text).
-      absurd (true≢false (sym (finds_match text ascii m.0 (HasMatch-front nfa text (b ∷ []) ascii m.0 inside m.2)) ∙ quiet (omega arith))))
+      absurd (true≢false (sym (finds_match text ascii m.0 (HasMatch-prefix nfa text (b ∷ []) ascii m.0 inside m.2)) ∙ quiet (omega arith))))
       (λ (late : length text ≤ m.0).
       ⊎_elim
       (λ (last : length text < m.0).

@@ -4,7 +4,7 @@ use Rattle.std.proofs.lemmas.Bool.{cases_lt, cases_Bool, cond-true, cond-false}
 use Rattle.hub_letters.specs.declared.bounds.TheConstants.{MOST_GATHERED}
 use Rattle.hub_listen.specs.Hit.{finds, HasNoHit, first_such, hit_length}
 use Rattle.hub_listen.specs.Listening.{Listening, Feeds, after_hit, after_quiet, is_spent}
-use Rattle.hub_listen.specs.Pieces.{LengthIsHit, NoLengthIsNoHit, Answers}
+use Rattle.hub_listen.specs.Pieces.{LengthIsHit, NoLengthIsNoHit, AnswersEach}
 use Rattle.hub_listen.specs.declared.feed.Feed.{Feed}
 use Rattle.hub_listen.specs.declared.feed.Feed.TheVariants.{Spent, Hit, Quiet}
 use Rattle.hub_listen.specs.declared.feed.FeedError.{FeedError}
@@ -99,7 +99,7 @@ without_hit old piece unspent none =
     (λ (fits : length old.gathered + length piece ≤ MOST_GATHERED). (Ok Quiet, after_quiet old piece, (λ e. cc), (unspent, none, fits, refl)))
     (cases_lt MOST_GATHERED (length old.gathered + length piece))
 
-pub answers : Answers
+pub answers : AnswersEach
 answers old piece =
     ⊎_elim (λ (spent : is_spent old ≡ true). (Ok Spent, old, (λ e. cc), (spent, refl)))
     (λ (unspent : is_spent old ≡ false).

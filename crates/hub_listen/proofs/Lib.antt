@@ -5,7 +5,7 @@ pub mod Looks
 pub mod Reached
 pub mod Closed
 pub mod Found
-pub mod Fronts
+pub mod Prefixes
 pub mod Cuts
 pub mod Lengths
 pub mod Singly

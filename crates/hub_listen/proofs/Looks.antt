@@ -54,8 +54,8 @@ module _ (text more : List ℕ) (ascii : IsAscii text) where
   EmptyEdge-longer nfa i p q h (by_save slot is) = by_save slot is
   EmptyEdge-longer nfa i p q h (by_look l is ok) = by_look l is (holds-append l i h ∙ ok)
 
-  pub EmptyEdge-front : (nfa : Nfa) (i p q : ℕ) → i < length text → EmptyEdge nfa (text ++ more) i p q → EmptyEdge nfa text i p q
-  EmptyEdge-front nfa i p q h (by_first second is) = by_first second is
-  EmptyEdge-front nfa i p q h (by_second first is) = by_second first is
-  EmptyEdge-front nfa i p q h (by_save slot is) = by_save slot is
-  EmptyEdge-front nfa i p q h (by_look l is ok) = by_look l is (sym (holds-append l i h) ∙ ok)
+  pub EmptyEdge-prefix : (nfa : Nfa) (i p q : ℕ) → i < length text → EmptyEdge nfa (text ++ more) i p q → EmptyEdge nfa text i p q
+  EmptyEdge-prefix nfa i p q h (by_first second is) = by_first second is
+  EmptyEdge-prefix nfa i p q h (by_second first is) = by_second first is
+  EmptyEdge-prefix nfa i p q h (by_save slot is) = by_save slot is
+  EmptyEdge-prefix nfa i p q h (by_look l is ok) = by_look l is (sym (holds-append l i h) ∙ ok)

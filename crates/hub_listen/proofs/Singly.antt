@@ -10,7 +10,7 @@ use Rattle.hub_listen.specs.declared.feed.Feed.TheVariants.{Spent, Hit, Quiet}
 use Rattle.hub_listen.specs.declared.feed.FeedError.{FeedError}
 use Rattle.hub_listen.specs.declared.feed.FeedError.TheVariants.{Overlong, Memory}
 use Rattle.hub_listen.proofs.Cuts.{cuts_anywhere}
-use Rattle.hub_listen.proofs.Fronts.{IsHit-append, HasNoHit-append}
+use Rattle.hub_listen.proofs.Prefixes.{IsHit-append, HasNoHit-append}
 
 -- ---- lists of letters
 
@@ -22,9 +22,9 @@ nothing_is_quiet l unspent fits = (
   ap (λ t. record l { gathered = t }) (sym (append-nil l.gathered)),
 )
 
-after_hit-append : (old : Listening) (front rest : List ℕ) (k : ℕ) → k ≤ length front → after_hit old front k ≡ after_hit old (front ++ rest) k
-after_hit-append old front rest k le =
-    ap (λ t. record old { gathered = []; hit = old.gathered ++ t }) (sym (take-append-le k front rest le))
+after_hit-append : (old : Listening) (prefix rest : List ℕ) (k : ℕ) → k ≤ length prefix → after_hit old prefix k ≡ after_hit old (prefix ++ rest) k
+after_hit-append old prefix rest k le =
+    ap (λ t. record old { gathered = []; hit = old.gathered ++ t }) (sym (take-append-le k prefix rest le))
 
 -- an answer to the first letter, other than Quiet, is the answer to them all
 at_the_first : (old new : Listening) (x : ℕ) (letters : List ℕ) (answer : Result Feed FeedError) → is_spent old ≡ false → length old.gathered ≤ MOST_GATHERED
@@ -101,9 +101,9 @@ one_more_hit old between new letters i k within quiet f =
     let g = one_more old between new letters i within (Ok (Hit k)) quiet f in
     let some = f.1.some in let inside = g.1.within in let len = length-take-le (i + 1) letters (omega arith) in
     let last : i + k ≡ i + 1 = omega arith in
-    let front = take (i + 1) letters in let rest = drop (i + 1) letters in
-    let whole : front ++ rest ≡ letters = take-append-drop (i + 1) letters in
-    let hit : IsHit old.pattern old.gathered front (i + 1) = subst (IsHit old.pattern old.gathered front) last g.1 in (
-      subst (λ l. IsHit old.pattern old.gathered l (i + 1)) whole (IsHit-append old.pattern old.gathered front rest (i + 1) hit),
-      g.2 ∙ ap (after_hit old front) last ∙ after_hit-append old front rest (i + 1) hit.within ∙ ap (λ l. after_hit old l (i + 1)) whole,
+    let prefix = take (i + 1) letters in let rest = drop (i + 1) letters in
+    let whole : prefix ++ rest ≡ letters = take-append-drop (i + 1) letters in
+    let hit : IsHit old.pattern old.gathered prefix (i + 1) = subst (IsHit old.pattern old.gathered prefix) last g.1 in (
+      subst (λ l. IsHit old.pattern old.gathered l (i + 1)) whole (IsHit-append old.pattern old.gathered prefix rest (i + 1) hit),
+      g.2 ∙ ap (after_hit old prefix) last ∙ after_hit-append old prefix rest (i + 1) hit.within ∙ ap (λ l. after_hit old l (i + 1)) whole,
     )

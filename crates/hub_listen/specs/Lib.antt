@@ -5,6 +5,6 @@ pub mod Listed
 pub mod Searches
 pub mod Alive
 pub mod Listening
-pub mod Kept
+pub mod Inside
 pub mod Pieces
 pub mod Each

@@ -18,8 +18,8 @@ pub record Listening : Type 0 where
   pub hit : List ℕ
 
 -- a listener that has heard nothing
-abbrev pub unheard : List ℕ → Mode → Listening
-unheard pattern mode = record { pattern = pattern; mode = mode; gathered = []; hit = [] }
+abbrev pub new_listening : List ℕ → Mode → Listening
+new_listening pattern mode = record { pattern = pattern; mode = mode; gathered = []; hit = [] }
 
 -- in mode Once, a listener is spent after its hit
 abbrev pub spent_by : Mode → List ℕ → Bool

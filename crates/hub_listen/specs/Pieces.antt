@@ -27,8 +27,8 @@ CutsAnywhere = (old between new : Listening) (first second : List ℕ) (answer :
     → Feeds old (first ++ second) (counted_from (length first) answer) (left_by answer old new)
 
 -- Unless memory runs out, a listener has an answer to each piece,
-abbrev pub Answers : Type 0
-Answers = (old : Listening) (piece : List ℕ)
+abbrev pub AnswersEach : Type 0
+AnswersEach = (old : Listening) (piece : List ℕ)
     → (answer : Result Feed FeedError) × (new : Listening) × (answer ≢ Err Memory) × Feeds old piece answer new
 
 -- and only one, with one listener afterwards.
@@ -52,14 +52,14 @@ SinglyIsAtOnce = (old new : Listening) (letters : List ℕ) (answer : Result Fee
     → Feeds old letters answer (left_by answer old new)
 
 -- A hit in a prefix is a hit in the whole.
-abbrev pub FrontsShowHits : Type 0
-FrontsShowHits = (pattern gathered front rest : List ℕ) (k : ℕ)
-    → IsHit pattern gathered front k → IsHit pattern gathered (front ++ rest) k
+abbrev pub PrefixesShowHits : Type 0
+PrefixesShowHits = (pattern gathered prefix rest : List ℕ) (k : ℕ)
+    → IsHit pattern gathered prefix k → IsHit pattern gathered (prefix ++ rest) k
 
 -- If a prefix without a hit leaves no room, there is no hit in the whole.
-abbrev pub FullFrontsShowNone : Type 0
-FullFrontsShowNone = (pattern gathered front rest : List ℕ)
-    → HasNoHit pattern gathered front → MOST_GATHERED ≤ length gathered + length front → HasNoHit pattern gathered (front ++ rest)
+abbrev pub FullPrefixesShowNone : Type 0
+FullPrefixesShowNone = (pattern gathered prefix rest : List ℕ)
+    → HasNoHit pattern gathered prefix → MOST_GATHERED ≤ length gathered + length prefix → HasNoHit pattern gathered (prefix ++ rest)
 
 -- The function gives exactly the hit, and none exactly if there is none.
 abbrev pub LengthIsHit : Type 0

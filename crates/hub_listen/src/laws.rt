@@ -1,5 +1,5 @@
 //! Laws of listening: each is the contract of a function that does nothing.
-ghost use Rattle.hub_listen.specs.Pieces.{CutsAnywhere, Answers, AnswersOnce, SinglyIsAtOnce, FrontsShowHits, FullFrontsShowNone, LengthIsHit, NoLengthIsNoHit};
+ghost use Rattle.hub_listen.specs.Pieces.{CutsAnywhere, AnswersEach, AnswersOnce, SinglyIsAtOnce, PrefixesShowHits, FullPrefixesShowNone, LengthIsHit, NoLengthIsNoHit};
 
 /// If a piece was quiet, the next is heard as if both had been one.
 pub fn cuts_anywhere()
@@ -8,7 +8,7 @@ pub fn cuts_anywhere()
 
 /// Unless memory runs out, the listener and the piece determine the answer, and what the listener is afterwards.
 pub fn answers_once()
-    ensures some { Answers }
+    ensures some { AnswersEach }
     ensures one { AnswersOnce }
 {}
 
@@ -19,9 +19,9 @@ pub fn singly_is_at_once()
 
 /// What a prefix of the letters shows of the whole: its hit is the whole's hit, and a prefix without a hit that leaves
 /// no room shows that the whole has none.
-pub fn fronts_show_the_whole()
-    ensures hit { FrontsShowHits }
-    ensures none { FullFrontsShowNone }
+pub fn prefixes_show_the_whole()
+    ensures hit { PrefixesShowHits }
+    ensures none { FullPrefixesShowNone }
 {}
 
 /// The length of a hit as a function, for callers that compute answers.

@@ -69,7 +69,7 @@ impl Model for Listener {
 
     ghost Value = { Listening };
 
-    ghost use Rattle.hub_listen.specs.Kept.{listening_of, IsKept};
+    ghost use Rattle.hub_listen.specs.Inside.{listening_of, IsKept};
 
     ghost view = { listening_of };
 
@@ -79,11 +79,11 @@ impl Model for Listener {
 impl Listener {
     ghost use Rattle.hub_listen.specs.Hit.{IsPattern};
     ghost use Rattle.hub_listen.specs.Size.{IsSmall};
-    ghost use Rattle.hub_listen.specs.Listening.{Feeds, unheard, is_spent};
+    ghost use Rattle.hub_listen.specs.Listening.{Feeds, new_listening, is_spent};
 
     /// A listener that has heard nothing. All of its room is made here.
     pub fn new(alloc: Global, pattern: &str, mode: Mode) -> Result<Listener, ListenError>
-        ensures ok { IfOk result (λ listener. listener ≡ unheard pattern.now mode) }
+        ensures ok { IfOk result (λ listener. listener ≡ new_listening pattern.now mode) }
         ensures read { OnOk result (IsPattern pattern.now) }
         ensures small { OnOk result (IsSmall pattern.now) }
     {

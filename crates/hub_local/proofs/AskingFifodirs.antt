@@ -10,11 +10,11 @@ use Rattle.hub_record.specs.Kept.{Kept, StandsFor}
 use Rattle.hub_record.specs.declared.Kind.{Kind}
 use Rattle.hub_record.specs.declared.limits.Limits.{Limits}
 use Rattle.hub_record.specs.World.{World, empty_world, PublishReply, after_publish, close_reply, after_close}
-use Rattle.hub_local.specs.Answers.{answered_with, in_world, made, published, closed, shown, refusal_to_make}
-use Rattle.hub_local.specs.Desks.{Desk, Fifodir, refused, world_of}
+use Rattle.hub_local.specs.DeskAnswers.{answered_with, in_world, make_answer, publish_answer, close_answer, status_answer, refusal_to_make}
+use Rattle.hub_local.specs.Desks.{Desk, Fifodir, refusal_answer, world_of}
 use Rattle.hub_local.specs.Replies.{publish_reply}
 use Rattle.hub_requests.specs.Refusals.{refusal_of_pub}
-use Rattle.hub_local.specs.Standing.{Local, AreKept, Stands, Answers, AskedWith, Unchanged}
+use Rattle.hub_local.specs.Standing.{Local, AreKept, StandsForDesk, CarriesOut, AsksWith, Unchanged}
 use Rattle.hub_local.specs.declared.local_desk.LocalFifodir.{LocalFifodir}
 use Rattle.hub_requests.specs.declared.request.Request.TheVariants.{Pub, Close, Status as Show}
 use Rattle.hub_requests.specs.declared.reply.Reply.{Reply}
@@ -29,12 +29,12 @@ use Rattle.hub_local.proofs.RecordReplies.{publish_reply_is}
 
 -- ---- dir and svc
 
-no_world : (local : Local) (d : Desk) (name : List ℕ) → Stands local d → is_some (lookup (bytes_eq name) local.fifodirs) ≡ false → is_some (world_of d.fifodirs name) ≡ false
+no_world : (local : Local) (d : Desk) (name : List ℕ) → StandsForDesk local d → is_some (lookup (bytes_eq name) local.fifodirs) ≡ false → is_some (world_of d.fifodirs name) ≡ false
 no_world local d name st absent = sym (is_some-world_of name local.fifodirs d.fifodirs st.fifodirs) ∙ absent
 
 module _ (old : Local) (name : List ℕ) (kind : Kind) (reports : Option Bool) (limits : Limits) where
   abbrev Makes : Reply → Local → Type 0
-  Makes reply new = Answers old true (λ d. refusal_to_make d name) (λ d. made d name kind reports (Some limits)) Unchanged reply new
+  Makes reply new = CarriesOut old true (λ d. refusal_to_make d name) (λ d. make_answer d name kind reports (Some limits)) Unchanged reply new
 
   pub make_exists : is_some (lookup (bytes_eq name) old.fifodirs) ≡ true → Makes (No no.Exists) old
   make_exists there = by_refusing old old true _ _ _ _ no.Exists refl (λ e. cc)
@@ -47,7 +47,7 @@ module _ (old : Local) (name : List ℕ) (kind : Kind) (reports : Option Bool) (
 
   -- no fifodir has the name, and there is room for one more
   module _ (absent : is_some (lookup (bytes_eq name) old.fifodirs) ≡ false) (few : length old.fifodirs < MOST_NAMES) where
-    may_make : (d : Desk) → Stands old d → refusal_to_make d name ≡ None
+    may_make : (d : Desk) → StandsForDesk old d → refusal_to_make d name ≡ None
     may_make d st = let same = length-kept old.fifodirs d.fifodirs st.fifodirs in
         simp (no_world old d name st absent, lt-leb MOST_NAMES (length d.fifodirs) (omega arith))
 
@@ -59,7 +59,7 @@ module _ (old : Local) (name : List ℕ) (kind : Kind) (reports : Option Bool) (
     make_done new kept stands fifodirs holdings given = by_carrying old new true _ _ _ Done (λ (e : Done ≡ No no.Memory). cc) (λ d st.
         let f : Fifodir = record { name = name; reports = reports; world = empty_world kind limits } in
         let more = d.fifodirs ++ f ∷ [] in record {
-          answer = made d name kind reports (Some limits);
+          answer = make_answer d name kind reports (Some limits);
           unrefused = may_make d st;
           done_is = refl;
           said = refl;
@@ -75,24 +75,24 @@ module _ (old : Local) (name : List ℕ) (kind : Kind) (reports : Option Bool) (
 -- ---- close
 
 module _ (old new : Local) (name : List ℕ) (r : LocalFifodir) (kept : Kept) (put : Replaces old new name r kept) (reply : Reply) where
-  pub close_done : ((w : World) → StandsFor r.kept w → Ok tt ≡ close_reply w) → ((w : World) → StandsFor r.kept w → StandsFor kept (after_close w)) → reply ≡ Done → AskedWith false old (Close name) reply new
+  pub close_done : ((w : World) → StandsFor r.kept w → Ok tt ≡ close_reply w) → ((w : World) → StandsFor r.kept w → StandsFor kept (after_close w)) → reply ≡ Done → AsksWith false old (Close name) reply new
   close_done replies after is = by_carrying old new false _ _ _ reply (λ e. cc) (λ d st.
       let t = world_there old new name r kept put d st in
       let w = t.0 in record {
         answer = answered_with Done d name (after_close w);
         unrefused = named d name w t.1;
-        done_is = ap (in_world d (λ v. closed d name v (close_reply v))) t.1 ∙ ap (closed d name w) (sym (replies w t.2));
+        done_is = ap (in_world d (λ v. close_answer d name v (close_reply v))) t.1 ∙ ap (close_answer d name w) (sym (replies w t.2));
         said = is;
         stands = stands_replaced old new name r kept put d st w (after_close w) t.1 (after w t.2) (λ id k. k);
       })
 
-  pub close_refused : (error : Closed) → ((w : World) → StandsFor r.kept w → Err error ≡ close_reply w) → kept ≡ r.kept → reply ≡ No no.Closed → AskedWith false old (Close name) reply new
+  pub close_refused : (error : Closed) → ((w : World) → StandsFor r.kept w → Err error ≡ close_reply w) → kept ≡ r.kept → reply ≡ No no.Closed → AsksWith false old (Close name) reply new
   close_refused error replies still is = by_carrying old new false _ _ _ reply (λ e. cc) (λ d st.
       let t = world_there old new name r kept put d st in
       let w = t.0 in record {
-        answer = refused d no.Closed;
+        answer = refusal_answer d no.Closed;
         unrefused = named d name w t.1;
-        done_is = ap (in_world d (λ v. closed d name v (close_reply v))) t.1 ∙ ap (closed d name w) (sym (replies w t.2));
+        done_is = ap (in_world d (λ v. close_answer d name v (close_reply v))) t.1 ∙ ap (close_answer d name w) (sym (replies w t.2));
         said = is;
         stands = stands_still old new name r kept put d st w t.1 (subst (λ (k : Kept). StandsFor k w) (sym still) t.2);
       })
@@ -107,26 +107,26 @@ real_refusal post.Full e = cc
 
 module _ (old new : Local) (name message : List ℕ) (r : LocalFifodir) (kept : Kept) (put : Replaces old new name r kept) (reply : Reply) where
   pub publish_done : (first : ℕ) → ((w : World) → StandsFor r.kept w → PublishReply w message (Ok first)) → ((w : World) → StandsFor r.kept w → StandsFor kept (after_publish w 1 message (Ok first)))
-      → reply ≡ Number first → AskedWith false old (Pub name message) reply new
+      → reply ≡ Number first → AsksWith false old (Pub name message) reply new
   publish_done first replies after is = by_carrying old new false _ _ _ reply (λ e. cc) (λ d st.
       let t = world_there old new name r kept put d st in
       let w = t.0 in record {
         answer = answered_with (Number first) d name (after_publish w 1 message (Ok first));
         unrefused = named d name w t.1;
-        done_is = ap (in_world d (λ v. published d name message v (publish_reply v message))) t.1
-            ∙ ap (published d name message w) (sym (publish_reply_is w message (Ok first) (replies w t.2)));
+        done_is = ap (in_world d (λ v. publish_answer d name message v (publish_reply v message))) t.1
+            ∙ ap (publish_answer d name message w) (sym (publish_reply_is w message (Ok first) (replies w t.2)));
         said = is;
         stands = stands_replaced old new name r kept put d st w (after_publish w 1 message (Ok first)) t.1 (after w t.2) (λ id k. k);
       })
 
-  pub publish_refused : (error : PubError) → ((w : World) → StandsFor r.kept w → PublishReply w message (Err error)) → kept ≡ r.kept → reply ≡ No (refusal_of_pub error) → AskedWith false old (Pub name message) reply new
+  pub publish_refused : (error : PubError) → ((w : World) → StandsFor r.kept w → PublishReply w message (Err error)) → kept ≡ r.kept → reply ≡ No (refusal_of_pub error) → AsksWith false old (Pub name message) reply new
   publish_refused error replies still is = by_carrying old new false _ _ _ reply (λ e. real_refusal error (let k : refusal_of_pub error ≡ no.Memory = cc in k)) (λ d st.
       let t = world_there old new name r kept put d st in
       let w = t.0 in record {
-        answer = refused d (refusal_of_pub error);
+        answer = refusal_answer d (refusal_of_pub error);
         unrefused = named d name w t.1;
-        done_is = ap (in_world d (λ v. published d name message v (publish_reply v message))) t.1
-            ∙ ap (published d name message w) (sym (publish_reply_is w message (Err error) (replies w t.2)));
+        done_is = ap (in_world d (λ v. publish_answer d name message v (publish_reply v message))) t.1
+            ∙ ap (publish_answer d name message w) (sym (publish_reply_is w message (Err error) (replies w t.2)));
         said = is;
         stands = stands_still old new name r kept put d st w t.1 (subst (λ (k : Kept). StandsFor k w) (sym still) t.2);
       })
@@ -134,15 +134,15 @@ module _ (old new : Local) (name message : List ℕ) (r : LocalFifodir) (kept : 
 -- ---- status
 
 pub status_shown : (local : Local) (name : List ℕ) (r : LocalFifodir) (shows : Status) → Some r ≡ lookup (bytes_eq name) local.fifodirs
-    → shows.number ≡ r.kept.end → shows.flags ≡ r.kept.flags → shows.closed ≡ r.kept.closed → AskedWith false local (Show name) (State shows) local
+    → shows.number ≡ r.kept.end → shows.flags ≡ r.kept.flags → shows.closed ≡ r.kept.closed → AsksWith false local (Show name) (State shows) local
 status_shown local name r shows was number flags is_closed = by_carrying local local false _ _ _ (State shows) (λ (e : State shows ≡ No no.Memory). cc) (λ d st.
     let t = some_kept name local.fifodirs d.fifodirs r st.fifodirs (sym was) in
     let w = t.0 in
     let s = t.2 in
     let ends = number ∙ s.end in let flies = flags ∙ s.flags in let closes = is_closed ∙ s.closed in record {
-      answer = shown d w;
+      answer = status_answer d w;
       unrefused = named d name w t.1;
-      done_is = ap (in_world d (shown d)) t.1;
+      done_is = ap (in_world d (status_answer d)) t.1;
       said = λ i. State (record { number = ends i; flags = flies i; closed = closes i });
       stands = st;
     })

@@ -4,7 +4,7 @@ use Rattle.std.proofs.lemmas.Bool.{cases_Bool}
 use Rattle.std.proofs.lemmas.Slice.Eq.{bytes_eq-Decides}
 use Rattle.std.specs.Map.{lookup}
 use Rattle.std.specs.Str.{bytes_eq}
-use Rattle.hub_listen.specs.Listening.{Listening, unheard}
+use Rattle.hub_listen.specs.Listening.{Listening, new_listening}
 use Rattle.hub_letters.specs.declared.mode.Mode.{Mode}
 use Rattle.hub_letters.specs.declared.mode.Mode.TheVariants.{Repeat}
 use Rattle.hub_record.specs.declared.SubError.{SubError}
@@ -12,14 +12,14 @@ use Rattle.hub_record.specs.declared.SubError.TheVariants as sub
 use Rattle.hub_record.specs.Kept.{Kept, StandsFor}
 use Rattle.hub_record.specs.World.{World, new_subscription, SubscribeReply, after_subscribe}
 use Rattle.hub_requests.specs.declared.bounds.TheConstants.{MOST_NUMBERS}
-use Rattle.hub_local.specs.Answers.{in_world, refusal_to_hold, refusal_to_listen, subscribed}
-use Rattle.hub_local.specs.Desks.{Desk, Handle, standing, world_of, with_world, subscription_of, AreHeld, AreApart, GoesOn, AllGoOn, refused}
+use Rattle.hub_local.specs.DeskAnswers.{in_world, refusal_to_hold, refusal_to_listen, subscribe_answer}
+use Rattle.hub_local.specs.Desks.{Desk, Handle, standing, world_of, with_world, subscription_of, AreHeld, AreApart, GoesOn, AllGoOn, refusal_answer}
 use Rattle.hub_local.specs.Replies.{subscribe_reply}
 use Rattle.hub_requests.specs.Refusals.{refusal_of_sub}
 use Rattle.hub_requests.specs.Room.{refusal_of_handle}
 use Rattle.hub_requests.proofs.NextHandle.{room_for_handle}
-use Rattle.hub_local.specs.Standing.{Local, AreKept, Stands, Answers, AskedWith, Unchanged}
-use Rattle.hub_local.specs.declared.local_desk.Hearing.{Hearing}
+use Rattle.hub_local.specs.Standing.{Local, AreKept, StandsForDesk, CarriesOut, AsksWith, Unchanged}
+use Rattle.hub_local.specs.declared.local_desk.LocalListener.{LocalListener}
 use Rattle.hub_local.specs.declared.local_desk.Holding.{Holding}
 use Rattle.hub_local.specs.declared.local_desk.LocalFifodir.{LocalFifodir}
 use Rattle.hub_requests.specs.declared.request.Request.TheVariants.{Listen}
@@ -40,7 +40,7 @@ length-push hs h = length-append hs (h ∷ [])
 
 -- ---- the desk's own refusal
 
-module _ (local : Local) (name : List ℕ) (d : Desk) (st : Stands local d) where
+module _ (local : Local) (name : List ℕ) (d : Desk) (st : StandsForDesk local d) where
   known : (b : Bool) → is_some (lookup (bytes_eq name) local.fifodirs) ≡ b → is_some (world_of d.fifodirs name) ≡ b
   known b e = sym (is_some-world_of name local.fifodirs d.fifodirs st.fifodirs) ∙ e
 
@@ -54,10 +54,10 @@ module _ (local : Local) (name : List ℕ) (d : Desk) (st : Stands local d) wher
 some_none : {X : Type 0} (x : X) → Some x ≡ None → ⊥
 some_none x e = cc
 
-pub named_there : (local : Local) (name : List ℕ) (d : Desk) → Stands local d → refusal_to_hold d name ≡ None → None ≡ lookup (bytes_eq name) local.fifodirs → ⊥
+pub named_there : (local : Local) (name : List ℕ) (d : Desk) → StandsForDesk local d → refusal_to_hold d name ≡ None → None ≡ lookup (bytes_eq name) local.fifodirs → ⊥
 named_there local name d st may none = let e = none_kept name local.fifodirs d.fifodirs st.fifodirs (sym none) in some_none no.Name (simp e at may)
 
-pub numbers_left : (local : Local) (name : List ℕ) (d : Desk) → Stands local d → refusal_to_hold d name ≡ None → local.given < MOST_NUMBERS
+pub numbers_left : (local : Local) (name : List ℕ) (d : Desk) → StandsForDesk local d → refusal_to_hold d name ≡ None → local.given < MOST_NUMBERS
 numbers_left local name d st may =
     elim (cases_Bool (is_some (world_of d.fifodirs name))) [
       | inl t ↦ (let left = room_for_handle (length (standing d)) (length d.handles) (simp t at may) in let l = left.1 in let g = st.given in omega arith)
@@ -65,20 +65,20 @@ numbers_left local name d st may =
     ]
 
 -- with another expression for the desk
-pub unrefused_at : {before old : Local} (name : List ℕ) → before ≡ old → ((d : Desk) → Stands old d → refusal_to_hold d name ≡ None) → (d : Desk) → Stands before d → refusal_to_hold d name ≡ None
-unrefused_at {before} {old} name same may = subst (λ (z : Local). (d : Desk) → Stands z d → refusal_to_hold d name ≡ None) (sym same) may
+pub unrefused_at : {before old : Local} (name : List ℕ) → before ≡ old → ((d : Desk) → StandsForDesk old d → refusal_to_hold d name ≡ None) → (d : Desk) → StandsForDesk before d → refusal_to_hold d name ≡ None
+unrefused_at {before} {old} name same may = subst (λ (z : Local). (d : Desk) → StandsForDesk z d → refusal_to_hold d name ≡ None) (sym same) may
 
 -- the next number isn't that of a current handle
-pub fresh_number : (local : Local) (d : Desk) → Stands local d → lookup (nat_eq (local.given + 1)) local.holdings ≡ None
+pub fresh_number : (local : Local) (d : Desk) → StandsForDesk local d → lookup (nat_eq (local.given + 1)) local.holdings ≡ None
 fresh_number local d st = let g = st.given in ap (lookup (nat_eq (local.given + 1))) st.holdings ∙ none_above 1 d.handles (local.given + 1) (omega arith)
 
 -- ---- one more handle
 
-module _ (old : Local) (name : List ℕ) (hearing : Option Hearing) where
+module _ (old : Local) (name : List ℕ) (hearing : Option LocalListener) where
   abbrev Holds : Reply → Local → Type 0
-  Holds reply new = Answers old true (λ d. refusal_to_hold d name) (λ d. in_world d (λ w. subscribed d name hearing w (subscribe_reply w)) (world_of d.fifodirs name)) Unchanged reply new
+  Holds reply new = CarriesOut old true (λ d. refusal_to_hold d name) (λ d. in_world d (λ w. subscribe_answer d name hearing w (subscribe_reply w)) (world_of d.fifodirs name)) Unchanged reply new
 
-  module _ (may : (d : Desk) → Stands old d → refusal_to_hold d name ≡ None) where
+  module _ (may : (d : Desk) → StandsForDesk old d → refusal_to_hold d name ≡ None) where
     pub hold_lacks : (new : Local) → new ≡ old → Holds (No no.Memory) new
     hold_lacks new same = by_lacking old new true _ _ _ _ refl refl (λ d st. still_lacking new d (refusal_to_hold d name) (may d st) (stands_same old new d same st))
 
@@ -97,12 +97,12 @@ module _ (old : Local) (name : List ℕ) (hearing : Option Hearing) where
           let id : given.0 ≡ length w.subscriptions + 1 = ap (λ (g : ℕ × ℕ). g.0) says.1 in
           let was = stands_replaced old mid name r kept put d st w next t.1 (after w t.2) (λ i. found-push 1 w.subscriptions (new_subscription w) i) in
           let same : old.given + 1 ≡ length d.handles + 1 = ap (λ (n : ℕ). n + 1) st.given in
-          let stood = standing-push 1 d.handles (record { holding = h; stands = true }) (old.given + 1) refl (omega arith) in
+          let stood = standing-push 1 d.handles (record { holding = h; current = true }) (old.given + 1) refl (omega arith) in
           let there_now : is_some (subscription_of (with_world d.fifodirs name next) h) ≡ true =
           simp (world_of-with_world name d.fifodirs w next name t.1, same_name name) (found_new 1 w.subscriptions (new_subscription w) given.0 refl (omega arith)) in record {
-            answer = subscribed d name hearing w (Ok given);
+            answer = subscribe_answer d name hearing w (Ok given);
             unrefused = may d st;
-            done_is = ap (in_world d (λ v. subscribed d name hearing v (subscribe_reply v))) t.1 ∙ ap (subscribed d name hearing w) (sym (subscribe_reply_is w (Ok given) says (λ e. cc)));
+            done_is = ap (in_world d (λ v. subscribe_answer d name hearing v (subscribe_reply v))) t.1 ∙ ap (subscribe_answer d name hearing w) (sym (subscribe_reply_is w (Ok given) says (λ e. cc)));
             said = ap (λ (n : ℕ). Number n) same;
             stands = record {
               fifodirs = subst (λ (es : List (List ℕ × LocalFifodir)). AreKept es (with_world d.fifodirs name next)) (sym fifodirs) was.fifodirs;
@@ -118,7 +118,7 @@ module _ (old : Local) (name : List ℕ) (hearing : Option Hearing) where
           })
 
       module _ (error : SubError) (reply : Reply) (replies : (w : World) → StandsFor r.kept w → SubscribeReply w (Err error)) (still : kept ≡ r.kept) (same : new ≡ mid) (is : reply ≡ No (refusal_of_sub error)) where
-        stands_after : (d : Desk) → Stands old d → Stands new d
+        stands_after : (d : Desk) → StandsForDesk old d → StandsForDesk new d
         stands_after d st = (let t = world_there old mid name r kept put d st in
             stands_same mid new d same (stands_still old mid name r kept put d st t.0 t.1 (subst (λ (k : Kept). StandsFor k t.0) (sym still) t.2)))
 
@@ -126,10 +126,10 @@ module _ (old : Local) (name : List ℕ) (hearing : Option Hearing) where
         refused_by_record real named = by_carrying old new true _ _ _ reply (λ e. named (let k : refusal_of_sub error ≡ no.Memory = cc in k)) (λ d st.
             let t = world_there old mid name r kept put d st in
             let w = t.0 in record {
-              answer = refused d (refusal_of_sub error);
+              answer = refusal_answer d (refusal_of_sub error);
               unrefused = may d st;
-              done_is = ap (in_world d (λ v. subscribed d name hearing v (subscribe_reply v))) t.1
-                  ∙ ap (subscribed d name hearing w) (sym (subscribe_reply_is w (Err error) (replies w t.2) (λ e. real (let k : error ≡ sub.Memory = cc in k))));
+              done_is = ap (in_world d (λ v. subscribe_answer d name hearing v (subscribe_reply v))) t.1
+                  ∙ ap (subscribe_answer d name hearing w) (sym (subscribe_reply_is w (Err error) (replies w t.2) (λ e. real (let k : error ≡ sub.Memory = cc in k))));
               said = is;
               stands = stands_after d st;
             })
@@ -145,9 +145,9 @@ module _ (old : Local) (name : List ℕ) (hearing : Option Hearing) where
 
 -- ---- a listener whose text is a pattern
 
-pub listen_held : (old new : Local) (name pattern : List ℕ) (mode : Mode) (l : Listening) (reply : Reply) → ((d : Desk) → Stands old d → None ≡ refusal_to_hold d name) → l ≡ unheard pattern Repeat
-    → Answers old true (λ d. refusal_to_hold d name) (λ d. in_world d (λ w. subscribed d name (Some (record { listener = l; mode = mode; held = None })) w (subscribe_reply w)) (world_of d.fifodirs name)) Unchanged reply new
-    → AskedWith true old (Listen name mode pattern) reply new
+pub listen_held : (old new : Local) (name pattern : List ℕ) (mode : Mode) (l : Listening) (reply : Reply) → ((d : Desk) → StandsForDesk old d → None ≡ refusal_to_hold d name) → l ≡ new_listening pattern Repeat
+    → CarriesOut old true (λ d. refusal_to_hold d name) (λ d. in_world d (λ w. subscribe_answer d name (Some (record { listener = l; mode = mode; held = None })) w (subscribe_reply w)) (world_of d.fifodirs name)) Unchanged reply new
+    → AsksWith true old (Listen name mode pattern) reply new
 listen_held old new name pattern mode l reply may is a = answers_like
     (λ d st. ap (refusal_to_listen true) (sym (may d st)) ∙ may d st)
-    (λ d. ap (λ (z : Listening). in_world d (λ w. subscribed d name (Some (record { listener = z; mode = mode; held = None })) w (subscribe_reply w)) (world_of d.fifodirs name)) (sym is)) a
+    (λ d. ap (λ (z : Listening). in_world d (λ w. subscribe_answer d name (Some (record { listener = z; mode = mode; held = None })) w (subscribe_reply w)) (world_of d.fifodirs name)) (sym is)) a

@@ -12,15 +12,15 @@ use Rattle.hub_letters.specs.declared.span.Span.{Span}
 use Rattle.hub_wait.specs.declared.tally.Verdict.{Verdict}
 use Rattle.hub_wait.specs.declared.tally.Verdict.TheVariants as verdict
 use Rattle.hub_wait.specs.Verdicts.{verdict as verdict_of}
-use Rattle.hub_local.specs.Answers.{refusal_to_wait}
+use Rattle.hub_local.specs.DeskAnswers.{refusal_to_wait}
 use Rattle.hub_local.specs.Desks.{Desk, Fifodir, world_of, reports_of, with_world, subscription_of}
 use Rattle.hub_local.specs.Opening.{is_there, is_service, refusal_among, OpensAll}
 use Rattle.hub_local.specs.Replies.{subscribe_reply}
-use Rattle.hub_local.specs.Standing.{Local, AreKept, Stands, Answers}
-use Rattle.hub_local.specs.Waits.{Opening, watch_over, so_far, stopped, opened_by, opened_in, with_post, opened, without_subscription, without_posts, left_by, shown_by, verdict_shown, wait_shown, waited, LeftByWait}
+use Rattle.hub_local.specs.Standing.{Local, AreKept, StandsForDesk, CarriesOut}
+use Rattle.hub_local.specs.Waits.{Opening, watch_over, so_far, opening_refused, opened_by, opened_in, with_post, opening_of, without_subscription, without_posts, left_by, shown_by, verdict_shown, wait_shown, wait_answer, LeftByWait}
 use Rattle.hub_local.specs.declared.local_desk.Holding.{Holding}
 use Rattle.hub_local.specs.declared.local_desk.LocalFifodir.{LocalFifodir}
-use Rattle.hub_local.specs.declared.local_desk.waits.Post.{Post}
+use Rattle.hub_local.specs.declared.local_desk.waits.LocalPost.{LocalPost}
 use Rattle.hub_requests.specs.declared.reply.Reply.{Reply}
 use Rattle.hub_requests.specs.declared.reply.Reply.TheVariants.{No}
 use Rattle.hub_requests.specs.declared.reply.Refusal.{Refusal}
@@ -47,7 +47,7 @@ is_service_is name (e ∷ es) (f ∷ fs) h =
     let ih = is_service_is name es fs h.1 in
     elim (cases_Bool (bytes_eq name f.name)) [ inl t ↦ simp (same, t) (ap is_some h.0.reports) | inr t ↦ simp (same, t) ih ]
 
-refusal_among_is : (local : Local) (d : Desk) (names : List (List ℕ)) → Stands local d → refusal_among local.fifodirs names ≡ refusal_to_wait d names
+refusal_among_is : (local : Local) (d : Desk) (names : List (List ℕ)) → StandsForDesk local d → refusal_among local.fifodirs names ≡ refusal_to_wait d names
 refusal_among_is local d names st =
     let there = list_all_same (is_there local.fifodirs) (λ name. is_some (world_of d.fifodirs name)) (λ name. is_some-world_of name local.fifodirs d.fifodirs st.fifodirs) names in
     let serves = list_all_same (is_service local.fifodirs) (λ name. is_some (reports_of d.fifodirs name)) (λ name. is_service_is name local.fifodirs d.fifodirs st.fifodirs) names in
@@ -63,7 +63,7 @@ real_among es names refusal e is =
 -- ---- what a desk holds besides the posts
 
 -- none of the posts is for the subscription of this handle
-abbrev AreBeside : List (List ℕ) → List Post → Holding → Type 0
+abbrev AreBeside : List (List ℕ) → List LocalPost → Holding → Type 0
 AreBeside [] posts g = Unit {0}
 AreBeside (name ∷ names) [] g = Unit {0}
 AreBeside (name ∷ names) (post ∷ posts) g = (name ≡ g.name → post.id ≡ g.id → ⊥) × AreBeside names posts g
@@ -73,7 +73,7 @@ none_beside [] g = tt
 none_beside (name ∷ names) g = tt
 
 -- the subscription of a handle stays current when the posts are ended
-still_held : (fs : List Fifodir) (names : List (List ℕ)) (posts : List Post) (g : Holding) → AreBeside names posts g → is_some (subscription_of fs g) ≡ true
+still_held : (fs : List Fifodir) (names : List (List ℕ)) (posts : List LocalPost) (g : Holding) → AreBeside names posts g → is_some (subscription_of fs g) ≡ true
     → is_some (subscription_of (without_posts fs names posts) g) ≡ true
 still_held fs [] posts g beside s = s
 still_held fs (name ∷ names) [] g beside s = s
@@ -81,8 +81,8 @@ still_held fs (name ∷ names) (post ∷ posts) g beside s =
     still_held (without_subscription fs name post.id) names posts g beside.1 (held_beside_cancelled fs (record { name = name; id = post.id; hearing = None }) g beside.0 s)
 
 -- the subscription of a handle is current beside the posts that were opened
-pub record StandsBeside (now : List Fifodir) (names : List (List ℕ)) (before posts : List Post) (g : Holding) : Type 0 where
-  pub more : List Post
+pub record StandsBeside (now : List Fifodir) (names : List (List ℕ)) (before posts : List LocalPost) (g : Holding) : Type 0 where
+  pub more : List LocalPost
   pub are : posts ≡ before ++ more
   pub beside : AreBeside names more g
   pub stands : is_some (subscription_of now g) ≡ true
@@ -90,18 +90,18 @@ pub record StandsBeside (now : List Fifodir) (names : List (List ℕ)) (before p
 pub given_is : (w : World) (given : ℕ × ℕ) → subscribe_reply w ≡ Ok given → given.0 ≡ length w.subscriptions + 1
 given_is w given said = let replies = subst (SubscribeReply w) said (subscribe_is_of w).0 in ap (λ (g : ℕ × ℕ). g.0) replies.1
 
-stays_stopped : (want : Want) (names : List (List ℕ)) (fs now : List Fifodir) (before posts : List Post) (refusal : Refusal) → fold (with_post want) (stopped fs before refusal) names ≡ so_far now posts → ⊥
+stays_stopped : (want : Want) (names : List (List ℕ)) (fs now : List Fifodir) (before posts : List LocalPost) (refusal : Refusal) → fold (with_post want) (opening_refused fs before refusal) names ≡ so_far now posts → ⊥
 stays_stopped want [] fs now before posts refusal e = let k : Some refusal ≡ None = ap (λ (o : Opening). o.refusal) e in cc
 stays_stopped want (name ∷ names) fs now before posts refusal e = stays_stopped want names fs now before posts refusal e
 
-module _ (want : Want) (name : List ℕ) (names rest : List (List ℕ)) (fs now : List Fifodir) (before posts : List Post) (g : Holding) (s : is_some (subscription_of fs g) ≡ true)
-    (later : (mid : List Fifodir) (so_many : List Post) → is_some (subscription_of mid g) ≡ true → fold (with_post want) (so_far mid so_many) names ≡ so_far now posts → StandsBeside now (names ++ rest) so_many posts g) where
+module _ (want : Want) (name : List ℕ) (names rest : List (List ℕ)) (fs now : List Fifodir) (before posts : List LocalPost) (g : Holding) (s : is_some (subscription_of fs g) ≡ true)
+    (later : (mid : List Fifodir) (so_many : List LocalPost) → is_some (subscription_of mid g) ≡ true → fold (with_post want) (so_far mid so_many) names ≡ so_far now posts → StandsBeside now (names ++ rest) so_many posts g) where
   beside_one : (w : World) → world_of fs name ≡ Some w → (r : Result (ℕ × ℕ) SubError) → subscribe_reply w ≡ r → fold (with_post want) (opened_by want (so_far fs before) name w r) names ≡ so_far now posts
       → StandsBeside now (name ∷ (names ++ rest)) before posts g
   beside_one w is (Err error) said e = absurd (stays_stopped want names fs now before posts _ e)
   beside_one w is (Ok given) said e =
       let held = held_in_changed fs name w (after_subscribe w (Ok given)) is g (λ same h. found-push 1 w.subscriptions (new_subscription w) g.id h) s in
-      let post : Post = record { id = given.0; watch = watch_over want (reports_of fs name) w } in
+      let post : LocalPost = record { id = given.0; watch = watch_over want (reports_of fs name) w } in
       let l = later (with_world fs name (after_subscribe w (Ok given))) (before ++ post ∷ []) held e in record {
         more = post ∷ l.more;
         are = l.are ∙ append_assoc before (post ∷ []) l.more;
@@ -113,7 +113,7 @@ module _ (want : Want) (name : List ℕ) (names rest : List (List ℕ)) (fs now 
   beside_next None is e = absurd (stays_stopped want names fs now before posts _ e)
   beside_next (Some w) is e = beside_one w is (subscribe_reply w) refl e
 
-beside_opened : (want : Want) (names rest : List (List ℕ)) (fs now : List Fifodir) (before posts : List Post) (g : Holding) → is_some (subscription_of fs g) ≡ true
+beside_opened : (want : Want) (names rest : List (List ℕ)) (fs now : List Fifodir) (before posts : List LocalPost) (g : Holding) → is_some (subscription_of fs g) ≡ true
     → fold (with_post want) (so_far fs before) names ≡ so_far now posts → StandsBeside now (names ++ rest) before posts g
 beside_opened want [] rest fs now before posts g s e = record {
   more = [];
@@ -126,7 +126,7 @@ beside_opened want (name ∷ names) rest fs now before posts g s e =
 
 -- ---- wait
 
-verdict_real : (posts : List Post) (answer : Option Verdict) → shown_by posts answer ≢ No no.Memory
+verdict_real : (posts : List LocalPost) (answer : Option Verdict) → shown_by posts answer ≢ No no.Memory
 verdict_real posts (Some verdict.Yes) = λ e. cc
 verdict_real posts (Some verdict.Never) = λ e. cc
 verdict_real posts (Some verdict.Late) = λ e. cc
@@ -134,7 +134,7 @@ verdict_real posts None = λ e. cc
 
 abbrev pub Waits : Local → Local → Span → Want → List (List ℕ) → Reply → Type 0
 Waits old new span want names reply =
-    Answers old true (λ d. refusal_to_wait d names) (λ d. waited d span want names) (λ d left. LeftByWait d want names left) reply new
+    CarriesOut old true (λ d. refusal_to_wait d names) (λ d. wait_answer d span want names) (λ d left. LeftByWait d want names left) reply new
 
 pub waits_for : (old new : Local) (span : Span) (want : Want) (names same : List (List ℕ)) (reply : Reply) → names ≡ same → Waits old new span want names reply → Waits old new span want same reply
 waits_for old new span want names same reply e = subst (λ (ns : List (List ℕ)). Waits old new span want ns reply) e
@@ -142,10 +142,10 @@ waits_for old new span want names same reply e = subst (λ (ns : List (List ℕ)
 module _ (old new : Local) (span : Span) (want : Want) (names : List (List ℕ)) where
   pub wait_refused : (refusal : Refusal) → new ≡ old → refusal_among old.fifodirs names ≡ Some refusal → Waits old new span want names (No refusal)
   wait_refused refusal same is = by_refusing old new true _ _ _ _ refusal refl (real_among old.fifodirs names refusal is)
-      (λ d st. sym (refusal_among_is old d names st) ∙ is) (λ d st. subst (λ (z : Local). Stands z d) (sym same) st)
+      (λ d st. sym (refusal_among_is old d names st) ∙ is) (λ d st. subst (λ (z : Local). StandsForDesk z d) (sym same) st)
 
   module _ (allowed : refusal_among old.fifodirs names ≡ None) where
-    may_wait : (d : Desk) → Stands old d → refusal_to_wait d names ≡ None
+    may_wait : (d : Desk) → StandsForDesk old d → refusal_to_wait d names ≡ None
     may_wait d st = sym (refusal_among_is old d names st) ∙ allowed
 
     -- before any post is opened
@@ -154,14 +154,14 @@ module _ (old new : Local) (span : Span) (want : Want) (names : List (List ℕ))
       unrefused = may_wait d st;
       desk = d;
       is_left = record { count = 0; unrefused = refl; left = ap (λ (fs : List Fifodir). record d { fifodirs = fs }) (sym (without_posts-none d.fifodirs names)) };
-      stands = subst (λ (z : Local). Stands z d) (sym same) st;
+      stands = subst (λ (z : Local). StandsForDesk z d) (sym same) st;
     })
 
     -- `mid` has the posts, and in `new` they are ended
-    module _ (mid : List (List ℕ × LocalFifodir)) (posts : List Post) (holdings : new.holdings ≡ old.holdings) (given : new.given ≡ old.given)
+    module _ (mid : List (List ℕ × LocalFifodir)) (posts : List LocalPost) (holdings : new.holdings ≡ old.holdings) (given : new.given ≡ old.given)
         (back : (fs : List Fifodir) → AreKept mid fs → AreKept new.fifodirs (without_posts fs names posts)) where
-      stands_left : (d : Desk) → Stands old d → (now : List Fifodir) → AreKept mid now → (count : ℕ) → opened want d.fifodirs (take count names) ≡ so_far now posts
-          → Stands new (record d { fifodirs = without_posts now names posts })
+      stands_left : (d : Desk) → StandsForDesk old d → (now : List Fifodir) → AreKept mid now → (count : ℕ) → opening_of want d.fifodirs (take count names) ≡ so_far now posts
+          → StandsForDesk new (record d { fifodirs = without_posts now names posts })
       stands_left d st now kept count e = record {
         fifodirs = back now kept;
         holdings = holdings ∙ st.holdings;
@@ -169,7 +169,7 @@ module _ (old new : Local) (span : Span) (want : Want) (names : List (List ℕ))
         is_desk = record {
           held = held_still d.fifodirs (without_posts now names posts) (λ g s.
               let b = beside_opened want (take count names) (drop count names) d.fifodirs now [] posts g s e in
-              still_held now names posts g (subst (λ (ns : List (List ℕ)). AreBeside ns posts g) (take-append-drop count names) (subst (λ (ps : List Post). AreBeside (take count names ++ drop count names) ps g) (sym b.are) b.beside)) b.stands) _ st.is_desk.held;
+              still_held now names posts g (subst (λ (ns : List (List ℕ)). AreBeside ns posts g) (take-append-drop count names) (subst (λ (ps : List LocalPost). AreBeside (take count names ++ drop count names) ps g) (sym b.are) b.beside)) b.stands) _ st.is_desk.held;
           apart = st.is_desk.apart;
           go_on = st.is_desk.go_on;
         };
@@ -182,7 +182,7 @@ module _ (old new : Local) (span : Span) (want : Want) (names : List (List ℕ))
             unrefused = may_wait d st;
             done_is = ap (λ (o : Opening). record { reply = wait_shown span o.posts o.refusal; desk = record d { fifodirs = left_by o names } }) t.2;
             said = is;
-            stands = stands_left d st t.0 t.1 (length names) (ap (opened want d.fifodirs) (take_all (length names) names (let same : length names ≤ length names = omega arith in same)) ∙ t.2);
+            stands = stands_left d st t.0 t.1 (length names) (ap (opening_of want d.fifodirs) (take_all (length names) names (let same : length names ≤ length names = omega arith in same)) ∙ t.2);
           })
 
       pub wait_stopped : (refusal : Refusal) → ((fs : List Fifodir) → AreKept old.fifodirs fs → OpensAll want names fs (Err refusal) mid posts) → Waits old new span want names (No refusal)

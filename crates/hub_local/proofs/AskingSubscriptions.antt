@@ -6,10 +6,10 @@ use Rattle.hub_record.specs.declared.NoId.{NoId}
 use Rattle.hub_record.specs.declared.Taken.{Taken}
 use Rattle.hub_record.specs.declared.Taken.TheVariants as taken
 use Rattle.hub_record.specs.Kept.{Kept, StandsFor}
-use Rattle.hub_record.specs.World.{World, Subscription, letters, found, after_cancel, moved_on, take_reply, take_events, after_take, after_take_for}
-use Rattle.hub_local.specs.Answers.{in_world, for_holding, refusal_to_take, take_shown, took, cancelled}
-use Rattle.hub_local.specs.Desks.{Desk, Fifodir, standing, held, world_of, subscription_of, AreHeld, AreApart, AllGoOn, end_in, without_held, without_all, ended}
-use Rattle.hub_local.specs.Standing.{Local, AreKept, Stands, HasSubscription, AskedWith, Ended}
+use Rattle.hub_record.specs.World.{World, Subscription, letters, subscription_in, after_cancel, moved_on, take_reply, take_events, after_take, after_take_for}
+use Rattle.hub_local.specs.DeskAnswers.{in_world, for_holding, refusal_to_take, take_shown, took, cancel_answer}
+use Rattle.hub_local.specs.Desks.{Desk, Fifodir, standing, holding_at, world_of, subscription_of, AreHeld, AreApart, AllGoOn, end_in, without_held, without_all, desk_after_end}
+use Rattle.hub_local.specs.Standing.{Local, AreKept, StandsForDesk, HasSubscription, AsksWith, Ended}
 use Rattle.hub_local.specs.declared.local_desk.Holding.{Holding}
 use Rattle.hub_local.specs.declared.local_desk.LocalFifodir.{LocalFifodir}
 use Rattle.hub_requests.specs.declared.request.Request.TheVariants.{Take, Cancel}
@@ -22,10 +22,10 @@ use Rattle.hub_local.proofs.KeptFifodirs.{none_kept, some_kept, kept_set}
 use Rattle.hub_local.proofs.Worlds.{found_changed}
 
 -- after a take each current subscription is still current
-pub taken_still : (w : World) (id max other : ℕ) → is_some (found w other) ≡ true → is_some (found (after_take w id max) other) ≡ true
-taken_still w id max other s = by (found w id)
+pub taken_still : (w : World) (id max other : ℕ) → is_some (subscription_in w other) ≡ true → is_some (subscription_in (after_take w id max) other) ≡ true
+taken_still w id max other s = by (subscription_in w id)
   where
-    by : (o : Option Subscription) → is_some (found (after_take_for w id max o) other) ≡ true
+    by : (o : Option Subscription) → is_some (subscription_in (after_take_for w id max o) other) ≡ true
     by None = s
     by (Some x) = found_changed (moved_on w max) (λ y. refl) 1 w.subscriptions id other s
 
@@ -41,19 +41,19 @@ released es fs h r kept k was ends =
 pub unreleased : (es : List (List ℕ × LocalFifodir)) (fs : List Fifodir) (h : Holding) → AreKept es fs → lookup (bytes_eq h.name) es ≡ None → AreKept es (without_held fs h)
 unreleased es fs h k none = subst (λ (o : Option World). AreKept es (end_in fs h o)) (sym (none_kept h.name es fs k none)) k
 
-pub cancel_unheld : (old new : Local) (n : ℕ) → None ≡ lookup (nat_eq n) old.holdings → new ≡ old → AskedWith false old (Cancel n) (No no.Id) new
+pub cancel_unheld : (old new : Local) (n : ℕ) → None ≡ lookup (nat_eq n) old.holdings → new ≡ old → AsksWith false old (Cancel n) (No no.Id) new
 cancel_unheld old new n none same = by_refusing old new false _ _ _ _ no.Id refl (λ e. cc)
-    (λ d st. (let e : held d n ≡ None = sym (none ∙ ap (lookup (nat_eq n)) st.holdings) in simp e)) (λ d st. stands_same old new d same st)
+    (λ d st. (let e : holding_at d n ≡ None = sym (none ∙ ap (lookup (nat_eq n)) st.holdings) in simp e)) (λ d st. stands_same old new d same st)
 
 pub cancel_done : (old new : Local) (n : ℕ) (h : Holding) → Some h ≡ lookup (nat_eq n) old.holdings → new.holdings ≡ remove_entry (nat_eq n) old.holdings
-    → ((fs : List Fifodir) → AreKept old.fifodirs fs → AreKept new.fifodirs (without_held fs h)) → new.given ≡ old.given → AskedWith false old (Cancel n) Done new
+    → ((fs : List Fifodir) → AreKept old.fifodirs fs → AreKept new.fifodirs (without_held fs h)) → new.given ≡ old.given → AsksWith false old (Cancel n) Done new
 cancel_done old new n h was holdings fifodirs given = by_carrying old new false _ _ _ Done (λ (e : Done ≡ No no.Memory). cc) (λ d st.
-    let e : held d n ≡ Some h = sym (was ∙ ap (lookup (nat_eq n)) st.holdings) in
+    let e : holding_at d n ≡ Some h = sym (was ∙ ap (lookup (nat_eq n)) st.holdings) in
     let less = standing-without 1 d.handles n h e in
     let left = remove_entry (nat_eq n) (standing d) in record {
-      answer = cancelled d n h;
+      answer = cancel_answer d n h;
       unrefused = simp e;
-      done_is = ap (for_holding d (cancelled d n)) e;
+      done_is = ap (for_holding d (cancel_answer d n)) e;
       said = refl;
       stands = record {
         fifodirs = fifodirs d.fifodirs st.fifodirs;
@@ -70,13 +70,13 @@ cancel_done old new n h was holdings fifodirs given = by_carrying old new false 
 
 -- ---- take
 
-pub take_unheld : (old new : Local) (n max : ℕ) → None ≡ lookup (nat_eq n) old.holdings → new ≡ old → AskedWith false old (Take n max) (No no.Id) new
+pub take_unheld : (old new : Local) (n max : ℕ) → None ≡ lookup (nat_eq n) old.holdings → new ≡ old → AsksWith false old (Take n max) (No no.Id) new
 take_unheld old new n max none same = by_refusing old new true _ _ _ _ no.Id refl (λ e. cc)
-    (λ d st. (let e : held d n ≡ None = sym (none ∙ ap (lookup (nat_eq n)) st.holdings) in simp e)) (λ d st. stands_same old new d same st)
+    (λ d st. (let e : holding_at d n ≡ None = sym (none ∙ ap (lookup (nat_eq n)) st.holdings) in simp e)) (λ d st. stands_same old new d same st)
 
-pub take_heard : (old new : Local) (n max : ℕ) (h : Holding) → Some h ≡ lookup (nat_eq n) old.holdings → is_some h.hearing ≡ true → new ≡ old → AskedWith false old (Take n max) (No no.Id) new
+pub take_heard : (old new : Local) (n max : ℕ) (h : Holding) → Some h ≡ lookup (nat_eq n) old.holdings → is_some h.hearing ≡ true → new ≡ old → AsksWith false old (Take n max) (No no.Id) new
 take_heard old new n max h was heard same = by_refusing old new true _ _ _ _ no.Id refl (λ e. cc)
-    (λ d st. (let e : held d n ≡ Some h = sym (was ∙ ap (lookup (nat_eq n)) st.holdings) in simp (e, heard))) (λ d st. stands_same old new d same st)
+    (λ d st. (let e : holding_at d n ≡ Some h = sym (was ∙ ap (lookup (nat_eq n)) st.holdings) in simp (e, heard))) (λ d st. stands_same old new d same st)
 
 shown_real : (letters : List ℕ) (r : Result Taken NoId) → take_shown letters r ≢ No no.Memory
 shown_real letters (Ok (taken.Got count)) = λ e. cc
@@ -85,7 +85,7 @@ shown_real letters (Ok taken.End) = λ e. cc
 shown_real letters (Err error) = λ e. cc
 
 -- the subscription of a current handle is current
-module _ (local : Local) (d : Desk) (st : Stands local d) (n : ℕ) (h : Holding) (was : Some h ≡ lookup (nat_eq n) local.holdings) where
+module _ (local : Local) (d : Desk) (st : StandsForDesk local d) (n : ℕ) (h : Holding) (was : Some h ≡ lookup (nat_eq n) local.holdings) where
   is_held : is_some (subscription_of d.fifodirs h) ≡ true
   is_held = held_at d.fifodirs (standing d) n h st.is_desk.held (sym (was ∙ ap (lookup (nat_eq n)) st.holdings))
 
@@ -98,13 +98,13 @@ module _ (local : Local) (d : Desk) (st : Stands local d) (n : ℕ) (h : Holding
       let e = t.1 in record { world = t.0; stands = t.2; subscribed = simp e at is_held }
 
 module _ (old new : Local) (n max : ℕ) (h : Holding) (was : Some h ≡ lookup (nat_eq n) old.holdings) (plain : is_some h.hearing ≡ false) where
-  held_there : (d : Desk) → Stands old d → held d n ≡ Some h
+  held_there : (d : Desk) → StandsForDesk old d → holding_at d n ≡ Some h
   held_there d st = sym (was ∙ ap (lookup (nat_eq n)) st.holdings)
 
   module _ (r : LocalFifodir) (kept : Kept) (put : Replaces old new h.name r kept) (reply : Reply) where
     -- with room for `len` events, which is what was asked for
     pub take_done : (len : ℕ) → HasSubscription r.kept h.id → ((w : World) → StandsFor r.kept w → reply ≡ take_shown (letters (take_events w h.id len)) (take_reply w h.id len))
-        → ((w : World) → StandsFor r.kept w → StandsFor kept (after_take w h.id len)) → len ≡ max → AskedWith false old (Take n max) reply new
+        → ((w : World) → StandsFor r.kept w → StandsFor kept (after_take w h.id len)) → len ≡ max → AsksWith false old (Take n max) reply new
     take_done len has says after same = by_carrying old new true _ _ _ reply (λ e. shown_real _ _ (sym (says has.world has.stands) ∙ e)) (λ d st.
         let t = world_there old new h.name r kept put d st in
         let w = t.0 in
@@ -116,16 +116,16 @@ module _ (old new : Local) (n max : ℕ) (h : Holding) (was : Some h ≡ lookup 
           stands = stands_replaced old new h.name r kept put d st w (after_take w h.id max) t.1 (subst (λ (k : ℕ). StandsFor kept (after_take w h.id k)) same (after w t.2)) (taken_still w h.id max);
         })
 
-    pub take_lacks : kept ≡ r.kept → reply ≡ No no.Memory → AskedWith false old (Take n max) reply new
+    pub take_lacks : kept ≡ r.kept → reply ≡ No no.Memory → AsksWith false old (Take n max) reply new
     take_lacks still is = by_lacking old new true _ _ _ reply is refl (λ d st.
         let t = world_there old new h.name r kept put d st in
         let e = held_there d st in
-        still_lacking new d (refusal_to_take (held d n)) (simp (e, plain)) (stands_still old new h.name r kept put d st t.0 t.1 (subst (λ (k : Kept). StandsFor k t.0) (sym still) t.2)))
+        still_lacking new d (refusal_to_take (holding_at d n)) (simp (e, plain)) (stands_still old new h.name r kept put d st t.0 t.1 (subst (λ (k : Kept). StandsFor k t.0) (sym still) t.2)))
 
 -- ---- the end of a session
 
 pub session_ended : (old new : Local) → new.holdings ≡ [] → new.given ≡ old.given
-    → ((fs : List Fifodir) → AreKept old.fifodirs fs → AreKept new.fifodirs (without_all fs (values_of old.holdings))) → (d : Desk) → Stands old d → Stands new (ended d)
+    → ((fs : List Fifodir) → AreKept old.fifodirs fs → AreKept new.fifodirs (without_all fs (values_of old.holdings))) → (d : Desk) → StandsForDesk old d → StandsForDesk new (desk_after_end d)
 session_ended old new none given released d st =
     let gone = standing-dropped 1 d.handles in
     let left = without_all d.fifodirs (values_of (standing d)) in record {

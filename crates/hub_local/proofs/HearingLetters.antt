@@ -1,25 +1,25 @@
 -- What a listener hears, letter by letter.
 use Rattle.std.proofs.Common.{◌≡◌, ℕ, ◌-◌, List, [], ◌∷◌, ◌++◌, length, Option, Some, None, option_to_list, Ok, Err, refl, sym, ap, subst, ◌∙◌, arith}
 use Rattle.hub_record.specs.Kept.{Kept, StandsFor}
-use Rattle.hub_record.specs.World.{World, Subscription, found, taken, after_take}
+use Rattle.hub_record.specs.World.{World, Subscription, subscription_in, count_to_take, after_take}
 use Rattle.hub_local.specs.Polls.{to_hear, taken_from}
 use Rattle.hub_local.specs.Hearings.{behind, HearsOne, TakesOne}
-use Rattle.hub_local.specs.declared.local_desk.Hearing.{Hearing}
+use Rattle.hub_local.specs.declared.local_desk.LocalListener.{LocalListener}
 use Rattle.hub_local.specs.declared.local_desk.listeners.Heard.{Heard}
 use Rattle.hub_local.specs.declared.local_desk.listeners.Heard.TheVariants.{Hit, Nothing, End, Lacking}
 use Rattle.hub_local.proofs.Takings.{take_none}
 
 -- ---- the next letter
 
-pub record HasNext (g : Hearing) (w : World) (id : ℕ) (x : ℕ) (kept : Kept) : Type 0 where
+pub record HasNext (g : LocalListener) (w : World) (id : ℕ) (x : ℕ) (kept : Kept) : Type 0 where
   pub rest : List ℕ
   pub first : to_hear g w id ≡ x ∷ rest
   pub stands : StandsFor kept (taken_from g w id 1)
 
-module _ (g : Hearing) (w : World) (id : ℕ) (s : Subscription) (is : found w id ≡ Some s) where
+module _ (g : LocalListener) (w : World) (id : ℕ) (s : Subscription) (is : subscription_in w id ≡ Some s) where
   pub none_used : (kept : Kept) → StandsFor kept w → (n : ℕ) → n ≡ length (option_to_list g.held) → StandsFor kept (taken_from g w id n)
   none_used kept stands n same =
-      let t : taken w s (n - length (option_to_list g.held)) ≡ 0 = omega arith in
+      let t : count_to_take w s (n - length (option_to_list g.held)) ≡ 0 = omega arith in
       subst (StandsFor kept) (sym (take_none w id s is (n - length (option_to_list g.held)) t)) stands
 
   pub held_next : (x y : ℕ) → g.held ≡ Some y → x ≡ y → (kept old : Kept) → StandsFor old w → kept ≡ old → HasNext g w id x kept

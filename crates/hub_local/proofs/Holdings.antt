@@ -4,8 +4,8 @@ use Rattle.std.proofs.lemmas.Bool.{cases_Bool, eqb-true, ne_eqb}
 use Rattle.std.specs.Map.{lookup, remove_entry}
 use Rattle.std.specs.Str.{bytes_eq}
 use Rattle.std.proofs.lemmas.Slice.Eq.{bytes_eq-Decides}
-use Rattle.hub_record.specs.World.{World, Subscription, found, stopped, after_cancel, after_cancel_for}
-use Rattle.hub_local.specs.Desks.{Fifodir, Handle, world_of, with_world, standing_from, dropped, without_from, subscription_of, AreHeld, IsApart, AreApart, GoesOn, AllGoOn, end_in, without_held}
+use Rattle.hub_record.specs.World.{World, Subscription, subscription_in, as_cancelled, after_cancel, after_cancel_for}
+use Rattle.hub_local.specs.Desks.{Fifodir, Handle, world_of, with_world, standing_from, without_holding, without_from, subscription_of, AreHeld, IsApart, AreApart, GoesOn, AllGoOn, end_in, without_held}
 use Rattle.hub_local.specs.declared.local_desk.Holding.{Holding}
 use Rattle.hub_local.proofs.KeptFifodirs.{world_of-push, world_of-with_world}
 use Rattle.hub_local.proofs.Worlds.{found_below, found_changed_other}
@@ -18,7 +18,7 @@ none_below from [] n l = refl
 none_below from (h ∷ rest) n l =
     let no : nat_eq n from ≡ false = ne_eqb n from (λ (e : n ≡ from). omega arith) in
     let ih = none_below (from + 1) rest n (omega arith) in
-    elim (cases_Bool h.stands) [ inl st ↦ simp (st, no) ih | inr st ↦ simp st ih ]
+    elim (cases_Bool h.current) [ inl st ↦ simp (st, no) ih | inr st ↦ simp st ih ]
 
 -- nor is a number that wasn't given yet
 pub none_above : (from : ℕ) (hs : List Handle) (n : ℕ) → from + length hs ≤ n → lookup (nat_eq n) (standing_from from hs) ≡ None
@@ -26,13 +26,13 @@ none_above from [] n l = refl
 none_above from (h ∷ rest) n l =
     let no : nat_eq n from ≡ false = ne_eqb n from (λ (e : n ≡ from). omega arith) in
     let ih = none_above (from + 1) rest n (omega arith) in
-    elim (cases_Bool h.stands) [ inl st ↦ simp (st, no) ih | inr st ↦ simp st ih ]
+    elim (cases_Bool h.current) [ inl st ↦ simp (st, no) ih | inr st ↦ simp st ih ]
 
-pub standing-push : (from : ℕ) (hs : List Handle) (h : Handle) (n : ℕ) → h.stands ≡ true → n ≡ from + length hs → standing_from from (hs ++ h ∷ []) ≡ standing_from from hs ++ (n, h.holding) ∷ []
+pub standing-push : (from : ℕ) (hs : List Handle) (h : Handle) (n : ℕ) → h.current ≡ true → n ≡ from + length hs → standing_from from (hs ++ h ∷ []) ≡ standing_from from hs ++ (n, h.holding) ∷ []
 standing-push from [] h n st is = let same : from ≡ n = omega arith in simp st (ap (λ (z : ℕ). (z, h.holding) ∷ []) same)
 standing-push from (x ∷ rest) h n st is =
     let ih = standing-push (from + 1) rest h n st (omega arith) in
-    elim (cases_Bool x.stands) [ inl xs ↦ simp xs (ap (λ (z : List (ℕ × Holding)). (from, x.holding) ∷ z) ih) | inr xs ↦ simp xs ih ]
+    elim (cases_Bool x.current) [ inl xs ↦ simp xs (ap (λ (z : List (ℕ × Holding)). (from, x.holding) ∷ z) ih) | inr xs ↦ simp xs ih ]
 
 pub standing-without : (from : ℕ) (hs : List Handle) (n : ℕ) (h : Holding) → lookup (nat_eq n) (standing_from from hs) ≡ Some h
     → standing_from from (without_from from hs n) ≡ remove_entry (nat_eq n) (standing_from from hs)
@@ -41,11 +41,11 @@ standing-without from (x ∷ rest) n h e =
     elim (cases_Bool (nat_eq n from)) [
       | inl t ↦ (let is : n ≡ from = eqb-true n from t in
           let none = none_below (from + 1) rest n (omega arith) in
-          elim (cases_Bool x.stands) [
+          elim (cases_Bool x.current) [
             | inl st ↦ simp (t, st)
             | inr st ↦ (let k = simp st at e in absurd (let no : ⊥ = cc in no))
           ])
-      | inr t ↦ elim (cases_Bool x.stands) [
+      | inr t ↦ elim (cases_Bool x.current) [
         | inl st ↦ (let k = simp (st, t) at e in simp (t, st) (ap (λ (z : List (ℕ × Holding)). (from, x.holding) ∷ z) (standing-without (from + 1) rest n h k)))
         | inr st ↦ (let k = simp st at e in simp (t, st) (standing-without (from + 1) rest n h k))
       ]
@@ -55,11 +55,11 @@ pub length-without : (from : ℕ) (hs : List Handle) (n : ℕ) → length (witho
 length-without from [] n = refl
 length-without from (x ∷ rest) n = elim (cases_Bool (nat_eq n from)) [ inl t ↦ simp t | inr t ↦ simp t (ap suc (length-without (from + 1) rest n)) ]
 
-pub standing-dropped : (from : ℕ) (hs : List Handle) → standing_from from (map dropped hs) ≡ []
+pub standing-dropped : (from : ℕ) (hs : List Handle) → standing_from from (map without_holding hs) ≡ []
 standing-dropped from [] = refl
 standing-dropped from (h ∷ rest) = standing-dropped (from + 1) rest
 
-pub length-dropped : (hs : List Handle) → length (map dropped hs) ≡ length hs
+pub length-dropped : (hs : List Handle) → length (map without_holding hs) ≡ length hs
 length-dropped [] = refl
 length-dropped (h ∷ rest) = ap suc (length-dropped rest)
 
@@ -143,7 +143,7 @@ go_on_removed (x ∷ es) n k = elim (cases_Bool (nat_eq n x.0)) [ inl t ↦ simp
 
 module _ (fs : List Fifodir) (name : List ℕ) (w new : World) (is : world_of fs name ≡ Some w) where
   -- a subscription stays current if it does so in that world
-  pub held_in_changed : (h : Holding) → (h.name ≡ name → is_some (found w h.id) ≡ true → is_some (found new h.id) ≡ true)
+  pub held_in_changed : (h : Holding) → (h.name ≡ name → is_some (subscription_in w h.id) ≡ true → is_some (subscription_in new h.id) ≡ true)
       → is_some (subscription_of fs h) ≡ true → is_some (subscription_of (with_world fs name new) h) ≡ true
   held_in_changed h keep s =
       elim (cases_Bool (bytes_eq h.name name)) [
@@ -172,12 +172,12 @@ held_with_more fs f h s = by (world_of fs h.name) refl
 
 -- ---- without the subscription of a handle
 
-stopped_still : (w : World) (h g : Holding) → (h.id ≡ g.id → ⊥) → is_some (found w g.id) ≡ true → is_some (found (after_cancel w h.id) g.id) ≡ true
-stopped_still w h g apart s = by (found w h.id)
+stopped_still : (w : World) (h g : Holding) → (h.id ≡ g.id → ⊥) → is_some (subscription_in w g.id) ≡ true → is_some (subscription_in (after_cancel w h.id) g.id) ≡ true
+stopped_still w h g apart s = by (subscription_in w h.id)
   where
-    by : (o : Option Subscription) → is_some (found (after_cancel_for w h.id o) g.id) ≡ true
+    by : (o : Option Subscription) → is_some (subscription_in (after_cancel_for w h.id o) g.id) ≡ true
     by None = s
-    by (Some x) = found_changed_other stopped 1 w.subscriptions h.id g.id (λ e. apart (sym e)) s
+    by (Some x) = found_changed_other as_cancelled 1 w.subscriptions h.id g.id (λ e. apart (sym e)) s
 
 pub held_beside_cancelled : (fs : List Fifodir) (h g : Holding) → (h.name ≡ g.name → h.id ≡ g.id → ⊥) → is_some (subscription_of fs g) ≡ true → is_some (subscription_of (without_held fs h) g) ≡ true
 held_beside_cancelled fs h g apart s = by (world_of fs h.name) refl

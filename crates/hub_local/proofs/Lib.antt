@@ -6,7 +6,7 @@ pub mod Asking
 pub mod AskingFifodirs
 pub mod Takings
 pub mod HearingLetters
-pub mod HearingFronts
+pub mod HearingPrefixes
 pub mod AskingHolds
 pub mod AskingSubscriptions
 mod ShortRefusals

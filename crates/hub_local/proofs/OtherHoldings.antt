@@ -13,11 +13,11 @@ standing-with from (x ∷ rest) n h new e =
     elim (cases_Bool (nat_eq n from)) [
       | inl t ↦ (let is : n ≡ from = eqb-true n from t in
           let none = none_below (from + 1) rest n (omega arith) in
-          elim (cases_Bool x.stands) [
+          elim (cases_Bool x.current) [
             | inl st ↦ simp (t, st)
             | inr st ↦ (let k = simp st at e in absurd (let no : ⊥ = cc in no))
           ])
-      | inr t ↦ elim (cases_Bool x.stands) [
+      | inr t ↦ elim (cases_Bool x.current) [
         | inl st ↦ (let k = simp (st, t) at e in simp (t, st) (ap (λ (z : List (ℕ × Holding)). (from, x.holding) ∷ z) (standing-with (from + 1) rest n h new k)))
         | inr st ↦ (let k = simp st at e in simp (t, st) (standing-with (from + 1) rest n h new k))
       ]

@@ -16,16 +16,16 @@ use Rattle.hub_record.specs.Kept.{Kept, StandsFor}
 use Rattle.hub_record.specs.World.{World, SubscribeReply, after_subscribe}
 use Rattle.hub_letters.specs.declared.span.Span.{Span}
 use Rattle.hub_wait.specs.Verdicts.{Tallied, tally_of}
-use Rattle.hub_wait.specs.Watching.{Watching, started}
+use Rattle.hub_wait.specs.Watching.{Watching, new_watching}
 use Rattle.hub_local.specs.Desks.{Fifodir, reports_of, with_world}
 use Rattle.hub_local.specs.Opening.{OpensPost, OpensAll}
 use Rattle.hub_local.specs.Replies.{subscribe_reply}
 use Rattle.hub_requests.specs.Refusals.{refusal_of_sub}
 use Rattle.hub_local.specs.Standing.{AreKept}
 use Rattle.hub_requests.specs.Texts.{number_or_dash, numbers_text}
-use Rattle.hub_local.specs.Waits.{status_of, watch_over, Opening, so_far, stopped, opened_by, opened_in, with_post, opened, without_posts}
+use Rattle.hub_local.specs.Waits.{status_of, watch_over, Opening, so_far, opening_refused, opened_by, opened_in, with_post, opening_of, without_posts}
 use Rattle.hub_local.specs.declared.local_desk.LocalFifodir.{LocalFifodir}
-use Rattle.hub_local.specs.declared.local_desk.waits.Post.{Post}
+use Rattle.hub_local.specs.declared.local_desk.waits.LocalPost.{LocalPost}
 use Rattle.hub_requests.specs.declared.reply.Refusal.{Refusal}
 use Rattle.hub_requests.specs.declared.reply.Refusal.TheVariants as no
 use Rattle.hub_local.proofs.KeptFifodirs.{none_kept, some_kept, kept_set, kept_still}
@@ -37,7 +37,7 @@ pub without_posts-none : (fs : List Fifodir) (names : List (List ℕ)) → witho
 without_posts-none fs [] = refl
 without_posts-none fs (name ∷ names) = refl
 
-pub given_back : (es : List (List ℕ × LocalFifodir)) (fs : List Fifodir) (names : List (List ℕ)) (posts : List Post) (i : ℕ) → length posts ≤ i
+pub given_back : (es : List (List ℕ × LocalFifodir)) (fs : List Fifodir) (names : List (List ℕ)) (posts : List LocalPost) (i : ℕ) → length posts ≤ i
     → (now : List Fifodir) × AreKept es now × (without_posts now (drop i names) (drop i posts) ≡ without_posts fs names posts) → AreKept es (without_posts fs names posts)
 given_back es fs names posts i past t =
     let none : drop i posts ≡ [] = drop_all i posts past in
@@ -62,7 +62,7 @@ module _ (want : Want) (name : List ℕ) (es : List (List ℕ × LocalFifodir)) 
 
   module _ (r : LocalFifodir) (kept : Kept) (was : lookup (bytes_eq name) es ≡ Some r) where
     pub opens_one : (given : ℕ × ℕ) (status : Status) (watch : Watching) → ((w : World) → StandsFor r.kept w → SubscribeReply w (Ok given)) → ((w : World) → StandsFor r.kept w → StandsFor kept (after_subscribe w (Ok given)))
-        → status.number ≡ kept.end → status.flags ≡ kept.flags → status.closed ≡ kept.closed → watch ≡ started want (unwrap_or r.reports false) status
+        → status.number ≡ kept.end → status.flags ≡ kept.flags → status.closed ≡ kept.closed → watch ≡ new_watching want (unwrap_or r.reports false) status
         → OpensPost want name fs (Ok (record { id = given.0; watch = watch })) (set_value (bytes_eq name) es (record { kept = kept; reports = r.reports }))
     opens_one given status watch replies after number flags is_closed watches =
         let t = some_kept name es fs r h was in
@@ -72,7 +72,7 @@ module _ (want : Want) (name : List ℕ) (es : List (List ℕ × LocalFifodir)) 
         let ends = sym s.end ∙ sym number in let flies = sym s.flags ∙ sym flags in let closes = sym s.closed ∙ sym is_closed in
         let shows : status_of w ≡ status = (λ i. record { number = ends i; flags = flies i; closed = closes i }) in
         let reports = some_reports es fs name r h was in
-        let same : watch_over want (reports_of fs name) w ≡ watch = (λ i. started want (unwrap_or (reports i) false) (shows i)) ∙ sym watches in
+        let same : watch_over want (reports_of fs name) w ≡ watch = (λ i. new_watching want (unwrap_or (reports i) false) (shows i)) ∙ sym watches in
         let now = with_world fs name (after_subscribe w (Ok given)) in (
           now,
           kept_set name es fs r (record { kept = kept; reports = r.reports }) (after_subscribe w (Ok given)) h was refl s,
@@ -87,24 +87,24 @@ module _ (want : Want) (name : List ℕ) (es : List (List ℕ × LocalFifodir)) 
           kept_still name es fs r (record { kept = kept; reports = r.reports }) t.0 h was t.1 refl (subst (λ (k : Kept). StandsFor k t.0) (sym still) t.2),
           λ real posts. ap (opened_in want (so_far fs posts) name) t.1
               ∙ ap (opened_by want (so_far fs posts) name t.0) (sym (subscribe_reply_is t.0 (Err error) (replies t.0 t.2) (λ e. real (let k : error ≡ sub.Memory = cc in is ∙ ap refusal_of_sub k))))
-              ∙ ap (stopped fs posts) (sym is),
+              ∙ ap (opening_refused fs posts) (sym is),
         )
 
 -- ---- one after another
 
-pub more_opens : (want : Want) (names : List (List ℕ)) (i : ℕ) (d : List ℕ) (fs now : List Fifodir) (posts : List Post) → i < length names → opened want fs (take i names) ≡ so_far now posts
-    → opened want fs (take (i + 1) names) ≡ with_post want (so_far now posts) (get_or names i d)
+pub more_opens : (want : Want) (names : List (List ℕ)) (i : ℕ) (d : List ℕ) (fs now : List Fifodir) (posts : List LocalPost) → i < length names → opening_of want fs (take i names) ≡ so_far now posts
+    → opening_of want fs (take (i + 1) names) ≡ with_post want (so_far now posts) (get_or names i d)
 more_opens want names i d fs now posts below e = fold_more (with_post want) (so_far fs []) names i d below ∙ ap (λ (o : Opening). with_post want o (get_or names i d)) e
 
 -- if one is refused, none is opened after it
-pub opens_no_more : (want : Want) (names : List (List ℕ)) (i : ℕ) (d : List ℕ) (fs now : List Fifodir) (posts : List Post) (refusal : Refusal) → i < length names → opened want fs (take i names) ≡ so_far now posts
-    → with_post want (so_far now posts) (get_or names i d) ≡ stopped now posts refusal → opened want fs names ≡ stopped now posts refusal
+pub opens_no_more : (want : Want) (names : List (List ℕ)) (i : ℕ) (d : List ℕ) (fs now : List Fifodir) (posts : List LocalPost) (refusal : Refusal) → i < length names → opening_of want fs (take i names) ≡ so_far now posts
+    → with_post want (so_far now posts) (get_or names i d) ≡ opening_refused now posts refusal → opening_of want fs names ≡ opening_refused now posts refusal
 opens_no_more want names i d fs now posts refusal below e ends =
-    sym (fold_stuck (with_post want) (stopped now posts refusal) (λ name. refl) (so_far fs []) names i d below (ap (λ (o : Opening). with_post want o (get_or names i d)) e ∙ ends))
+    sym (fold_stuck (with_post want) (opening_refused now posts refusal) (λ name. refl) (so_far fs []) names i d below (ap (λ (o : Opening). with_post want o (get_or names i d)) e ∙ ends))
 
 -- what the names come to if one isn't opened
-pub opens_until : (want : Want) (names : List (List ℕ)) (i : ℕ) (d : List ℕ) (model : List Fifodir) (entries new : List (List ℕ × LocalFifodir)) (posts : List Post) (refusal : Refusal) → i < length names
-    → (now : List Fifodir) × AreKept entries now × (opened want model (take i names) ≡ so_far now posts)
+pub opens_until : (want : Want) (names : List (List ℕ)) (i : ℕ) (d : List ℕ) (model : List Fifodir) (entries new : List (List ℕ × LocalFifodir)) (posts : List LocalPost) (refusal : Refusal) → i < length names
+    → (now : List Fifodir) × AreKept entries now × (opening_of want model (take i names) ≡ so_far now posts)
     → ((now : List Fifodir) → AreKept entries now → OpensPost want (get_or names i d) now (Err refusal) new) → OpensAll want names model (Err refusal) new posts
 opens_until want names i d model entries new posts refusal below t ends =
     let e = ends t.0 t.1 in
@@ -115,9 +115,9 @@ opens_until want names i d model entries new posts refusal below t ends =
 pub map_more : {X Y : Type 0} (f : X → Y) (xs : List X) (i : ℕ) (x : X) → i < length xs → x ≡ get_or xs i x → map f (take (i + 1) xs) ≡ map f (take i xs) ++ f x ∷ []
 map_more f xs i x below is = ap (map f) (take_more xs i x below) ∙ map-append f (take i xs) (get_or xs i x ∷ []) ∙ ap (λ z. map f (take i xs) ++ f z ∷ []) (sym is)
 
-pub tallied_more : (span : Span) (posts : List Post) (i : ℕ) (post : Post) (tally : Tallied) → i < length posts → post ≡ get_or posts i post
+pub tallied_more : (span : Span) (posts : List LocalPost) (i : ℕ) (post : LocalPost) (tally : Tallied) → i < length posts → post ≡ get_or posts i post
     → tally ≡ tally_of span (map (λ p. p.watch) (take i posts) ++ post.watch ∷ []) → tally ≡ tally_of span (map (λ p. p.watch) (take (i + 1) posts))
-tallied_more span posts i post tally below is e = e ∙ ap (tally_of span) (sym (map_more (λ (p : Post). p.watch) posts i post below is))
+tallied_more span posts i post tally below is e = e ∙ ap (tally_of span) (sym (map_more (λ (p : LocalPost). p.watch) posts i post below is))
 
 -- a number of 64 bits has at most 20 digits, and a space before it
 short_shown : (number : Option ℕ) → IfSome number (λ n. n < 2 ^ 64) → length (number_or_dash number) ≤ 20

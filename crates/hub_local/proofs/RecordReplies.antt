@@ -4,7 +4,7 @@ use Rattle.std.proofs.lemmas.Bool.{cases_Bool, le-leb, lt-leb, lt-ltb, le-ltb, n
 use Rattle.std.specs.Option.{option_map}
 use Rattle.hub_letters.specs.Marks.{Mark, mark}
 use Rattle.hub_letters.specs.Lawful.{IsLawful, IsFirstUnlawful}
-use Rattle.hub_letters.specs.Stages.{stage_of, follow_by, followed}
+use Rattle.hub_letters.specs.Stages.{stage_of, follow_by, stage_by_code}
 use Rattle.hub_letters.specs.declared.stage.Stage.{Stage}
 use Rattle.hub_letters.specs.declared.stage.Stage.TheVariants.{Off}
 use Rattle.hub_letters.proofs.Lawful.{follow_none, follow-append, followed_from_lawful, lawful_from_followed}
@@ -37,21 +37,21 @@ lawful_test Service word h = ap is_some (followed_from_lawful (map mark word) h)
 
 pub test_lawful : (kind : Kind) (word : List ℕ) → is_lawful_in kind word ≡ true → IsLawfulIn kind word
 test_lawful Plain word h = tt
-test_lawful Service word h = let s = some_stage (followed Off word) h in (lawful_from_followed (map mark word) s.0 s.1).0
+test_lawful Service word h = let s = some_stage (stage_by_code Off word) h in (lawful_from_followed (map mark word) s.0 s.1).0
 
 map_mark-append : (a b : List ℕ) → map mark (a ++ b) ≡ map mark a ++ map mark b
 map_mark-append [] b = refl
 map_mark-append (x ∷ a) b = ap (λ (z : List Mark). mark x ∷ z) (map_mark-append a b)
 
 -- a prefix of a lawful word is lawful
-pub lawful_front : (kind : Kind) (a b : List ℕ) → IsLawfulIn kind (a ++ b) → is_lawful_in kind a ≡ true
-lawful_front Plain a b h = refl
-lawful_front Service a b h = by (followed Off a) refl
+pub lawful_prefix : (kind : Kind) (a b : List ℕ) → IsLawfulIn kind (a ++ b) → is_lawful_in kind a ≡ true
+lawful_prefix Plain a b h = refl
+lawful_prefix Service a b h = by (stage_by_code Off a) refl
   where
-    whole : follow_by (followed Off a) (map mark b) ≡ Some (stage_of (a ++ b))
+    whole : follow_by (stage_by_code Off a) (map mark b) ≡ Some (stage_of (a ++ b))
     whole = sym (ap (follow_by (Some Off)) (map_mark-append a b) ∙ follow-append (Some Off) (map mark a) (map mark b)) ∙ followed_from_lawful (map mark (a ++ b)) h
 
-    by : (o : Option Stage) → followed Off a ≡ o → is_some o ≡ true
+    by : (o : Option Stage) → stage_by_code Off a ≡ o → is_some o ≡ true
     by (Some q) e = refl
     by None e = let k : follow_by None (map mark b) ≡ Some (stage_of (a ++ b)) = sym (ap (λ (z : Option Stage). follow_by z (map mark b)) e) ∙ whole in
         let n = follow_none (map mark b) in absurd (let no : ⊥ = cc in no)
@@ -63,7 +63,7 @@ first_unlawful_none kind word [] h = refl
 first_unlawful_none kind word (letter ∷ rest) h =
     let same : word ++ (letter ∷ rest) ≡ (word ++ letter ∷ []) ++ rest = sym (append_assoc word (letter ∷ []) rest) in
     let whole : IsLawfulIn kind ((word ++ letter ∷ []) ++ rest) = subst (IsLawfulIn kind) same h in
-    simp (lawful_front kind (word ++ letter ∷ []) rest whole, first_unlawful_none kind (word ++ letter ∷ []) rest whole)
+    simp (lawful_prefix kind (word ++ letter ∷ []) rest whole, first_unlawful_none kind (word ++ letter ∷ []) rest whole)
 
 take-next : (n letter : ℕ) (rest : List ℕ) → take (suc n + 1) (letter ∷ rest) ≡ letter ∷ take (n + 1) rest
 take-next n letter rest = let e : suc n + 1 ≡ suc (n + 1) = omega arith in ap (λ (k : ℕ). take k (letter ∷ rest)) e

@@ -1,8 +1,8 @@
 -- Runs of a desk.
 use Rattle.std.proofs.Common.{◌≡◌, ◌≢◌, ℕ, Bool, true, false, List, [], ◌∷◌, ◌++◌, Option, None, Some, option_to_list, refl, sym, ap, subst, ◌∙◌}
 use Rattle.std.proofs.lemmas.List.Elements.{All-head, All-tail}
-use Rattle.hub_local.specs.Answers.{answer, answer_to, answers, desk_after, pattern_in, first_read, later_reads, AreReads}
-use Rattle.hub_local.specs.Standing.{Stands, RunsAnswer, IsReadAs, over, asked}
+use Rattle.hub_local.specs.DeskAnswers.{answer, answer_to, answers, desk_after, pattern_in, first_read, later_reads, AreReads}
+use Rattle.hub_local.specs.Standing.{StandsForDesk, RunsAnswer, IsReadAs, over, asked}
 use Rattle.hub_requests.specs.declared.reply.Reply.{Reply}
 use Rattle.hub_requests.specs.declared.reply.Reply.TheVariants.{No}
 use Rattle.hub_requests.specs.declared.reply.Refusal.TheVariants.{Memory}
@@ -42,5 +42,5 @@ runs_answer old new requests replies desk (asked first mid last request rest rep
       reads = reads;
       are_reads = are_with_read here.read (pattern_in request) then.reads _ reply is_real here.is_read then.are_reads;
       said = (λ i. now.said i ∷ then.said i) ∙ sym (λ i. (one i).reply ∷ answers (one i).desk (more i) rest);
-      stands = subst (Stands last) (sym (λ i. desk_after (one i).desk (more i) rest)) then.stands;
+      stands = subst (StandsForDesk last) (sym (λ i. desk_after (one i).desk (more i) rest)) then.stands;
     }

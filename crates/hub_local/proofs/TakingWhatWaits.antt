@@ -2,7 +2,7 @@
 use Rattle.std.proofs.Common.{◌≡◌, ◌-◌, ℕ, min, length, Option, None, Some, option_map, sym, ◌∙◌, ap}
 use Rattle.std.proofs.Math.Nat.{min-eq_left, min-le_right}
 use Rattle.std.proofs.lemmas.Option.{none-some, same_Some}
-use Rattle.hub_record.specs.World.{World, Subscription, found, taken, moved_for, reply_for, take_reply, take_events, after_take}
+use Rattle.hub_record.specs.World.{World, Subscription, subscription_in, count_to_take, moved_for, reply_for, take_reply, take_events, after_take}
 use Rattle.hub_record.proofs.Gathered.{take_alike}
 
 pub record IsSameTake (w : World) (id some all : ℕ) : Type 0 where
@@ -13,15 +13,15 @@ pub record IsSameTake (w : World) (id some all : ℕ) : Type 0 where
 abbrev waiting_of : World → Option Subscription → Option ℕ
 waiting_of w o = option_map (λ s. length w.events - s.next) o
 
-same_count : (w : World) (most waiting : ℕ) (s : Subscription) → Some waiting ≡ waiting_of w (Some s) → taken w s (min most waiting) ≡ taken w s most
+same_count : (w : World) (most waiting : ℕ) (s : Subscription) → Some waiting ≡ waiting_of w (Some s) → count_to_take w s (min most waiting) ≡ count_to_take w s most
 same_count w most waiting s is =
     let e : waiting ≡ length w.events - s.next = same_Some waiting (length w.events - s.next) is in
     ap (λ n. min (min most n) (length w.events - s.next)) e ∙ min-eq_left (min-le_right most (length w.events - s.next))
 
-pub same_take : (w : World) (id most waiting : ℕ) → Some waiting ≡ waiting_of w (found w id) → IsSameTake w id (min most waiting) most
+pub same_take : (w : World) (id most waiting : ℕ) → Some waiting ≡ waiting_of w (subscription_in w id) → IsSameTake w id (min most waiting) most
 same_take w id most waiting is = record {
-  reply = reply_by (found w id) is;
-  events = events_by (found w id) is;
+  reply = reply_by (subscription_in w id) is;
+  events = events_by (subscription_in w id) is;
   after = take_alike w id (min most waiting) most (λ s e. same_count w most waiting s (is ∙ ap (waiting_of w) e));
 }
   where

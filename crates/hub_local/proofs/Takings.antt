@@ -3,9 +3,9 @@ use Rattle.std.proofs.Common.{◌≡◌, ℕ, zero, suc, ◌+◌, ◌-◌, ◌<�
 use Rattle.std.proofs.lemmas.Bool.{cases_Bool, cases_lt, ltb-true, ltb-false}
 use Rattle.std.proofs.lemmas.List.{length-drop, length-map, drop-drop, drop-map}
 use Rattle.hub_record.specs.Kept.{Kept, StandsFor}
-use Rattle.hub_record.specs.World.{World, Subscription, letters, found, found_from, changed_from, with_changed, taken, moved, moved_on, reply_for, take_reply, take_events, moved_for, after_take, after_take_for}
+use Rattle.hub_record.specs.World.{World, Subscription, letters, subscription_in, found_from, changed_from, with_changed, count_to_take, events_to_take, moved_on, reply_for, take_reply, take_events, moved_for, after_take, after_take_for}
 use Rattle.hub_record.specs.declared.Event.{Event}
-use Rattle.hub_record.specs.declared.Taken.TheVariants as taken
+use Rattle.hub_record.specs.declared.Taken.TheVariants as count_to_take
 use Rattle.hub_local.specs.Polls.{waiting_for}
 use Rattle.hub_local.specs.Hearings.{behind}
 
@@ -57,7 +57,7 @@ changed_same : (f : Subscription → Subscription) (from : ℕ) (subs : List Sub
 changed_same f from [] id same there = refl
 changed_same f from (x ∷ rest) id same there =
     elim (cases_Bool (nat_eq id from)) [
-      | inl e ↦ elim (cases_Bool x.stands) [
+      | inl e ↦ elim (cases_Bool x.current) [
         | inl st ↦ simp e (ap (λ (z : Subscription). z ∷ rest) (same x (simp (e, st))))
         | inr st ↦ (let k = simp (e, st) at there in absurd (true≢false (sym k)))
       ]
@@ -69,22 +69,22 @@ changed_twice : (f g h : Subscription → Subscription) (from : ℕ) (subs : Lis
 changed_twice f g h from [] id same there = refl
 changed_twice f g h from (x ∷ rest) id same there =
     elim (cases_Bool (nat_eq id from)) [
-      | inl e ↦ elim (cases_Bool x.stands) [
+      | inl e ↦ elim (cases_Bool x.current) [
         | inl st ↦ simp e (ap (λ (z : Subscription). z ∷ rest) (same x (simp (e, st))))
         | inr st ↦ (let k = simp (e, st) at there in absurd (true≢false (sym k)))
       ]
       | inr e ↦ simp e (ap (λ (z : List Subscription). x ∷ z) (changed_twice f g h (from + 1) rest id (λ s is. same s (simp e is)) (simp e at there)))
     ]
 
-found_at : (f : Subscription → Subscription) → ((s : Subscription) → (f s).stands ≡ s.stands) → (from : ℕ) (subs : List Subscription) (id : ℕ) (s : Subscription)
+found_at : (f : Subscription → Subscription) → ((s : Subscription) → (f s).current ≡ s.current) → (from : ℕ) (subs : List Subscription) (id : ℕ) (s : Subscription)
     → found_from from subs id ≡ Some s → found_from from (changed_from f from subs id) id ≡ Some (f s)
 found_at f keep from [] id s is = absurd (let no : ⊥ = cc in no)
 found_at f keep from (x ∷ rest) id s is =
     elim (cases_Bool (nat_eq id from)) [
-      | inl e ↦ elim (cases_Bool x.stands) [
+      | inl e ↦ elim (cases_Bool x.current) [
         | inl st ↦ (let k = simp (e, st) at is in
             let same : x ≡ s = cc in
-            let also : (f x).stands ≡ true = keep x ∙ st in simp (e, also) (ap (λ (z : Subscription). Some (f z)) same))
+            let also : (f x).current ≡ true = keep x ∙ st in simp (e, also) (ap (λ (z : Subscription). Some (f z)) same))
         | inr st ↦ (let k = simp (e, st) at is in absurd (let no : ⊥ = cc in no))
       ]
       | inr e ↦ simp e (found_at f keep (from + 1) rest id s (simp e at is))
@@ -92,28 +92,28 @@ found_at f keep from (x ∷ rest) id s is =
 
 -- ---- takes
 
-module _ (w : World) (id : ℕ) (s : Subscription) (is : found w id ≡ Some s) where
+module _ (w : World) (id : ℕ) (s : Subscription) (is : subscription_in w id ≡ Some s) where
   after_take_is : (m : ℕ) → after_take w id m ≡ with_changed w id (moved_on w m)
   after_take_is m = ap (after_take_for w id m) is
 
-  there : is_some (found w id) ≡ true
+  there : is_some (subscription_in w id) ≡ true
   there = ap is_some is
 
-  only : (x : Subscription) → found w id ≡ Some x → x ≡ s
+  only : (x : Subscription) → subscription_in w id ≡ Some x → x ≡ s
   only x e = let k : Some x ≡ Some s = sym e ∙ is in cc
 
   -- the subscription afterwards
-  pub found_then : (m : ℕ) → found (after_take w id m) id ≡ Some (moved_on w m s)
-  found_then m = ap (λ (v : World). found v id) (after_take_is m) ∙ found_at (moved_on w m) (λ y. refl) 1 w.subscriptions id s is
+  pub found_then : (m : ℕ) → subscription_in (after_take w id m) id ≡ Some (moved_on w m s)
+  found_then m = ap (λ (v : World). subscription_in v id) (after_take_is m) ∙ found_at (moved_on w m) (λ y. refl) 1 w.subscriptions id s is
 
-  moved_on_none : (m : ℕ) (x : Subscription) → x ≡ s → taken w s m ≡ 0 → moved_on w m x ≡ x
+  moved_on_none : (m : ℕ) (x : Subscription) → x ≡ s → count_to_take w s m ≡ 0 → moved_on w m x ≡ x
   moved_on_none m x e none =
-      let t : taken w x m ≡ 0 = ap (λ (y : Subscription). taken w y m) e ∙ none in
-      let next : x.next + taken w x m ≡ x.next = omega arith in
-      let more : x.gathered ++ moved w x m ≡ x.gathered = ap (λ (n : ℕ). x.gathered ++ take n (drop x.next w.events)) t ∙ append-nil x.gathered in
+      let t : count_to_take w x m ≡ 0 = ap (λ (y : Subscription). count_to_take w y m) e ∙ none in
+      let next : x.next + count_to_take w x m ≡ x.next = omega arith in
+      let more : x.gathered ++ events_to_take w x m ≡ x.gathered = ap (λ (n : ℕ). x.gathered ++ take n (drop x.next w.events)) t ∙ append-nil x.gathered in
       λ i. record x { next = next i; gathered = more i }
 
-  pub take_none : (m : ℕ) → taken w s m ≡ 0 → after_take w id m ≡ w
+  pub take_none : (m : ℕ) → count_to_take w s m ≡ 0 → after_take w id m ≡ w
   take_none m none = after_take_is m
       ∙ ap (λ (subs : List Subscription). record w { subscriptions = subs }) (changed_same (moved_on w m) 1 w.subscriptions id (λ x e. moved_on_none m x (only x e) none) there)
 
@@ -134,11 +134,11 @@ module _ (w : World) (id : ℕ) (s : Subscription) (is : found w id ≡ Some s) 
       λ i. record x { next = next i; gathered = gathered i }
 
 -- one more is taken
-pub take_more_then : (w : World) (id : ℕ) (s : Subscription) → found w id ≡ Some s → (m : ℕ) → s.next + m < length w.events → after_take (after_take w id m) id 1 ≡ after_take w id (m + 1)
+pub take_more_then : (w : World) (id : ℕ) (s : Subscription) → subscription_in w id ≡ Some s → (m : ℕ) → s.next + m < length w.events → after_take (after_take w id m) id 1 ≡ after_take w id (m + 1)
 take_more_then w id s is m below =
     let v = with_changed w id (moved_on w m) in
     let first : after_take w id m ≡ v = after_take_is w id s is m in
-    let later : found v id ≡ Some (moved_on w m s) = sym (ap (λ (u : World). found u id) first) ∙ found_then w id s is m in
+    let later : subscription_in v id ≡ Some (moved_on w m s) = sym (ap (λ (u : World). subscription_in u id) first) ∙ found_then w id s is m in
     ap (λ (u : World). after_take u id 1) first ∙ after_take_is v id (moved_on w m s) later 1
     ∙ ap (λ (subs : List Subscription). record w { subscriptions = subs })
     (changed_twice (moved_on w m) (moved_on w 1) (moved_on w (m + 1)) 1 w.subscriptions id (λ x e. moved_on_more w id s is m x (only w id s is x e) below) (there w id s is))
@@ -146,7 +146,7 @@ take_more_then w id s is m below =
 
 -- ---- the letters behind the cursor
 
-module _ (w : World) (id : ℕ) (s : Subscription) (is : found w id ≡ Some s) where
+module _ (w : World) (id : ℕ) (s : Subscription) (is : subscription_in w id ≡ Some s) where
   behind_is : behind w id ≡ letters (drop s.next w.events)
   behind_is = ap (λ (o : Option Subscription). letters (waiting_for w o)) is
 
@@ -158,7 +158,7 @@ module _ (w : World) (id : ℕ) (s : Subscription) (is : found w id ≡ Some s) 
   behind_then m =
       let v = with_changed w id (moved_on w m) in
       let first : after_take w id m ≡ v = after_take_is w id s is m in
-      let later : found v id ≡ Some (moved_on w m s) = sym (ap (λ (u : World). found u id) first) ∙ found_then w id s is m in
+      let later : subscription_in v id ≡ Some (moved_on w m s) = sym (ap (λ (u : World). subscription_in u id) first) ∙ found_then w id s is m in
       let all = length-drop s.next w.events in
       ap (λ (u : World). behind u id) first ∙ ap (λ (o : Option Subscription). letters (waiting_for v o)) later
       ∙ ap letters (sym (drop-drop (min m (length w.events - s.next)) s.next w.events))
@@ -170,9 +170,9 @@ module _ (w : World) (id : ℕ) (s : Subscription) (is : found w id ≡ Some s) 
 
   -- ---- one take
 
-  pub got_one : (count : ℕ) → Ok (taken.Got count) ≡ take_reply w id 1 → s.next < length w.events
+  pub got_one : (count : ℕ) → Ok (count_to_take.Got count) ≡ take_reply w id 1 → s.next < length w.events
   got_one count e =
-      let k : Ok (taken.Got count) ≡ reply_for w 1 (Some s) = e ∙ ap (reply_for w 1) is in
+      let k : Ok (count_to_take.Got count) ≡ reply_for w 1 (Some s) = e ∙ ap (reply_for w 1) is in
       elim (cases_Bool (nat_lt s.next (length w.events))) [
         | inl a ↦ ltb-true s.next (length w.events) a
         | inr a ↦ elim (cases_Bool w.closed) [
@@ -181,9 +181,9 @@ module _ (w : World) (id : ℕ) (s : Subscription) (is : found w id ≡ Some s) 
         ]
       ]
 
-  pub got_none : Ok taken.Nothing ≡ take_reply w id 1 → (length w.events ≤ s.next) × (w.closed ≡ false)
+  pub got_none : Ok count_to_take.Nothing ≡ take_reply w id 1 → (length w.events ≤ s.next) × (w.closed ≡ false)
   got_none e =
-      let k : Ok taken.Nothing ≡ reply_for w 1 (Some s) = e ∙ ap (reply_for w 1) is in
+      let k : Ok count_to_take.Nothing ≡ reply_for w 1 (Some s) = e ∙ ap (reply_for w 1) is in
       elim (cases_Bool (nat_lt s.next (length w.events))) [
         | inl a ↦ (let j = simp a at k in absurd (let no : ⊥ = cc in no))
         | inr a ↦ elim (cases_Bool w.closed) [
@@ -192,9 +192,9 @@ module _ (w : World) (id : ℕ) (s : Subscription) (is : found w id ≡ Some s) 
         ]
       ]
 
-  pub got_end : Ok taken.End ≡ take_reply w id 1 → (length w.events ≤ s.next) × (w.closed ≡ true)
+  pub got_end : Ok count_to_take.End ≡ take_reply w id 1 → (length w.events ≤ s.next) × (w.closed ≡ true)
   got_end e =
-      let k : Ok taken.End ≡ reply_for w 1 (Some s) = e ∙ ap (reply_for w 1) is in
+      let k : Ok count_to_take.End ≡ reply_for w 1 (Some s) = e ∙ ap (reply_for w 1) is in
       elim (cases_Bool (nat_lt s.next (length w.events))) [
         | inl a ↦ (let j = simp a at k in absurd (let no : ⊥ = cc in no))
         | inr a ↦ elim (cases_Bool w.closed) [
@@ -209,13 +209,13 @@ module _ (w : World) (id : ℕ) (s : Subscription) (is : found w id ≡ Some s) 
     none_behind = let l = length-behind in length-none (behind w id) (omega arith)
 
     pub still_stands : StandsFor kept w
-    still_stands = let t : taken w s 1 ≡ 0 = omega arith in subst (StandsFor kept) (take_none w id s is 1 t) stands
+    still_stands = let t : count_to_take w s 1 ≡ 0 = omega arith in subst (StandsFor kept) (take_none w id s is 1 t) stands
 
   -- one is pending
   pub one_behind : s.next < length w.events → (out room : List Event) (d : Event) → out ≡ take_events w id 1 ++ room → (rest : List ℕ) × (behind w id ≡ (get_or out 0 d).letter ∷ rest)
   one_behind some out room d filled =
       let one = drop-one w.events s.next some in
-      let t : taken w s 1 ≡ 1 = omega arith in
+      let t : count_to_take w s 1 ≡ 1 = omega arith in
       let took : take_events w id 1 ≡ one.0 ∷ [] = ap (moved_for w 1) is ∙ (λ i. take (t i) (one.1 i)) in
       let first : out ≡ one.0 ∷ room = filled ∙ ap (λ (z : List Event). z ++ room) took in
       (letters (drop (suc s.next) w.events), behind_is ∙ ap letters one.1 ∙ sym (ap (λ (z : List Event). (get_or z 0 d).letter ∷ letters (drop (suc s.next) w.events)) first))

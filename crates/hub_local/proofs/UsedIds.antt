@@ -8,13 +8,13 @@ use Rattle.std.specs.Prelude.{fold}
 use Rattle.std.specs.Str.{bytes_eq}
 use Rattle.hub_letters.specs.declared.want.Want.{Want}
 use Rattle.hub_record.specs.declared.SubError.{SubError}
-use Rattle.hub_record.specs.World.{World, Subscription, found, found_from, changed_from, stopped as stopped_one, new_subscription, after_subscribe, after_cancel, after_cancel_for}
+use Rattle.hub_record.specs.World.{World, Subscription, subscription_in, found_from, changed_from, as_cancelled as stopped_one, new_subscription, after_subscribe, after_cancel, after_cancel_for}
 use Rattle.hub_local.specs.Desks.{Fifodir, world_of, reports_of, with_world, end_in}
 use Rattle.hub_local.specs.Replies.{subscribe_reply}
 use Rattle.hub_requests.specs.Refusals.{refusal_of_sub}
-use Rattle.hub_local.specs.Waits.{Opening, watch_over, so_far, stopped, opened_by, opened_in, with_post, opened, without_subscription, without_posts, HasUsedIdsThere, WaitsUseIds}
+use Rattle.hub_local.specs.Waits.{Opening, watch_over, so_far, opening_refused, opened_by, opened_in, with_post, opening_of, without_subscription, without_posts, HasUsedIdsThere, WaitsUseIds}
 use Rattle.hub_local.specs.declared.local_desk.Holding.{Holding}
-use Rattle.hub_local.specs.declared.local_desk.waits.Post.{Post}
+use Rattle.hub_local.specs.declared.local_desk.waits.LocalPost.{LocalPost}
 use Rattle.hub_requests.specs.declared.reply.Refusal.{Refusal}
 use Rattle.hub_requests.specs.declared.reply.Refusal.TheVariants as no
 use Rattle.hub_local.proofs.AskingServices.{given_is}
@@ -50,11 +50,11 @@ found_stopped from (x ∷ rest) id other h =
       ]
     ]
 
-found_cancelled : (w : World) (id other : ℕ) → is_some (found (after_cancel w id) other) ≡ true → (is_some (found w other) ≡ true) × (other ≡ id → ⊥)
-found_cancelled w id other = by (found w id) refl
+found_cancelled : (w : World) (id other : ℕ) → is_some (subscription_in (after_cancel w id) other) ≡ true → (is_some (subscription_in w other) ≡ true) × (other ≡ id → ⊥)
+found_cancelled w id other = by (subscription_in w id) refl
   where
-    by : (o : Option Subscription) → found w id ≡ o → is_some (found (after_cancel_for w id o) other) ≡ true → (is_some (found w other) ≡ true) × (other ≡ id → ⊥)
-    by None e h = (h, λ same. true≢false (sym h ∙ ap (λ (n : ℕ). is_some (found w n)) same ∙ ap is_some e))
+    by : (o : Option Subscription) → subscription_in w id ≡ o → is_some (subscription_in (after_cancel_for w id o) other) ≡ true → (is_some (subscription_in w other) ≡ true) × (other ≡ id → ⊥)
+    by None e h = (h, λ same. true≢false (sym h ∙ ap (λ (n : ℕ). is_some (subscription_in w n)) same ∙ ap is_some e))
     by (Some s) e h = found_stopped 1 w.subscriptions id other h
 
 -- an id that is found isn't below the first
@@ -67,10 +67,10 @@ found_above first (s ∷ subs) id h =
     ]
 
 -- if none of the later ids is found, none of them is current
-none_found : (from : ℕ) (more : List Subscription) → ((id : ℕ) → is_some (found_from from more id) ≡ true → ⊥) → list_any (λ s. s.stands) more ≡ false
+none_found : (from : ℕ) (more : List Subscription) → ((id : ℕ) → is_some (found_from from more id) ≡ true → ⊥) → list_any (λ s. s.current) more ≡ false
 none_found from [] none = refl
 none_found from (x ∷ rest) none =
-    elim (cases_Bool x.stands) [
+    elim (cases_Bool x.current) [
       | inl st ↦ absurd (none from (let e : nat_eq from from ≡ true = eq-eqb from from refl in simp (e, st)))
       | inr st ↦ simp st (none_found (from + 1) rest (λ id h. none id (
           let below = found_above (from + 1) rest id h in
@@ -87,7 +87,7 @@ found_from-append from (x ∷ xs) ys id above =
 -- to stop a later one leaves the earlier ones
 stopped_above : (w v : World) (more : List Subscription) (id : ℕ) → v ≡ record w { subscriptions = w.subscriptions ++ more } → length w.subscriptions < id
     → (left : List Subscription) × (after_cancel v id ≡ record w { subscriptions = w.subscriptions ++ left })
-stopped_above w v more id same above = by (found v id)
+stopped_above w v more id same above = by (subscription_in v id)
   where
     by : (o : Option Subscription) → (left : List Subscription) × (after_cancel_for v id o ≡ record w { subscriptions = w.subscriptions ++ left })
     by None = (more, same)
@@ -100,7 +100,7 @@ stopped_above w v more id same above = by (found v id)
 -- ---- the posts of one fifodir
 
 -- a post of this id at the fifodir of this name is among those of the names
-abbrev IsOwed : List (List ℕ) → List Post → List ℕ → ℕ → Type 0
+abbrev IsOwed : List (List ℕ) → List LocalPost → List ℕ → ℕ → Type 0
 IsOwed [] posts name id = ⊥
 IsOwed (n ∷ names) [] name id = ⊥
 IsOwed (n ∷ names) (post ∷ posts) name id = ((n ≡ name) × (post.id ≡ id)) ⊎ IsOwed names posts name id
@@ -110,13 +110,13 @@ none_owed [] name id h = h
 none_owed (n ∷ names) name id h = h
 
 -- more ids were given, those of the posts among them, and of these ids only those of the posts may be current
-pub record HasPosts (names : List (List ℕ)) (posts : List Post) (name : List ℕ) (old new : World) : Type 0 where
+pub record HasPosts (names : List (List ℕ)) (posts : List LocalPost) (name : List ℕ) (old new : World) : Type 0 where
   pub more : List Subscription
   pub same : new ≡ record old { subscriptions = old.subscriptions ++ more }
   pub above : (id : ℕ) → IsOwed names posts name id → length old.subscriptions < id
-  pub owed : (id : ℕ) → length old.subscriptions < id → is_some (found new id) ≡ true → IsOwed names posts name id
+  pub owed : (id : ℕ) → length old.subscriptions < id → is_some (subscription_in new id) ≡ true → IsOwed names posts name id
 
-abbrev HasPostsThere : List (List ℕ) → List Post → List ℕ → Option World → Option World → Type 0
+abbrev HasPostsThere : List (List ℕ) → List LocalPost → List ℕ → Option World → Option World → Type 0
 HasPostsThere names posts name None None = Unit {0}
 HasPostsThere names posts name None (Some new) = ⊥
 HasPostsThere names posts name (Some old) None = ⊥
@@ -132,7 +132,7 @@ no_posts names name (Some w) = record {
 }
 
 -- if none is left
-all_given_back : (names : List (List ℕ)) (posts : List Post) (name : List ℕ) (o p : Option World) → ((id : ℕ) → IsOwed names posts name id → ⊥) → HasPostsThere names posts name o p → HasUsedIdsThere o p
+all_given_back : (names : List (List ℕ)) (posts : List LocalPost) (name : List ℕ) (o p : Option World) → ((id : ℕ) → IsOwed names posts name id → ⊥) → HasPostsThere names posts name o p → HasUsedIdsThere o p
 all_given_back names posts name None None none h = tt
 all_given_back names posts name None (Some new) none h = absurd h
 all_given_back names posts name (Some old) None none h = absurd h
@@ -140,13 +140,13 @@ all_given_back names posts name (Some old) (Some new) none h = record {
   used = h.more;
   none_stands = none_found (1 + length old.subscriptions) h.more (λ id f.
       let above = found_above (1 + length old.subscriptions) h.more id f in
-      none id (h.owed id (omega arith) (ap is_some (ap (λ (v : World). found v id) h.same ∙ found_from-append 1 old.subscriptions h.more id above) ∙ f)));
+      none id (h.owed id (omega arith) (ap is_some (ap (λ (v : World). subscription_in v id) h.same ∙ found_from-append 1 old.subscriptions h.more id above) ∙ f)));
   same = h.same;
 }
 
 -- ---- a post is opened
 
-module _ (name : List ℕ) (rest : List (List ℕ)) (post : Post) (posts : List Post) (q : List ℕ) where
+module _ (name : List ℕ) (rest : List (List ℕ)) (post : LocalPost) (posts : List LocalPost) (q : List ℕ) where
   opened_here : (w : World) (o : Option World) → name ≡ q → post.id ≡ length w.subscriptions + 1
       → HasPostsThere rest posts q (Some (record w { subscriptions = w.subscriptions ++ new_subscription w ∷ [] })) o → HasPostsThere (name ∷ rest) (post ∷ posts) q (Some w) o
   opened_here w None same is h = absurd h
@@ -201,12 +201,12 @@ module _ (name : List ℕ) (rest : List (List ℕ)) (post : Post) (posts : List 
       }
 
 -- what the opened posts have changed
-pub record HasOpened (names : List (List ℕ)) (fs : List Fifodir) (before : List Post) (o : Opening) : Type 0 where
-  pub more : List Post
+pub record HasOpened (names : List (List ℕ)) (fs : List Fifodir) (before : List LocalPost) (o : Opening) : Type 0 where
+  pub more : List LocalPost
   pub are : o.posts ≡ before ++ more
   pub each : (q : List ℕ) → HasPostsThere names more q (world_of fs q) (world_of o.fifodirs q)
 
-none_opened : (names : List (List ℕ)) (fs : List Fifodir) (before : List Post) (o : Option Refusal) → HasOpened names fs before (record { fifodirs = fs; posts = before; refusal = o })
+none_opened : (names : List (List ℕ)) (fs : List Fifodir) (before : List LocalPost) (o : Option Refusal) → HasOpened names fs before (record { fifodirs = fs; posts = before; refusal = o })
 none_opened names fs before o = record { more = []; are = sym (append-nil before); each = λ q. no_posts names q (world_of fs q) }
 
 same_name : (q name : List ℕ) → bytes_eq q name ≡ true → name ≡ q
@@ -215,12 +215,12 @@ same_name q name e = sym ((bytes_eq-Decides q name).0 e)
 other_name : (q name : List ℕ) → bytes_eq q name ≡ false → name ≡ q → ⊥
 other_name q name e same = true≢false (sym ((bytes_eq-Decides q name).1 (sym same)) ∙ e)
 
-module _ (want : Want) (name : List ℕ) (rest : List (List ℕ)) (fs : List Fifodir) (before : List Post)
-    (later : (mid : List Fifodir) (posts : List Post) → HasOpened rest mid posts (fold (with_post want) (so_far mid posts) rest)) where
-  stops : (refusal : Refusal) → HasOpened (name ∷ rest) fs before (fold (with_post want) (stopped fs before refusal) rest)
-  stops refusal = subst (HasOpened (name ∷ rest) fs before) (sym (fold_stays (with_post want) (stopped fs before refusal) (λ n. refl) rest)) (none_opened (name ∷ rest) fs before (Some refusal))
+module _ (want : Want) (name : List ℕ) (rest : List (List ℕ)) (fs : List Fifodir) (before : List LocalPost)
+    (later : (mid : List Fifodir) (posts : List LocalPost) → HasOpened rest mid posts (fold (with_post want) (so_far mid posts) rest)) where
+  stops : (refusal : Refusal) → HasOpened (name ∷ rest) fs before (fold (with_post want) (opening_refused fs before refusal) rest)
+  stops refusal = subst (HasOpened (name ∷ rest) fs before) (sym (fold_stays (with_post want) (opening_refused fs before refusal) (λ n. refl) rest)) (none_opened (name ∷ rest) fs before (Some refusal))
 
-  after_one : (w : World) → world_of fs name ≡ Some w → (given : ℕ × ℕ) → subscribe_reply w ≡ Ok given → (more : List Post) (q : List ℕ) (o : Option World)
+  after_one : (w : World) → world_of fs name ≡ Some w → (given : ℕ × ℕ) → subscribe_reply w ≡ Ok given → (more : List LocalPost) (q : List ℕ) (o : Option World)
       → HasPostsThere rest more q (world_of (with_world fs name (after_subscribe w (Ok given))) q) o
       → HasPostsThere (name ∷ rest) (record { id = given.0; watch = watch_over want (reports_of fs name) w } ∷ more) q (world_of fs q) o
   after_one w is given said more q o h =
@@ -240,7 +240,7 @@ module _ (want : Want) (name : List ℕ) (rest : List (List ℕ)) (fs : List Fif
   opens_by w is (Err error) said = stops (refusal_of_sub error)
   opens_by w is (Ok given) said =
       let mid = with_world fs name (after_subscribe w (Ok given)) in
-      let post : Post = record { id = given.0; watch = watch_over want (reports_of fs name) w } in
+      let post : LocalPost = record { id = given.0; watch = watch_over want (reports_of fs name) w } in
       let l = later mid (before ++ post ∷ []) in
       let o = fold (with_post want) (so_far mid (before ++ post ∷ [])) rest in record {
         more = post ∷ l.more;
@@ -252,13 +252,13 @@ module _ (want : Want) (name : List ℕ) (rest : List (List ℕ)) (fs : List Fif
   opens_in None is = stops no.Name
   opens_in (Some w) is = opens_by w is (subscribe_reply w) refl
 
-has_opened : (want : Want) (names : List (List ℕ)) (fs : List Fifodir) (before : List Post) → HasOpened names fs before (fold (with_post want) (so_far fs before) names)
+has_opened : (want : Want) (names : List (List ℕ)) (fs : List Fifodir) (before : List LocalPost) → HasOpened names fs before (fold (with_post want) (so_far fs before) names)
 has_opened want [] fs before = none_opened [] fs before None
 has_opened want (name ∷ rest) fs before = opens_in want name rest fs before (has_opened want rest) (world_of fs name) refl
 
 -- ---- and ended
 
-back_one : (name : List ℕ) (rest : List (List ℕ)) (post : Post) (posts : List Post) (fs now : List Fifodir)
+back_one : (name : List ℕ) (rest : List (List ℕ)) (post : LocalPost) (posts : List LocalPost) (fs now : List Fifodir)
     → ((q : List ℕ) → HasPostsThere (name ∷ rest) (post ∷ posts) q (world_of fs q) (world_of now q))
     → (q : List ℕ) → HasPostsThere rest posts q (world_of fs q) (world_of (without_subscription now name post.id) q)
 back_one name rest post posts fs now each q = by (world_of now name) refl
@@ -284,7 +284,7 @@ back_one name rest post posts fs now each q = by (world_of now name) refl
               (back_elsewhere name rest post posts q (world_of fs q) (world_of now q) (other_name q name e) (each q))
         ]
 
-back_all : (names : List (List ℕ)) (posts : List Post) (fs now : List Fifodir) → ((q : List ℕ) → HasPostsThere names posts q (world_of fs q) (world_of now q))
+back_all : (names : List (List ℕ)) (posts : List LocalPost) (fs now : List Fifodir) → ((q : List ℕ) → HasPostsThere names posts q (world_of fs q) (world_of now q))
     → (q : List ℕ) → HasUsedIdsThere (world_of fs q) (world_of (without_posts now names posts) q)
 back_all [] posts fs now each q = all_given_back [] posts q (world_of fs q) (world_of now q) (λ id h. h) (each q)
 back_all (name ∷ names) [] fs now each q = all_given_back (name ∷ names) [] q (world_of fs q) (world_of now q) (λ id h. h) (each q)
@@ -293,5 +293,5 @@ back_all (name ∷ names) (post ∷ posts) fs now each q = back_all names posts 
 pub waits_use_ids : WaitsUseIds
 waits_use_ids d span want names q =
     let t = has_opened want names d.fifodirs [] in
-    let o = opened want d.fifodirs names in
-    back_all names o.posts d.fifodirs o.fifodirs (λ (n : List ℕ). subst (λ (ps : List Post). HasPostsThere names ps n (world_of d.fifodirs n) (world_of o.fifodirs n)) (sym t.are) (t.each n)) q
+    let o = opening_of want d.fifodirs names in
+    back_all names o.posts d.fifodirs o.fifodirs (λ (n : List ℕ). subst (λ (ps : List LocalPost). HasPostsThere names ps n (world_of d.fifodirs n) (world_of o.fifodirs n)) (sym t.are) (t.each n)) q

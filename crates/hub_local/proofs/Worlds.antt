@@ -2,7 +2,7 @@
 use Rattle.std.proofs.Common.{◌≡◌, ℕ, ◌+◌, ◌<◌, true, false, List, [], ◌∷◌, ◌++◌, length, nat_eq, nat_lt, Option, None, Some, Err, is_some, sym, ◌∙◌, inl, inr, true≢false, arith}
 use Rattle.std.proofs.lemmas.Bool.{cases_Bool, eqb-true, ne_eqb, eq-eqb}
 use Rattle.hub_record.specs.declared.NoId.{NoId}
-use Rattle.hub_record.specs.World.{World, found, reply_for, take_reply, Subscription, found_from, changed_from}
+use Rattle.hub_record.specs.World.{World, subscription_in, reply_for, take_reply, Subscription, found_from, changed_from}
 
 -- one more subscription
 pub found-push : (from : ℕ) (subs : List Subscription) (s : Subscription) (id : ℕ) → is_some (found_from from subs id) ≡ true → is_some (found_from from (subs ++ s ∷ []) id) ≡ true
@@ -14,7 +14,7 @@ found-push from (x ∷ rest) s id h =
     ]
 
 -- the next id is that of the new one
-pub found_new : (from : ℕ) (subs : List Subscription) (s : Subscription) (id : ℕ) → s.stands ≡ true → id ≡ from + length subs → is_some (found_from from (subs ++ s ∷ []) id) ≡ true
+pub found_new : (from : ℕ) (subs : List Subscription) (s : Subscription) (id : ℕ) → s.current ≡ true → id ≡ from + length subs → is_some (found_from from (subs ++ s ∷ []) id) ≡ true
 found_new from [] s id st is = let e : nat_eq id from ≡ true = eq-eqb id from (omega arith) in simp (e, st)
 found_new from (x ∷ rest) s id st is =
     let e : nat_eq id from ≡ false = ne_eqb id from (λ (same : id ≡ from). omega arith) in
@@ -45,13 +45,13 @@ found_changed_other f from (x ∷ rest) id other apart h =
     ]
 
 -- as does a change that leaves it current
-pub found_changed : (f : Subscription → Subscription) → ((s : Subscription) → (f s).stands ≡ s.stands) → (from : ℕ) (subs : List Subscription) (id other : ℕ)
+pub found_changed : (f : Subscription → Subscription) → ((s : Subscription) → (f s).current ≡ s.current) → (from : ℕ) (subs : List Subscription) (id other : ℕ)
     → is_some (found_from from subs other) ≡ true → is_some (found_from from (changed_from f from subs id) other) ≡ true
 found_changed f keep from [] id other h = h
 found_changed f keep from (x ∷ rest) id other h =
     elim (cases_Bool (nat_eq other from)) [
-      | inl o ↦ elim (cases_Bool x.stands) [
-        | inl st ↦ (let also : (f x).stands ≡ true = keep x ∙ st in
+      | inl o ↦ elim (cases_Bool x.current) [
+        | inl st ↦ (let also : (f x).current ≡ true = keep x ∙ st in
             elim (cases_Bool (nat_eq id from)) [ inl e ↦ simp (e, o, also) | inr e ↦ simp (e, o, st) ])
         | inr st ↦ (let k = simp (o, st) at h in absurd (true≢false (sym k)))
       ]
@@ -63,8 +63,8 @@ found_changed f keep from (x ∷ rest) id other h =
     ]
 
 -- a take from a current subscription isn't refused
-pub takes_some : (w : World) (id most : ℕ) (error : NoId) → is_some (found w id) ≡ true → Err error ≡ take_reply w id most → ⊥
-takes_some w id most error s e = by (found w id) s e
+pub takes_some : (w : World) (id most : ℕ) (error : NoId) → is_some (subscription_in w id) ≡ true → Err error ≡ take_reply w id most → ⊥
+takes_some w id most error s e = by (subscription_in w id) s e
   where
     by : (o : Option Subscription) → is_some o ≡ true → Err error ≡ reply_for w most o → ⊥
     by None t h = true≢false (sym t)

@@ -4,9 +4,9 @@ use Rattle.std.specs.Option.{option_and_then}
 use Rattle.std.specs.Map.{lookup, values_of}
 use Rattle.std.specs.Str.{bytes_eq}
 use Rattle.hub_letters.specs.declared.mode.Mode.TheVariants.{Repeat}
-use Rattle.hub_record.specs.World.{World, Subscription, found, after_cancel}
+use Rattle.hub_record.specs.World.{World, Subscription, subscription_in, after_cancel}
 use Rattle.hub_local.specs.declared.local_desk.Holding.{Holding}
-use Rattle.hub_local.specs.declared.local_desk.Hearing.{Hearing}
+use Rattle.hub_local.specs.declared.local_desk.LocalListener.{LocalListener}
 use Rattle.hub_requests.specs.declared.reply.Reply.{Reply}
 use Rattle.hub_requests.specs.declared.reply.Reply.TheVariants.{No}
 use Rattle.hub_requests.specs.declared.reply.Refusal.{Refusal}
@@ -21,7 +21,7 @@ pub record Fifodir : Type 0 where
 -- current
 pub record Handle : Type 0 where
   pub holding : Holding
-  pub stands : Bool
+  pub current : Bool
 
 -- the handles have the numbers 1, 2, 3, .. in order, cancelled ones too
 pub record Desk : Type 0 where
@@ -52,22 +52,22 @@ with_world (f ∷ rest) name w = if bytes_eq name f.name then record f { world =
 -- what the current handles hold, by their numbers; the first of the list has the number `from`
 abbrev pub standing_from : ℕ → List Handle → List (ℕ × Holding)
 standing_from from [] = []
-standing_from from (h ∷ rest) = if h.stands then (from, h.holding) ∷ standing_from (from + 1) rest else standing_from (from + 1) rest
+standing_from from (h ∷ rest) = if h.current then (from, h.holding) ∷ standing_from (from + 1) rest else standing_from (from + 1) rest
 
 abbrev pub standing : Desk → List (ℕ × Holding)
 standing d = standing_from 1 d.handles
 
 -- what the current handle with this number holds
-abbrev pub held : Desk → ℕ → Option Holding
-held d number = lookup (nat_eq number) (standing d)
+abbrev pub holding_at : Desk → ℕ → Option Holding
+holding_at d number = lookup (nat_eq number) (standing d)
 
-abbrev pub dropped : Handle → Handle
-dropped h = record h { stands = false }
+abbrev pub without_holding : Handle → Handle
+without_holding h = record h { current = false }
 
 -- with the handle of this number cancelled
 abbrev pub without_from : ℕ → List Handle → ℕ → List Handle
 without_from from [] number = []
-without_from from (h ∷ rest) number = if number == from then dropped h ∷ rest else h ∷ without_from (from + 1) rest number
+without_from from (h ∷ rest) number = if number == from then without_holding h ∷ rest else h ∷ without_from (from + 1) rest number
 
 -- with another holding under this number
 abbrev pub with_holding_from : ℕ → List Handle → ℕ → Holding → List Handle
@@ -78,7 +78,7 @@ with_holding_from from (x ∷ rest) number h = if number == from then record x {
 
 -- the subscription of a handle
 abbrev pub subscription_of : List Fifodir → Holding → Option Subscription
-subscription_of fifodirs h = option_and_then (λ w. found w h.id) (world_of fifodirs h.name)
+subscription_of fifodirs h = option_and_then (λ w. subscription_in w h.id) (world_of fifodirs h.name)
 
 -- the subscription of each current handle is current
 abbrev pub AreHeld : List Fifodir → List (ℕ × Holding) → Type 0
@@ -95,7 +95,7 @@ AreApart [] = Unit {0}
 AreApart (e ∷ es) = IsApart e.1 es × AreApart es
 
 -- a listener itself goes on after a hit: the desk ends it if its handle's mode is Once
-abbrev pub GoesOn : Option Hearing → Type 0
+abbrev pub GoesOn : Option LocalListener → Type 0
 GoesOn None = Unit {0}
 GoesOn (Some hearing) = hearing.listener.mode ≡ Repeat
 
@@ -115,8 +115,8 @@ pub record Answer : Type 0 where
   pub reply : Reply
   pub desk : Desk
 
-abbrev pub refused : Desk → Refusal → Answer
-refused d refusal = record { reply = No refusal; desk = d }
+abbrev pub refusal_answer : Desk → Refusal → Answer
+refusal_answer d refusal = record { reply = No refusal; desk = d }
 
 -- ---- the end of a subscription, and of a session
 
@@ -138,5 +138,5 @@ without_all fifodirs [] = fifodirs
 without_all fifodirs (h ∷ rest) = without_all (without_held fifodirs h) rest
 
 -- no handle is current, none is forgotten, and their subscriptions are cancelled
-abbrev pub ended : Desk → Desk
-ended d = record { fifodirs = without_all d.fifodirs (values_of (standing d)); handles = map dropped d.handles }
+abbrev pub desk_after_end : Desk → Desk
+desk_after_end d = record { fifodirs = without_all d.fifodirs (values_of (standing d)); handles = map without_holding d.handles }

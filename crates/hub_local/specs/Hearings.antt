@@ -6,15 +6,15 @@ use Rattle.hub_listen.specs.Hit.{IsHit, HasNoHit}
 use Rattle.hub_listen.specs.Listening.{Listening, Feeds, after_hit, after_quiet}
 use Rattle.hub_listen.specs.declared.feed.Feed.TheVariants as fed
 use Rattle.hub_record.specs.Kept.{Kept, StandsFor}
-use Rattle.hub_record.specs.World.{World, letters, found, after_take}
+use Rattle.hub_record.specs.World.{World, letters, subscription_in, after_take}
 use Rattle.hub_local.specs.Polls.{waiting_for, to_hear, taken_from}
-use Rattle.hub_local.specs.declared.local_desk.Hearing.{Hearing}
+use Rattle.hub_local.specs.declared.local_desk.LocalListener.{LocalListener}
 use Rattle.hub_local.specs.declared.local_desk.listeners.Heard.{Heard}
 use Rattle.hub_local.specs.declared.local_desk.listeners.Heard.TheVariants.{Hit, Nothing, End, Lacking}
 
 -- the letters behind the cursor
 abbrev pub behind : World → ℕ → List ℕ
-behind w id = letters (waiting_for w (found w id))
+behind w id = letters (waiting_for w (subscription_in w id))
 
 -- the next of them was taken, or there is none
 abbrev pub TakesOne : World → ℕ → Result ℕ Heard → Kept → Type 0
@@ -24,14 +24,14 @@ TakesOne w id (Err End) kept = (behind w id ≡ []) × (w.closed ≡ true) × St
 TakesOne w id (Err heard) kept = ⊥
 
 -- the hearing `new` has this listener and this held letter, and the first n of the letters were taken from the record
-pub record IsAt (g : Hearing) (w : World) (id : ℕ) (n : ℕ) (listener : Listening) (held : Option ℕ) (new : Hearing) (kept : Kept) : Type 0 where
+pub record IsAt (g : LocalListener) (w : World) (id : ℕ) (n : ℕ) (listener : Listening) (held : Option ℕ) (new : LocalListener) (kept : Kept) : Type 0 where
   pub listener_is : new.listener ≡ listener
   pub mode_is : new.mode ≡ g.mode
   pub held_is : new.held ≡ held
   pub stands : StandsFor kept (taken_from g w id n)
 
 -- the next letter was heard without a hit, was a hit, or couldn't be searched; or there is none
-abbrev pub HearsOne : Hearing → World → ℕ → Option Heard → Hearing → Kept → Type 0
+abbrev pub HearsOne : LocalListener → World → ℕ → Option Heard → LocalListener → Kept → Type 0
 HearsOne g w id None new kept = (x : ℕ) × (rest : List ℕ) × (to_hear g w id ≡ x ∷ rest) × Feeds g.listener (x ∷ []) (Ok fed.Quiet) new.listener × IsAt g w id 1 new.listener None new kept
 HearsOne g w id (Some Hit) new kept =
     (x : ℕ) × (rest : List ℕ) × (k : ℕ) × (to_hear g w id ≡ x ∷ rest) × Feeds g.listener (x ∷ []) (Ok (fed.Hit k)) new.listener × IsAt g w id 1 new.listener None new kept
@@ -40,7 +40,7 @@ HearsOne g w id (Some Nothing) new kept = (to_hear g w id ≡ []) × (w.closed �
 HearsOne g w id (Some End) new kept = (to_hear g w id ≡ []) × (w.closed ≡ true) × IsAt g w id 0 g.listener None new kept
 
 -- the letters up to the hit, or all that there is room for
-abbrev pub Hears : Hearing → World → ℕ → Heard → Hearing → Kept → Type 0
+abbrev pub Hears : LocalListener → World → ℕ → Heard → LocalListener → Kept → Type 0
 Hears g w id Hit new kept =
     (k : ℕ) × IsHit g.listener.pattern g.listener.gathered (to_hear g w id) k × IsAt g w id k (after_hit g.listener (to_hear g w id) k) None new kept
 Hears g w id Nothing new kept =

@@ -7,9 +7,9 @@ use Rattle.std.specs.Str.{bytes_eq}
 use Rattle.hub_letters.specs.declared.want.Want.{Want}
 use Rattle.hub_local.specs.Desks.{Fifodir}
 use Rattle.hub_local.specs.Standing.{AreKept}
-use Rattle.hub_local.specs.Waits.{so_far, stopped, with_post, opened}
+use Rattle.hub_local.specs.Waits.{so_far, opening_refused, with_post, opening_of}
 use Rattle.hub_local.specs.declared.local_desk.LocalFifodir.{LocalFifodir}
-use Rattle.hub_local.specs.declared.local_desk.waits.Post.{Post}
+use Rattle.hub_local.specs.declared.local_desk.waits.LocalPost.{LocalPost}
 use Rattle.hub_requests.specs.declared.reply.Refusal.{Refusal}
 use Rattle.hub_requests.specs.declared.reply.Refusal.TheVariants.{Name, Kind, Memory}
 
@@ -29,19 +29,19 @@ refusal_among entries names =
 -- ---- posts
 
 -- one more post is the model's; a refusal changes nothing, and is the model's unless memory ran out
-abbrev pub OpensPost : Want → List ℕ → List Fifodir → Result Post Refusal → List (List ℕ × LocalFifodir) → Type 0
+abbrev pub OpensPost : Want → List ℕ → List Fifodir → Result LocalPost Refusal → List (List ℕ × LocalFifodir) → Type 0
 OpensPost want name model (Ok post) new =
-    (now : List Fifodir) × AreKept new now × ((posts : List Post) → with_post want (so_far model posts) name ≡ so_far now (posts ++ post ∷ []))
+    (now : List Fifodir) × AreKept new now × ((posts : List LocalPost) → with_post want (so_far model posts) name ≡ so_far now (posts ++ post ∷ []))
 OpensPost want name model (Err refusal) new =
-    AreKept new model × (refusal ≢ Memory → (posts : List Post) → with_post want (so_far model posts) name ≡ stopped model posts refusal)
+    AreKept new model × (refusal ≢ Memory → (posts : List LocalPost) → with_post want (so_far model posts) name ≡ opening_refused model posts refusal)
 
 -- the current posts are the model's for some of the names, from the first on
-pub record OpensSome (want : Want) (names : List (List ℕ)) (model now : List Fifodir) (posts : List Post) : Type 0 where
+pub record OpensSome (want : Want) (names : List (List ℕ)) (model now : List Fifodir) (posts : List LocalPost) : Type 0 where
   pub count : ℕ
-  pub opened : opened want model (take count names) ≡ so_far now posts
+  pub opened : opening_of want model (take count names) ≡ so_far now posts
 
 -- the posts are the model's; if memory ran out they are those for some of the names
-abbrev pub OpensAll : Want → List (List ℕ) → List Fifodir → Result (Unit {0}) Refusal → List (List ℕ × LocalFifodir) → List Post → Type 0
-OpensAll want names model (Ok done) new posts = (now : List Fifodir) × AreKept new now × (opened want model names ≡ so_far now posts)
+abbrev pub OpensAll : Want → List (List ℕ) → List Fifodir → Result (Unit {0}) Refusal → List (List ℕ × LocalFifodir) → List LocalPost → Type 0
+OpensAll want names model (Ok done) new posts = (now : List Fifodir) × AreKept new now × (opening_of want model names ≡ so_far now posts)
 OpensAll want names model (Err refusal) new posts =
-    (now : List Fifodir) × AreKept new now × OpensSome want names model now posts × (refusal ≢ Memory → opened want model names ≡ stopped now posts refusal)
+    (now : List Fifodir) × AreKept new now × OpensSome want names model now posts × (refusal ≢ Memory → opening_of want model names ≡ opening_refused now posts refusal)

@@ -1,7 +1,7 @@
 -- What a record answers, as a function of its world.
 use Rattle.std.specs.Prelude.{ℕ, ◌≡◌, ◌≢◌, ◌==◌, ◌+◌, Bool, true, false, if◌then◌else◌, List, [], ◌∷◌, ◌++◌, length, nat_le, nat_lt, Option, Some, None, is_some, Result, Ok, Err}
 use Rattle.std.specs.Option.{option_map}
-use Rattle.hub_letters.specs.Stages.{followed}
+use Rattle.hub_letters.specs.Stages.{stage_by_code}
 use Rattle.hub_letters.specs.declared.stage.Stage.TheVariants.{Off}
 use Rattle.hub_record.specs.declared.limits.TheConstants.{MOST_PASSES}
 use Rattle.hub_record.specs.World.{World, standing, letters, load, IsLawfulIn, SubscribeReply, PublishReply}
@@ -24,7 +24,7 @@ subscribe_reply w =
 -- a plain record takes any word, and a service's takes those that the stages follow
 abbrev pub is_lawful_in : Kind → List ℕ → Bool
 is_lawful_in Plain word = true
-is_lawful_in Service word = is_some (followed Off word)
+is_lawful_in Service word = is_some (stage_by_code Off word)
 
 -- the least place of the message for which the word, followed by the message up to and including it, isn't lawful
 abbrev pub first_unlawful : Kind → List ℕ → List ℕ → Option ℕ

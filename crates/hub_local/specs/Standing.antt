@@ -1,10 +1,10 @@
 -- What a `LocalDesk` stands for.
 use Rattle.std.specs.Prelude.{ℕ, ◌≡◌, ◌≢◌, Bool, true, false, List, [], ◌∷◌, length, All, Option, None, Some, is_some}
 use Rattle.hub_record.specs.Kept.{Kept, StandsFor}
-use Rattle.hub_record.specs.World.{World, found}
+use Rattle.hub_record.specs.World.{World, subscription_in}
 use Rattle.hub_listen.specs.Hit.{IsPattern}
-use Rattle.hub_local.specs.Desks.{Fifodir, Desk, IsDesk, Answer, standing, ended}
-use Rattle.hub_local.specs.Answers.{own_refusal, carried_out, answer_by, LeftBy, pattern_in, patterns_in, AreReads, answers, desk_after}
+use Rattle.hub_local.specs.Desks.{Fifodir, Desk, IsDesk, Answer, standing, desk_after_end}
+use Rattle.hub_local.specs.DeskAnswers.{own_refusal, request_answer, answer_by, LeftBy, pattern_in, patterns_in, AreReads, answers, desk_after}
 use Rattle.hub_local.specs.declared.local_desk.LocalFifodir.{LocalFifodir}
 use Rattle.hub_local.specs.declared.local_desk.Holding.{Holding}
 use Rattle.hub_requests.specs.declared.request.Request.{Request}
@@ -33,7 +33,7 @@ AreKept [] (f ∷ fs) = ⊥
 AreKept (e ∷ es) [] = ⊥
 AreKept (e ∷ es) (f ∷ fs) = IsKept e f × AreKept es fs
 
-pub record Stands (local : Local) (desk : Desk) : Type 0 where
+pub record StandsForDesk (local : Local) (desk : Desk) : Type 0 where
   pub fifodirs : AreKept local.fifodirs desk.fifodirs
   pub holdings : local.holdings ≡ standing desk
   pub given : local.given ≡ length desk.handles
@@ -42,34 +42,34 @@ pub record Stands (local : Local) (desk : Desk) : Type 0 where
 -- every `LocalDesk` stands for some desk
 pub record StandsForSome (local : Local) : Type 0 where
   pub desk : Desk
-  pub stands : Stands local desk
+  pub stands : StandsForDesk local desk
 
 -- the record stands for a world in which the subscription is current
 pub record HasSubscription (kept : Kept) (id : ℕ) : Type 0 where
   pub world : World
   pub stands : StandsFor kept world
-  pub subscribed : is_some (found world id) ≡ true
+  pub subscribed : is_some (subscription_in world id) ≡ true
 
 -- ---- what a request does
 
 -- the answer of a desk that refuses with `own`, and else does `done`
 pub record IsAnswer (local : Local) (desk : Desk) (own : Option Refusal) (done : Answer) (reply : Reply) : Type 0 where
   pub said : reply ≡ (answer_by desk own done).reply
-  pub stands : Stands local (answer_by desk own done).desk
+  pub stands : StandsForDesk local (answer_by desk own done).desk
 
 -- the desk's own refusals come before `no memory`, which leaves a desk as `left` says
 pub record IsLacking (local : Local) (own : Option Refusal) (left : Desk → Type 0) : Type 0 where
   pub unrefused : own ≡ None
   pub desk : Desk
   pub is_left : left desk
-  pub stands : Stands local desk
+  pub stands : StandsForDesk local desk
 
 -- A request is refused with `own` if there is one, and else carried out as `done` says. `grows` says whether it needs
 -- memory, and `left` what it may leave if memory runs out.
-pub record Answers (old : Local) (grows : Bool) (own : Desk → Option Refusal) (done : Desk → Answer) (left : Desk → Desk → Type 0) (reply : Reply) (new : Local) : Type 0 where
-  pub answered : reply ≢ No Memory → (desk : Desk) → Stands old desk → IsAnswer new desk (own desk) (done desk) reply
+pub record CarriesOut (old : Local) (grows : Bool) (own : Desk → Option Refusal) (done : Desk → Answer) (left : Desk → Desk → Type 0) (reply : Reply) (new : Local) : Type 0 where
+  pub answered : reply ≢ No Memory → (desk : Desk) → StandsForDesk old desk → IsAnswer new desk (own desk) (done desk) reply
   pub grew : reply ≡ No Memory → grows ≡ true
-  pub lacking : reply ≡ No Memory → (desk : Desk) → Stands old desk → IsLacking new (own desk) (left desk)
+  pub lacking : reply ≡ No Memory → (desk : Desk) → StandsForDesk old desk → IsLacking new (own desk) (left desk)
 
 -- the requests that need memory
 abbrev pub grows : Request → Bool
@@ -90,22 +90,22 @@ abbrev pub Unchanged : Desk → Desk → Type 0
 Unchanged desk new = new ≡ desk
 
 -- `read` says for a `Listen` whether its text is a pattern
-abbrev pub AskedWith : Bool → Local → Request → Reply → Local → Type 0
-AskedWith read old request reply new =
-    Answers old (grows request) (λ desk. own_refusal desk read request) (λ desk. carried_out desk request) (λ desk left. LeftBy request desk left) reply new
+abbrev pub AsksWith : Bool → Local → Request → Reply → Local → Type 0
+AsksWith read old request reply new =
+    CarriesOut old (grows request) (λ desk. own_refusal desk read request) (λ desk. request_answer desk request) (λ desk left. LeftBy request desk left) reply new
 
 -- only a pattern is read; if memory ran out it isn't known whether the text is one
 abbrev pub IsReadAs : Bool → Option (List ℕ) → Reply → Type 0
 IsReadAs read None reply = read ≡ false
 IsReadAs read (Some text) reply = read ≡ true → reply ≢ No Memory → IsPattern text
 
-pub record Asked (old : Local) (request : Request) (reply : Reply) (new : Local) : Type 0 where
+pub record AsksDesk (old : Local) (request : Request) (reply : Reply) (new : Local) : Type 0 where
   pub read : Bool
   pub is_read : IsReadAs read (pattern_in request) reply
-  pub answers : AskedWith read old request reply new
+  pub answers : AsksWith read old request reply new
 
 pub record Ended (old new : Local) : Type 0 where
-  pub stands : (desk : Desk) → Stands old desk → Stands new (ended desk)
+  pub stands : (desk : Desk) → StandsForDesk old desk → StandsForDesk new (desk_after_end desk)
 
 -- ---- runs
 
@@ -113,7 +113,7 @@ pub record Ended (old new : Local) : Type 0 where
 pub data Runs : Local → List Request → List Reply → Local → Type 0 where
   over : (local : Local) → Runs local [] [] local
   asked : (old mid new : Local) (request : Request) (requests : List Request) (reply : Reply) (replies : List Reply)
-      → Asked old request reply mid → Runs mid requests replies new → Runs old (request ∷ requests) (reply ∷ replies) new
+      → AsksDesk old request reply mid → Runs mid requests replies new → Runs old (request ∷ requests) (reply ∷ replies) new
 
 -- if no reply of a run is `no memory`, the replies are the model's answers, with a yes or no for each pattern, and the
 -- desk stands for the model's
@@ -121,8 +121,8 @@ pub record IsModels (desk : Desk) (requests : List Request) (replies : List Repl
   pub reads : List Bool
   pub are_reads : AreReads reads (patterns_in requests)
   pub said : replies ≡ answers desk reads requests
-  pub stands : Stands new (desk_after desk reads requests)
+  pub stands : StandsForDesk new (desk_after desk reads requests)
 
 abbrev pub RunsAnswer : Type 0
 RunsAnswer = (old new : Local) (requests : List Request) (replies : List Reply) (desk : Desk)
-    → Runs old requests replies new → All (λ reply. reply ≢ No Memory) replies → Stands old desk → IsModels desk requests replies new
+    → Runs old requests replies new → All (λ reply. reply ≢ No Memory) replies → StandsForDesk old desk → IsModels desk requests replies new

@@ -31,12 +31,12 @@ struct Holding {
     name: Name,
     id: u64,
     /// The listener, if the handle is a listener's.
-    hearing: Option<Hearing>,
+    hearing: Option<LocalListener>,
 }
 
 /// A listener. Its own mode is always `Repeat`: the desk ends it after a hit if `mode` is `Once`.
 #[derive(Drop)]
-struct Hearing {
+struct LocalListener {
     listener: Listener,
     /// Whether the handle's subscription ends with a hit.
     mode: Mode,
@@ -76,11 +76,11 @@ impl Model for LocalDesk {
 
 impl LocalDesk {
     ghost use Rattle.hub_local.specs.Desks.{new_desk};
-    ghost use Rattle.hub_local.specs.Standing.{Stands};
+    ghost use Rattle.hub_local.specs.Standing.{StandsForDesk};
 
     /// A desk without fifodirs and handles.
     pub fn new(alloc: Global) -> Result<LocalDesk, AllocError>
-        ensures { IfOk result (λ desk. Stands desk new_desk) }
+        ensures { IfOk result (λ desk. StandsForDesk desk new_desk) }
     {
         Ok(LocalDesk {
             alloc,
@@ -92,9 +92,9 @@ impl LocalDesk {
 }
 
 impl Desk for LocalDesk {
-    ghost use Rattle.hub_local.specs.Standing.{Asked, Ended};
+    ghost use Rattle.hub_local.specs.Standing.{AsksDesk, Ended};
 
-    ghost asks = { Asked };
+    ghost asks = { AsksDesk };
 
     ghost ends = { Ended };
 

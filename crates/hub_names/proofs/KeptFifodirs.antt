@@ -15,8 +15,8 @@ use Rattle.hub_names.specs.declared.hub.Made.{Made}
 use Rattle.hub_names.specs.declared.fifodirs.Fifodirs.{Fifodirs}
 use Rattle.hub_names.specs.declared.joined.Joined.{Joined}
 use Rattle.hub_names.specs.Hubs.{IsFoundIn}
-use Rattle.hub_names.specs.Speaking.{Asked, found_of, fifodir_of}
-use Rattle.hub_names.specs.Fifodirs.{kept, IsFound, IsKeptAs, IsMissing, IsNewIn, Joins, IsAsBefore, AsksByName, KeepsAll}
+use Rattle.hub_names.specs.Speaking.{AsksAsPublisher, found_of, fifodir_of}
+use Rattle.hub_names.specs.Fifodirs.{joined_at, IsFound, IsKeptAs, IsMissing, IsNewIn, Joins, IsAsBefore, AsksByName, KeepsAll}
 
 same_kept : (j k : Joined) (o : Option Joined) → o ≡ Some j → o ≡ Some k → j ≡ k
 same_kept j k o e f = cc
@@ -25,40 +25,40 @@ not_both : (j : Joined) (o : Option Joined) → o ≡ Some j → o ≡ None → 
 not_both j o e f = cc
 
 -- a name that was found just now
-pub joins_new : (hub : Hub) (old new : Fifodirs) (name key : List ℕ) (j : Joined) → kept old name ≡ None → j.publisher ≡ None → IsFoundIn hub name j.found → key ≡ name
-    → kept new key ≡ Some j → ((other : List ℕ) → bytes_eq key other ≡ false → kept new other ≡ kept old other) → Joins hub old name new
+pub joins_new : (hub : Hub) (old new : Fifodirs) (name key : List ℕ) (j : Joined) → joined_at old name ≡ None → j.publisher ≡ None → IsFoundIn hub name j.found → key ≡ name
+    → joined_at new key ≡ Some j → ((other : List ℕ) → bytes_eq key other ≡ false → joined_at new other ≡ joined_at old other) → Joins hub old name new
 joins_new hub old new name key j unknown silent found same here others = record {
   joined = j;
   found = inr (unknown, record { silent = silent; found = found });
   keeps = record {
-    here = subst (λ (n : List ℕ). kept new n ≡ Some j) same here;
-    others = subst (λ (n : List ℕ). (other : List ℕ) → bytes_eq n other ≡ false → kept new other ≡ kept old other) same others;
+    here = subst (λ (n : List ℕ). joined_at new n ≡ Some j) same here;
+    others = subst (λ (n : List ℕ). (other : List ℕ) → bytes_eq n other ≡ false → joined_at new other ≡ joined_at old other) same others;
   };
 }
 
 -- what is written through the loan of a name that was known
 pub asks_known : (hub : Hub) (says : Publisher → Reply → Publisher → Type 0) (old new : Fifodirs) (name : List ℕ) (was now : Joined) (reply : Reply)
-    → kept old name ≡ Some was → kept new name ≡ Some now → ((other : List ℕ) → bytes_eq name other ≡ false → kept new other ≡ kept old other) → Asked says was reply now
+    → joined_at old name ≡ Some was → joined_at new name ≡ Some now → ((other : List ℕ) → bytes_eq name other ≡ false → joined_at new other ≡ joined_at old other) → AsksAsPublisher says was reply now
     → AsksByName hub says old name reply new
 asks_known hub says old new name was now reply at here others asked =
     inl (record { before = was; after = now; found = inl at; asked = asked; keeps = record { here = here; others = others } })
 
 -- and of one that was joined
 pub asks_kept : (hub : Hub) (says : Publisher → Reply → Publisher → Type 0) (old mid new : Fifodirs) (name : List ℕ) (was now : Joined) (reply : Reply)
-    → Joins hub old name mid → kept mid name ≡ Some was → kept new name ≡ Some now
-    → ((other : List ℕ) → bytes_eq name other ≡ false → kept new other ≡ kept mid other) → Asked says was reply now → AsksByName hub says old name reply new
+    → Joins hub old name mid → joined_at mid name ≡ Some was → joined_at new name ≡ Some now
+    → ((other : List ℕ) → bytes_eq name other ≡ false → joined_at new other ≡ joined_at mid other) → AsksAsPublisher says was reply now → AsksByName hub says old name reply new
 asks_kept hub says old mid new name was now reply joins at here others asked =
     inl (record {
       before = was;
       after = now;
-      found = subst (IsFound hub old name) (same_kept joins.joined was (kept mid name) joins.keeps.here at) joins.found;
+      found = subst (IsFound hub old name) (same_kept joins.joined was (joined_at mid name) joins.keeps.here at) joins.found;
       asked = asked;
       keeps = record { here = here; others = λ other h. others other h ∙ joins.keeps.others other h };
     })
 
 -- ---- a copy of what is kept
 
-pub kept_copy : (fs : Fifodirs) (name : List ℕ) (j : Joined) (copy : Result Made Refusal) → kept fs name ≡ Some j → IfOk copy (λ made. arc_value made.dir ≡ fifodir_of j)
+pub kept_copy : (fs : Fifodirs) (name : List ℕ) (j : Joined) (copy : Result Made Refusal) → joined_at fs name ≡ Some j → IfOk copy (λ made. arc_value made.dir ≡ fifodir_of j)
     → IfOk copy (λ made. made.notifies ≡ (found_of j).notifies) → IfOk copy (IsKeptAs fs name)
 kept_copy fs name j (Ok made) at dir notifies = record { joined = j; kept_is = at; dir = dir; notifies = notifies }
 kept_copy fs name j (Err refusal) at dir notifies = tt
@@ -76,54 +76,54 @@ brief_copy (Err refusal) e = subst IsBrief (sym e) (lit≤ tt)
 same_name : (name other : List ℕ) → bytes_eq name other ≡ true → name ≡ other
 same_name name other e = (bytes_eq-Decides name other).0 e
 
-keeps_each : (hub : Hub) (old new : Fifodirs) (name : List ℕ) → Joins hub old name new → (other : List ℕ) (j : Joined) → kept old other ≡ Some j → kept new other ≡ Some j
+keeps_each : (hub : Hub) (old new : Fifodirs) (name : List ℕ) → Joins hub old name new → (other : List ℕ) (j : Joined) → joined_at old other ≡ Some j → joined_at new other ≡ Some j
 keeps_each hub old new name joins other j e =
     elim (cases_Bool (bytes_eq name other)) [
       | inl t ↦ (let same = same_name name other t in
-          let at : kept old name ≡ Some j = subst (λ (n : List ℕ). kept old n ≡ Some j) (sym same) e in
+          let at : joined_at old name ≡ Some j = subst (λ (n : List ℕ). joined_at old n ≡ Some j) (sym same) e in
           ⊎_elim
-          (λ (h : kept old name ≡ Some joins.joined).
-          subst (λ (n : List ℕ). kept new n ≡ Some j) same (joins.keeps.here ∙ sym h ∙ at))
-          (λ (h : (kept old name ≡ None) × IsNewIn hub name joins.joined). absurd (not_both j (kept old name) at h.0))
+          (λ (h : joined_at old name ≡ Some joins.joined).
+          subst (λ (n : List ℕ). joined_at new n ≡ Some j) same (joins.keeps.here ∙ sym h ∙ at))
+          (λ (h : (joined_at old name ≡ None) × IsNewIn hub name joins.joined). absurd (not_both j (joined_at old name) at h.0))
           joins.found)
       | inr t ↦ joins.keeps.others other t ∙ e
     ]
 
-keeps_fresh : (hub : Hub) (old new : Fifodirs) (name : List ℕ) → Joins hub old name new → (other : List ℕ) (j : Joined) → kept new other ≡ Some j → kept old other ≡ None → IsNewIn hub other j
+keeps_fresh : (hub : Hub) (old new : Fifodirs) (name : List ℕ) → Joins hub old name new → (other : List ℕ) (j : Joined) → joined_at new other ≡ Some j → joined_at old other ≡ None → IsNewIn hub other j
 keeps_fresh hub old new name joins other j e none =
     elim (cases_Bool (bytes_eq name other)) [
       | inl t ↦ (let same = same_name name other t in
-          let is : joins.joined ≡ j = same_kept _ _ (kept new name) joins.keeps.here (subst (λ (n : List ℕ). kept new n ≡ Some j) (sym same) e) in
+          let is : joins.joined ≡ j = same_kept _ _ (joined_at new name) joins.keeps.here (subst (λ (n : List ℕ). joined_at new n ≡ Some j) (sym same) e) in
           ⊎_elim
-          (λ (h : kept old name ≡ Some joins.joined).
-          absurd (not_both joins.joined (kept old name) h (subst (λ (n : List ℕ). kept old n ≡ None) (sym same) none)))
-          (λ (h : (kept old name ≡ None) × IsNewIn hub name joins.joined).
+          (λ (h : joined_at old name ≡ Some joins.joined).
+          absurd (not_both joins.joined (joined_at old name) h (subst (λ (n : List ℕ). joined_at old n ≡ None) (sym same) none)))
+          (λ (h : (joined_at old name ≡ None) × IsNewIn hub name joins.joined).
           subst (λ (n : List ℕ). IsNewIn hub n j) same (subst (IsNewIn hub name) is h.1))
           joins.found)
-      | inr t ↦ absurd (not_both j (kept new other) e (joins.keeps.others other t ∙ none))
+      | inr t ↦ absurd (not_both j (joined_at new other) e (joins.keeps.others other t ∙ none))
     ]
 
 pub joins_keep_all : (hub : Hub) (old new : Fifodirs) (name : List ℕ) → Joins hub old name new → KeepsAll hub old new
 joins_keep_all hub old new name joins = record { each = keeps_each hub old new name joins; fresh = keeps_fresh hub old new name joins }
 
 pub KeepsAll-refl : (hub : Hub) (fs : Fifodirs) → KeepsAll hub fs fs
-KeepsAll-refl hub fs = record { each = λ name j e. e; fresh = λ name j e none. absurd (not_both j (kept fs name) e none) }
+KeepsAll-refl hub fs = record { each = λ name j e. e; fresh = λ name j e none. absurd (not_both j (joined_at fs name) e none) }
 
 pub KeepsAll-same : (hub : Hub) (old new : Fifodirs) → IsAsBefore old new → KeepsAll hub old new
 KeepsAll-same hub old new same =
     let at = λ (name : List ℕ). ap (lookup (bytes_eq name)) same in
     record {
       each = λ name j e. at name ∙ e;
-      fresh = λ name j e none. absurd (not_both j (kept old name) (sym (at name) ∙ e) none);
+      fresh = λ name j e none. absurd (not_both j (joined_at old name) (sym (at name) ∙ e) none);
     }
 
 pub KeepsAll-trans : (hub : Hub) (a b c : Fifodirs) → KeepsAll hub a b → KeepsAll hub b c → KeepsAll hub a c
 KeepsAll-trans hub a b c f g = record {
   each = λ name j e. g.each name j (f.each name j e);
-  fresh = λ name j e none. between name j e none (kept b name) refl;
+  fresh = λ name j e none. between name j e none (joined_at b name) refl;
 }
   where
-    between : (name : List ℕ) (j : Joined) → kept c name ≡ Some j → kept a name ≡ None → (o : Option Joined) → kept b name ≡ o → IsNewIn hub name j
+    between : (name : List ℕ) (j : Joined) → joined_at c name ≡ Some j → joined_at a name ≡ None → (o : Option Joined) → joined_at b name ≡ o → IsNewIn hub name j
     between name j e none None at = g.fresh name j e at
     between name j e none (Some k) at =
-        subst (IsNewIn hub name) (same_kept k j (kept c name) (g.each name k at) e) (f.fresh name k at none)
+        subst (IsNewIn hub name) (same_kept k j (joined_at c name) (g.each name k at) e) (f.fresh name k at none)

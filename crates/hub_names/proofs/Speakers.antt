@@ -6,9 +6,9 @@ use Rattle.hub_fifodir.specs.declared.views.Sight.{Sight}
 use Rattle.hub_fifodir.specs.Passes.{OnlyLooks, KnewOwnClose, publisher_number, publisher_view, closed_mark}
 use Rattle.hub_fifodir.specs.Rule.{IsNumbered}
 use Rattle.hub_names.specs.declared.joined.Joined.{Joined}
-use Rattle.hub_names.specs.Speaking.{HasSpoken, Asked}
+use Rattle.hub_names.specs.Speaking.{HasSpoken, AsksAsPublisher}
 
-pub spoke : (says : Publisher → Reply → Publisher → Type 0) (old new : Joined) (reply : Reply) (p q : Publisher) → HasSpoken old p q new → says p reply q → Asked says old reply new
+pub spoke : (says : Publisher → Reply → Publisher → Type 0) (old new : Joined) (reply : Reply) (p q : Publisher) → HasSpoken old p q new → says p reply q → AsksAsPublisher says old reply new
 spoke says old new reply p q h s = inl (record { before = p; after = q; spoken = h; said = s })
 
 -- one that only looked knew of its own close, as one that spoke does

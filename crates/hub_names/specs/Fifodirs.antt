@@ -13,19 +13,19 @@ use Rattle.hub_names.specs.declared.hub.Made.{Made}
 use Rattle.hub_names.specs.declared.fifodirs.Fifodirs.{Fifodirs}
 use Rattle.hub_names.specs.declared.joined.Joined.{Joined}
 use Rattle.hub_names.specs.Hubs.{IsFoundIn}
-use Rattle.hub_names.specs.Speaking.{Asked, fifodir_of, notifies_of}
+use Rattle.hub_names.specs.Speaking.{AsksAsPublisher, fifodir_of, notifies_of}
 
 -- what is kept under the name
-abbrev pub kept : Fifodirs → List ℕ → Option Joined
-kept fs name = lookup (bytes_eq name) fs.by_name.entries
+abbrev pub joined_at : Fifodirs → List ℕ → Option Joined
+joined_at fs name = lookup (bytes_eq name) fs.by_name.entries
 
 abbrev pub KeepsNone : Fifodirs → Type 0
 KeepsNone fs = fs.by_name.entries ≡ []
 
 -- this is kept under the name, and nothing else has changed
 pub record Keeps (old : Fifodirs) (name : List ℕ) (j : Joined) (new : Fifodirs) : Type 0 where
-  pub here : kept new name ≡ Some j
-  pub others : (other : List ℕ) → bytes_eq name other ≡ false → kept new other ≡ kept old other
+  pub here : joined_at new name ≡ Some j
+  pub others : (other : List ℕ) → bytes_eq name other ≡ false → joined_at new other ≡ joined_at old other
 
 -- it was found in the hub by this name just now, and has no publisher yet
 pub record IsNewIn (hub : Hub) (name : List ℕ) (j : Joined) : Type 0 where
@@ -34,7 +34,7 @@ pub record IsNewIn (hub : Hub) (name : List ℕ) (j : Joined) : Type 0 where
 
 -- what is kept under the name, or what was found in the hub by it just now
 abbrev pub IsFound : Hub → Fifodirs → List ℕ → Joined → Type 0
-IsFound hub fs name j = (kept fs name ≡ Some j) ⊎ ((kept fs name ≡ None) × IsNewIn hub name j)
+IsFound hub fs name j = (joined_at fs name ≡ Some j) ⊎ ((joined_at fs name ≡ None) × IsNewIn hub name j)
 
 -- the name has a fifodir now
 pub record Joins (hub : Hub) (old : Fifodirs) (name : List ℕ) (new : Fifodirs) : Type 0 where
@@ -48,26 +48,26 @@ IsAsBefore old new = new.by_name.entries ≡ old.by_name.entries
 -- a copy of what is kept under the name
 pub record IsKeptAs (fs : Fifodirs) (name : List ℕ) (found : Made) : Type 0 where
   pub joined : Joined
-  pub kept_is : kept fs name ≡ Some joined
+  pub kept_is : joined_at fs name ≡ Some joined
   pub dir : arc_value found.dir ≡ fifodir_of joined
   pub notifies : found.notifies ≡ notifies_of joined
 
 -- the name wasn't known before, and isn't now
 pub record IsFinding (old : Fifodirs) (name : List ℕ) (new : Fifodirs) (refusal : Refusal) : Type 0 where
-  pub unknown : kept old name ≡ None
+  pub unknown : joined_at old name ≡ None
   pub before : IsAsBefore old new
   pub refused : (refusal ≡ no.Name) ⊎ (refusal ≡ no.Memory)
 
 -- the name has no fifodir, or there is no memory to find it
 abbrev pub IsMissing : Fifodirs → List ℕ → Refusal → Type 0
-IsMissing fs name refusal = ((refusal ≡ no.Name) × (kept fs name ≡ None)) ⊎ (refusal ≡ no.Memory)
+IsMissing fs name refusal = ((refusal ≡ no.Name) × (joined_at fs name ≡ None)) ⊎ (refusal ≡ no.Memory)
 
 -- asked of the publisher under the name
 pub record AsksKept (hub : Hub) (says : Publisher → Reply → Publisher → Type 0) (old : Fifodirs) (name : List ℕ) (reply : Reply) (new : Fifodirs) : Type 0 where
   pub before : Joined
   pub after : Joined
   pub found : IsFound hub old name before
-  pub asked : Asked says before reply after
+  pub asked : AsksAsPublisher says before reply after
   pub keeps : Keeps old name after new
 
 pub record IsUnfound (old : Fifodirs) (name : List ℕ) (reply : Reply) (new : Fifodirs) : Type 0 where
@@ -80,6 +80,6 @@ AsksByName hub says old name reply new = AsksKept hub says old name reply new �
 
 -- whatever was kept is kept still
 pub record KeepsAll (hub : Hub) (old new : Fifodirs) : Type 0 where
-  pub each : (name : List ℕ) (j : Joined) → kept old name ≡ Some j → kept new name ≡ Some j
+  pub each : (name : List ℕ) (j : Joined) → joined_at old name ≡ Some j → joined_at new name ≡ Some j
   -- and what is new was found in the hub by its name
-  pub fresh : (name : List ℕ) (j : Joined) → kept new name ≡ Some j → kept old name ≡ None → IsNewIn hub name j
+  pub fresh : (name : List ℕ) (j : Joined) → joined_at new name ≡ Some j → joined_at old name ≡ None → IsNewIn hub name j

@@ -11,8 +11,8 @@ use Rattle.hub_names.specs.declared.hub.Hub.{Hub}
 use Rattle.hub_names.specs.declared.hub.Made.{Made}
 
 -- the fifodir, and whether its service reports readiness
-abbrev pub shown : Made → Fifodir × Bool
-shown made = (arc_value made.dir, made.notifies)
+abbrev pub found_as : Made → Fifodir × Bool
+found_as made = (arc_value made.dir, made.notifies)
 
 -- it is of this kind, has these limits, and its service reports readiness where this is so
 pub record IsMadeAs (kind : Kind) (limits : Limits) (notifies : Bool) (made : Made) : Type 0 where

@@ -61,5 +61,5 @@ pub record IsUnmade (old : Joined) (reply : Reply) (new : Joined) : Type 0 where
   pub error : PassError
   pub refused : reply ≡ No (refusal_of_pass error)
 
-abbrev pub Asked : (Publisher → Reply → Publisher → Type 0) → Joined → Reply → Joined → Type 0
-Asked says old reply new = Spoke says old reply new ⊎ IsUnmade old reply new
+abbrev pub AsksAsPublisher : (Publisher → Reply → Publisher → Type 0) → Joined → Reply → Joined → Type 0
+AsksAsPublisher says old reply new = Spoke says old reply new ⊎ IsUnmade old reply new

@@ -22,7 +22,7 @@ pub struct Fifodirs {
 }
 
 impl Fifodirs {
-    ghost use Rattle.hub_names.specs.Fifodirs.{AsksByName, IsKeptAs, KeepsAll, KeepsNone, Joins, IsFinding, IsMissing, kept};
+    ghost use Rattle.hub_names.specs.Fifodirs.{AsksByName, IsKeptAs, KeepsAll, KeepsNone, Joins, IsFinding, IsMissing, joined_at};
 
     pub fn new(alloc: Global) -> Fifodirs
         ensures { KeepsNone result }
@@ -35,7 +35,7 @@ impl Fifodirs {
 
     /// Finds the fifodir of a name that isn't known yet.
     fn join<H: Wait>(&mut self, rt: &H, hub: &Hub, name: &Name) -> Result<(), Refusal>
-        requires { kept self.old name.now ≡ None }
+        requires { joined_at self.old name.now ≡ None }
         ensures ok { OnOk result (Joins hub.now self.old name.now self.new) }
         ensures err { IfErr result (IsFinding self.old name.now self.new) }
     {

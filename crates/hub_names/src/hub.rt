@@ -47,11 +47,11 @@ pub struct Made {
 }
 
 impl Made {
-    ghost use Rattle.hub_names.specs.Hubs.{shown};
+    ghost use Rattle.hub_names.specs.Hubs.{found_as};
 
     /// The same fifodir, to be kept once more.
     fn copy(&self) -> Result<Made, AllocError>
-        ensures { IfOk result (λ made. shown made ≡ shown self.now) }
+        ensures { IfOk result (λ made. found_as made ≡ found_as self.now) }
     {
         let dir = Arc::try_clone(&self.dir)?;
         Ok(Made {
@@ -107,7 +107,7 @@ impl Found {
     }
 }
 
-/// What stands under the hub's lock.
+/// What is under the hub's lock.
 #[derive(Drop)]
 struct Named {
     alloc: Global,
@@ -116,7 +116,7 @@ struct Named {
 }
 
 impl Named {
-    ghost use Rattle.hub_names.specs.Hubs.{HasMade, shown};
+    ghost use Rattle.hub_names.specs.Hubs.{HasMade, found_as};
 
     fn make(
         &mut self,
@@ -157,7 +157,7 @@ impl Named {
     }
 
     fn find(&self, name: &Name) -> Result<Option<Made>, AllocError>
-        ensures { IfOk result (λ made. option_map shown made ≡ option_map shown
+        ensures { IfOk result (λ made. option_map found_as made ≡ option_map found_as
             (get bytes_eq self.now.fifodirs name.now)) }
     {
         match self.fifodirs.get(name) {

@@ -23,7 +23,7 @@ pub struct Joined {
 }
 
 impl Joined {
-    ghost use Rattle.hub_names.specs.Speaking.{Asked, IsSpeaker, fifodir_of, found_of, publisher_of};
+    ghost use Rattle.hub_names.specs.Speaking.{AsksAsPublisher, IsSpeaker, fifodir_of, found_of, publisher_of};
 
     pub fn new(found: Found) -> Joined
         ensures found { found_of result ≡ found }
@@ -75,7 +75,7 @@ impl Joined {
 
     /// Answers by the publisher that it keeps, or by a new one, which it keeps from then on.
     pub fn speak<H: Wait>(&mut self, rt: &H, speech: Speech<'_>) -> Reply
-        ensures step { Asked (says speech.entry) self.old result self.new }
+        ensures step { AsksAsPublisher (says speech.entry) self.old result self.new }
         ensures short { IsShort result }
     {
         let mut publisher = match self.speaker(rt) {

@@ -3,6 +3,6 @@ pub mod Splits
 pub mod Visible
 pub mod SameWords
 pub mod FieldLists
-pub mod Asked
+pub mod FormRequests
 pub mod OneReading
 pub mod Numbers

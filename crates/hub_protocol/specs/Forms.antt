@@ -6,10 +6,10 @@ use Rattle.hub_protocol.specs.Reading.{HasForm, IsReading}
 use Rattle.hub_protocol.specs.Fields.{fields_of, IsNoForm, IsFormOf}
 use Rattle.hub_protocol.specs.declared.parsing.Bad.{Bad}
 use Rattle.hub_protocol.specs.declared.words.Word.{Word}
-use Rattle.hub_protocol.specs.declared.forms.Form as borrowed
-use Rattle.hub_protocol.specs.declared.forms.Form.TheVariants.{Dir, Svc, Sub, Pub, Take, Cancel, Close, Status, Listen, Poll, Wait}
+use Rattle.hub_protocol.specs.declared.forms.BorrowedForm as borrowed
+use Rattle.hub_protocol.specs.declared.forms.BorrowedForm.TheVariants.{Dir, Svc, Sub, Pub, Take, Cancel, Close, Status, Listen, Poll, Wait}
 
-abbrev pub form_shown : borrowed.Form → Form
+abbrev pub form_shown : borrowed.BorrowedForm → Form
 form_shown (Dir name waiting total) = spelled.Dir name.now waiting total
 form_shown (Svc name waiting total reports) = spelled.Svc name.now waiting total reports
 form_shown (Sub name) = spelled.Sub name.now
@@ -23,10 +23,10 @@ form_shown (Poll id) = spelled.Poll id
 form_shown (Wait span want turns names) = spelled.Wait span want turns (fields_of names.now)
 
 -- the form of the word whose fields are the rest of a line, if there is one
-abbrev pub Finds : Word → List ℕ → Option borrowed.Form → Type 0
+abbrev pub Finds : Word → List ℕ → Option borrowed.BorrowedForm → Type 0
 Finds word rest found = MatchOption found (IsNoForm word (fields_of rest)) (λ form. IsFormOf word (fields_of rest) (form_shown form))
 
 -- the form of a line whose numbers are in their ranges, or the first rule that the line breaks
-abbrev pub IsRead : List ℕ → Result borrowed.Form Bad → Type 0
+abbrev pub IsRead : List ℕ → Result borrowed.BorrowedForm Bad → Type 0
 IsRead line (Ok form) = HasForm line (form_shown form) × IsWithin (form_shown form)
 IsRead line (Err bad) = IsReading line (Err bad)

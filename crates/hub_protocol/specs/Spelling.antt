@@ -42,7 +42,7 @@ pub record AreLetters (letters : List ℕ) : Type 0 where
   pub each : All (λ b. (33 ≤ b) × (b ≤ 126)) letters
 
 -- 1 to 200 bytes that may be in a line
-pub record IsPattern (pattern : List ℕ) : Type 0 where
+pub record IsPatternText (pattern : List ℕ) : Type 0 where
   pub some : 0 < length pattern
   pub short : length pattern ≤ 200
   pub plain : All (λ b. (32 ≤ b) × (b ≤ 126)) pattern
@@ -63,7 +63,7 @@ IsForm (Take id max) = IsNumeral id × IsNumeral max
 IsForm (Cancel id) = IsNumeral id
 IsForm (Close name) = IsName name
 IsForm (Status name) = IsName name
-IsForm (Listen name mode pattern) = IsName name × IsPattern pattern
+IsForm (Listen name mode pattern) = IsName name × IsPatternText pattern
 IsForm (Poll id) = IsNumeral id
 IsForm (Wait span want turns names) = IsNumeral turns × AreNames names
 

@@ -1,6 +1,6 @@
 //! The fields of a line: the pieces between its spaces.
 ghost use Rattle.std.specs.Prelude.{◌≡◌, ◌<◌, ◌≤◌, ◌↔◌, IsTrue, slice_index, ◌∷◌, [], length, count_by, All, Any, MatchBool, MatchOption};
-ghost use Rattle.hub_protocol.specs.Spelling.{AreLetters, AreNames, IsName, IsPattern};
+ghost use Rattle.hub_protocol.specs.Spelling.{AreLetters, AreNames, IsName, IsPatternText};
 ghost use Rattle.hub_protocol.specs.Reading.{IsTextByte};
 ghost use Rattle.hub_protocol.specs.Fields.{is_space, fields_of, digits_from, IsNumeralOf};
 
@@ -82,7 +82,7 @@ pub fn are_letters(text: &[u8]) -> bool
 /// Whether the text may be the field of a pattern: 1 to 200 bytes of a line. Whether it is a pattern is found out
 /// later, by the desk that is asked.
 pub fn is_pattern(text: &[u8]) -> bool
-    ensures { MatchBool result (IsPattern text.now) (IsPattern text.now → ⊥) }
+    ensures { MatchBool result (IsPatternText text.now) (IsPatternText text.now → ⊥) }
 {
     !text.is_empty() && text.len() <= LONGEST_PATTERN && is_text(text)
 }

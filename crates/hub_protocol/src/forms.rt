@@ -11,7 +11,7 @@ use hub_letters::{Mode, Span, Want};
 
 /// What a line of a form says. Its numbers haven't been checked against their ranges yet. Each variant shows its line.
 #[derive(Clone, Copy)]
-pub enum Form<'a> {
+pub enum BorrowedForm<'a> {
     /// `dir N W T`
     Dir {
         name: &'a [u8],
@@ -70,27 +70,27 @@ pub enum Form<'a> {
     },
 }
 
-fn dir(rest: &[u8]) -> Option<Form<'_>>
+fn dir(rest: &[u8]) -> Option<BorrowedForm<'_>>
     ensures { Finds Word.Dir rest.now result }
 {
     let (name, rest) = name_first(rest)?;
     let (waiting, rest) = numeral_first(rest)?;
     let total = last_numeral(rest)?;
-    Some(Form::Dir {
+    Some(BorrowedForm::Dir {
         name,
         waiting,
         total,
     })
 }
 
-fn svc(rest: &[u8]) -> Option<Form<'_>>
+fn svc(rest: &[u8]) -> Option<BorrowedForm<'_>>
     ensures { Finds Word.Svc rest.now result }
 {
     let (name, rest) = name_first(rest)?;
     let (waiting, rest) = numeral_first(rest)?;
     let (total, rest) = numeral_first(rest)?;
     let reports = last_numeral(rest)?;
-    Some(Form::Svc {
+    Some(BorrowedForm::Svc {
         name,
         waiting,
         total,
@@ -98,78 +98,78 @@ fn svc(rest: &[u8]) -> Option<Form<'_>>
     })
 }
 
-fn publication(rest: &[u8]) -> Option<Form<'_>>
+fn publication(rest: &[u8]) -> Option<BorrowedForm<'_>>
     ensures { Finds Word.Pub rest.now result }
 {
     let (name, rest) = name_first(rest)?;
     let letters = last_letters(rest)?;
-    Some(Form::Pub { name, letters })
+    Some(BorrowedForm::Pub { name, letters })
 }
 
-fn take(rest: &[u8]) -> Option<Form<'_>>
+fn take(rest: &[u8]) -> Option<BorrowedForm<'_>>
     ensures { Finds Word.Take rest.now result }
 {
     let (id, rest) = numeral_first(rest)?;
     let max = last_numeral(rest)?;
-    Some(Form::Take { id, max })
+    Some(BorrowedForm::Take { id, max })
 }
 
-fn cancel(rest: &[u8]) -> Option<Form<'_>>
+fn cancel(rest: &[u8]) -> Option<BorrowedForm<'_>>
     ensures { Finds Word.Cancel rest.now result }
 {
     let id = last_numeral(rest)?;
-    Some(Form::Cancel { id })
+    Some(BorrowedForm::Cancel { id })
 }
 
-fn sub(rest: &[u8]) -> Option<Form<'_>>
+fn sub(rest: &[u8]) -> Option<BorrowedForm<'_>>
     ensures { Finds Word.Sub rest.now result }
 {
     let name = last_name(rest)?;
-    Some(Form::Sub { name })
+    Some(BorrowedForm::Sub { name })
 }
 
-fn close(rest: &[u8]) -> Option<Form<'_>>
+fn close(rest: &[u8]) -> Option<BorrowedForm<'_>>
     ensures { Finds Word.Close rest.now result }
 {
     let name = last_name(rest)?;
-    Some(Form::Close { name })
+    Some(BorrowedForm::Close { name })
 }
 
-fn status(rest: &[u8]) -> Option<Form<'_>>
+fn status(rest: &[u8]) -> Option<BorrowedForm<'_>>
     ensures { Finds Word.Status rest.now result }
 {
     let name = last_name(rest)?;
-    Some(Form::Status { name })
+    Some(BorrowedForm::Status { name })
 }
 
-fn listen(rest: &[u8]) -> Option<Form<'_>>
+fn listen(rest: &[u8]) -> Option<BorrowedForm<'_>>
     ensures { Finds Word.Listen rest.now result }
 {
     let (name, rest) = name_first(rest)?;
     let (mode, rest) = mode_first(rest)?;
     let pattern = last_pattern(rest)?;
-    Some(Form::Listen {
+    Some(BorrowedForm::Listen {
         name,
         mode,
         pattern,
     })
 }
 
-fn poll(rest: &[u8]) -> Option<Form<'_>>
+fn poll(rest: &[u8]) -> Option<BorrowedForm<'_>>
     ensures { Finds Word.Poll rest.now result }
 {
     let id = last_numeral(rest)?;
-    Some(Form::Poll { id })
+    Some(BorrowedForm::Poll { id })
 }
 
-fn wait(rest: &[u8]) -> Option<Form<'_>>
+fn wait(rest: &[u8]) -> Option<BorrowedForm<'_>>
     ensures { Finds Word.Wait rest.now result }
 {
     let (span, rest) = span_first(rest)?;
     let (want, rest) = want_first(rest)?;
     let (turns, rest) = numeral_first(rest)?;
     let names = last_names(rest)?;
-    Some(Form::Wait {
+    Some(BorrowedForm::Wait {
         span,
         want,
         turns,
@@ -178,7 +178,7 @@ fn wait(rest: &[u8]) -> Option<Form<'_>>
 }
 
 /// The form that the word has with this rest of the line. None if the rest doesn't have the fields of the word.
-pub fn form_of_word(word: Word, rest: &[u8]) -> Option<Form<'_>>
+pub fn form_of_word(word: Word, rest: &[u8]) -> Option<BorrowedForm<'_>>
     ensures { Finds word rest.now result }
 {
     match word {

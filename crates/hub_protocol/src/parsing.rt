@@ -7,7 +7,7 @@ ghost use Rattle.hub_protocol.specs.Reading.{IsReading, IsText};
 ghost use Rattle.hub_protocol.specs.Refusing.{refusal_of};
 
 use crate::fields::{is_text, split_at_space};
-use crate::forms::{Form, form_of_word};
+use crate::forms::{BorrowedForm, form_of_word};
 use crate::requests::{is_within, request_of};
 use crate::words::word_spelled;
 use hub_requests::{Refusal, Request};
@@ -66,7 +66,7 @@ pub fn parse(alloc: Global, line: &[u8]) -> Result<Request, Bad>
     }
 }
 
-fn read_text(line: &[u8]) -> Result<Form<'_>, Bad>
+fn read_text(line: &[u8]) -> Result<BorrowedForm<'_>, Bad>
     requires { IsText line.now }
     ensures { IsRead line.now result }
 {

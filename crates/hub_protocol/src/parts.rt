@@ -4,7 +4,7 @@ ghost use Rattle.std.specs.Fmt.{decimal};
 ghost use Rattle.hub_letters.specs.declared.want.Want.{Want};
 ghost use Rattle.hub_letters.specs.declared.mode.Mode.{Mode};
 ghost use Rattle.hub_letters.specs.declared.span.Span.{Span};
-ghost use Rattle.hub_protocol.specs.Spelling.{IsName, IsNumeral, IsPattern, AreLetters, AreNames, text_of_mode, text_of_span, text_of_want};
+ghost use Rattle.hub_protocol.specs.Spelling.{IsName, IsNumeral, IsPatternText, AreLetters, AreNames, text_of_mode, text_of_span, text_of_want};
 ghost use Rattle.hub_protocol.specs.Fields.{fields_of};
 
 use crate::fields::{are_letters, are_names, is_pattern, numeral, split_at_space};
@@ -99,8 +99,8 @@ pub fn last_letters(rest: &[u8]) -> Option<&[u8]>
 /// A pattern: the whole rest, with its spaces.
 pub fn last_pattern(rest: &[u8]) -> Option<&[u8]>
     ensures { MatchOption result
-        ((pattern : List ℕ) → IsPattern pattern → fields_of rest.now ≢ fields_of pattern)
-        (λ pattern. IsPattern pattern.now × (fields_of rest.now ≡ fields_of pattern.now)) }
+        ((pattern : List ℕ) → IsPatternText pattern → fields_of rest.now ≢ fields_of pattern)
+        (λ pattern. IsPatternText pattern.now × (fields_of rest.now ≡ fields_of pattern.now)) }
 {
     if is_pattern(rest) { Some(rest) } else { None }
 }

@@ -1,11 +1,11 @@
 //! The request of a form.
 ghost use Rattle.std.specs.Prelude.{◌≡◌, MatchBool, IfOk};
 ghost use Rattle.hub_requests.specs.Ranges.{AreLimits};
-ghost use Rattle.hub_protocol.specs.Spelling.{IsName, IsPattern, AreLetters, AreNames, IsForm, IsWithin, form_of};
+ghost use Rattle.hub_protocol.specs.Spelling.{IsName, IsPatternText, AreLetters, AreNames, IsForm, IsWithin, form_of};
 ghost use Rattle.hub_protocol.specs.Fields.{fields_of};
 ghost use Rattle.hub_protocol.specs.Forms.{form_shown};
 
-use crate::forms::Form;
+use crate::forms::BorrowedForm;
 use hub_letters::Letter;
 use hub_record::Letters;
 use hub_requests::{Name, Names, PatternText, Request};
@@ -18,20 +18,20 @@ fn are_limits(waiting: u64, total: u64) -> bool
 }
 
 /// Whether each number is in its range.
-pub fn is_within(form: &Form<'_>) -> bool
+pub fn is_within(form: &BorrowedForm<'_>) -> bool
     ensures { MatchBool result (IsWithin (form_shown form.now))
         (IsWithin (form_shown form.now) → ⊥) }
 {
     match form {
-        Form::Dir { waiting, total, .. } => are_limits(*waiting, *total),
-        Form::Svc {
+        BorrowedForm::Dir { waiting, total, .. } => are_limits(*waiting, *total),
+        BorrowedForm::Svc {
             waiting,
             total,
             reports,
             ..
         } => are_limits(*waiting, *total) && *reports <= 1,
-        Form::Take { max, .. } => *max >= 1 && *max <= 256,
-        Form::Wait { turns, .. } => *turns <= 1_000_000,
+        BorrowedForm::Take { max, .. } => *max >= 1 && *max <= 256,
+        BorrowedForm::Wait { turns, .. } => *turns <= 1_000_000,
         _ => true,
     }
 }
@@ -56,7 +56,7 @@ fn letters_of(alloc: Global, text: &[u8]) -> Result<Letters, AllocError>
 }
 
 fn pattern_of(alloc: Global, text: &[u8]) -> Result<PatternText, AllocError>
-    requires { IsPattern text.now }
+    requires { IsPatternText text.now }
     ensures { IfOk result (λ pattern. pattern ≡ text.now) }
 {
     let text = str::from_utf8(text).unwrap();
@@ -75,13 +75,13 @@ fn names_of(alloc: Global, text: &[u8]) -> Result<Names, AllocError>
 }
 
 /// The request of a form whose numbers are in their ranges. An error says that memory ran out.
-pub fn request_of(alloc: Global, form: Form<'_>) -> Result<Request, AllocError>
+pub fn request_of(alloc: Global, form: BorrowedForm<'_>) -> Result<Request, AllocError>
     requires formed { IsForm (form_shown form) }
     requires within { IsWithin (form_shown form) }
     ensures { IfOk result (λ request. form_of request ≡ form_shown form.entry) }
 {
     let request = match form {
-        Form::Dir {
+        BorrowedForm::Dir {
             name,
             waiting,
             total,
@@ -90,7 +90,7 @@ pub fn request_of(alloc: Global, form: Form<'_>) -> Result<Request, AllocError>
             waiting,
             total,
         },
-        Form::Svc {
+        BorrowedForm::Svc {
             name,
             waiting,
             total,
@@ -101,22 +101,22 @@ pub fn request_of(alloc: Global, form: Form<'_>) -> Result<Request, AllocError>
             total,
             notifies: reports == 1,
         },
-        Form::Sub { name } => Request::Sub {
+        BorrowedForm::Sub { name } => Request::Sub {
             name: name_of(alloc, name)?,
         },
-        Form::Pub { name, letters } => Request::Pub {
+        BorrowedForm::Pub { name, letters } => Request::Pub {
             name: name_of(alloc, name)?,
             letters: letters_of(alloc, letters)?,
         },
-        Form::Take { id, max } => Request::Take { id, max },
-        Form::Cancel { id } => Request::Cancel { id },
-        Form::Close { name } => Request::Close {
+        BorrowedForm::Take { id, max } => Request::Take { id, max },
+        BorrowedForm::Cancel { id } => Request::Cancel { id },
+        BorrowedForm::Close { name } => Request::Close {
             name: name_of(alloc, name)?,
         },
-        Form::Status { name } => Request::Status {
+        BorrowedForm::Status { name } => Request::Status {
             name: name_of(alloc, name)?,
         },
-        Form::Listen {
+        BorrowedForm::Listen {
             name,
             mode,
             pattern,
@@ -125,8 +125,8 @@ pub fn request_of(alloc: Global, form: Form<'_>) -> Result<Request, AllocError>
             mode,
             pattern: pattern_of(alloc, pattern)?,
         },
-        Form::Poll { id } => Request::Poll { id },
-        Form::Wait {
+        BorrowedForm::Poll { id } => Request::Poll { id },
+        BorrowedForm::Wait {
             span,
             want,
             turns,

@@ -11,7 +11,7 @@ use Rattle.std.specs.Map.{lookup, set_value, remove_entry, keys_of, values_of}
 use Rattle.circular_buffer.specs.Buffer.{Buffer, buffer}
 use Rattle.hub_record.specs.declared.limits.TheConstants.{MOST_EVENTS}
 use Rattle.hub_record.specs.declared.Event.{Event}
-use Rattle.hub_record.specs.World.{least, stamped}
+use Rattle.hub_record.specs.World.{least, as_events}
 use Rattle.hub_record.specs.Backlog.{Held, IsKept, Takes, TakesBy, RemovesBy, next_of, lowest, standing_at, with_new_id, with_cursors}
 use Rattle.hub_record.proofs.Least.{least-push, least_bound, least_grown}
 
@@ -96,7 +96,7 @@ stood inside now cursors is at =
     ap (λ cs. record inside { given = inside.given + 1; cursors = cs }) (at ∙ ap (λ (h : Held). inside.cursors ++ (inside.given + 1, h.end) ∷ []) (sym is))
     ∙ ap with_new_id is
 
-pub length_stamped : (who : ℕ) (message : List ℕ) → length (stamped who message) ≡ length message
+pub length_stamped : (who : ℕ) (message : List ℕ) → length (as_events who message) ≡ length message
 length_stamped who [] = refl
 length_stamped who (l ∷ ls) = ap suc (length_stamped who ls)
 

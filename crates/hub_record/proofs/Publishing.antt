@@ -7,13 +7,13 @@ use Rattle.hub_letters.specs.declared.stage.Stage.{Stage}
 use Rattle.hub_letters.specs.declared.flags.Flags.{Flags}
 use Rattle.hub_letters.specs.Flags.{flags_of}
 use Rattle.hub_record.specs.declared.Event.{Event}
-use Rattle.hub_record.specs.World.{World, IsWorld, standing, new_subscription, least, base, load, letters, stamped, IsLawfulIn, HasRoom, IsFull, MayPublish, after_close}
+use Rattle.hub_record.specs.World.{World, IsWorld, standing, new_subscription, least, base, load, letters, as_events, IsLawfulIn, HasRoom, IsFull, MayPublish, after_close}
 use Rattle.hub_record.specs.Backlog.{Held, HasRoomFor, kept_with, with_new_id, with_events}
 use Rattle.hub_record.specs.Kept.{Kept, StandsFor, stage_in}
 use Rattle.hub_record.proofs.Cursors.{standing-push, within_standing, within_more, within-push}
 use Rattle.hub_record.proofs.Least.{least_bound, least-push, least_grown}
 use Rattle.hub_record.proofs.Keeps.{length_stamped}
-use Rattle.hub_record.proofs.Stands.{held_of, with_held}
+use Rattle.hub_record.proofs.StandsForWorlds.{held_of, with_held}
 
 -- ---- subscribe
 
@@ -47,12 +47,12 @@ subscribe_stands r h w room s few is =
 
 -- ---- publish
 
-letters_stamped : (who : ℕ) (message : List ℕ) → letters (stamped who message) ≡ message
+letters_stamped : (who : ℕ) (message : List ℕ) → letters (as_events who message) ≡ message
 letters_stamped who [] = refl
 letters_stamped who (l ∷ ls) = ap (λ z. l ∷ z) (letters_stamped who ls)
 
-letters_after : (events : List Event) (who : ℕ) (message : List ℕ) → letters (events ++ stamped who message) ≡ letters events ++ message
-letters_after events who message = map-append (λ (e : Event). e.letter) events (stamped who message) ∙ ap (λ z. letters events ++ z) (letters_stamped who message)
+letters_after : (events : List Event) (who : ℕ) (message : List ℕ) → letters (events ++ as_events who message) ≡ letters events ++ message
+letters_after events who message = map-append (λ (e : Event). e.letter) events (as_events who message) ∙ ap (λ z. letters events ++ z) (letters_stamped who message)
 
 -- the base with more events: the same, or the end if no subscription is current
 grown : (w : World) (n : ℕ) (cs : List (ℕ × ℕ)) → standing w ≡ cs → IsWorld w → HasRoom w n → (length w.events + n) - least (length w.events + n) cs ≤ w.limits.waiting
@@ -73,12 +73,12 @@ kept_grown w more (c ∷ cs) is i =
     let u = least_bound (length w.events) (standing w) in
     sym (drop-append-le (base w) w.events more u) ∙ ap (λ n. drop n (w.events ++ more)) (b ∙ sym g)
 
-pub publish_stands : (r : Kept) (h : Held) (w : World) (who room : ℕ) (message : List ℕ) (stage : Stage) (flags : Flags) → StandsFor r w → MayPublish w message → h ≡ with_events (held_of r room) (stamped who message) → stage ≡ stage_in w.kind (letters w.events ++ message) → flags ≡ flags_of (letters w.events ++ message) → StandsFor (record (with_held r h) { stage = stage; flags = flags }) (record w { events = w.events ++ stamped who message })
+pub publish_stands : (r : Kept) (h : Held) (w : World) (who room : ℕ) (message : List ℕ) (stage : Stage) (flags : Flags) → StandsFor r w → MayPublish w message → h ≡ with_events (held_of r room) (as_events who message) → stage ≡ stage_in w.kind (letters w.events ++ message) → flags ≡ flags_of (letters w.events ++ message) → StandsFor (record (with_held r h) { stage = stage; flags = flags }) (record w { events = w.events ++ as_events who message })
 publish_stands r h w who room message stage flags s may e st fl =
     let n = s.end in
     let lw = may.within in
     let size = length_stamped who message in
-    let long : length (w.events ++ stamped who message) ≡ length w.events + length message = length-append w.events (stamped who message) ∙ ap (λ z. length w.events + z) size in
+    let long : length (w.events ++ as_events who message) ≡ length w.events + length message = length-append w.events (as_events who message) ∙ ap (λ z. length w.events + z) size in
     let same = letters_after w.events who message in
     let g = grown w (length message) (standing w) refl s.world may.room in
     record {
@@ -87,13 +87,13 @@ publish_stands r h w who room message stage flags s may e st fl =
         loaded = subst (λ z. z - least z (standing w) ≤ w.limits.waiting) (sym long) g;
         given = s.world.given;
         lawful = subst (IsLawfulIn w.kind) (sym same) may.lawful;
-        each = within_more (length w.events) (length (w.events ++ stamped who message)) w.subscriptions (omega arith) s.world.each;
+        each = within_more (length w.events) (length (w.events ++ as_events who message)) w.subscriptions (omega arith) s.world.each;
       };
       kind = s.kind;
       limits = s.limits;
       closed = s.closed;
       end = ap (λ (h : Held). h.end) e ∙ omega arith;
-      events = ap (λ (h : Held). h.events) e ∙ (λ i. kept_with (s.cursors i) (s.events i) (stamped who message)) ∙ kept_grown w (stamped who message) (standing w) refl s.world;
+      events = ap (λ (h : Held). h.events) e ∙ (λ i. kept_with (s.cursors i) (s.events i) (as_events who message)) ∙ kept_grown w (as_events who message) (standing w) refl s.world;
       given = ap (λ (h : Held). h.given) e ∙ s.given;
       cursors = ap (λ (h : Held). h.cursors) e ∙ s.cursors;
       stage = st ∙ ap (stage_in w.kind) (sym same);

@@ -2,7 +2,7 @@
 ghost use Rattle.std.specs.Prelude.{◌≡◌, ◌≤◌, ◌<◌, ◌↔◌, ◌+◌, ◌-◌, length, IfOk, OnErr, IsTrue, option_map, drop};
 ghost use Rattle.circular_buffer.specs.Buffer.{buffer};
 ghost use Rattle.hub_record.specs.declared.limits.TheConstants.{MOST_EVENTS, MOST_IDS, MOST_PASSES};
-ghost use Rattle.hub_record.specs.World.{least, stamped};
+ghost use Rattle.hub_record.specs.World.{least, as_events};
 ghost use Rattle.hub_record.specs.Backlog.{Held, nothing_held, lowest, next_of, standing_at};
 ghost use Rattle.hub_record.specs.Backlog.{with_new_id, with_events, with_cursors, HasRoomFor, TakesBy, RemovesBy};
 
@@ -121,7 +121,7 @@ impl Backlog {
         requires few { length self.old.cursors < MOST_PASSES }
         requires left { self.old.given < MOST_IDS }
         ensures given { IfOk result (λ r. r ≡ (self.old.given + 1, self.old.end)) }
-        ensures stands { IfOk result (λ r. self.new ≡ with_new_id self.old) }
+        ensures begun { IfOk result (λ r. self.new ≡ with_new_id self.old) }
         ensures err { OnErr result (self.new ≡ self.old) }
     {
         let id = self.given + 1;
@@ -140,7 +140,7 @@ impl Backlog {
     pub fn push(&mut self, who: u64, letters: &[Letter])
         requires room { HasRoomFor self.old (length letters.now) }
         requires small { self.old.end + length letters.now ≤ MOST_EVENTS }
-        ensures { self.new ≡ with_events self.old (stamped who letters.now) }
+        ensures { self.new ≡ with_events self.old (as_events who letters.now) }
     {
         if self.cursors.is_empty() {
             self.base.number += letters.len() as u64;

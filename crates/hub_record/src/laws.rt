@@ -3,7 +3,7 @@
 ghost use Rattle.std.specs.Prelude.{◌≡◌, ◌≤◌, ℕ, List, [], length};
 ghost use Rattle.hub_record.specs.World.{World, empty_world, standing};
 ghost use Rattle.hub_record.specs.Kept.{Kept, StandsFor};
-ghost use Rattle.hub_record.specs.Runs.{IsRun, SaidTo, AllFollow, after_call, by, published, world_after};
+ghost use Rattle.hub_record.specs.Runs.{IsRun, SaidTo, AllGatherSinceMark, after_call, by, letters_published, world_after};
 
 use crate::{Call, Kind, Limits, Said};
 
@@ -12,10 +12,11 @@ use crate::{Call, Kind, Limits, Said};
 pub fn each_event_once_and_in_order()
     ensures since { (kind : Kind) (limits : Limits) (calls : List Call) (replies : List Said)
         → IsRun (empty_world kind limits) calls replies
-        → AllFollow (world_after (empty_world kind limits) calls replies) }
+        → AllGatherSinceMark (world_after (empty_world kind limits) calls replies) }
     ensures own { (kind : Kind) (limits : Limits) (calls : List Call) (replies : List Said) (p : ℕ)
         → IsRun (empty_world kind limits) calls replies
-        → by p (world_after (empty_world kind limits) calls replies).events ≡ published p calls
+        → by p (world_after (empty_world kind limits) calls replies).events
+        ≡ letters_published p calls
         replies }
 {}
 

@@ -3,8 +3,8 @@ ghost use Rattle.std.specs.Prelude.{◌≡◌, ◌≤◌, ◌+◌, ◌-◌, ◌+
 ghost use Rattle.std.specs.Map.{lookup};
 ghost use Rattle.hub_record.specs.World.{World as Modelled, empty_world};
 ghost use Rattle.hub_record.specs.Kept.{StandsFor};
-ghost use Rattle.hub_record.specs.Runs.{IsRun, world_after, SaidTo, after_call, AllFollow};
-ghost use Rattle.hub_record.specs.Runs.{by, published, gathered_from, lists_of, appended};
+ghost use Rattle.hub_record.specs.Runs.{IsRun, world_after, SaidTo, after_call, AllGatherSinceMark};
+ghost use Rattle.hub_record.specs.Runs.{by, letters_published, gathered_from, lists_of, with_more_events};
 
 use crate::{Closed, Event, Kind, Letters, Limits, NoId, PubError, Record, SubError, Taken};
 use indexmap::IndexMap;
@@ -95,7 +95,7 @@ fn append(
     id: u64,
     more: &[Event],
 ) -> Result<(), AllocError>
-    ensures { OnOk result (lists_of gathered.new.entries ≡ appended id more.now
+    ensures { OnOk result (lists_of gathered.new.entries ≡ with_more_events id more.now
         (lists_of gathered.old.entries)) }
 {
     let Some(list) = gathered.get_mut(&id) else {
@@ -128,10 +128,11 @@ pub fn replay(
         (world_after (empty_world kind limits) calls.now r.replies.items)) }
     ensures gathered { IfOk result (λ r. lists_of r.gathered.entries ≡ gathered_from 1
         (world_after (empty_world kind limits) calls.now r.replies.items).subscriptions) }
-    ensures since { IfOk result (λ r. AllFollow
+    ensures since { IfOk result (λ r. AllGatherSinceMark
         (world_after (empty_world kind limits) calls.now r.replies.items)) }
     ensures own { IfOk result (λ r. (p : ℕ) → by p
-        (world_after (empty_world kind limits) calls.now r.replies.items).events ≡ published p
+        (world_after (empty_world kind limits) calls.now r.replies.items).events
+        ≡ letters_published p
         calls.now r.replies.items) }
 {
     let mut world = World {

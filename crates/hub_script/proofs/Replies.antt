@@ -3,9 +3,9 @@ use Rattle.std.proofs.Common.{◌≡◌, ◌≢◌, ℕ, suc, Bool, List, [], �
 use Rattle.std.specs.Prelude.{All, IfOk, flat_map}
 use Rattle.std.proofs.lemmas.List.Elements.{All-head, All-tail}
 use Rattle.std.specs.List.{AllZip}
-use Rattle.hub_local.specs.Answers.{answers}
+use Rattle.hub_local.specs.DeskAnswers.{answers}
 use Rattle.hub_local.specs.Desks.{new_desk}
-use Rattle.hub_local.specs.Standing.{Local, Stands, Asked, Ended, Runs, over, asked, IsModels}
+use Rattle.hub_local.specs.Standing.{Local, StandsForDesk, AsksDesk, Ended, Runs, over, asked, IsModels}
 use Rattle.hub_requests.specs.Texts.{text_of}
 use Rattle.hub_requests.specs.declared.reply.Reply.{Reply}
 use Rattle.hub_requests.specs.declared.request.Request.{Request}
@@ -25,14 +25,14 @@ abbrev IsEnough : Result Request Bad → Type 0
 IsEnough read = read ≢ Err Memory
 
 -- each line gets one reply
-run_length : (lines : List (List ℕ)) (replies : List Reply) (old new : Local) → Run Asked old lines replies new → length replies ≡ length lines
+run_length : (lines : List (List ℕ)) (replies : List Reply) (old new : Local) → Run AsksDesk old lines replies new → length replies ≡ length lines
 run_length [] [] old new run = refl
 run_length [] (reply ∷ replies) old new run = absurd run
 run_length (line ∷ lines) [] old new run = absurd run
 run_length (line ∷ lines) (reply ∷ replies) old new run = let (mid, answered, rest) = run in ap suc (run_length lines replies mid new rest)
 
 -- requests that are asked one after another are a run of the desk
-runs_of : (requests : List Request) (given : List Reply) (old new : Local) → places.Asked Asked old requests given new → Runs old requests given new
+runs_of : (requests : List Request) (given : List Reply) (old new : Local) → places.AsksEach AsksDesk old requests given new → Runs old requests given new
 runs_of [] [] old new asked_all = subst (λ local. Runs old [] [] local) (sym asked_all) (over old)
 runs_of [] (reply ∷ given) old new asked_all = absurd asked_all
 runs_of (request ∷ requests) [] old new asked_all = absurd asked_all
@@ -40,8 +40,8 @@ runs_of (request ∷ requests) (reply ∷ given) old new asked_all =
     let (mid, one, rest) = asked_all in asked old mid new request requests reply given one (runs_of requests given mid new rest)
 
 -- the replies of a run over a new desk, if none is `no memory`
-replies_placed : (lines : List (List ℕ)) (replies : List Reply) (old new : Local) → Stands old new_desk
-    → AreInPlace Asked old lines replies new → NoneIsMemory replies → (patterns : List Bool) × AreReplies patterns lines replies
+replies_placed : (lines : List (List ℕ)) (replies : List Reply) (old new : Local) → StandsForDesk old new_desk
+    → AreInPlace AsksDesk old lines replies new → NoneIsMemory replies → (patterns : List Bool) × AreReplies patterns lines replies
 replies_placed lines replies old new stands p none =
     let models = runs_answer old new (requests_of p.reads) p.given new_desk (runs_of (requests_of p.reads) p.given old new p.asked) (p.given_whole none) stands in (
       models.reads,
@@ -60,8 +60,8 @@ output_of : (input : List ℕ) (replies : List Reply) → (patterns : List Bool)
 output_of input replies (patterns, answered) = (patterns, record { replies = replies; answered = answered; texts = refl })
 
 -- a session over a new desk that ended with its input
-pub session_serves : (old new : Local) (held holds had has : Option (List ℕ)) (n : ℕ) → Stands old new_desk
-    → Finished Asked Ended old new held holds had has n → Serves held holds had has n
+pub session_serves : (old new : Local) (held holds had has : Option (List ℕ)) (n : ℕ) → StandsForDesk old new_desk
+    → Finished AsksDesk Ended old new held holds had has n → Serves held holds had has n
 session_serves old new held holds had has n stands f = record {
   input = f.input;
   consumed = f.consumed;
@@ -72,7 +72,7 @@ session_serves old new held holds had has n stands f = record {
   written = f.served.written;
   output = λ none. output_of f.input f.served.replies
       (replies_placed (lines_of f.input) f.served.replies old f.mid stands
-      (run_in_place Asked old f.mid (lines_of f.input) f.served.replies f.served.run) none);
+      (run_in_place AsksDesk old f.mid (lines_of f.input) f.served.replies f.served.run) none);
 }
 
 -- lines are read in one way

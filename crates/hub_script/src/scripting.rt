@@ -2,7 +2,7 @@
 ghost use Rattle.std.specs.Prelude.{◌≡◌, ℕ, Bool, List, Err, IfOk};
 ghost use Rattle.hub_io.specs.Faults.{read_faults, write_faults};
 ghost use Rattle.hub_front.specs.Serving.{ReadsWithin};
-ghost use Rattle.hub_io.specs.Telling.{Grows};
+ghost use Rattle.hub_io.specs.Telling.{Rises};
 ghost use Rattle.hub_script.specs.Output.{IsOutput, Serves};
 
 use hub_front::serve;
@@ -29,8 +29,8 @@ pub fn script<H: Wait, R: Source, W: Sink>(
 
     // It makes at most `MAX_READS` reads. An error is reported if its fault was counted, and only then.
     ensures reads { ReadsWithin (R.reads reader.old) (R.reads reader.new) result }
-    ensures read_faults { Grows (R.faults reader.old) (R.faults reader.new) (read_faults result) }
-    ensures write_faults { Grows (W.faults writer.old) (W.faults writer.new) (write_faults result) }
+    ensures read_faults { Rises (R.faults reader.old) (R.faults reader.new) (read_faults result) }
+    ensures write_faults { Rises (W.faults writer.old) (W.faults writer.new) (write_faults result) }
 {
     let Ok(mut desk) = LocalDesk::new(alloc) else {
         return Err(FrontError::Memory);

@@ -2,7 +2,7 @@
 use Rattle.std.specs.Prelude.{◌≡◌, ◌≢◌, ℕ, List, Option, Result, Err, IfOk, IfErr}
 use Rattle.hub_io.specs.Faults.{read_faults, write_faults}
 use Rattle.hub_front.specs.Serving.{Asking, Finished, Stopped, ReadsWithin}
-use Rattle.hub_io.specs.Telling.{Grows}
+use Rattle.hub_io.specs.Telling.{Rises}
 use Rattle.hub_io.specs.declared.fault.FrontError.{FrontError}
 use Rattle.hub_io.specs.declared.fault.FrontError.TheVariants.{Memory}
 
@@ -35,5 +35,5 @@ pub record IsResult {D R W : Type 0} (begins : D → Type 0) (asks : Asking D) (
   pub served : result ≢ Err Memory → IsServed begins asks ends r w reader read writer written result
   pub untouched : result ≡ Err Memory → (read ≡ reader) × (written ≡ writer)
   pub reads : ReadsWithin (r.reads reader) (r.reads read) result
-  pub read_faults : Grows (r.faults reader) (r.faults read) (read_faults result)
-  pub write_faults : Grows (w.faults writer) (w.faults written) (write_faults result)
+  pub read_faults : Rises (r.faults reader) (r.faults read) (read_faults result)
+  pub write_faults : Rises (w.faults writer) (w.faults written) (write_faults result)

@@ -15,7 +15,7 @@ use Rattle.hub_names.specs.declared.joined.Joined.{Joined}
 use Rattle.hub_shared.specs.declared.shared_desk.SharedDesk.{SharedDesk}
 use Rattle.hub_names.specs.Speaking.{fifodir_of}
 use Rattle.hub_names.specs.Says.{says_published, says_closed, says_status}
-use Rattle.hub_names.specs.Fifodirs.{kept, AsksByName, IsMissing, KeepsAll, KeepsNone}
+use Rattle.hub_names.specs.Fifodirs.{joined_at, AsksByName, IsMissing, KeepsAll, KeepsNone}
 use Rattle.hub_handles.specs.Handles.{Subscribes, Listens, TakesAt, PollsAt, Cancels, HoldsNone, given_of}
 use Rattle.hub_shared.specs.Waits.{WaitsFor, IsWaitRefusal}
 
@@ -32,25 +32,25 @@ IsUnfoundReply fs name _ = ⊥
 
 -- a handle on the fifodir that is kept under the name; where it isn't found, or refuses, no handle is given
 abbrev pub SubscribesTo : Fifodirs → List ℕ → Handles → Reply → Handles → Type 0
-SubscribesTo fs name old reply new = ((j : Joined) × (kept fs name ≡ Some j) × Subscribes (fifodir_of j) old reply new) ⊎ (IsUnfoundReply fs name reply × (new ≡ old))
+SubscribesTo fs name old reply new = ((j : Joined) × (joined_at fs name ≡ Some j) × Subscribes (fifodir_of j) old reply new) ⊎ (IsUnfoundReply fs name reply × (new ≡ old))
 
 abbrev pub ListensTo : Fifodirs → List ℕ → Mode → List ℕ → Handles → Reply → Handles → Type 0
-ListensTo fs name mode pattern old reply new = ((j : Joined) × (kept fs name ≡ Some j) × Listens (fifodir_of j) mode pattern old reply new) ⊎ (IsUnfoundReply fs name reply × (new ≡ old))
+ListensTo fs name mode pattern old reply new = ((j : Joined) × (joined_at fs name ≡ Some j) × Listens (fifodir_of j) mode pattern old reply new) ⊎ (IsUnfoundReply fs name reply × (new ≡ old))
 
 -- What a request leads to. Of what the hub has, which other sessions change, nothing can be said but by what the
 -- session's own passes see.
-abbrev pub Answers : Hub → Fifodirs → Handles → Request → Reply → Fifodirs → Handles → Type 0
-Answers hub fs hs (Dir name waiting total) reply gs ks = IsMadeReply reply × (gs ≡ fs) × (ks ≡ hs)
-Answers hub fs hs (Svc name waiting total notifies) reply gs ks = IsMadeReply reply × (gs ≡ fs) × (ks ≡ hs)
-Answers hub fs hs (Sub name) reply gs ks = KeepsAll hub fs gs × SubscribesTo gs name hs reply ks
-Answers hub fs hs (Pub name letters) reply gs ks = AsksByName hub (says_published letters) fs name reply gs × (ks ≡ hs)
-Answers hub fs hs (Take id max) reply gs ks = (gs ≡ fs) × TakesAt hs id max reply ks
-Answers hub fs hs (Cancel id) reply gs ks = (gs ≡ fs) × Cancels hs id reply ks
-Answers hub fs hs (Close name) reply gs ks = AsksByName hub says_closed fs name reply gs × (ks ≡ hs)
-Answers hub fs hs (Status name) reply gs ks = AsksByName hub says_status fs name reply gs × (ks ≡ hs)
-Answers hub fs hs (Listen name mode pattern) reply gs ks = KeepsAll hub fs gs × ListensTo gs name mode pattern hs reply ks
-Answers hub fs hs (Poll id) reply gs ks = (gs ≡ fs) × PollsAt hs id reply ks
-Answers hub fs hs (Wait span want turns names) reply gs ks = KeepsAll hub fs gs × (WaitsFor gs span want names reply ⊎ IsWaitRefusal gs names reply) × (ks ≡ hs)
+abbrev pub CarriesOut : Hub → Fifodirs → Handles → Request → Reply → Fifodirs → Handles → Type 0
+CarriesOut hub fs hs (Dir name waiting total) reply gs ks = IsMadeReply reply × (gs ≡ fs) × (ks ≡ hs)
+CarriesOut hub fs hs (Svc name waiting total notifies) reply gs ks = IsMadeReply reply × (gs ≡ fs) × (ks ≡ hs)
+CarriesOut hub fs hs (Sub name) reply gs ks = KeepsAll hub fs gs × SubscribesTo gs name hs reply ks
+CarriesOut hub fs hs (Pub name letters) reply gs ks = AsksByName hub (says_published letters) fs name reply gs × (ks ≡ hs)
+CarriesOut hub fs hs (Take id max) reply gs ks = (gs ≡ fs) × TakesAt hs id max reply ks
+CarriesOut hub fs hs (Cancel id) reply gs ks = (gs ≡ fs) × Cancels hs id reply ks
+CarriesOut hub fs hs (Close name) reply gs ks = AsksByName hub says_closed fs name reply gs × (ks ≡ hs)
+CarriesOut hub fs hs (Status name) reply gs ks = AsksByName hub says_status fs name reply gs × (ks ≡ hs)
+CarriesOut hub fs hs (Listen name mode pattern) reply gs ks = KeepsAll hub fs gs × ListensTo gs name mode pattern hs reply ks
+CarriesOut hub fs hs (Poll id) reply gs ks = (gs ≡ fs) × PollsAt hs id reply ks
+CarriesOut hub fs hs (Wait span want turns names) reply gs ks = KeepsAll hub fs gs × (WaitsFor gs span want names reply ⊎ IsWaitRefusal gs names reply) × (ks ≡ hs)
 
 -- all is given back: no handle and no publisher is kept, and no number is given again
 pub record Ends (old : Handles) (fs : Fifodirs) (hs : Handles) : Type 0 where
@@ -82,7 +82,7 @@ pub record Asks {P : Type 0} (old : SharedDesk P) (request : Request) (reply : R
   pub hub : new.hub ≡ old.hub
   pub pause : new.pause ≡ old.pause
   pub client : new.client ≡ old.client
-  pub answers : Answers (arc_value old.hub) old.fifodirs old.handles request reply new.fifodirs new.handles
+  pub answers : CarriesOut (arc_value old.hub) old.fifodirs old.handles request reply new.fifodirs new.handles
 
 pub record IsEnded {P : Type 0} (old new : SharedDesk P) : Type 0 where
   pub hub : new.hub ≡ old.hub

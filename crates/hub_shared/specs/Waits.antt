@@ -17,17 +17,17 @@ use Rattle.hub_wait.specs.Posts.{HasOpened, watch_of}
 use Rattle.hub_wait.specs.Watching.{is_met_at}
 use Rattle.hub_names.specs.declared.fifodirs.Fifodirs.{Fifodirs}
 use Rattle.hub_names.specs.declared.joined.Joined.{Joined}
-use Rattle.hub_names.specs.Fifodirs.{kept}
+use Rattle.hub_names.specs.Fifodirs.{joined_at}
 use Rattle.hub_names.specs.Speaking.{fifodir_of, notifies_of}
 
 -- the name has a fifodir of this kind
 pub record IsOfKind (fs : Fifodirs) (kind : Kind) (name : List ℕ) : Type 0 where
   pub joined : Joined
-  pub kept_is : kept fs name ≡ Some joined
+  pub kept_is : joined_at fs name ≡ Some joined
   pub of_kind : kind_of (fifodir_of joined) ≡ kind
 
 abbrev pub IsKnown : Fifodirs → List ℕ → Type 0
-IsKnown fs name = (joined : Joined) × (kept fs name ≡ Some joined)
+IsKnown fs name = (joined : Joined) × (joined_at fs name ≡ Some joined)
 
 -- Each name has a fifodir. If `plain`, one of them is plain, and if not, each is a service's.
 abbrev pub AreSeen : Fifodirs → List (List ℕ) → (plain : Bool) → Type 0
@@ -36,7 +36,7 @@ AreSeen fs names false = All (IsOfKind fs Service) names
 
 -- why the names weren't all seen
 abbrev pub IsUnseen : Fifodirs → List (List ℕ) → Refusal → Type 0
-IsUnseen fs names refusal = ((refusal ≡ no.Name) × Any (λ name. kept fs name ≡ None) names) ⊎ (refusal ≡ no.Memory)
+IsUnseen fs names refusal = ((refusal ≡ no.Name) × Any (λ name. joined_at fs name ≡ None) names) ⊎ (refusal ≡ no.Memory)
 
 -- why a fifodir gives no post
 abbrev pub IsPostRefused : Refusal → Type 0
@@ -44,7 +44,7 @@ IsPostRefused refusal = (refusal ≡ no.Closed) ⊎ (refusal ≡ no.Many) ⊎ (r
 
 -- Why no wait was begun. First each name is looked for, then each must be a service's, and only then a post may be refused.
 abbrev pub IsWaitRefused : Fifodirs → List (List ℕ) → Refusal → Type 0
-IsWaitRefused fs names no.Name = Any (λ name. kept fs name ≡ None) names
+IsWaitRefused fs names no.Name = Any (λ name. joined_at fs name ≡ None) names
 IsWaitRefused fs names no.Kind = AreSeen fs names true
 IsWaitRefused fs names no.Memory = Unit {0}
 IsWaitRefused fs names refusal = IsPostRefused refusal × AreSeen fs names false
@@ -52,7 +52,7 @@ IsWaitRefused fs names refusal = IsPostRefused refusal × AreSeen fs names false
 -- a post at the fifodir that is kept under the name
 pub record IsPostAt (fs : Fifodirs) (want : Want) (name : List ℕ) (post : Post) : Type 0 where
   pub joined : Joined
-  pub kept_is : kept fs name ≡ Some joined
+  pub kept_is : joined_at fs name ≡ Some joined
   pub opened : HasOpened (fifodir_of joined) want (notifies_of joined) post
 
 -- a post for each name, in their order
@@ -63,7 +63,7 @@ ArePosts fs want names posts = AllZip (IsPostAt fs want) names posts
 abbrev pub number_met : Post → Option ℕ
 number_met post = if is_met_at (watch_of post) then Some (watch_of post).at else None
 
--- the verdict over the posts as they stand, with the number of each that is met
+-- the verdict over the posts as they are, with the number of each that is met
 abbrev pub Shows : Span → List Post → Reply → Type 0
 Shows span posts (answer.Yes numbers) = IsAnswer span (watches_of posts) verdict.Yes × (numbers ≡ map number_met posts)
 Shows span posts answer.Never = IsAnswer span (watches_of posts) verdict.Never

@@ -5,8 +5,8 @@ use Rattle.std.proofs.lemmas.List.{map-append, drop_all, take_all, take-append-d
 use Rattle.hub_letters.specs.declared.flags.Flags.{Flags}
 use Rattle.hub_letters.specs.Marks.{Mark, mark, later, last_among, is_life, is_supervision, is_hope, is_began, is_gave_up}
 use Rattle.hub_letters.specs.Flags.{up_by, settled_by, flags_by, flags_of}
-use Rattle.hub_wait.specs.Watching.{Watching, flag_after, flags_after, flags_after_marks, stepped}
-use Rattle.hub_wait.specs.Histories.{Follows, IsSlice, Step, End, FollowAnySlices}
+use Rattle.hub_wait.specs.Watching.{Watching, flag_after, flags_after, flags_after_marks, watching_after_step}
+use Rattle.hub_wait.specs.Histories.{ShowsFlagsOf, IsSlice, Step, End, FollowAnySlices}
 
 -- ---- flags after more letters
 
@@ -79,14 +79,14 @@ flags_after_from_words f g letters h =
 -- what a step writes if it gets letters past those that are known
 pub stepped_past : (v w : Watching) (letters : List ℕ) (first : ℕ) (g : Flags) → v ≡ w → first ≤ w.at → v.at - first < length letters
     → ((word : List ℕ) → flags_of word ≡ v.flags → g ≡ flags_of (word ++ take (length letters - (v.at - first)) (drop (v.at - first) letters)))
-    → record v { at = first + length letters; flags = g } ≡ stepped w first letters
+    → record v { at = first + length letters; flags = g } ≡ watching_after_step w first letters
 stepped_past v w letters first g e low past h =
     let low_here : first ≤ v.at = subst (λ z. first ≤ z.at) (sym e) low in
     let furthest : first + length letters ≡ max v.at (first + length letters) = omega arith in
     let new = drop (v.at - first) letters in
     let whole : take (length letters - (v.at - first)) new ≡ new = take_all (length letters - (v.at - first)) new (omega (arith, length-drop (v.at - first) letters)) in
     let shown : g ≡ flags_after v.flags new = flags_after_from_words v.flags g new (λ word is. h word is ∙ ap (λ z. flags_of (word ++ z)) whole) in
-    (λ i. record v { at = furthest i; flags = shown i }) ∙ ap (λ z. stepped z first letters) e
+    (λ i. record v { at = furthest i; flags = shown i }) ∙ ap (λ z. watching_after_step z first letters) e
 
 -- ---- a watch along a history
 
@@ -101,9 +101,9 @@ slice_joins history letters first at low high e =
     ∙ ap (λ t. take at all ++ t) (drop-drop (at - first) first all ∙ ap (λ k. drop k all) here)
     ∙ take-append-drop at all
 
-pub Follows-stepped : (w : Watching) (history letters : List ℕ) (first : ℕ) → first ≤ w.at → Follows w history → IsSlice history first letters
-    → Follows (stepped w first letters) history
-Follows-stepped w history letters first low f s =
+pub ShowsFlagsOf-stepped : (w : Watching) (history letters : List ℕ) (first : ℕ) → first ≤ w.at → ShowsFlagsOf w history → IsSlice history first letters
+    → ShowsFlagsOf (watching_after_step w first letters) history
+ShowsFlagsOf-stepped w history letters first low f s =
     let end = first + length letters in let inside = s.within in let had = f.within in
     let split = ap (λ z. flags_after z (drop (w.at - first) letters)) f.flags ∙ flags_after-flags_of (take w.at history) (drop (w.at - first) letters) in
     ⊎_elim
@@ -128,7 +128,7 @@ follow_any_slices history [] w f are = record { follows = f; at = refl; want = r
     or_false true = refl
     or_false false = refl
 follow_any_slices history (Step first letters ∷ ms) w f are =
-    let rest = follow_any_slices history ms (stepped w first letters) (Follows-stepped w history letters first are.0.0 f are.0.1) are.1 in
+    let rest = follow_any_slices history ms (watching_after_step w first letters) (ShowsFlagsOf-stepped w history letters first are.0.0 f are.0.1) are.1 in
     record { follows = rest.follows; at = rest.at; want = rest.want; notifies = rest.notifies; ended = rest.ended }
 follow_any_slices history (End ∷ ms) w f are =
     let rest = follow_any_slices history ms (record w { ended = true }) (record { within = f.within; flags = f.flags }) are.1 in

@@ -7,15 +7,15 @@ use Rattle.hub_record.specs.declared.Taken.TheVariants.{Got}
 use Rattle.hub_record.specs.World.{letters}
 use Rattle.hub_fifodir.specs.declared.ticket.Ticket.{Ticket}
 use Rattle.hub_fifodir.specs.Events.{StartsWith, slice}
-use Rattle.hub_fifodir.specs.Passes.{ticket_mark, ticket_next, ticket_seen, ticket_closed, ticket_sight, HasTaken, filled}
+use Rattle.hub_fifodir.specs.Passes.{ticket_mark, ticket_next, ticket_seen, ticket_closed, ticket_sight, HasTaken, slice_after_take}
 use Rattle.hub_fifodir.specs.Steps.{Grows}
-use Rattle.hub_wait.specs.Watching.{Watching, stepped}
-use Rattle.hub_wait.specs.Histories.{Follows, IsSlice}
+use Rattle.hub_wait.specs.Watching.{Watching, watching_after_step}
+use Rattle.hub_wait.specs.Histories.{ShowsFlagsOf, IsSlice}
 use Rattle.hub_wait.specs.Reading.{Reads}
-use Rattle.hub_wait.proofs.Steps.{Follows-stepped}
+use Rattle.hub_wait.proofs.Steps.{ShowsFlagsOf-stepped}
 
 -- a watch follows a history that goes on
-pub Follows-append : (w : Watching) (seen longer : List Event) → StartsWith longer seen → Follows w (letters seen) → Follows w (letters longer)
+pub Follows-append : (w : Watching) (seen longer : List Event) → StartsWith longer seen → ShowsFlagsOf w (letters seen) → ShowsFlagsOf w (letters longer)
 Follows-append w seen longer on f =
     let rest = on.0 in
     let is : letters longer ≡ letters seen ++ letters rest = ap letters on.1 ∙ map-append _ seen rest in
@@ -49,10 +49,10 @@ front_of_filled seen out a n h =
     ∙ take-take n n (drop a seen) (omega arith)
 
 Reads-stepped_there : (old new : Ticket) (w : Watching) (most n : ℕ) (out : List Event) → Reads old w → Grows (ticket_sight old) (ticket_sight new) → ticket_mark new ≡ ticket_mark old
-    → HasTaken old most (Got n) new → Reads new (stepped w (ticket_next old) (letters (take n (filled old (Got n) new out))))
+    → HasTaken old most (Got n) new → Reads new (watching_after_step w (ticket_next old) (letters (take n (slice_after_take old (Got n) new out))))
 Reads-stepped_there old new w most n out r grows mark took =
     let within : ticket_next old + n ≤ length (ticket_seen new) = omega (arith, took.0, took.1) in
-    let news = letters (take n (filled old (Got n) new out)) in
+    let news = letters (take n (slice_after_take old (Got n) new out)) in
     let are : news ≡ letters (take n (drop (ticket_next old) (ticket_seen new))) = ap letters (front_of_filled (ticket_seen new) out (ticket_next old) n within) in
     let part : IsSlice (letters (ticket_seen new)) (ticket_next old) news = subst (IsSlice (letters (ticket_seen new)) (ticket_next old)) (sym are) (IsSlice-slice (ticket_seen new) (ticket_next old) n within) in
     let follows = Follows-append w (ticket_seen old) (ticket_seen new) grows.0 r.follows in
@@ -61,7 +61,7 @@ Reads-stepped_there old new w most n out r grows mark took =
     let marked = r.marked in
     let inside : w.at ≤ length (ticket_seen old) = subst (λ k. w.at ≤ k) (length-map (ticket_seen old) _) r.follows.within in
     record {
-      follows = Follows-stepped w (letters (ticket_seen new)) news (ticket_next old) r.reached follows part;
+      follows = ShowsFlagsOf-stepped w (letters (ticket_seen new)) news (ticket_next old) r.reached follows part;
       marked = omega (arith, mark, marked);
       reached = omega (arith, many, moved);
       ended = λ is.
@@ -74,10 +74,10 @@ Reads-stepped_there old new w most n out r grows mark took =
 
 -- after a take of some events, along which the watch was stepped
 pub Reads-stepped : (old new : Ticket) (w v : Watching) (most n first : ℕ) (out events : List Event) → Reads old w → Grows (ticket_sight old) (ticket_sight new) → ticket_mark new ≡ ticket_mark old
-    → HasTaken old most (Got n) new → events ≡ filled old (Got n) new out → first ≡ ticket_next old → v ≡ stepped w first (letters (take n events)) → Reads new v
+    → HasTaken old most (Got n) new → events ≡ slice_after_take old (Got n) new out → first ≡ ticket_next old → v ≡ watching_after_step w first (letters (take n events)) → Reads new v
 Reads-stepped old new w v most n first out events r grows mark took fill begin is =
     subst (Reads new)
-    (sym (is ∙ ap (λ k. stepped w k (letters (take n events))) begin ∙ ap (λ z. stepped w (ticket_next old) (letters (take n z))) fill))
+    (sym (is ∙ ap (λ k. watching_after_step w k (letters (take n events))) begin ∙ ap (λ z. watching_after_step w (ticket_next old) (letters (take n z))) fill))
     (Reads-stepped_there old new w most n out r grows mark took)
 
 -- after a take of none

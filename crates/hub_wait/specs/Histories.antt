@@ -2,10 +2,10 @@
 use Rattle.std.specs.Prelude.{ℕ, ◌≡◌, ◌+◌, ◌≤◌, max, Bool, true, false, ◌||◌, List, [], ◌∷◌, length, take, drop}
 use Rattle.std.specs.List.{list_any}
 use Rattle.hub_letters.specs.Flags.{flags_of}
-use Rattle.hub_wait.specs.Watching.{Watching, stepped}
+use Rattle.hub_wait.specs.Watching.{Watching, watching_after_step}
 
 -- the watch shows the flags of the first `at` letters of the history
-pub record Follows (watch : Watching) (history : List ℕ) : Type 0 where
+pub record ShowsFlagsOf (watch : Watching) (history : List ℕ) : Type 0 where
   pub within : watch.at ≤ length history
   pub flags : watch.flags ≡ flags_of (take watch.at history)
 
@@ -19,13 +19,13 @@ pub data Move : Type 0 where
   Step : ℕ → List ℕ → Move  -- it gets letters, numbered from the first number
   End : Move  -- it learns that no more will come
 
-abbrev pub moved : Watching → Move → Watching
-moved w (Step first letters) = stepped w first letters
-moved w End = record w { ended = true }
+abbrev pub watching_after_move : Watching → Move → Watching
+watching_after_move w (Step first letters) = watching_after_step w first letters
+watching_after_move w End = record w { ended = true }
 
 abbrev pub moved_by : Watching → List Move → Watching
 moved_by w [] = w
-moved_by w (m ∷ ms) = moved_by (moved w m) ms
+moved_by w (m ∷ ms) = moved_by (watching_after_move w m) ms
 
 abbrev pub is_end : Move → Bool
 is_end (Step first letters) = false
@@ -52,7 +52,7 @@ AreMovesAlong history at (m ∷ ms) = IsMoveAlong history at m × AreMovesAlong 
 
 -- what the moves have made of a watch
 pub record HasMoved (history : List ℕ) (moves : List Move) (old new : Watching) : Type 0 where
-  pub follows : Follows new history
+  pub follows : ShowsFlagsOf new history
   pub at : new.at ≡ furthest old.at moves
   pub want : new.want ≡ old.want
   pub notifies : new.notifies ≡ old.notifies
@@ -61,5 +61,5 @@ pub record HasMoved (history : List ℕ) (moves : List Move) (old new : Watching
 -- A watch that follows a history, and gets slices of it that are cut anywhere and overlap, follows it up to the
 -- greatest of their ends.
 abbrev pub FollowAnySlices : Type 0
-FollowAnySlices = (history : List ℕ) (moves : List Move) (watch : Watching) → Follows watch history → AreMovesAlong history watch.at moves
+FollowAnySlices = (history : List ℕ) (moves : List Move) (watch : Watching) → ShowsFlagsOf watch history → AreMovesAlong history watch.at moves
     → HasMoved history moves watch (moved_by watch moves)

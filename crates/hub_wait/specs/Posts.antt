@@ -11,8 +11,8 @@ use Rattle.hub_fifodir.specs.Events.{StartsWith, is_closed}
 use Rattle.hub_fifodir.specs.Passes.{ticket_mark, ticket_next, ticket_seen, ticket_closed}
 use Rattle.hub_wait.specs.declared.post.Post.{Post}
 use Rattle.hub_wait.specs.declared.post.TheConstants.{SLICE, SLICES}
-use Rattle.hub_wait.specs.Watching.{Watching, started}
-use Rattle.hub_wait.specs.Histories.{Follows}
+use Rattle.hub_wait.specs.Watching.{Watching, new_watching}
+use Rattle.hub_wait.specs.Histories.{ShowsFlagsOf}
 
 abbrev pub fifodir_of : Post → Fifodir
 fifodir_of p = arc_value p.fifodir
@@ -41,7 +41,7 @@ watch_of p = p.watch
 
 pub record HasOpened (fifodir : Fifodir) (want : Want) (notifies : Bool) (post : Post) : Type 0 where
   pub its_fifodir : fifodir_of post ≡ fifodir
-  pub watch : watch_of post ≡ started want notifies (status_of post)
+  pub watch : watch_of post ≡ new_watching want notifies (status_of post)
   pub marked : mark_of post ≤ (watch_of post).at
 
 -- it waits for the same, has lost nothing that it had seen, and shows the flags of what it has seen, up to its number
@@ -54,7 +54,7 @@ pub record IsKept (old new : Post) : Type 0 where
   pub forward : (watch_of old).at ≤ (watch_of new).at
   pub taken : next_of old ≤ next_of new
   pub seen : StartsWith (seen_of new) (seen_of old)
-  pub follows : Follows (watch_of new) (letters (seen_of new))
+  pub follows : ShowsFlagsOf (watch_of new) (letters (seen_of new))
 
 -- its watch knows all that was seen, or it took as many slices as it may; it is ended only at the end of a closed record,
 -- and it is ended if it took nothing and has seen the close

@@ -15,8 +15,8 @@ pub record Watching : Type 0 where
   pub flags : Flags
   pub ended : Bool
 
-abbrev pub started : Want → Bool → Status → Watching
-started want notifies status = record { want = want; notifies = notifies; at = status.number; flags = status.flags; ended = status.closed }
+abbrev pub new_watching : Want → Bool → Status → Watching
+new_watching want notifies status = record { want = want; notifies = notifies; at = status.number; flags = status.flags; ended = status.closed }
 
 -- a flag by the last letter that bears on it, or unchanged if none does
 abbrev pub flag_after : Bool → (Option Mark → Bool) → Option Mark → Bool
@@ -36,8 +36,8 @@ abbrev pub flags_after : Flags → List ℕ → Flags
 flags_after f letters = flags_after_marks f (map mark letters)
 
 -- after letters that are numbered from `first`; those below `at` are skipped
-abbrev pub stepped : Watching → ℕ → List ℕ → Watching
-stepped w first letters = record w { at = max w.at (first + length letters); flags = flags_after w.flags (drop (w.at - first) letters) }
+abbrev pub watching_after_step : Watching → ℕ → List ℕ → Watching
+watching_after_step w first letters = record w { at = max w.at (first + length letters); flags = flags_after w.flags (drop (w.at - first) letters) }
 
 abbrev pub is_met_at : Watching → Bool
 is_met_at w = is_met w.want w.flags w.notifies

@@ -5,7 +5,7 @@ ghost use Rattle.hub_record.specs.declared.limits.TheConstants.{MOST_EVENTS};
 ghost use Rattle.hub_fifodir.specs.Passes.{IsTicketOf};
 ghost use Rattle.hub_record.specs.World.{letters};
 ghost use Rattle.hub_wait.specs.Reading.{Reads};
-ghost use Rattle.hub_wait.specs.Watching.{stepped};
+ghost use Rattle.hub_wait.specs.Watching.{watching_after_step};
 
 use crate::Watch;
 use hub_fifodir::{Fifodir, Ticket};
@@ -115,7 +115,7 @@ fn step_by_events(watch: &mut Watch, first: u64, events: &[Event])
     requires fits { length events.now ≤ SLICE }
     requires overlaps { first ≤ watch.old.at }
     requires small { first + length events.now ≤ MOST_EVENTS }
-    ensures { watch.new ≡ stepped watch.old first (letters events.now) }
+    ensures { watch.new ≡ watching_after_step watch.old first (letters events.now) }
 {
     let mut letters = [Letter::LEAST; SLICE];
     let letters = &mut letters[..events.len()];

@@ -28,12 +28,12 @@ impl Model for Watch {
 
 impl Watch {
     ghost use Rattle.hub_letters.specs.Wants.{is_hopeless};
-    ghost use Rattle.hub_wait.specs.Watching.{started, stepped, is_met_at, is_lost_at};
+    ghost use Rattle.hub_wait.specs.Watching.{new_watching, watching_after_step, is_met_at, is_lost_at};
     ghost use Rattle.hub_wait.specs.Histories.{FollowAnySlices};
 
     /// A watch that begins at a status. `notifies` says whether the service reports that it is ready.
     pub fn new(want: Want, notifies: bool, status: Status) -> Watch
-        ensures { result ≡ started want notifies status }
+        ensures { result ≡ new_watching want notifies status }
     {
         Watch {
             want,
@@ -48,7 +48,7 @@ impl Watch {
     pub fn step(&mut self, first: u64, letters: &[Letter])
         requires overlaps { first ≤ self.old.at }
         requires small { first + length letters.now ≤ MOST_EVENTS }
-        ensures { self.new ≡ stepped self.old first letters.now }
+        ensures { self.new ≡ watching_after_step self.old first letters.now }
     {
         let told = self.at - first;
         if told < letters.len() as u64 {

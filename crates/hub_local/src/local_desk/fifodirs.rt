@@ -1,7 +1,7 @@
 //! The requests about a fifodir: make one, publish to it, close it, and report its status.
 ghost use Rattle.std.specs.Prelude.{Some, false, true};
-ghost use Rattle.hub_local.specs.Answers.{made, refusal_to_make};
-ghost use Rattle.hub_local.specs.Standing.{Answers, AskedWith, Unchanged};
+ghost use Rattle.hub_local.specs.DeskAnswers.{make_answer, refusal_to_make};
+ghost use Rattle.hub_local.specs.Standing.{CarriesOut, AsksWith, Unchanged};
 ghost use Rattle.hub_requests.specs.declared.request.Request.TheVariants.{Pub, Close, Status as Show};
 ghost use Rattle.hub_requests.specs.Brief.{IsShort};
 
@@ -20,8 +20,9 @@ impl LocalDesk {
         reports: Option<bool>,
         limits: Limits,
     ) -> Reply
-        ensures step { Answers self.old true (λ desk. refusal_to_make desk name.now)
-            (λ desk. made desk name.now kind reports (Some limits)) Unchanged result self.new }
+        ensures step { CarriesOut self.old true (λ desk. refusal_to_make desk name.now)
+            (λ desk. make_answer desk name.now kind reports
+            (Some limits)) Unchanged result self.new }
         ensures short { IsShort result }
     {
         if self.fifodirs.contains_key(name) {
@@ -43,7 +44,7 @@ impl LocalDesk {
     }
 
     pub(super) fn publish(&mut self, name: &Name, letters: &Letters) -> Reply
-        ensures step { AskedWith false self.old (Pub name.now letters.now) result self.new }
+        ensures step { AsksWith false self.old (Pub name.now letters.now) result self.new }
         ensures short { IsShort result }
     {
         let Some(fifodir) = self.fifodirs.get_mut(name) else {
@@ -56,7 +57,7 @@ impl LocalDesk {
     }
 
     pub(super) fn close(&mut self, name: &Name) -> Reply
-        ensures step { AskedWith false self.old (Close name.now) result self.new }
+        ensures step { AsksWith false self.old (Close name.now) result self.new }
         ensures short { IsShort result }
     {
         let Some(fifodir) = self.fifodirs.get_mut(name) else {
@@ -69,7 +70,7 @@ impl LocalDesk {
     }
 
     pub(super) fn status(&self, name: &Name) -> Reply
-        ensures step { AskedWith false self.now (Show name.now) result self.now }
+        ensures step { AsksWith false self.now (Show name.now) result self.now }
         ensures short { IsShort result }
     {
         let Some(fifodir) = self.fifodirs.get(name) else {

@@ -2,13 +2,13 @@
 ghost use Rattle.std.specs.Prelude.{◌≡◌, ◌≢◌, ◌<◌, Some, length, false};
 ghost use Rattle.hub_listen.specs.Listening.{is_spent};
 ghost use Rattle.hub_record.specs.Kept.{StandsFor};
-ghost use Rattle.hub_record.specs.World.{World, Subscription, found};
+ghost use Rattle.hub_record.specs.World.{World, Subscription, subscription_in};
 ghost use Rattle.hub_local.specs.Hearings.{Hears, HearsOne, TakesOne};
-ghost use Rattle.hub_local.specs.Standing.{Asked, AskedWith, HasSubscription};
+ghost use Rattle.hub_local.specs.Standing.{AsksDesk, AsksWith, HasSubscription};
 ghost use Rattle.hub_requests.specs.declared.request.Request.TheVariants.{Listen, Poll};
 ghost use Rattle.hub_requests.specs.Brief.{IsShort};
 
-use crate::local_desk::{Hearing, LocalDesk};
+use crate::local_desk::{LocalDesk, LocalListener};
 use hub_letters::{Letter, MOST_GATHERED};
 use hub_listen::{Feed, FeedError, ListenError, Listener, Mode};
 use hub_record::{Event, Letters, Record, Taken};
@@ -27,7 +27,7 @@ enum Heard {
 
 impl LocalDesk {
     pub(super) fn listen(&mut self, name: &Name, mode: Mode, pattern: &PatternText) -> Reply
-        ensures step { Asked self.old (Listen name.now mode pattern.now) result self.new }
+        ensures step { AsksDesk self.old (Listen name.now mode pattern.now) result self.new }
         ensures short { IsShort result }
     {
         if let Some(refusal) = self.refusal_to_hold(name) {
@@ -36,7 +36,7 @@ impl LocalDesk {
         match Listener::new(self.alloc, pattern.items(), Mode::Repeat) {
             Ok(listener) => self.hold(
                 name,
-                Some(Hearing {
+                Some(LocalListener {
                     listener,
                     mode,
                     held: None,
@@ -48,7 +48,7 @@ impl LocalDesk {
     }
 
     pub(super) fn poll(&mut self, id: u64) -> Reply
-        ensures step { AskedWith false self.old (Poll id) result self.new }
+        ensures step { AsksWith false self.old (Poll id) result self.new }
         ensures short { IsShort result }
     {
         let Some(holding) = self.holdings.get_mut(&id) else {
@@ -85,11 +85,11 @@ impl LocalDesk {
 }
 
 /// Hears the pending letters one by one, until there is a hit or no room.
-fn hear(hearing: &mut Hearing, kept: &mut Record, id: u64) -> Heard
-    requires stands { HasSubscription kept.old id }
+fn hear(hearing: &mut LocalListener, kept: &mut Record, id: u64) -> Heard
+    requires current { HasSubscription kept.old id }
     requires unspent { is_spent hearing.old.listener ≡ false }
     requires room { length hearing.old.listener.gathered < MOST_GATHERED }
-    ensures { (w : World) (s : Subscription) → StandsFor kept.old w → found w id ≡ Some s
+    ensures { (w : World) (s : Subscription) → StandsFor kept.old w → subscription_in w id ≡ Some s
         → Hears hearing.old w id result hearing.new kept.new }
 {
     for _ in hearing.listener.text().len()..MOST_GATHERED {
@@ -102,11 +102,11 @@ fn hear(hearing: &mut Hearing, kept: &mut Record, id: u64) -> Heard
 }
 
 /// Hears the letter that is held, or else the next pending one. None if it completes no hit.
-fn hear_one(hearing: &mut Hearing, kept: &mut Record, id: u64) -> Option<Heard>
-    requires stands { HasSubscription kept.old id }
+fn hear_one(hearing: &mut LocalListener, kept: &mut Record, id: u64) -> Option<Heard>
+    requires current { HasSubscription kept.old id }
     requires unspent { is_spent hearing.old.listener ≡ false }
     requires room { length hearing.old.listener.gathered < MOST_GATHERED }
-    ensures { (w : World) (s : Subscription) → StandsFor kept.old w → found w id ≡ Some s
+    ensures { (w : World) (s : Subscription) → StandsFor kept.old w → subscription_in w id ≡ Some s
         → HearsOne hearing.old w id result hearing.new kept.new }
 {
     let letter = match hearing.held {
@@ -134,7 +134,7 @@ fn hear_one(hearing: &mut Hearing, kept: &mut Record, id: u64) -> Option<Heard>
 /// Takes the next pending event, and returns its letter.
 fn take_one(kept: &mut Record, id: u64) -> Result<Letter, Heard>
     requires { HasSubscription kept.old id }
-    ensures { (w : World) (s : Subscription) → StandsFor kept.old w → found w id ≡ Some s
+    ensures { (w : World) (s : Subscription) → StandsFor kept.old w → subscription_in w id ≡ Some s
         → TakesOne w id result kept.new }
 {
     let mut room = [Event::FILLER];

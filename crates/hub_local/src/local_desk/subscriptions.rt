@@ -4,16 +4,16 @@ ghost use Rattle.indexmap.specs.IndexMap.{values};
 ghost use Rattle.hub_record.specs.Kept.{StandsFor};
 ghost use Rattle.hub_record.specs.World.{World, letters, take_reply, take_events, after_take};
 ghost use Rattle.hub_requests.specs.declared.bounds.TheConstants.{MOST_TAKEN};
-ghost use Rattle.hub_local.specs.Answers.{in_world, refusal_to_hold, subscribed, take_shown};
+ghost use Rattle.hub_local.specs.DeskAnswers.{in_world, refusal_to_hold, subscribe_answer, take_shown};
 ghost use Rattle.hub_local.specs.Desks.{Desk, Fifodir, GoesOn, without_held, without_all, world_of};
 ghost use Rattle.hub_requests.specs.Ranges.{IsTake};
 ghost use Rattle.hub_local.specs.Replies.{subscribe_reply};
-ghost use Rattle.hub_local.specs.Standing.{AreKept, Answers, AskedWith, HasSubscription, Stands, Unchanged};
+ghost use Rattle.hub_local.specs.Standing.{AreKept, CarriesOut, AsksWith, HasSubscription, StandsForDesk, Unchanged};
 ghost use Rattle.hub_requests.specs.declared.reply.Reply.TheVariants.{No};
 ghost use Rattle.hub_requests.specs.declared.request.Request.TheVariants.{Sub, Take, Cancel};
 ghost use Rattle.hub_requests.specs.Brief.{IsShort};
 
-use crate::local_desk::{Hearing, Holding, LocalDesk, LocalFifodir};
+use crate::local_desk::{Holding, LocalDesk, LocalFifodir, LocalListener};
 use hub_letters::Letter;
 use hub_record::{Event, Record, Taken};
 use hub_requests::{Name, Refusal, Reply, letters_of, refusal_of_handle};
@@ -22,7 +22,7 @@ use std::alloc::{AllocError, Global};
 
 impl LocalDesk {
     pub(super) fn subscribe(&mut self, name: &Name) -> Reply
-        ensures step { AskedWith false self.old (Sub name.now) result self.new }
+        ensures step { AsksWith false self.old (Sub name.now) result self.new }
         ensures short { IsShort result }
     {
         match self.refusal_to_hold(name) {
@@ -33,7 +33,7 @@ impl LocalDesk {
 
     /// Why there can be no further handle for a subscription to the fifodir of this name. None if there can.
     pub(super) fn refusal_to_hold(&self, name: &Name) -> Option<Refusal>
-        ensures own { (desk : Desk) → Stands self.now desk
+        ensures own { (desk : Desk) → StandsForDesk self.now desk
             → result ≡ refusal_to_hold desk name.now }
         ensures short { IfSome result (λ refusal. IsShort (No refusal)) }
     {
@@ -44,12 +44,13 @@ impl LocalDesk {
     }
 
     /// Subscribes, and gives the subscription the next handle.
-    pub(super) fn hold(&mut self, name: &Name, hearing: Option<Hearing>) -> Reply
-        requires unrefused { (desk : Desk) → Stands self.old desk
+    pub(super) fn hold(&mut self, name: &Name, hearing: Option<LocalListener>) -> Reply
+        requires unrefused { (desk : Desk) → StandsForDesk self.old desk
             → refusal_to_hold desk name.now ≡ None }
         requires goes_on { GoesOn hearing }
-        ensures step { Answers self.old true (λ desk. refusal_to_hold desk name.now)
-            (λ desk. in_world desk (λ w. subscribed desk name.now hearing w (subscribe_reply w))
+        ensures step { CarriesOut self.old true (λ desk. refusal_to_hold desk name.now)
+            (λ desk. in_world desk
+            (λ w. subscribe_answer desk name.now hearing w (subscribe_reply w))
             (world_of desk.fifodirs name.now)) Unchanged result self.new }
         ensures short { IsShort result }
     {
@@ -79,7 +80,7 @@ impl LocalDesk {
 
     pub(super) fn take(&mut self, id: u64, max: u64) -> Reply
         requires { IsTake max }
-        ensures step { AskedWith false self.old (Take id max) result self.new }
+        ensures step { AsksWith false self.old (Take id max) result self.new }
         ensures short { IsShort result }
     {
         let Some(holding) = self.holdings.get(&id) else {
@@ -98,7 +99,7 @@ impl LocalDesk {
     }
 
     pub(super) fn cancel(&mut self, id: u64) -> Reply
-        ensures step { AskedWith false self.old (Cancel id) result self.new }
+        ensures step { AsksWith false self.old (Cancel id) result self.new }
         ensures short { IsShort result }
     {
         let Some(holding) = self.holdings.shift_remove(&id) else {
@@ -135,7 +136,7 @@ pub(super) fn release_all(
 /// Takes what is pending for a subscription, at most `most` events, through a buffer with room for exactly those. If
 /// memory runs out, nothing was taken.
 fn take_waiting(alloc: Global, kept: &mut Record, id: u64, most: usize) -> Result<Reply, AllocError>
-    requires stands { HasSubscription kept.old id }
+    requires current { HasSubscription kept.old id }
     requires few { most ≤ MOST_TAKEN }
     ensures reply { (w : World) → StandsFor kept.old w
         → IfOk result (λ reply. reply ≡ take_shown (letters (take_events w id most))
@@ -159,7 +160,7 @@ fn take_letters(
     id: u64,
     room: &mut [Event],
 ) -> Result<Reply, AllocError>
-    requires stands { HasSubscription kept.old id }
+    requires current { HasSubscription kept.old id }
     requires few { length room.old ≤ MOST_TAKEN }
     ensures reply { (w : World) → StandsFor kept.old w
         → IfOk result (λ reply. reply ≡ take_shown

@@ -2,12 +2,12 @@
 ghost use Rattle.std.specs.Prelude.{◌≡◌, ◌≤◌, ◌<◌, ◌^◌, List, length, IfErr, IfSome, true, vec_len, vec_capacity};
 ghost use Rattle.std.specs.List.{list_all};
 ghost use Rattle.hub_requests.specs.declared.bounds.TheConstants.{MOST_SERVICES};
-ghost use Rattle.hub_local.specs.Answers.{refusal_to_wait};
+ghost use Rattle.hub_local.specs.DeskAnswers.{refusal_to_wait};
 ghost use Rattle.hub_local.specs.Desks.{Fifodir};
-ghost use Rattle.hub_local.specs.Standing.{AreKept, Answers};
+ghost use Rattle.hub_local.specs.Standing.{AreKept, CarriesOut};
 ghost use Rattle.hub_requests.specs.declared.reply.Reply.TheVariants.{No};
 ghost use Rattle.hub_requests.specs.Brief.{IsShort};
-ghost use Rattle.hub_local.specs.Waits.{without_subscription, without_posts, number_of, verdict_shown, waited, LeftByWait};
+ghost use Rattle.hub_local.specs.Waits.{without_subscription, without_posts, number_of, verdict_shown, wait_answer, LeftByWait};
 ghost use Rattle.hub_local.specs.Opening.{is_there, is_service, refusal_among, OpensPost, OpensAll};
 
 use crate::local_desk::{LocalDesk, LocalFifodir};
@@ -20,7 +20,7 @@ use indexmap::IndexMap;
 /// What a wait opens at a service: a subscription, which is current while the wait looks, and what it knows of the
 /// service.
 #[derive(Drop)]
-struct Post {
+struct LocalPost {
     id: u64,
     watch: Watch,
 }
@@ -29,8 +29,8 @@ impl LocalDesk {
     /// Answers at once, since nothing can change during a wait of the only session.
     pub(super) fn wait(&mut self, span: Span, want: Want, names: &Names) -> Reply
         requires { length names.now ≤ MOST_SERVICES }
-        ensures step { Answers self.old true (λ desk. refusal_to_wait desk names.now)
-            (λ desk. waited desk span want names.now)
+        ensures step { CarriesOut self.old true (λ desk. refusal_to_wait desk names.now)
+            (λ desk. wait_answer desk span want names.now)
             (λ desk left. LeftByWait desk want names.now left) result self.new }
         ensures short { IsShort result }
     {
@@ -92,7 +92,7 @@ fn open(
     fifodirs: &mut IndexMap<Name, LocalFifodir>,
     name: &Name,
     want: Want,
-) -> Result<Post, Refusal>
+) -> Result<LocalPost, Refusal>
     ensures opens { (model : List Fifodir) → AreKept fifodirs.old.entries model
         → OpensPost want name.now model result fifodirs.new.entries }
     ensures short { IfErr result (λ refusal. IsShort (No refusal)) }
@@ -108,7 +108,7 @@ fn open(
                 closed: fifodir.kept.closed(),
             };
             let watch = Watch::new(want, fifodir.reports.unwrap_or(false), status);
-            Ok(Post { id, watch })
+            Ok(LocalPost { id, watch })
         }
         Err(error) => Err(Refusal::from(error)),
     }
@@ -119,7 +119,7 @@ fn open_all(
     fifodirs: &mut IndexMap<Name, LocalFifodir>,
     names: &[Name],
     want: Want,
-    posts: &mut Vec<Post>,
+    posts: &mut Vec<LocalPost>,
 ) -> Result<(), Refusal>
     requires empty { vec_len posts.old ≡ 0 }
     requires fits { length names.now ≤ vec_capacity posts.old }
@@ -146,7 +146,7 @@ fn cancel_at(fifodirs: &mut IndexMap<Name, LocalFifodir>, name: &Name, id: u64)
 }
 
 /// Ends the posts, which were opened for the first of these names.
-fn give_back(fifodirs: &mut IndexMap<Name, LocalFifodir>, names: &[Name], posts: &[Post])
+fn give_back(fifodirs: &mut IndexMap<Name, LocalFifodir>, names: &[Name], posts: &[LocalPost])
     requires { length posts.now ≤ length names.now }
     ensures { (model : List Fifodir) → AreKept fifodirs.old.entries model
         → AreKept fifodirs.new.entries (without_posts model names.now posts.now) }
@@ -157,7 +157,7 @@ fn give_back(fifodirs: &mut IndexMap<Name, LocalFifodir>, names: &[Name], posts:
 }
 
 /// The number of events that the post knows, if it is met.
-fn number_of(post: &Post) -> Option<u64>
+fn number_of(post: &LocalPost) -> Option<u64>
     ensures number { result ≡ number_of post.now }
     ensures small { IfSome result (λ number. number < 2 ^ 64) }
 {
@@ -169,7 +169,7 @@ fn number_of(post: &Post) -> Option<u64>
 }
 
 /// The verdict of the posts as they are now. The list for their numbers is empty and has room for them.
-fn verdict_shown(span: Span, posts: &[Post], mut numbers: Vec<Option<u64>>) -> Reply
+fn verdict_shown(span: Span, posts: &[LocalPost], mut numbers: Vec<Option<u64>>) -> Reply
     requires empty { vec_len numbers ≡ 0 }
     requires fits { length posts.now ≤ vec_capacity numbers }
     requires few { length posts.now ≤ MOST_SERVICES }

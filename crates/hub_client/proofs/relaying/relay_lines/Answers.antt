@@ -1,5 +1,5 @@
 use Rattle.std.proofs.Common.{◌≡◌, ◌+◌, Err, arith, rules}
-use Rattle.hub_io.proofs.Told.{Grows-none, Grows-add, Grows-trans}
+use Rattle.hub_io.proofs.Told.{Grows-none, Rises-add, Rises-trans}
 use Rattle.hub_io.proofs.Outcomes.{IfErr-known}
 use Rattle.hub_client.proofs.Turns.{begins, send_stops, receive_stops, sent_lines, sent_part, sent_all, passes_line, finish, goes_on, within, send_turns, receive_turns}
 use Rattle.hub_client.proofs.relaying.relay_lines.Goals as goal
@@ -27,7 +27,7 @@ returns-in_err-send_line-clause-reads g c =
     let is : c.from_residual.result ≡ Err e = search rules in
     let u = c.turns.invariant.under_way in
     let (passed, rest, m, f, cut, a) = c.in_err-send_line.ensures.err in
-    within _ _ _ _ c.from_residual.result (u.reads + m.reads) u.reads' c.send_line.new.left (omega (arith, u.spent, m.spent)) (Grows-add _ _ _ _ _ u.asked.told m.told) u.answered.told
+    within _ _ _ _ c.from_residual.result (u.reads + m.reads) u.reads' c.send_line.new.left (omega (arith, u.spent, m.spent)) (Rises-add _ _ _ _ _ u.asked.told m.told) u.answered.told
     (send_turns c.from_residual.result e passed rest _ is f)
 
 pub returns-in-Nothing-clause-finished : goal.returns-in-Nothing-clause-finished
@@ -40,7 +40,7 @@ pub returns-in-Nothing-clause-reads : goal.returns-in-Nothing-clause-reads
 returns-in-Nothing-clause-reads g c =
     let u = c.turns.invariant.under_way in
     let (passed, m, ended, a) = c.in_ok-send_line.ensures.ok in
-    within _ _ _ _ _ (u.reads + m.reads) u.reads' c.send_line.new.left (omega (arith, u.spent, m.spent)) (Grows-add _ _ _ _ _ u.asked.told m.told) u.answered.told (λ e. cc)
+    within _ _ _ _ _ (u.reads + m.reads) u.reads' c.send_line.new.left (omega (arith, u.spent, m.spent)) (Rises-add _ _ _ _ _ u.asked.told m.told) u.answered.told (λ e. cc)
 
 pub returns-in_err-receive_reply-in-Line-clause-stopped : goal.returns-in_err-receive_reply-in-Line-clause-stopped
 returns-in_err-receive_reply-in-Line-clause-stopped g c =
@@ -60,7 +60,7 @@ returns-in_err-receive_reply-in-Line-clause-reads g c =
     let u = c.turns.invariant.under_way in
     let (line, m, ended, sent) = c.in_ok-send_line.ensures.ok in
     let (passed, rest, due, n, cut, d, f, a) = c.in_err-receive_reply-in-Line.ensures.err in
-    within _ _ _ _ r (u.reads + m.reads) (u.reads' + n.reads) c.receive_reply.new.left (omega (arith, u.spent, m.spent, n.spent)) (Grows-add _ _ _ _ _ u.asked.told m.told) (Grows-add _ _ _ _ _ u.answered.told n.told)
+    within _ _ _ _ r (u.reads + m.reads) (u.reads' + n.reads) c.receive_reply.new.left (omega (arith, u.spent, m.spent, n.spent)) (Rises-add _ _ _ _ _ u.asked.told m.told) (Rises-add _ _ _ _ _ u.answered.told n.told)
     (receive_turns r e due rest _ _ is f)
 
 pub returns-in_err-receive_reply-in-Part-clause-stopped : goal.returns-in_err-receive_reply-in-Part-clause-stopped
@@ -81,7 +81,7 @@ returns-in_err-receive_reply-in-Part-clause-reads g c =
     let u = c.turns.invariant.under_way in
     let (line, m, ended, sent) = c.in_ok-send_line.ensures.ok in
     let (passed, rest, due, n, cut, d, f, a) = c.in_err-receive_reply-in-Part.ensures.err in
-    within _ _ _ _ r (u.reads + m.reads) (u.reads' + n.reads) c.receive_reply-in-Part.new.left (omega (arith, u.spent, m.spent, n.spent)) (Grows-add _ _ _ _ _ u.asked.told m.told) (Grows-add _ _ _ _ _ u.answered.told n.told)
+    within _ _ _ _ r (u.reads + m.reads) (u.reads' + n.reads) c.receive_reply-in-Part.new.left (omega (arith, u.spent, m.spent, n.spent)) (Rises-add _ _ _ _ _ u.asked.told m.told) (Rises-add _ _ _ _ _ u.answered.told n.told)
     (receive_turns r e due rest _ _ is f)
 
 pub returns-in-Part-clause-finished : goal.returns-in-Part-clause-finished
@@ -96,7 +96,7 @@ returns-in-Part-clause-reads g c =
     let u = c.turns.invariant.under_way in
     let (line, m, ended, sent) = c.in_ok-send_line.ensures.ok in
     let (passed, n, whole, a) = c.in_ok-receive_reply-in-Part.ensures.ok in
-    within _ _ _ _ _ (u.reads + m.reads) (u.reads' + n.reads) c.receive_reply-in-Part.new.left (omega (arith, u.spent, m.spent, n.spent)) (Grows-add _ _ _ _ _ u.asked.told m.told) (Grows-add _ _ _ _ _ u.answered.told n.told) (λ e. cc)
+    within _ _ _ _ _ (u.reads + m.reads) (u.reads' + n.reads) c.receive_reply-in-Part.new.left (omega (arith, u.spent, m.spent, n.spent)) (Rises-add _ _ _ _ _ u.asked.told m.told) (Rises-add _ _ _ _ _ u.answered.told n.told) (λ e. cc)
 
 pub turns-preserved : goal.turns-preserved
 turns-preserved g c =
@@ -105,8 +105,8 @@ turns-preserved g c =
     let (passed, n, line, a) = c.in_ok-receive_reply-in-Line.ensures.ok in
     record {
       under_way = goes_on u sent.1 sent.2 sent.3 n line a;
-      no_input_fault = Grows-trans _ _ _ 0 c.turns.invariant.no_input_fault c.in_ok-send_line.ensures.input_faults;
-      no_output_fault = Grows-trans _ _ _ 0 c.turns.invariant.no_output_fault c.in_ok-receive_reply-in-Line.ensures.output_faults;
-      no_send_fault = Grows-trans _ _ _ 0 c.turns.invariant.no_send_fault c.in_ok-send_line.ensures.send_faults;
-      no_receive_fault = Grows-trans _ _ _ 0 c.turns.invariant.no_receive_fault c.in_ok-receive_reply-in-Line.ensures.receive_faults;
+      no_input_fault = Rises-trans _ _ _ 0 c.turns.invariant.no_input_fault c.in_ok-send_line.ensures.input_faults;
+      no_output_fault = Rises-trans _ _ _ 0 c.turns.invariant.no_output_fault c.in_ok-receive_reply-in-Line.ensures.output_faults;
+      no_send_fault = Rises-trans _ _ _ 0 c.turns.invariant.no_send_fault c.in_ok-send_line.ensures.send_faults;
+      no_receive_fault = Rises-trans _ _ _ 0 c.turns.invariant.no_receive_fault c.in_ok-receive_reply-in-Line.ensures.receive_faults;
     }

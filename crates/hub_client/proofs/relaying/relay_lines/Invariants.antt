@@ -1,6 +1,6 @@
 use Rattle.std.proofs.Common.{◌+◌, ◌*◌, length}
 use Rattle.hub_io.specs.declared.reading.TheConstants.{CHUNK}
-use Rattle.hub_io.specs.Telling.{Grows}
+use Rattle.hub_io.specs.Telling.{Rises}
 use Rattle.hub_client.specs.Pending.{pending}
 use Rattle.hub_client.specs.UnderWay.{IsUnderWay}
 use Rattle.hub_client.proofs.relaying.relay_lines.Given as goal
@@ -12,10 +12,10 @@ invariant-turns g l = record {
       (g.SR.Read.remaining l.fn.receiver) (g.SR.Read.remaining l.receiver) (g.W.Write.contents l.fn.output) (g.W.Write.contents l.output)
       (g.R.Source.reads l.fn.input) (g.R.Source.reads l.input) (g.SR.Source.reads l.fn.receiver) (g.SR.Source.reads l.receiver)
       (pending l.lines) (pending l.replies) l.count l.left;
-  no_input_fault : Grows (g.R.Source.faults l.fn.input) (g.R.Source.faults l.input) 0;
-  no_output_fault : Grows (g.W.Sink.faults l.fn.output) (g.W.Sink.faults l.output) 0;
-  no_send_fault : Grows (g.SW.Sink.faults l.fn.sender) (g.SW.Sink.faults l.sender) 0;
-  no_receive_fault : Grows (g.SR.Source.faults l.fn.receiver) (g.SR.Source.faults l.receiver) 0;
+  no_input_fault : Rises (g.R.Source.faults l.fn.input) (g.R.Source.faults l.input) 0;
+  no_output_fault : Rises (g.W.Sink.faults l.fn.output) (g.W.Sink.faults l.output) 0;
+  no_send_fault : Rises (g.SW.Sink.faults l.fn.sender) (g.SW.Sink.faults l.sender) 0;
+  no_receive_fault : Rises (g.SR.Source.faults l.fn.receiver) (g.SR.Source.faults l.receiver) 0;
 }
 
 abbrev pub decreases-turns : goal.decreases-turns

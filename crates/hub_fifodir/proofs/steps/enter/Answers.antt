@@ -1,5 +1,5 @@
 use Rattle.std.proofs.Common.{rules}
-use Rattle.hub_fifodir.proofs.Asked.{asks_enter}
+use Rattle.hub_fifodir.proofs.AllowedSteps.{asks_enter}
 use Rattle.hub_fifodir.proofs.steps.enter.Goals as goal
 
 pub load_new_seat-requires : goal.load_new_seat-requires

@@ -1,5 +1,5 @@
 use Rattle.std.proofs.Common.{rules}
-use Rattle.hub_fifodir.proofs.Asked.{asks_look}
+use Rattle.hub_fifodir.proofs.AllowedSteps.{asks_look}
 use Rattle.hub_fifodir.proofs.steps.look.Goals as goal
 
 pub load-requires : goal.load-requires

@@ -1,5 +1,5 @@
 use Rattle.std.proofs.Common.{rules}
-use Rattle.hub_fifodir.proofs.Asked.{asks_split}
+use Rattle.hub_fifodir.proofs.AllowedSteps.{asks_split}
 use Rattle.hub_fifodir.proofs.steps.note.Goals as goal
 
 pub split_seat-requires : goal.split_seat-requires

@@ -1,7 +1,7 @@
 use Rattle.std.proofs.Common.{rules, ap, sym, subst, ◌∙◌}
 use Rattle.hub_fifodir.specs.Rule.{IsLive}
 use Rattle.hub_fifodir.specs.Steps.{M}
-use Rattle.hub_fifodir.proofs.Asked.{asks_look, asks_join}
+use Rattle.hub_fifodir.proofs.AllowedSteps.{asks_look, asks_join}
 use Rattle.hub_fifodir.proofs.Meeting.{joined_look}
 use Rattle.hub_fifodir.proofs.steps.read.Goals as goal
 

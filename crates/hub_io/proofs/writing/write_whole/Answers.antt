@@ -4,7 +4,7 @@ use Rattle.std.specs.Io.KnownBytes.{Appends}
 use Rattle.std.proofs.KnownBytes.{Appends-trans}
 use Rattle.std.proofs.lemmas.List.{take_rest}
 use Rattle.std.specs.declared.io.Error.{Error}
-use Rattle.hub_io.proofs.Told.{Grows-trans, taken-Grows}
+use Rattle.hub_io.proofs.Told.{Rises-trans, taken-Rises}
 use Rattle.hub_io.proofs.writing.write_whole.Goals as goal
 
 pub parts-preserved : goal.parts-preserved
@@ -18,5 +18,5 @@ parts-preserved g c = record {
       subst (Appends _ _) joined (Appends-trans _ _ _ _ _ c.parts.invariant.held c.in-Ok.ensures.bytes);
   quiet =
       let some : 0 < c.in-Ok.n = omega arith in
-      Grows-trans _ _ _ 0 c.parts.invariant.quiet (taken-Grows Error _ _ c.in-Ok.n some c.in-Ok.ensures.told);
+      Rises-trans _ _ _ 0 c.parts.invariant.quiet (taken-Rises Error _ _ c.in-Ok.n some c.in-Ok.ensures.told);
 }

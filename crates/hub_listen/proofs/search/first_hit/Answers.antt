@@ -3,7 +3,7 @@ use Rattle.std.specs.Str.{IsAscii}
 use Rattle.std.proofs.lemmas.Str.Ascii.{IsAscii-push}
 use Rattle.hub_listen.specs.Hit.{finds}
 use Rattle.hub_listen.specs.Alive.{AreAlive}
-use Rattle.hub_listen.proofs.Fronts.{grown_more, fails_more, length_grown}
+use Rattle.hub_listen.proofs.Prefixes.{grown_more, fails_more, length_grown}
 use Rattle.hub_listen.proofs.Found.{AreAlive-pushed, heard_match, heard_nothing}
 use Rattle.hub_listen.proofs.search.first_hit.Goals as goal
 

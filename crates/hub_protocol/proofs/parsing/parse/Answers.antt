@@ -2,7 +2,7 @@ use Rattle.std.proofs.Common.{sym, subst, arith}
 use Rattle.hub_protocol.specs.Spelling.{IsWithin}
 use Rattle.hub_protocol.specs.Reading.{HasForm}
 use Rattle.hub_protocol.specs.Forms.{form_shown}
-use Rattle.hub_protocol.proofs.Asked.{request_asked}
+use Rattle.hub_protocol.proofs.FormRequests.{request_asked}
 use Rattle.hub_protocol.proofs.parsing.parse.Goals as goal
 
 pub returns-in-Err-clause-reading : goal.returns-in-Err-clause-reading

@@ -1,4 +1,4 @@
-use Rattle.hub_record.proofs.Stands.{kept_bound, kept_none}
+use Rattle.hub_record.proofs.StandsForWorlds.{kept_bound, kept_none}
 use Rattle.hub_record.proofs.laws.no_more_than_may_wait.Goals as goal
 
 pub returns-clause-most : goal.returns-clause-most

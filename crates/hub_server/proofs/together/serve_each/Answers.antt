@@ -1,6 +1,6 @@
 use Rattle.std.proofs.Common.{arith}
 use Rattle.std.proofs.lemmas.Slice.Zip.{AllZip-long}
-use Rattle.hub_server.proofs.Asked.{given_few}
+use Rattle.hub_server.proofs.GivenSessions.{given_few}
 use Rattle.hub_server.proofs.together.serve_each.Goals as goal
 
 pub returns-clause-most : goal.returns-clause-most

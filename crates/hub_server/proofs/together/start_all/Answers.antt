@@ -1,5 +1,5 @@
 use Rattle.std.proofs.Common.{◌+◌, ◌++◌, ◌∷◌, [], arith, ap, subst, sym, ◌∙◌}
-use Rattle.hub_server.proofs.Asked.{asked_for_one_more, gave_another, over_one_more}
+use Rattle.hub_server.proofs.GivenSessions.{asked_for_one_more, gave_another, over_one_more}
 use Rattle.hub_server.proofs.together.start_all.Goals as goal
 
 pub returns-in_default-start-clause-err : goal.returns-in_default-start-clause-err

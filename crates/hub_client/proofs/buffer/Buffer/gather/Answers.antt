@@ -1,5 +1,5 @@
 use Rattle.std.proofs.Common.{◌≡◌, Err, inl, sym, ap, ◌∙◌, rules}
-use Rattle.hub_io.proofs.Told.{Grows-none, Grows-trans}
+use Rattle.hub_io.proofs.Told.{Grows-none, Rises-trans}
 use Rattle.hub_io.proofs.Outcomes.{IfErr-known}
 use Rattle.hub_client.specs.Pending.{pending}
 use Rattle.hub_client.specs.Passing.{has_lf}
@@ -49,5 +49,5 @@ reads-preserved g c =
       moved = moves_reads c.reads.invariant.moved came.0;
       front = c.in_ok-read_on.ensures.front ∙ c.reads.invariant.front;
       cut = has_none_more came.0 c.reads.invariant.cut came.1.1;
-      no_fault = Grows-trans _ _ _ 0 c.reads.invariant.no_fault c.in_ok-read_on.ensures.told;
+      no_fault = Rises-trans _ _ _ 0 c.reads.invariant.no_fault c.in_ok-read_on.ensures.told;
     }

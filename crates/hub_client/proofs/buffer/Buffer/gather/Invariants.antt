@@ -1,5 +1,5 @@
 use Rattle.std.proofs.Common.{◌≡◌, false, []}
-use Rattle.hub_io.specs.Telling.{Grows}
+use Rattle.hub_io.specs.Telling.{Rises}
 use Rattle.hub_client.specs.Pending.{pending}
 use Rattle.hub_client.specs.Passing.{has_lf, Moves}
 use Rattle.hub_client.proofs.buffer.Buffer.gather.Given as goal
@@ -11,7 +11,7 @@ invariant-reads g l = record {
       (pending l.fn.self) (pending l.self) l.fn.left l.left 0 [];
   front : l.self.start ≡ 0;
   cut : has_lf (pending l.self) ≡ false;
-  no_fault : Grows (g.R.Source.faults l.fn.reader) (g.R.Source.faults l.reader) 0;
+  no_fault : Rises (g.R.Source.faults l.fn.reader) (g.R.Source.faults l.reader) 0;
 }
 
 abbrev pub decreases-reads : goal.decreases-reads

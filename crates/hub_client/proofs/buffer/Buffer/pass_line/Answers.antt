@@ -1,6 +1,6 @@
 use Rattle.std.proofs.Common.{◌≡◌, Err, rules}
 use Rattle.hub_io.specs.declared.fault.FrontError.TheVariants.{Write}
-use Rattle.hub_io.proofs.Told.{Grows-none, Grows-trans}
+use Rattle.hub_io.proofs.Told.{Grows-none, Rises-trans}
 use Rattle.hub_io.proofs.Outcomes.{IfErr-known}
 use Rattle.hub_client.specs.Pending.{pending}
 use Rattle.hub_client.proofs.OnTheWay.{on_true, on_false, begins, ends, fails, breaks, arrives, goes_on}
@@ -42,6 +42,6 @@ pieces-preserved g c =
     let rest = on_false _ _ c.in_ok-pass_piece.field-0 (search rules) what in
     record {
       on_its_way = goes_on c.pieces.invariant.on_its_way piece (pending c.pass_piece.new.self) ready.0 e rest.1 ready.1 rest.0 a;
-      no_read_fault = Grows-trans _ _ _ 0 c.pieces.invariant.no_read_fault c.in_ok-fill.ensures.told;
-      no_write_fault = Grows-trans _ _ _ 0 c.pieces.invariant.no_write_fault c.in_ok-pass_piece.ensures.told;
+      no_read_fault = Rises-trans _ _ _ 0 c.pieces.invariant.no_read_fault c.in_ok-fill.ensures.told;
+      no_write_fault = Rises-trans _ _ _ 0 c.pieces.invariant.no_write_fault c.in_ok-pass_piece.ensures.told;
     }

@@ -1,5 +1,5 @@
 use Rattle.std.proofs.Common.{◌+◌, length}
-use Rattle.hub_io.specs.Telling.{Grows}
+use Rattle.hub_io.specs.Telling.{Rises}
 use Rattle.hub_client.specs.Pending.{pending}
 use Rattle.hub_client.specs.Passing.{IsOnItsWay}
 use Rattle.hub_client.proofs.buffer.Buffer.pass_line.Given as goal
@@ -9,8 +9,8 @@ abbrev pub invariant-pieces : goal.invariant-pieces
 invariant-pieces g l = record {
   on_its_way : IsOnItsWay (g.R.Read.remaining l.fn.reader) (g.R.Read.remaining l.reader) (g.W.Write.contents l.fn.writer) (g.W.Write.contents l.writer)
       (g.R.Source.reads l.fn.reader) (g.R.Source.reads l.reader) (pending l.fn.self) (pending l.self) l.fn.left l.left l.some;
-  no_read_fault : Grows (g.R.Source.faults l.fn.reader) (g.R.Source.faults l.reader) 0;
-  no_write_fault : Grows (g.W.Sink.faults l.fn.writer) (g.W.Sink.faults l.writer) 0;
+  no_read_fault : Rises (g.R.Source.faults l.fn.reader) (g.R.Source.faults l.reader) 0;
+  no_write_fault : Rises (g.W.Sink.faults l.fn.writer) (g.W.Sink.faults l.writer) 0;
 }
 
 abbrev pub decreases-pieces : goal.decreases-pieces

@@ -2,7 +2,7 @@ use Rattle.std.proofs.Common.{rules, ◌∷◌, Some, refl, ap, sym, subst, ◌�
 use Rattle.std.specs.Option.{IsSome}
 use Rattle.atomic_table.specs.Table.{rest}
 use Rattle.hub_fifodir.specs.Steps.{Holding}
-use Rattle.hub_fifodir.proofs.Asked.{asks_lock, taken_out, found_it}
+use Rattle.hub_fifodir.proofs.AllowedSteps.{asks_lock, taken_out, found_it}
 use Rattle.hub_fifodir.proofs.fifodir.Fifodir.lock.Goals as goal
 
 pub swap-found-requires : goal.swap-found-requires

@@ -1,6 +1,6 @@
 use Rattle.std.proofs.Common.{◌≡◌, [], refl, sym, ap, ◌∙◌, subst}
 use Rattle.hub_fifodir.specs.declared.views.View.{View}
-use Rattle.hub_fifodir.specs.Steps.{M, rested}
+use Rattle.hub_fifodir.specs.Steps.{M, view_at_rest}
 use Rattle.hub_fifodir.specs.Passes.{IsRefusedBy}
 use Rattle.hub_fifodir.proofs.Publishing.{refused_by, rests_refused, knew_own, may_write, rests_longer, writer_longer, sound_now, closed_now, mine_longer, seen_longer, grows_longer, count_longer}
 use Rattle.hub_fifodir.proofs.fifodir.Fifodir.publish.Goals as goal
@@ -57,6 +57,6 @@ returns-in-Err-clause-own g c = let me = c.args.me.now in let t = c.lock-held in
 
 pub returns-in-Err-clause-refused : goal.returns-in-Err-clause-refused
 returns-in-Err-clause-refused g c = let t = c.lock-held in let h = t.ensures.holding.1 in let m : M = t.new.seat.me in let m' : M = c.rest-in-Err.new.seat.me in
-    let rested_is : m' ≡ (rested m.0 m.0.role, []) = c.rest-in-Err.ensures.view in
+    let rested_is : m' ≡ (view_at_rest m.0 m.0.role, []) = c.rest-in-Err.ensures.view in
     subst (λ (x : M). IsRefusedBy x.0.rules x.0.sight c.args.letters.now c.in-Err.refusal) (sym rested_is)
     (refused_by m.0.rules m.0.sight t.result.locked c.args.letters.now c.in-Err.refusal h.behind (c.in-Err.ensures.reply h.behind.world h.behind.for))

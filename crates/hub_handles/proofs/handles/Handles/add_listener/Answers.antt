@@ -1,7 +1,7 @@
 use Rattle.std.proofs.Common.{◌+◌, refl, sym, subst, ap, ◌∙◌, nat_eq, List, ℕ, arith}
 use Rattle.std.proofs.lemmas.Bool.{ne_eqb}
 use Rattle.std.specs.Map.{lookup}
-use Rattle.hub_listen.specs.Listening.{unheard}
+use Rattle.hub_listen.specs.Listening.{new_listening}
 use Rattle.hub_letters.specs.declared.mode.Mode.TheVariants.{Repeat}
 use Rattle.hub_handles.specs.declared.subscription.Subscription.{Subscription}
 use Rattle.hub_handles.specs.Taking.{Begins}
@@ -15,7 +15,7 @@ returns-clause-ok g c =
     let made = c.new-hearing.ensures in
     adds_listener c.args.self.now _ _ _ _ c.new-hearing.result c.in_ok-has_room.ensures.ok
     (subst (λ (s : Subscription). Begins (arc_value c.args.dir) s) (sym made.subscription_is) c.in_ok-subscription.ensures)
-    (made.listener_is ∙ c.in-Ok.ensures.ok ∙ ap (λ (p : List ℕ). unheard p Repeat) c.items.ensures) made.mode_is made.unheld refl refl put.1
+    (made.listener_is ∙ c.in-Ok.ensures.ok ∙ ap (λ (p : List ℕ). new_listening p Repeat) c.items.ensures) made.mode_is made.unheld refl refl put.1
     (λ other h. put.2 other h ∙ ap (lookup (nat_eq other)) c.reserve.ensures.entries)
 
 pub invariant_of-self-2 : goal.invariant_of-self-2

@@ -1,12 +1,12 @@
 use Rattle.std.proofs.Common.{refl, sym, subst, ◌∙◌, inl, Option, IsSome}
-use Rattle.hub_handles.specs.declared.hearing.Hearing.{Hearing}
+use Rattle.hub_handles.specs.declared.session_listener.SessionListener.{SessionListener}
 use Rattle.hub_handles.specs.Handles.{listener_of}
 use Rattle.hub_handles.proofs.Hearings.{gone_if, stays_if}
 use Rattle.hub_handles.proofs.handles.Handles.poll.Goals as goal
 
 pub returns-then-ends_with-clause-step : goal.returns-then-ends_with-clause-step
 returns-then-ends_with-clause-step g c =
-    let put = (c.get_mut.follows.holds c.poll-reply.new.self).3 (subst (λ (o : Option Hearing). IsSome o) c.in-Some.ensures.value refl) in
+    let put = (c.get_mut.follows.holds c.poll-reply.new.self).3 (subst (λ (o : Option SessionListener). IsSome o) c.in-Some.ensures.value refl) in
     inl (record {
       before = c.in-Some.hearing.now;
       after = c.poll-reply.new.self;
@@ -20,7 +20,7 @@ returns-then-ends_with-clause-step g c =
 
 pub returns-else-ends_with-clause-step : goal.returns-else-ends_with-clause-step
 returns-else-ends_with-clause-step g c =
-    let put = (c.get_mut.follows.holds c.poll-reply.new.self).3 (subst (λ (o : Option Hearing). IsSome o) c.in-Some.ensures.value refl) in
+    let put = (c.get_mut.follows.holds c.poll-reply.new.self).3 (subst (λ (o : Option SessionListener). IsSome o) c.in-Some.ensures.value refl) in
     inl (record {
       before = c.in-Some.hearing.now;
       after = c.poll-reply.new.self;

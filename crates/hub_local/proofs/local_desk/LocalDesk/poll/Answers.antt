@@ -34,8 +34,8 @@ invariant_of-self-in_default-with_capacity c = stands_on _ c.args.self.now _ _ _
 pub unreachable-requires : goal.unreachable-requires
 unreachable-requires c = held_somewhere _ c.self.invariant.desk c.self.invariant.stands c.args.id c.in-Some.holding.now c.in-Some.ensures.value c.in_default-get_mut.ensures.value
 
-pub hear-requires-clause-stands : goal.hear-requires-clause-stands
-hear-requires-clause-stands c = has_subscription _ c.self.invariant.desk c.self.invariant.stands c.args.id c.in-Some.holding.now c.in-Some.ensures.value c.in-Some-get_mut.fifodir.now c.in-Some-get_mut.ensures.value
+pub hear-requires-clause-current : goal.hear-requires-clause-current
+hear-requires-clause-current c = has_subscription _ c.self.invariant.desk c.self.invariant.stands c.args.id c.in-Some.holding.now c.in-Some.ensures.value c.in-Some-get_mut.fifodir.now c.in-Some-get_mut.ensures.value
 
 pub hear-requires-clause-unspent : goal.hear-requires-clause-unspent
 hear-requires-clause-unspent c =

@@ -7,8 +7,8 @@ use Rattle.hub_local.proofs.local_desk.LocalDesk.take.Goals.{in-Ok, in-Err}
 pub unreachable-requires : goal.unreachable-requires
 unreachable-requires c = held_somewhere _ c.self.invariant.desk c.self.invariant.stands c.args.id c.in-Some.holding.now c.in-Some.ensures.value c.in_default-get_mut.ensures.value
 
-pub take_waiting-requires-clause-stands : goal.take_waiting-requires-clause-stands
-take_waiting-requires-clause-stands c =
+pub take_waiting-requires-clause-current : goal.take_waiting-requires-clause-current
+take_waiting-requires-clause-current c =
     has_subscription _ c.self.invariant.desk c.self.invariant.stands c.args.id c.in-Some.holding.now c.in-Some.ensures.value c.in-Some-get_mut.fifodir.now c.in-Some-get_mut.ensures.value
 
 pub returns-clause-step : goal.returns-clause-step

@@ -1,7 +1,7 @@
 use Rattle.std.proofs.Common.{List, refl, sym, ap, subst, ◌∙◌}
 use Rattle.hub_local.specs.Standing.{AreKept}
 use Rattle.hub_local.specs.Waits.{without_posts, verdict_shown}
-use Rattle.hub_local.specs.declared.local_desk.waits.Post.{Post}
+use Rattle.hub_local.specs.declared.local_desk.waits.LocalPost.{LocalPost}
 use Rattle.hub_local.proofs.Asking.{answers_from, answers_here, stands_on}
 use Rattle.hub_local.proofs.AskingServices.{waits_for, wait_refused, wait_lacks, wait_done, wait_stopped}
 use Rattle.hub_local.proofs.local_desk.LocalDesk.wait.Goals as goal
@@ -22,7 +22,7 @@ pub returns-in-Ok-opened-clause-step : goal.returns-in-Ok-opened-clause-step
 returns-in-Ok-opened-clause-step c =
     answers_from c.self.view_is (waits_for _ _ c.args.span c.args.want _ _ _ c.items-names.ensures
     (wait_done _ _ c.args.span c.args.want c.items-names.result.now (sym c.in_default.ensures) c.open_all-opened.new.fifodirs.entries c.open_all-opened.new.posts.items refl refl
-    (λ fs k. subst (λ (ps : List Post). AreKept c.give_back.new.fifodirs.entries (without_posts fs c.items-names.result.now ps)) c.deref.ensures.value (c.give_back.ensures fs k))
+    (λ fs k. subst (λ (ps : List LocalPost). AreKept c.give_back.new.fifodirs.entries (without_posts fs c.items-names.result.now ps)) c.deref.ensures.value (c.give_back.ensures fs k))
     (λ fs k. c.in-Ok-opened.ensures.opens fs k) c.verdict_shown.result
     (c.verdict_shown.ensures.reply ∙ ap (verdict_shown c.args.span) c.deref-in-Ok-opened.ensures.value)))
 
@@ -30,7 +30,7 @@ pub returns-clause-step : goal.returns-clause-step
 returns-clause-step c =
     answers_from c.self.view_is (waits_for _ _ c.args.span c.args.want _ _ _ c.items-names.ensures
     (wait_stopped _ _ c.args.span c.args.want c.items-names.result.now (sym c.in_default.ensures) c.open_all-opened.new.fifodirs.entries c.open_all-opened.new.posts.items refl refl
-    (λ fs k. subst (λ (ps : List Post). AreKept c.give_back.new.fifodirs.entries (without_posts fs c.items-names.result.now ps)) c.deref.ensures.value (c.give_back.ensures fs k))
+    (λ fs k. subst (λ (ps : List LocalPost). AreKept c.give_back.new.fifodirs.entries (without_posts fs c.items-names.result.now ps)) c.deref.ensures.value (c.give_back.ensures fs k))
     c.in-Err.refusal (λ fs k. c.in-Err.ensures.opens fs k)))
 
 pub invariant_of-self : goal.invariant_of-self

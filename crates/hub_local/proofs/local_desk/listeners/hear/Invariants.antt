@@ -1,9 +1,9 @@
 use Rattle.std.proofs.Common.{◌≡◌, ◌-◌, length, Some}
 use Rattle.hub_record.specs.Kept.{StandsFor}
-use Rattle.hub_record.specs.World.{World, Subscription, found}
-use Rattle.hub_local.proofs.HearingFronts.{HeardFront}
+use Rattle.hub_record.specs.World.{World, Subscription, subscription_in}
+use Rattle.hub_local.proofs.HearingPrefixes.{HeardPrefix}
 use Rattle.hub_local.proofs.local_desk.listeners.hear.Given as goal
 
 abbrev pub invariant-loop : goal.invariant-loop
-invariant-loop l = (w : World) (s : Subscription) → StandsFor l.fn.kept w → found w l.id ≡ Some s
-    → HeardFront l.fn.hearing w l.id (l.counter - length l.fn.hearing.listener.gathered) l.hearing l.kept
+invariant-loop l = (w : World) (s : Subscription) → StandsFor l.fn.kept w → subscription_in w l.id ≡ Some s
+    → HeardPrefix l.fn.hearing w l.id (l.counter - length l.fn.hearing.listener.gathered) l.hearing l.kept

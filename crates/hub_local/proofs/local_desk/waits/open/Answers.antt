@@ -1,6 +1,6 @@
 use Rattle.std.proofs.Common.{ap, subst, sym, ◌∙◌, Err, Ok, Bool, List, ℕ}
 use Rattle.hub_record.specs.declared.Status.{Status}
-use Rattle.hub_wait.specs.Watching.{started}
+use Rattle.hub_wait.specs.Watching.{new_watching}
 use Rattle.hub_local.specs.Opening.{OpensPost}
 use Rattle.hub_local.specs.declared.local_desk.LocalFifodir.{LocalFifodir}
 use Rattle.hub_requests.specs.declared.reply.Refusal.TheVariants as no
@@ -18,7 +18,7 @@ returns-in-Ok-clause-opens c = λ model kept.
     subst (λ (es : List (List ℕ × LocalFifodir)). OpensPost c.args.want c.args.name.now model (Ok (record { id = c.in-Ok.id; watch = c.new-watch.result })) es) (sym (c.get_mut.follows.holds _).0)
     (opens_one c.args.want c.args.name.now _ model kept c.in-Some.fifodir.now c.subscribe.new.self (sym c.in-Some.ensures.value) (c.in-Ok.id, c.in-Ok._mark)
     status c.new-watch.result c.in-Ok.ensures.reply c.in-Ok.ensures.after c.end.ensures c.flags.ensures c.closed.ensures
-    (c.new-watch.ensures ∙ ap (λ (b : Bool). started c.args.want b status) c.unwrap_or.ensures))
+    (c.new-watch.ensures ∙ ap (λ (b : Bool). new_watching c.args.want b status) c.unwrap_or.ensures))
 
 pub returns-in-Err-clause-opens : goal.returns-in-Err-clause-opens
 returns-in-Err-clause-opens c = λ model kept.

@@ -23,15 +23,15 @@ invariant_of-self-else-end-self c =
     (c.in-Ok.ensures.entries ∙ insert_entry-new nat_eq c.self.inside.cursors _ _ new ∙ ap (λ n. c.self.inside.cursors.entries ++ (c.self.inside.given + 1, n) ∷ []) end)
     (c.self.invariant.counted ∙ sym (standing_at-push_other c.self.inside.base.number _ _ c.self.inside.cursors.entries (λ e. base (end ∙ e))))
 
-pub returns-then-end-self-clause-stands : goal.returns-then-end-self-clause-stands
-returns-then-end-self-clause-stands c =
+pub returns-then-end-self-clause-begun : goal.returns-then-end-self-clause-begun
+returns-then-end-self-clause-begun c =
     let new = lookup_unknown c.self.inside.given (c.self.inside.given + 1) c.self.inside.cursors.entries (omega arith) c.self.invariant.known in
     let end = c.end-end.ensures.end in
     let cursors = c.in-Ok.ensures.entries ∙ insert_entry-new nat_eq c.self.inside.cursors _ _ new ∙ ap (λ n. c.self.inside.cursors.entries ++ (c.self.inside.given + 1, n) ∷ []) end in
     stood _ _ _ c.self.view_is cursors
 
-pub returns-else-end-self-clause-stands : goal.returns-else-end-self-clause-stands
-returns-else-end-self-clause-stands c =
+pub returns-else-end-self-clause-begun : goal.returns-else-end-self-clause-begun
+returns-else-end-self-clause-begun c =
     let new = lookup_unknown c.self.inside.given (c.self.inside.given + 1) c.self.inside.cursors.entries (omega arith) c.self.invariant.known in
     let end = c.end-end.ensures.end in
     let cursors = c.in-Ok.ensures.entries ∙ insert_entry-new nat_eq c.self.inside.cursors _ _ new ∙ ap (λ n. c.self.inside.cursors.entries ++ (c.self.inside.given + 1, n) ∷ []) end in

@@ -2,7 +2,7 @@ use Rattle.std.proofs.Common.{ℕ, List, inl, refl, subst, sym}
 use Rattle.std.specs.Arc.{arc_value}
 use Rattle.hub_requests.specs.declared.request.Request.{Request}
 use Rattle.hub_names.specs.declared.hub.Hub.{Hub}
-use Rattle.hub_shared.specs.Desks.{Answers}
+use Rattle.hub_shared.specs.Desks.{CarriesOut}
 use Rattle.hub_names.specs.Fifodirs.{KeepsAll}
 use Rattle.hub_shared.specs.Waits.{WaitsFor}
 use Rattle.hub_shared.proofs.Handling.{subscribes_to, listens_to}
@@ -13,7 +13,7 @@ returns-in-Ok-clause-step g c = record {
   hub = refl;
   pause = refl;
   client = refl;
-  answers = subst (λ (r : Request). Answers (arc_value c.args.self.now.hub) c.args.self.now.fifodirs c.args.self.now.handles r c.subscribe.result c.find.new.self c.subscribe.new.self) (sym c.in-Sub.is)
+  answers = subst (λ (r : Request). CarriesOut (arc_value c.args.self.now.hub) c.args.self.now.fifodirs c.args.self.now.handles r c.subscribe.result c.find.new.self c.subscribe.new.self) (sym c.in-Sub.is)
       (subst (λ (hub : Hub). KeepsAll hub c.args.self.now.fifodirs c.find.new.self) c.deref.ensures c.in-Ok.ensures.kept, subscribes_to c.find.new.self c.in-Sub.name c.in-Ok.found c.args.self.now.handles c.subscribe.new.self c.subscribe.result c.in-Ok.ensures.ok c.subscribe.ensures.step);
 }
 
@@ -22,7 +22,7 @@ returns-in-Ok-find-clause-step g c = record {
   hub = refl;
   pause = refl;
   client = refl;
-  answers = subst (λ (r : Request). Answers (arc_value c.args.self.now.hub) c.args.self.now.fifodirs c.args.self.now.handles r c.listen.result c.find-in-Listen.new.self c.listen.new.self) (sym c.in-Listen.is) (
+  answers = subst (λ (r : Request). CarriesOut (arc_value c.args.self.now.hub) c.args.self.now.fifodirs c.args.self.now.handles r c.listen.result c.find-in-Listen.new.self c.listen.new.self) (sym c.in-Listen.is) (
     subst (λ (hub : Hub). KeepsAll hub c.args.self.now.fifodirs c.find-in-Listen.new.self) c.deref-in-Listen.ensures c.in-Ok-find.ensures.kept,
     listens_to c.find-in-Listen.new.self c.in-Listen.name c.in-Ok-find.found c.in-Listen.mode c.in-Listen.pattern
         c.args.self.now.handles c.listen.new.self c.listen.result c.in-Ok-find.ensures.ok c.listen.ensures.step,
@@ -43,7 +43,7 @@ returns-in-Ok-open-clause-step g c =
       hub = refl;
       pause = refl;
       client = refl;
-      answers = subst (λ (r : Request). Answers (arc_value c.args.self.now.hub) c.args.self.now.fifodirs c.args.self.now.handles r c.settle.result fifodirs c.args.self.now.handles) (sym c.in-Wait.is) (
+      answers = subst (λ (r : Request). CarriesOut (arc_value c.args.self.now.hub) c.args.self.now.fifodirs c.args.self.now.handles r c.settle.result fifodirs c.args.self.now.handles) (sym c.in-Wait.is) (
         subst (λ (hub : Hub). KeepsAll hub c.args.self.now.fifodirs fifodirs) c.deref-in-Wait.ensures opened.kept,
         inl (subst (λ (names : List (List ℕ)). WaitsFor fifodirs c.in-Wait.span c.in-Wait.want names c.settle.result) c.items.ensures waits),
         refl {a = c.args.self.now.handles},

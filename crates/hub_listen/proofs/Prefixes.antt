@@ -29,20 +29,20 @@ fails_more f i before here j some le =
 
 -- ---- a prefix, and the whole
 
-module _ (p g front rest : List ℕ) where
-  pub finds-front : (j : ℕ) → j ≤ length front → finds p (g ++ take j (front ++ rest)) ≡ finds p (g ++ take j front)
-  finds-front j le = ap (λ t. finds p (g ++ t)) (take-append-le j front rest le)
+module _ (p g prefix rest : List ℕ) where
+  pub finds-prefix : (j : ℕ) → j ≤ length prefix → finds p (g ++ take j (prefix ++ rest)) ≡ finds p (g ++ take j prefix)
+  finds-prefix j le = ap (λ t. finds p (g ++ t)) (take-append-le j prefix rest le)
 
-  pub IsHit-append : (k : ℕ) → IsHit p g front k → IsHit p g (front ++ rest) k
+  pub IsHit-append : (k : ℕ) → IsHit p g prefix k → IsHit p g (prefix ++ rest) k
   IsHit-append k h =
-      let within = h.within in let both = length-append front rest in record {
+      let within = h.within in let both = length-append prefix rest in record {
         some = h.some;
         within = omega arith;
         short = h.short;
-        found = finds-front k within ∙ h.found;
-        least = λ j some below. finds-front j (omega arith) ∙ h.least j some below;
+        found = finds-prefix k within ∙ h.found;
+        least = λ j some below. finds-prefix j (omega arith) ∙ h.least j some below;
       }
 
-  pub HasNoHit-append : HasNoHit p g front → MOST_GATHERED ≤ length g + length front → HasNoHit p g (front ++ rest)
+  pub HasNoHit-append : HasNoHit p g prefix → MOST_GATHERED ≤ length g + length prefix → HasNoHit p g (prefix ++ rest)
   HasNoHit-append none full = λ j some within short.
-      let inside : j ≤ length front = omega arith in finds-front j inside ∙ none j some inside short
+      let inside : j ≤ length prefix = omega arith in finds-prefix j inside ∙ none j some inside short

@@ -4,7 +4,7 @@ use Rattle.std.proofs.lemmas.List.{length-drop, drop-drop, drop_all}
 use Rattle.std.specs.Option.{option_map}
 use Rattle.std.specs.Map.{lookup}
 use Rattle.hub_record.specs.declared.limits.Limits.{Limits}
-use Rattle.hub_record.specs.World.{World, Subscription, IsWorld, standing, standing_from, found, least, base}
+use Rattle.hub_record.specs.World.{World, Subscription, IsWorld, standing, standing_from, subscription_in, least, base}
 use Rattle.hub_record.specs.Backlog.{Held, with_cursors}
 use Rattle.hub_record.specs.Kept.{Kept, StandsFor, IsSound}
 use Rattle.hub_record.proofs.Cursors.{lookup_standing}
@@ -21,28 +21,28 @@ sound_recut limits before after cursors s e = subst (IsSound limits) (sym e) (re
 
 -- ---- the cursor of an id and the subscription
 
-pub found_some : (r : Kept) (w : World) (id v : ℕ) → StandsFor r w → lookup (nat_eq id) r.cursors ≡ Some v → (s : Subscription) × (found w id ≡ Some s) × (s.next ≡ v)
-found_some r w id v s e = by (found w id) refl
+pub found_some : (r : Kept) (w : World) (id v : ℕ) → StandsFor r w → lookup (nat_eq id) r.cursors ≡ Some v → (s : Subscription) × (subscription_in w id ≡ Some s) × (s.next ≡ v)
+found_some r w id v s e = by (subscription_in w id) refl
   where
-    seen : option_map (λ (s : Subscription). s.next) (found w id) ≡ Some v
+    seen : option_map (λ (s : Subscription). s.next) (subscription_in w id) ≡ Some v
     seen = sym (lookup_standing 1 w.subscriptions id) ∙ ap (lookup (nat_eq id)) (sym s.cursors) ∙ e
 
-    by : (o : Option Subscription) → found w id ≡ o → (s : Subscription) × (found w id ≡ Some s) × (s.next ≡ v)
+    by : (o : Option Subscription) → subscription_in w id ≡ o → (s : Subscription) × (subscription_in w id ≡ Some s) × (s.next ≡ v)
     by None is = let k = seen in let j = ap (option_map (λ (s : Subscription). s.next)) is in cc
     by (Some s) is = let k = seen in let j = ap (option_map (λ (s : Subscription). s.next)) is in (s, is, cc)
 
-pub found_none : (r : Kept) (w : World) (id : ℕ) → StandsFor r w → lookup (nat_eq id) r.cursors ≡ None → found w id ≡ None
-found_none r w id s e = by (found w id) refl
+pub found_none : (r : Kept) (w : World) (id : ℕ) → StandsFor r w → lookup (nat_eq id) r.cursors ≡ None → subscription_in w id ≡ None
+found_none r w id s e = by (subscription_in w id) refl
   where
-    seen : option_map (λ (s : Subscription). s.next) (found w id) ≡ None
+    seen : option_map (λ (s : Subscription). s.next) (subscription_in w id) ≡ None
     seen = sym (lookup_standing 1 w.subscriptions id) ∙ ap (lookup (nat_eq id)) (sym s.cursors) ∙ e
 
-    by : (o : Option Subscription) → found w id ≡ o → found w id ≡ None
+    by : (o : Option Subscription) → subscription_in w id ≡ o → subscription_in w id ≡ None
     by None is = is
     by (Some s) is = let k = seen in let j = ap (option_map (λ (s : Subscription). s.next)) is in cc
 
-pub waiting_is : (r : Kept) (w : World) (id : ℕ) → StandsFor r w → option_map (λ n. r.end - n) (lookup (nat_eq id) r.cursors) ≡ option_map (λ (s : Subscription). length w.events - s.next) (found w id)
-waiting_is r w id s = (λ i. option_map (λ n. s.end i - n) (lookup (nat_eq id) (s.cursors i))) ∙ ap (option_map (λ n. length w.events - n)) (lookup_standing 1 w.subscriptions id) ∙ both (found w id)
+pub waiting_is : (r : Kept) (w : World) (id : ℕ) → StandsFor r w → option_map (λ n. r.end - n) (lookup (nat_eq id) r.cursors) ≡ option_map (λ (s : Subscription). length w.events - s.next) (subscription_in w id)
+waiting_is r w id s = (λ i. option_map (λ n. s.end i - n) (lookup (nat_eq id) (s.cursors i))) ∙ ap (option_map (λ n. length w.events - n)) (lookup_standing 1 w.subscriptions id) ∙ both (subscription_in w id)
   where
     both : (o : Option Subscription) → option_map (λ n. length w.events - n) (option_map (λ (s : Subscription). s.next) o) ≡ option_map (λ (s : Subscription). length w.events - s.next) o
     both None = refl

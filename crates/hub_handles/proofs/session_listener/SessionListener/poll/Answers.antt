@@ -2,7 +2,7 @@ use Rattle.std.proofs.Common.{◌<◌, ◌+◌, length, [], Bool, refl, sym, sub
 use Rattle.hub_letters.specs.declared.bounds.TheConstants.{MOST_GATHERED}
 use Rattle.hub_handles.specs.Hearings.{HearsOne}
 use Rattle.hub_handles.proofs.Hearings.{hears_none, hears_quietly, gathers_one, hit_polls, stop_polls}
-use Rattle.hub_handles.proofs.hearing.Hearing.poll.Goals as goal
+use Rattle.hub_handles.proofs.session_listener.SessionListener.poll.Goals as goal
 
 pub returns-in_default-with_capacity-clause-polled : goal.returns-in_default-with_capacity-clause-polled
 returns-in_default-with_capacity-clause-polled g c =

@@ -1,6 +1,6 @@
 use Rattle.std.proofs.Common.{◌≡◌, None, refl}
 use Rattle.hub_handles.proofs.Hearings.{gives_taken}
-use Rattle.hub_handles.proofs.hearing.Hearing.next_letter.Goals as goal
+use Rattle.hub_handles.proofs.session_listener.SessionListener.next_letter.Goals as goal
 
 pub returns-in-None-clause-gives : goal.returns-in-None-clause-gives
 returns-in-None-clause-gives g c =

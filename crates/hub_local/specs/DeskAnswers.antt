@@ -4,7 +4,7 @@ use Rattle.std.specs.List.{list_all}
 use Rattle.hub_letters.specs.declared.bounds.TheConstants.{MOST_GATHERED}
 use Rattle.hub_letters.specs.Flags.{flags_of}
 use Rattle.hub_listen.specs.Hit.{IsPattern}
-use Rattle.hub_listen.specs.Listening.{unheard}
+use Rattle.hub_listen.specs.Listening.{new_listening}
 use Rattle.hub_letters.specs.declared.mode.Mode.{Mode}
 use Rattle.hub_letters.specs.declared.mode.Mode.TheVariants.{Repeat}
 use Rattle.hub_record.specs.declared.limits.TheConstants.{MOST_IDS}
@@ -20,13 +20,13 @@ use Rattle.hub_record.specs.declared.Taken.TheVariants as taken
 use Rattle.hub_record.specs.declared.NoId.{NoId}
 use Rattle.hub_record.specs.declared.Closed.{Closed}
 use Rattle.hub_requests.specs.declared.bounds.TheConstants.{MOST_NAMES}
-use Rattle.hub_local.specs.Desks.{Desk, Answer, world_of, reports_of, with_world, standing, held, without_handle, refused}
-use Rattle.hub_local.specs.Polls.{polled, LeftByPoll}
+use Rattle.hub_local.specs.Desks.{Desk, Answer, world_of, reports_of, with_world, standing, holding_at, without_handle, refusal_answer}
+use Rattle.hub_local.specs.Polls.{poll_answer, LeftByPoll}
 use Rattle.hub_local.specs.Replies.{subscribe_reply, publish_reply}
 use Rattle.hub_requests.specs.Refusals.{refusal_of_sub, refusal_of_pub}
 use Rattle.hub_requests.specs.Room.{refusal_of_handle}
-use Rattle.hub_local.specs.Waits.{waited, LeftByWait}
-use Rattle.hub_local.specs.declared.local_desk.Hearing.{Hearing}
+use Rattle.hub_local.specs.Waits.{wait_answer, LeftByWait}
+use Rattle.hub_local.specs.declared.local_desk.LocalListener.{LocalListener}
 use Rattle.hub_local.specs.declared.local_desk.Holding.{Holding}
 use Rattle.hub_requests.specs.declared.request.Request.{Request}
 use Rattle.hub_requests.specs.declared.request.Request.TheVariants.{Dir, Svc, Sub, Pub, Take, Cancel, Close, Status, Listen, Poll, Wait}
@@ -64,7 +64,7 @@ abbrev pub refusal_to_take : Option Holding → Option Refusal
 refusal_to_take None = Some no.Id
 refusal_to_take (Some h) = if is_some h.hearing then Some no.Id else None
 
-abbrev pub refusal_to_hear : Option Hearing → Option Refusal
+abbrev pub refusal_to_hear : Option LocalListener → Option Refusal
 refusal_to_hear None = Some no.Id
 refusal_to_hear (Some hearing) = if nat_le MOST_GATHERED (length hearing.listener.gathered) then Some no.Overlong else None
 
@@ -90,12 +90,12 @@ own_refusal d read (Dir name waiting total) = refusal_to_make d name
 own_refusal d read (Svc name waiting total notifies) = refusal_to_make d name
 own_refusal d read (Sub name) = refusal_to_hold d name
 own_refusal d read (Pub name letters) = refusal_by_name d name
-own_refusal d read (Take id max) = refusal_to_take (held d id)
-own_refusal d read (Cancel id) = refusal_to_cancel (held d id)
+own_refusal d read (Take id max) = refusal_to_take (holding_at d id)
+own_refusal d read (Cancel id) = refusal_to_cancel (holding_at d id)
 own_refusal d read (Close name) = refusal_by_name d name
 own_refusal d read (Status name) = refusal_by_name d name
 own_refusal d read (Listen name mode pattern) = refusal_to_listen read (refusal_to_hold d name)
-own_refusal d read (Poll id) = refusal_to_poll (held d id)
+own_refusal d read (Poll id) = refusal_to_poll (holding_at d id)
 own_refusal d read (Wait span want turns names) = refusal_to_wait d names
 
 -- ---- what it does otherwise
@@ -106,45 +106,45 @@ answered_with reply d name w = record { reply = reply; desk = record d { fifodir
 
 -- what is done to the world under a name
 abbrev pub in_world : Desk → (World → Answer) → Option World → Answer
-in_world d done None = refused d no.Name
+in_world d done None = refusal_answer d no.Name
 in_world d done (Some w) = done w
 
 -- what is done for what a handle holds
 abbrev pub for_holding : Desk → (Holding → Answer) → Option Holding → Answer
-for_holding d done None = refused d no.Id
+for_holding d done None = refusal_answer d no.Id
 for_holding d done (Some h) = done h
 
 -- what is done for a listener's hearing
-abbrev pub for_hearing : Desk → (Hearing → Answer) → Option Hearing → Answer
-for_hearing d done None = refused d no.Id
+abbrev pub for_hearing : Desk → (LocalListener → Answer) → Option LocalListener → Answer
+for_hearing d done None = refusal_answer d no.Id
 for_hearing d done (Some hearing) = done hearing
 
 -- if the limits aren't in their ranges, a number is refused; no request with such limits is ever asked
-abbrev pub made : Desk → List ℕ → Kind → Option Bool → Option Limits → Answer
-made d name kind reports None = refused d no.Range
-made d name kind reports (Some limits) = record {
+abbrev pub make_answer : Desk → List ℕ → Kind → Option Bool → Option Limits → Answer
+make_answer d name kind reports None = refusal_answer d no.Range
+make_answer d name kind reports (Some limits) = record {
   reply = Done;
   desk = record d { fifodirs = d.fifodirs ++ record { name = name; reports = reports; world = empty_world kind limits } ∷ [] };
 }
 
 -- with one more handle, for a plain subscription or for a listener's
-abbrev pub subscribed : Desk → List ℕ → Option Hearing → World → Result (ℕ × ℕ) SubError → Answer
-subscribed d name hearing w (Err error) = refused d (refusal_of_sub error)
-subscribed d name hearing w (Ok given) = record {
+abbrev pub subscribe_answer : Desk → List ℕ → Option LocalListener → World → Result (ℕ × ℕ) SubError → Answer
+subscribe_answer d name hearing w (Err error) = refusal_answer d (refusal_of_sub error)
+subscribe_answer d name hearing w (Ok given) = record {
   reply = Number (length d.handles + 1);
   desk = record {
     fifodirs = with_world d.fifodirs name (after_subscribe w (Ok given));
-    handles = d.handles ++ record { holding = record { name = name; id = given.0; hearing = hearing }; stands = true } ∷ [];
+    handles = d.handles ++ record { holding = record { name = name; id = given.0; hearing = hearing }; current = true } ∷ [];
   };
 }
 
 -- the hearing of a listener that has heard nothing
-abbrev pub new_hearing : List ℕ → Mode → Hearing
-new_hearing pattern mode = record { listener = unheard pattern Repeat; mode = mode; held = None }
+abbrev pub new_hearing : List ℕ → Mode → LocalListener
+new_hearing pattern mode = record { listener = new_listening pattern Repeat; mode = mode; held = None }
 
-abbrev pub published : Desk → List ℕ → List ℕ → World → Result ℕ PubError → Answer
-published d name message w (Err error) = refused d (refusal_of_pub error)
-published d name message w (Ok first) = answered_with (Number first) d name (after_publish w 1 message (Ok first))
+abbrev pub publish_answer : Desk → List ℕ → List ℕ → World → Result ℕ PubError → Answer
+publish_answer d name message w (Err error) = refusal_answer d (refusal_of_pub error)
+publish_answer d name message w (Ok first) = answered_with (Number first) d name (after_publish w 1 message (Ok first))
 
 abbrev pub take_shown : List ℕ → Result Taken NoId → Reply
 take_shown letters (Ok (taken.Got count)) = Got letters
@@ -155,38 +155,38 @@ take_shown letters (Err error) = No no.Id
 abbrev pub took : Desk → ℕ → Holding → World → Answer
 took d max h w = answered_with (take_shown (letters (take_events w h.id max)) (take_reply w h.id max)) d h.name (after_take w h.id max)
 
-abbrev pub cancelled : Desk → ℕ → Holding → Answer
-cancelled d number h = record { reply = Done; desk = without_handle d number h }
+abbrev pub cancel_answer : Desk → ℕ → Holding → Answer
+cancel_answer d number h = record { reply = Done; desk = without_handle d number h }
 
-abbrev pub closed : Desk → List ℕ → World → Result (Unit {0}) Closed → Answer
-closed d name w (Err error) = refused d no.Closed
-closed d name w (Ok done) = answered_with Done d name (after_close w)
+abbrev pub close_answer : Desk → List ℕ → World → Result (Unit {0}) Closed → Answer
+close_answer d name w (Err error) = refusal_answer d no.Closed
+close_answer d name w (Ok done) = answered_with Done d name (after_close w)
 
-abbrev pub shown : Desk → World → Answer
-shown d w = record { reply = State (record { number = length w.events; flags = flags_of (letters w.events); closed = w.closed }); desk = d }
+abbrev pub status_answer : Desk → World → Answer
+status_answer d w = record { reply = State (record { number = length w.events; flags = flags_of (letters w.events); closed = w.closed }); desk = d }
 
 -- what is done with a request that the desk itself doesn't refuse
-abbrev pub carried_out : Desk → Request → Answer
-carried_out d (Dir name waiting total) = made d name Plain None (limits_of waiting total MOST_IDS)
-carried_out d (Svc name waiting total notifies) = made d name Service (Some notifies) (limits_of waiting total MOST_IDS)
-carried_out d (Sub name) = in_world d (λ w. subscribed d name None w (subscribe_reply w)) (world_of d.fifodirs name)
-carried_out d (Pub name message) = in_world d (λ w. published d name message w (publish_reply w message)) (world_of d.fifodirs name)
-carried_out d (Take id max) = for_holding d (λ h. in_world d (took d max h) (world_of d.fifodirs h.name)) (held d id)
-carried_out d (Cancel id) = for_holding d (cancelled d id) (held d id)
-carried_out d (Close name) = in_world d (λ w. closed d name w (close_reply w)) (world_of d.fifodirs name)
-carried_out d (Status name) = in_world d (shown d) (world_of d.fifodirs name)
-carried_out d (Listen name mode pattern) = in_world d (λ w. subscribed d name (Some (new_hearing pattern mode)) w (subscribe_reply w)) (world_of d.fifodirs name)
-carried_out d (Poll id) = for_holding d (λ h. for_hearing d (λ g. in_world d (polled d id h g) (world_of d.fifodirs h.name)) h.hearing) (held d id)
-carried_out d (Wait span want turns names) = waited d span want names
+abbrev pub request_answer : Desk → Request → Answer
+request_answer d (Dir name waiting total) = make_answer d name Plain None (limits_of waiting total MOST_IDS)
+request_answer d (Svc name waiting total notifies) = make_answer d name Service (Some notifies) (limits_of waiting total MOST_IDS)
+request_answer d (Sub name) = in_world d (λ w. subscribe_answer d name None w (subscribe_reply w)) (world_of d.fifodirs name)
+request_answer d (Pub name message) = in_world d (λ w. publish_answer d name message w (publish_reply w message)) (world_of d.fifodirs name)
+request_answer d (Take id max) = for_holding d (λ h. in_world d (took d max h) (world_of d.fifodirs h.name)) (holding_at d id)
+request_answer d (Cancel id) = for_holding d (cancel_answer d id) (holding_at d id)
+request_answer d (Close name) = in_world d (λ w. close_answer d name w (close_reply w)) (world_of d.fifodirs name)
+request_answer d (Status name) = in_world d (status_answer d) (world_of d.fifodirs name)
+request_answer d (Listen name mode pattern) = in_world d (λ w. subscribe_answer d name (Some (new_hearing pattern mode)) w (subscribe_reply w)) (world_of d.fifodirs name)
+request_answer d (Poll id) = for_holding d (λ h. for_hearing d (λ g. in_world d (poll_answer d id h g) (world_of d.fifodirs h.name)) h.hearing) (holding_at d id)
+request_answer d (Wait span want turns names) = wait_answer d span want names
 
 -- ---- answers
 
 abbrev pub answer_by : Desk → Option Refusal → Answer → Answer
-answer_by d (Some refusal) done = refused d refusal
+answer_by d (Some refusal) done = refusal_answer d refusal
 answer_by d None done = done
 
 abbrev pub answer : Desk → Bool → Request → Answer
-answer d read request = answer_by d (own_refusal d read request) (carried_out d request)
+answer d read request = answer_by d (own_refusal d read request) (request_answer d request)
 
 -- what may be left if memory ran out: an unchanged desk, except for these two requests
 abbrev pub LeftBy : Request → Desk → Desk → Type 0

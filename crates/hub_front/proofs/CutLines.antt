@@ -9,8 +9,8 @@ use Rattle.hub_protocol.specs.declared.parsing.Bad.{Bad}
 use Rattle.hub_protocol.specs.declared.parsing.Bad.TheVariants.{Long, Text, Word, Form, Range, Memory}
 use Rattle.hub_protocol.specs.Reading.{IsReading}
 use Rattle.hub_io.specs.Lines.{onto_first, complete_of, rest_of, last_line, lines_of}
-use Rattle.hub_front.specs.Pieces.{keep, done, left, pieces_of}
-use Rattle.hub_front.specs.Serving.{Asking, Answers, Run, Served, BreaksOff}
+use Rattle.hub_front.specs.Pieces.{keep, complete_pieces, piece_left, pieces_of}
+use Rattle.hub_front.specs.Serving.{Asking, AnswersLine, Run, Served, BreaksOff}
 
 -- what is kept of a line
 abbrev pub cut : List ℕ → List ℕ
@@ -44,14 +44,14 @@ onto_first-append : (p q : List ℕ) (ls : List (List ℕ)) → onto_first p (on
 onto_first-append p q [] = refl
 onto_first-append p q (l ∷ ls) = ap (λ x. x ∷ ls) (sym (append_assoc p q l))
 
-done-cut : (bs p : List ℕ) → done bs (cut p) ≡ map cut (onto_first p (complete_of bs))
+done-cut : (bs p : List ℕ) → complete_pieces bs (cut p) ≡ map cut (onto_first p (complete_of bs))
 done-cut [] p = refl
 done-cut (b ∷ bs) p =
-    elim (b == 10) as (λ t. cond t (cut p ∷ done bs []) (done bs (keep (cut p) b)) ≡ map cut (onto_first p (cond t ([] ∷ complete_of bs) (onto_first (b ∷ []) (complete_of bs))))) [
+    elim (b == 10) as (λ t. cond t (cut p ∷ complete_pieces bs []) (complete_pieces bs (keep (cut p) b)) ≡ map cut (onto_first p (cond t ([] ∷ complete_of bs) (onto_first (b ∷ []) (complete_of bs))))) [
       | true ↦
-          let rest : done bs [] ≡ map cut (complete_of bs) = done-cut bs [] ∙ ap (map cut) (onto_first-nil (complete_of bs)) in
-          ap (λ l. cut l ∷ done bs []) (sym (append-nil p)) ∙ ap (λ ls. cut (p ++ []) ∷ ls) rest
-      | false ↦ ap (done bs) (keep-cut p b) ∙ done-cut bs (p ++ b ∷ []) ∙ ap (map cut) (sym (onto_first-append p (b ∷ []) (complete_of bs)))
+          let rest : complete_pieces bs [] ≡ map cut (complete_of bs) = done-cut bs [] ∙ ap (map cut) (onto_first-nil (complete_of bs)) in
+          ap (λ l. cut l ∷ complete_pieces bs []) (sym (append-nil p)) ∙ ap (λ ls. cut (p ++ []) ∷ ls) rest
+      | false ↦ ap (complete_pieces bs) (keep-cut p b) ∙ done-cut bs (p ++ b ∷ []) ∙ ap (map cut) (sym (onto_first-append p (b ∷ []) (complete_of bs)))
     ]
 
 abbrev has_lf : List ℕ → Bool
@@ -61,12 +61,12 @@ rest_or_all : (bs : List ℕ) → cond (has_lf bs) (rest_of bs) bs ≡ rest_of b
 rest_or_all [] = refl
 rest_or_all (b ∷ bs) = elim (has_lf (b ∷ bs)) as (λ t. cond t (cond t (rest_of bs) (b ∷ bs)) (b ∷ bs) ≡ cond t (rest_of bs) (b ∷ bs)) [ true ↦ refl | false ↦ refl ]
 
-left-cut : (bs p : List ℕ) → left bs (cut p) ≡ cut (cond (has_lf bs) (rest_of bs) (p ++ bs))
+left-cut : (bs p : List ℕ) → piece_left bs (cut p) ≡ cut (cond (has_lf bs) (rest_of bs) (p ++ bs))
 left-cut [] p = ap cut (sym (append-nil p))
 left-cut (b ∷ bs) p =
-    elim (b == 10) as (λ t. cond t (left bs []) (left bs (keep (cut p) b)) ≡ cut (cond (t || has_lf bs) (cond (t || has_lf bs) (rest_of bs) (b ∷ bs)) (p ++ b ∷ bs))) [
+    elim (b == 10) as (λ t. cond t (piece_left bs []) (piece_left bs (keep (cut p) b)) ≡ cut (cond (t || has_lf bs) (cond (t || has_lf bs) (rest_of bs) (b ∷ bs)) (p ++ b ∷ bs))) [
       | true ↦ left-cut bs [] ∙ ap cut (rest_or_all bs)
-      | false ↦ ap (left bs) (keep-cut p b) ∙ left-cut bs (p ++ b ∷ []) ∙
+      | false ↦ ap (piece_left bs) (keep-cut p b) ∙ left-cut bs (p ++ b ∷ []) ∙
           elim (has_lf bs) as (λ t. cut (cond t (rest_of bs) ((p ++ b ∷ []) ++ bs)) ≡ cut (cond t (cond t (rest_of bs) (b ∷ bs)) (p ++ b ∷ bs))) [
             | true ↦ refl
             | false ↦ ap cut (append_assoc p (b ∷ []) bs)
@@ -77,12 +77,12 @@ last_line-cut : (r : List ℕ) → last_line (cut r) ≡ map cut (last_line r)
 last_line-cut [] = refl
 last_line-cut (b ∷ bs) = refl
 
-pub done-whole : (bs : List ℕ) → done bs [] ≡ map cut (complete_of bs)
+pub done-whole : (bs : List ℕ) → complete_pieces bs [] ≡ map cut (complete_of bs)
 done-whole bs = done-cut bs [] ∙ ap (map cut) (onto_first-nil (complete_of bs))
 
 pub pieces-whole : (bs : List ℕ) → pieces_of bs ≡ map cut (lines_of bs)
 pieces-whole bs =
-    ap (λ ls. ls ++ last_line (left bs [])) (done-whole bs)
+    ap (λ ls. ls ++ last_line (piece_left bs [])) (done-whole bs)
     ∙ ap (λ l. map cut (complete_of bs) ++ last_line l) (left-cut bs [] ∙ ap cut (rest_or_all bs))
     ∙ ap (λ ls. map cut (complete_of bs) ++ ls) (last_line-cut (rest_of bs))
     ∙ sym (map-append cut (complete_of bs) (last_line (rest_of bs)))
@@ -105,7 +105,7 @@ reading_of_cut line read r = elim (short_or_long (length line) 513) [
   | inr h ↦ let long : (512 < length line) × (read ≡ Err Long) = cut_is_long line read h r in subst (λ x. IsReading line x) (sym long.1) long.0
 ]
 
-answers_of_cut : {D : Type 0} {asks : Asking D} {old new : D} {line : List ℕ} {reply : Reply} → Answers asks old (cut line) reply new → Answers asks old line reply new
+answers_of_cut : {D : Type 0} {asks : Asking D} {old new : D} {line : List ℕ} {reply : Reply} → AnswersLine asks old (cut line) reply new → AnswersLine asks old line reply new
 answers_of_cut {line = line} a = record { read = a.read; reading = reading_of_cut line a.read a.reading; answered = a.answered }
 
 run_of_cut : {D : Type 0} (asks : Asking D) (old : D) (lines : List (List ℕ)) (replies : List Reply) (new : D) → Run asks old (map cut lines) replies new → Run asks old lines replies new
@@ -148,20 +148,20 @@ breaks_of_cut {asks} {new} kept lines e s =
       between = s.between;
       served = served_of_cut s.front a same s.served;
       reply = s.reply;
-      answered = answers_of_cut (subst (λ l. Answers asks s.mid l s.reply new) (sym last) s.answered);
+      answered = answers_of_cut (subst (λ l. AnswersLine asks s.mid l s.reply new) (sym last) s.answered);
       written = s.written;
     }
 
 -- ---- what a session did with the pieces, it did with the lines
 
-pub served_complete : {D : Type 0} {asks : Asking D} {old new : D} (input : List ℕ) {held holds : Option (List ℕ)} → Served asks old (done input []) held holds new → Served asks old (complete_of input) held holds new
-served_complete input s = served_of_cut (done input []) (complete_of input) (done-whole input) s
+pub served_complete : {D : Type 0} {asks : Asking D} {old new : D} (input : List ℕ) {held holds : Option (List ℕ)} → Served asks old (complete_pieces input []) held holds new → Served asks old (complete_of input) held holds new
+served_complete input s = served_of_cut (complete_pieces input []) (complete_of input) (done-whole input) s
 
 pub served_lines : {D : Type 0} {asks : Asking D} {old new : D} (input : List ℕ) {held holds : Option (List ℕ)} → Served asks old (pieces_of input) held holds new → Served asks old (lines_of input) held holds new
 served_lines input s = served_of_cut (pieces_of input) (lines_of input) (pieces-whole input) s
 
-pub breaks_complete : {D : Type 0} {asks : Asking D} {old new : D} (input : List ℕ) {held holds : Option (List ℕ)} → BreaksOff asks old (done input []) held holds new → BreaksOff asks old (complete_of input) held holds new
-breaks_complete input s = breaks_of_cut (done input []) (complete_of input) (done-whole input) s
+pub breaks_complete : {D : Type 0} {asks : Asking D} {old new : D} (input : List ℕ) {held holds : Option (List ℕ)} → BreaksOff asks old (complete_pieces input []) held holds new → BreaksOff asks old (complete_of input) held holds new
+breaks_complete input s = breaks_of_cut (complete_pieces input []) (complete_of input) (done-whole input) s
 
 pub breaks_lines : {D : Type 0} {asks : Asking D} {old new : D} (input : List ℕ) {held holds : Option (List ℕ)} → BreaksOff asks old (pieces_of input) held holds new → BreaksOff asks old (lines_of input) held holds new
 breaks_lines input s = breaks_of_cut (pieces_of input) (lines_of input) (pieces-whole input) s

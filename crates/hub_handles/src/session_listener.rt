@@ -14,7 +14,7 @@ use std::sync::Wait;
 
 /// A listener that hears a subscription. It hears in mode `Repeat` whatever its own mode is: after the one hit of mode
 /// `Once` the session ends it. It isn't `Drop`, and only `cancel` takes it.
-pub struct Hearing {
+pub struct SessionListener {
     subscription: Subscription,
     listener: Listener,
     mode: Mode,
@@ -23,14 +23,14 @@ pub struct Hearing {
     ghost repeats: { listener.mode ≡ Repeat },
 }
 
-impl Hearing {
+impl SessionListener {
     ghost use Rattle.hub_handles.specs.Hearings.{BeginsHearing, Gives, Hears, HearsOne, Polls, Stops, ends_by, mode_of};
 
-    pub fn new(subscription: Subscription, listener: Listener, mode: Mode) -> Hearing
+    pub fn new(subscription: Subscription, listener: Listener, mode: Mode) -> SessionListener
         requires { listener.mode ≡ Repeat }
         ensures { BeginsHearing subscription listener mode result }
     {
-        Hearing {
+        SessionListener {
             subscription,
             listener,
             mode,
@@ -119,7 +119,7 @@ impl Hearing {
 
     /// Ends the subscription.
     pub fn cancel<H: Wait>(self, rt: &H) {
-        let Hearing {
+        let SessionListener {
             subscription,
             listener: _,
             mode: _,

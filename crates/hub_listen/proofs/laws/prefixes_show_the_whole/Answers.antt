@@ -1,5 +1,5 @@
-use Rattle.hub_listen.proofs.Fronts.{IsHit-append, HasNoHit-append}
-use Rattle.hub_listen.proofs.laws.fronts_show_the_whole.Goals as goal
+use Rattle.hub_listen.proofs.Prefixes.{IsHit-append, HasNoHit-append}
+use Rattle.hub_listen.proofs.laws.prefixes_show_the_whole.Goals as goal
 
 pub returns-clause-hit : goal.returns-clause-hit
 returns-clause-hit c = IsHit-append

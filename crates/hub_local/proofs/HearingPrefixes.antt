@@ -7,24 +7,24 @@ use Rattle.hub_listen.specs.Each.{fitting}
 use Rattle.hub_listen.specs.Hit.{HasNoHit}
 use Rattle.hub_listen.specs.Listening.{Listening, Feeds, is_spent, after_quiet}
 use Rattle.hub_listen.specs.declared.feed.Feed.TheVariants as fed
-use Rattle.hub_listen.proofs.Fronts.{HasNoHit-append}
+use Rattle.hub_listen.proofs.Prefixes.{HasNoHit-append}
 use Rattle.hub_listen.proofs.Singly.{nothing_is_quiet, one_more, one_more_hit}
 use Rattle.hub_record.specs.Kept.{Kept, StandsFor}
-use Rattle.hub_record.specs.World.{World, Subscription, found, taken, moved_on, after_take}
+use Rattle.hub_record.specs.World.{World, Subscription, subscription_in, count_to_take, moved_on, after_take}
 use Rattle.hub_local.specs.Polls.{to_hear, taken_from}
 use Rattle.hub_local.specs.Hearings.{behind, IsAt, HearsOne, Hears}
 use Rattle.hub_local.specs.Standing.{HasSubscription}
-use Rattle.hub_local.specs.declared.local_desk.Hearing.{Hearing}
+use Rattle.hub_local.specs.declared.local_desk.LocalListener.{LocalListener}
 use Rattle.hub_local.specs.declared.local_desk.listeners.Heard.{Heard}
 use Rattle.hub_local.specs.declared.local_desk.listeners.Heard.TheVariants.{Hit, Nothing, End, Lacking}
 use Rattle.hub_local.proofs.Takings.{take_none, take_more_then, found_then, behind_then, closed_then, length-behind}
 
 -- the held letter is the first to be heard
-abbrev pub held_after : Hearing → ℕ → Option ℕ
+abbrev pub held_after : LocalListener → ℕ → Option ℕ
 held_after g zero = g.held
 held_after g (suc n) = None
 
-pub record HeardFront (g : Hearing) (w : World) (id : ℕ) (n : ℕ) (new : Hearing) (kept : Kept) : Type 0 where
+pub record HeardPrefix (g : LocalListener) (w : World) (id : ℕ) (n : ℕ) (new : LocalListener) (kept : Kept) : Type 0 where
   pub within : n ≤ length (to_hear g w id)
   pub quiet : Feeds g.listener (take n (to_hear g w id)) (Ok fed.Quiet) new.listener
   pub mode_is : new.mode ≡ g.mode
@@ -43,7 +43,7 @@ few_held (Some x) = omega arith
 length-of-none : {X : Type 0} (xs : List X) → xs ≡ [] → length xs ≡ 0
 length-of-none xs e = ap length e
 
-module _ (g : Hearing) (w : World) (id : ℕ) (s : Subscription) (is : found w id ≡ Some s) where
+module _ (g : LocalListener) (w : World) (id : ℕ) (s : Subscription) (is : subscription_in w id ≡ Some s) where
   held_count : ℕ
   held_count = length (option_to_list g.held)
 
@@ -51,29 +51,29 @@ module _ (g : Hearing) (w : World) (id : ℕ) (s : Subscription) (is : found w i
   letters_count = let b = length-behind w id s is in let a = length-append (option_to_list g.held) (behind w id) in omega arith
 
   -- at the beginning
-  pub front_none : (kept : Kept) → is_spent g.listener ≡ false → length g.listener.gathered ≤ MOST_GATHERED → StandsFor kept w → HeardFront g w id 0 g kept
-  front_none kept unspent short stands = record {
+  pub prefix_none : (kept : Kept) → is_spent g.listener ≡ false → length g.listener.gathered ≤ MOST_GATHERED → StandsFor kept w → HeardPrefix g w id 0 g kept
+  prefix_none kept unspent short stands = record {
     within = omega arith;
     quiet = nothing_is_quiet g.listener unspent short;
     mode_is = refl;
     held_is = refl;
-    stands = (let t : taken w s (0 - length (option_to_list g.held)) ≡ 0 = omega arith in subst (StandsFor kept) (sym (take_none w id s is (0 - length (option_to_list g.held)) t)) stands);
+    stands = (let t : count_to_take w s (0 - length (option_to_list g.held)) ≡ 0 = omega arith in subst (StandsFor kept) (sym (take_none w id s is (0 - length (option_to_list g.held)) t)) stands);
   }
 
   -- the subscription and the letters that are left
   left_at : ℕ → Subscription
   left_at n = moved_on w (n - length (option_to_list g.held)) s
 
-  pub found_left : (n : ℕ) → found (taken_from g w id n) id ≡ Some (moved_on w (n - length (option_to_list g.held)) s)
+  pub found_left : (n : ℕ) → subscription_in (taken_from g w id n) id ≡ Some (moved_on w (n - length (option_to_list g.held)) s)
   found_left n = found_then w id s is (n - length (option_to_list g.held))
 
   drop_held : (o : Option ℕ) (xs : List ℕ) (m : ℕ) → drop (suc m - length (option_to_list o)) xs ≡ drop (suc m) (option_to_list o ++ xs)
   drop_held None xs m = let e : suc m - 0 ≡ suc m = omega arith in ap (λ (k : ℕ). drop k xs) e
   drop_held (Some x) xs m = let e : suc m - 1 ≡ m = omega arith in ap (λ (k : ℕ). drop k xs) e
 
-  letters_left : (n : ℕ) (new : Hearing) → new.held ≡ held_after g n → to_hear new (taken_from g w id n) id ≡ drop n (to_hear g w id)
+  letters_left : (n : ℕ) (new : LocalListener) → new.held ≡ held_after g n → to_hear new (taken_from g w id n) id ≡ drop n (to_hear g w id)
   letters_left zero new held =
-      let t : taken w s (0 - length (option_to_list g.held)) ≡ 0 = omega arith in
+      let t : count_to_take w s (0 - length (option_to_list g.held)) ≡ 0 = omega arith in
       let same : taken_from g w id 0 ≡ w = take_none w id s is (0 - length (option_to_list g.held)) t in
       λ i. option_to_list (held i) ++ behind (same i) id
   letters_left (suc m) new held =
@@ -81,9 +81,9 @@ module _ (g : Hearing) (w : World) (id : ℕ) (s : Subscription) (is : found w i
       ∙ behind_then w id s is (suc m - length (option_to_list g.held)) ∙ drop_held g.held (behind w id) m
 
   -- one more letter is taken
-  taken_one_more : (n : ℕ) (new : Hearing) → new.held ≡ held_after g n → n < length (to_hear g w id) → taken_from new (taken_from g w id n) id 1 ≡ taken_from g w id (n + 1)
+  taken_one_more : (n : ℕ) (new : LocalListener) → new.held ≡ held_after g n → n < length (to_hear g w id) → taken_from new (taken_from g w id n) id 1 ≡ taken_from g w id (n + 1)
   taken_one_more zero new held inside =
-      let t : taken w s (0 - length (option_to_list g.held)) ≡ 0 = omega arith in
+      let t : count_to_take w s (0 - length (option_to_list g.held)) ≡ 0 = omega arith in
       let same : taken_from g w id 0 ≡ w = take_none w id s is (0 - length (option_to_list g.held)) t in
       let e : 1 ≡ 0 + 1 = omega arith in
       (λ i. after_take (same i) id (1 - length (option_to_list (held i)))) ∙ ap (taken_from g w id) e
@@ -94,32 +94,32 @@ module _ (g : Hearing) (w : World) (id : ℕ) (s : Subscription) (is : found w i
       ap (λ (o : Option ℕ). after_take (taken_from g w id (suc m)) id (1 - length (option_to_list o))) held
       ∙ take_more_then w id s is (suc m - length (option_to_list g.held)) (omega arith) ∙ ap (after_take w id) next
 
-  none_more : (n : ℕ) (new : Hearing) → taken_from new (taken_from g w id n) id 0 ≡ taken_from g w id n
+  none_more : (n : ℕ) (new : LocalListener) → taken_from new (taken_from g w id n) id 0 ≡ taken_from g w id n
   none_more n new =
       let v = taken_from g w id n in
       let x = moved_on w (n - length (option_to_list g.held)) s in
-      let t : taken v x (0 - length (option_to_list new.held)) ≡ 0 = omega arith in
+      let t : count_to_take v x (0 - length (option_to_list new.held)) ≡ 0 = omega arith in
       take_none v id x (found_left n) (0 - length (option_to_list new.held)) t
 
-  module _ (n : ℕ) (new : Hearing) (kept : Kept) (front : HeardFront g w id n new kept) where
+  module _ (n : ℕ) (new : LocalListener) (kept : Kept) (prefix : HeardPrefix g w id n new kept) where
     abbrev letters : List ℕ
     letters = to_hear g w id
 
     -- what the next feed needs
-    pub front_stands : HasSubscription kept id
-    front_stands = record { world = taken_from g w id n; stands = front.stands; subscribed = ap is_some (found_left n) }
+    pub prefix_stands : HasSubscription kept id
+    prefix_stands = record { world = taken_from g w id n; stands = prefix.stands; subscribed = ap is_some (found_left n) }
 
-    pub front_unspent : is_spent new.listener ≡ false
-    front_unspent = ap is_spent front.quiet.3 ∙ front.quiet.0
+    pub prefix_unspent : is_spent new.listener ≡ false
+    prefix_unspent = ap is_spent prefix.quiet.3 ∙ prefix.quiet.0
 
-    pub front_gathered : length new.listener.gathered ≡ length g.listener.gathered + n
-    front_gathered = ap (λ (l : Listening). length l.gathered) front.quiet.3 ∙ length-append g.listener.gathered (take n letters)
-        ∙ ap (λ (k : ℕ). length g.listener.gathered + k) (length-take-le n letters front.within)
+    pub prefix_gathered : length new.listener.gathered ≡ length g.listener.gathered + n
+    prefix_gathered = ap (λ (l : Listening). length l.gathered) prefix.quiet.3 ∙ length-append g.listener.gathered (take n letters)
+        ∙ ap (λ (k : ℕ). length g.listener.gathered + k) (length-take-le n letters prefix.within)
 
     -- the next letter
     module _ (x : ℕ) (rest : List ℕ) (first : to_hear new (taken_from g w id n) id ≡ x ∷ rest) where
       next_at : drop n letters ≡ x ∷ rest
-      next_at = sym (letters_left n new front.held_is) ∙ first
+      next_at = sym (letters_left n new prefix.held_is) ∙ first
 
       inside : n < length letters
       inside = let a = length-drop n letters in let b = ap length next_at in omega arith
@@ -139,71 +139,71 @@ module _ (g : Hearing) (w : World) (id : ℕ) (s : Subscription) (is : found w i
       none_after : held_after g (n + 1) ≡ None
       none_after = let e : n + 1 ≡ suc n = omega arith in ap (held_after g) e
 
-      pub front_more : (new' : Hearing) (kept' : Kept) → Feeds new.listener (x ∷ []) (Ok fed.Quiet) new'.listener → new'.mode ≡ new.mode → new'.held ≡ None → StandsFor kept' (taken_from new (taken_from g w id n) id 1)
-          → HeardFront g w id (n + 1) new' kept'
-      front_more new' kept' hears mode held stands = record {
+      pub prefix_more : (new' : LocalListener) (kept' : Kept) → Feeds new.listener (x ∷ []) (Ok fed.Quiet) new'.listener → new'.mode ≡ new.mode → new'.held ≡ None → StandsFor kept' (taken_from new (taken_from g w id n) id 1)
+          → HeardPrefix g w id (n + 1) new' kept'
+      prefix_more new' kept' hears mode held stands = record {
         within = (let l = inside in omega arith);
-        quiet = one_more g.listener new.listener new'.listener letters n inside (Ok fed.Quiet) front.quiet (subst (λ (p : List ℕ). Feeds new.listener p (Ok fed.Quiet) new'.listener) piece hears);
-        mode_is = mode ∙ front.mode_is;
+        quiet = one_more g.listener new.listener new'.listener letters n inside (Ok fed.Quiet) prefix.quiet (subst (λ (p : List ℕ). Feeds new.listener p (Ok fed.Quiet) new'.listener) piece hears);
+        mode_is = mode ∙ prefix.mode_is;
         held_is = held ∙ sym none_after;
-        stands = subst (StandsFor kept') (taken_one_more n new front.held_is inside) stands;
+        stands = subst (StandsFor kept') (taken_one_more n new prefix.held_is inside) stands;
       }
 
-      pub front_hit : (k : ℕ) (new' : Hearing) (kept' : Kept) → Feeds new.listener (x ∷ []) (Ok (fed.Hit k)) new'.listener → new'.mode ≡ new.mode → new'.held ≡ None → StandsFor kept' (taken_from new (taken_from g w id n) id 1)
+      pub prefix_hit : (k : ℕ) (new' : LocalListener) (kept' : Kept) → Feeds new.listener (x ∷ []) (Ok (fed.Hit k)) new'.listener → new'.mode ≡ new.mode → new'.held ≡ None → StandsFor kept' (taken_from new (taken_from g w id n) id 1)
           → Hears g w id Hit new' kept'
-      front_hit k new' kept' hears mode held stands =
-          let hit = one_more_hit g.listener new.listener new'.listener letters n k inside front.quiet (subst (λ (p : List ℕ). Feeds new.listener p (Ok (fed.Hit k)) new'.listener) piece hears) in
-          (n + 1, hit.0, record { listener_is = hit.1; mode_is = mode ∙ front.mode_is; held_is = held; stands = subst (StandsFor kept') (taken_one_more n new front.held_is inside) stands })
+      prefix_hit k new' kept' hears mode held stands =
+          let hit = one_more_hit g.listener new.listener new'.listener letters n k inside prefix.quiet (subst (λ (p : List ℕ). Feeds new.listener p (Ok (fed.Hit k)) new'.listener) piece hears) in
+          (n + 1, hit.0, record { listener_is = hit.1; mode_is = mode ∙ prefix.mode_is; held_is = held; stands = subst (StandsFor kept') (taken_one_more n new prefix.held_is inside) stands })
 
-      pub front_lacks : length g.listener.gathered + n < MOST_GATHERED → (new' : Hearing) (kept' : Kept) → IsAt new (taken_from g w id n) id 1 new.listener (Some x) new' kept' → Hears g w id Lacking new' kept'
-      front_lacks room new' kept' at = (
+      pub prefix_lacks : length g.listener.gathered + n < MOST_GATHERED → (new' : LocalListener) (kept' : Kept) → IsAt new (taken_from g w id n) id 1 new.listener (Some x) new' kept' → Hears g w id Lacking new' kept'
+      prefix_lacks room new' kept' at = (
         n,
         (let l = inside in omega arith),
-        front.quiet.1,
+        prefix.quiet.1,
         record {
-          listener_is = at.listener_is ∙ front.quiet.3;
-          mode_is = at.mode_is ∙ front.mode_is;
+          listener_is = at.listener_is ∙ prefix.quiet.3;
+          mode_is = at.mode_is ∙ prefix.mode_is;
           held_is = at.held_is ∙ sym at_next;
-          stands = subst (StandsFor kept') (taken_one_more n new front.held_is inside) at.stands;
+          stands = subst (StandsFor kept') (taken_one_more n new prefix.held_is inside) at.stands;
         },
       )
 
     -- all letters that there was room for
-    pub front_is : (new' : Hearing) (kept' : Kept) → n ≡ fitting g.listener letters → new'.listener ≡ new.listener → new'.mode ≡ new.mode → new'.held ≡ None → StandsFor kept' (taken_from g w id n)
+    pub prefix_is : (new' : LocalListener) (kept' : Kept) → n ≡ fitting g.listener letters → new'.listener ≡ new.listener → new'.mode ≡ new.mode → new'.held ≡ None → StandsFor kept' (taken_from g w id n)
         → IsAt g w id (fitting g.listener letters) (after_quiet g.listener (take (fitting g.listener letters) letters)) None new' kept'
-    front_is new' kept' all listener mode held stands = subst (λ (k : ℕ). IsAt g w id k (after_quiet g.listener (take k letters)) None new' kept') all
-        (record { listener_is = listener ∙ front.quiet.3; mode_is = mode ∙ front.mode_is; held_is = held; stands = stands })
+    prefix_is new' kept' all listener mode held stands = subst (λ (k : ℕ). IsAt g w id k (after_quiet g.listener (take k letters)) None new' kept') all
+        (record { listener_is = listener ∙ prefix.quiet.3; mode_is = mode ∙ prefix.mode_is; held_is = held; stands = stands })
 
     module _ (none : to_hear new (taken_from g w id n) id ≡ []) (room : length g.listener.gathered + n < MOST_GATHERED) where
       all_heard : n ≡ length letters
-      all_heard = let a = length-drop n letters in let b = ap length (sym (letters_left n new front.held_is) ∙ none) in let c = front.within in omega arith
+      all_heard = let a = length-drop n letters in let b = ap length (sym (letters_left n new prefix.held_is) ∙ none) in let c = prefix.within in omega arith
 
       all_fit : n ≡ fitting g.listener letters
       all_fit = let a = all_heard in omega arith
 
       no_hit : HasNoHit g.listener.pattern g.listener.gathered letters
-      no_hit = subst (HasNoHit g.listener.pattern g.listener.gathered) (ap (λ (k : ℕ). take k letters) all_heard ∙ take-length letters) front.quiet.1
+      no_hit = subst (HasNoHit g.listener.pattern g.listener.gathered) (ap (λ (k : ℕ). take k letters) all_heard ∙ take-length letters) prefix.quiet.1
 
-      module _ (new' : Hearing) (kept' : Kept) (at : IsAt new (taken_from g w id n) id 0 new.listener None new' kept') where
+      module _ (new' : LocalListener) (kept' : Kept) (at : IsAt new (taken_from g w id n) id 0 new.listener None new' kept') where
         at_end : IsAt g w id (fitting g.listener letters) (after_quiet g.listener (take (fitting g.listener letters) letters)) None new' kept'
-        at_end = front_is new' kept' all_fit at.listener_is at.mode_is at.held_is (subst (StandsFor kept') (none_more n new) at.stands)
+        at_end = prefix_is new' kept' all_fit at.listener_is at.mode_is at.held_is (subst (StandsFor kept') (none_more n new) at.stands)
 
-        pub front_nothing : (taken_from g w id n).closed ≡ false → Hears g w id Nothing new' kept'
-        front_nothing is_open = (no_hit, inr (sym (closed_then w id s is (n - length (option_to_list g.held))) ∙ is_open), at_end)
+        pub prefix_nothing : (taken_from g w id n).closed ≡ false → Hears g w id Nothing new' kept'
+        prefix_nothing is_open = (no_hit, inr (sym (closed_then w id s is (n - length (option_to_list g.held))) ∙ is_open), at_end)
 
-        pub front_end : (taken_from g w id n).closed ≡ true → Hears g w id End new' kept'
-        front_end closed = (no_hit, (let a = all_heard in omega arith), sym (closed_then w id s is (n - length (option_to_list g.held))) ∙ closed, at_end)
+        pub prefix_end : (taken_from g w id n).closed ≡ true → Hears g w id End new' kept'
+        prefix_end closed = (no_hit, (let a = all_heard in omega arith), sym (closed_then w id s is (n - length (option_to_list g.held))) ∙ closed, at_end)
 
     -- if there is no more room
-    pub front_full : length g.listener.gathered + n ≡ MOST_GATHERED → length g.listener.gathered < MOST_GATHERED → Hears g w id Nothing new kept
-    front_full full room =
-        let within = front.within in
+    pub prefix_full : length g.listener.gathered + n ≡ MOST_GATHERED → length g.listener.gathered < MOST_GATHERED → Hears g w id Nothing new kept
+    prefix_full full room =
+        let within = prefix.within in
         let fits : n ≡ fitting g.listener letters = omega arith in
         let count = length-take-le n letters within in (
           subst (HasNoHit g.listener.pattern g.listener.gathered) (take-append-drop n letters)
-              (HasNoHit-append g.listener.pattern g.listener.gathered (take n letters) (drop n letters) front.quiet.1 (omega arith)),
+              (HasNoHit-append g.listener.pattern g.listener.gathered (take n letters) (drop n letters) prefix.quiet.1 (omega arith)),
           inl (omega arith),
-          front_is new kept fits refl refl (front.held_is ∙ none_held n (omega arith)) front.stands,
+          prefix_is new kept fits refl refl (prefix.held_is ∙ none_held n (omega arith)) prefix.stands,
         )
       where
         none_held : (m : ℕ) → 1 ≤ m → held_after g m ≡ None
@@ -212,8 +212,8 @@ module _ (g : Hearing) (w : World) (id : ℕ) (s : Subscription) (is : found w i
 
     -- ---- what the next letter comes to, or that there is none
 
-    pub front_then : length g.listener.gathered + n < MOST_GATHERED → (heard : Heard) (new' : Hearing) (kept' : Kept) → HearsOne new (taken_from g w id n) id (Some heard) new' kept' → Hears g w id heard new' kept'
-    front_then room Hit new' kept' h = front_hit h.0 h.1 h.3 h.2 new' kept' h.4 h.5.mode_is h.5.held_is h.5.stands
-    front_then room Nothing new' kept' h = front_nothing h.0 room new' kept' h.2 h.1
-    front_then room End new' kept' h = front_end h.0 room new' kept' h.2 h.1
-    front_then room Lacking new' kept' h = front_lacks h.0 h.1 h.2 room new' kept' h.3
+    pub prefix_then : length g.listener.gathered + n < MOST_GATHERED → (heard : Heard) (new' : LocalListener) (kept' : Kept) → HearsOne new (taken_from g w id n) id (Some heard) new' kept' → Hears g w id heard new' kept'
+    prefix_then room Hit new' kept' h = prefix_hit h.0 h.1 h.3 h.2 new' kept' h.4 h.5.mode_is h.5.held_is h.5.stands
+    prefix_then room Nothing new' kept' h = prefix_nothing h.0 room new' kept' h.2 h.1
+    prefix_then room End new' kept' h = prefix_end h.0 room new' kept' h.2 h.1
+    prefix_then room Lacking new' kept' h = prefix_lacks h.0 h.1 h.2 room new' kept' h.3
