@@ -34,16 +34,8 @@ impl Name {
         if !Name::is_name(text) {
             return Ok(None);
         }
-        Ok(Some(Name::of_checked(alloc, text)?))
-    }
-
-    /// The name with this text, which was checked to be one. An error says that memory ran out.
-    pub fn of_checked(alloc: Global, text: &[u8]) -> Result<Name, AllocError>
-        requires { is_name text.now ≡ true }
-        ensures { IfOk result (λ name. name ≡ text.now) }
-    {
         let bytes = Vec::from_slice(alloc, text)?;
-        Ok(Name { bytes })
+        Ok(Some(Name { bytes }))
     }
 
     /// Whether the text is 1 to 32 bytes of a name.
