@@ -11,7 +11,7 @@ use std::alloc::{AllocError, Global};
 use std::process::Abort;
 use std::sync::{Arc, Wait};
 use std::test::Fail;
-use std::thread;
+use std::{io, thread};
 
 /// The number, the code of the flags, whether it is closed, and the front word.
 static WORDS: [(u64, u64, bool, u64); 6] = [
@@ -69,7 +69,7 @@ struct Row {
     steps: &'static [Step],
 }
 
-static ROWS: [Row; 8] = [
+static ROWS: [Row; 10] = [
     Row {
         name: "there is room again when the slowest leaves",
         kind: Kind::Plain,
@@ -146,6 +146,45 @@ static ROWS: [Row; 8] = [
             Step::Close(Ok(())),
             Step::Subscribe(Err(SubError::Closed)),
             Step::Join(Err(PassError::Spent)),
+        ],
+    },
+    Row {
+        name: "many as long as an id is left, and then spent",
+        kind: Kind::Plain,
+        limits: (64, 1000, 1025),
+        steps: &[
+            Step::HoldUpTo(1024),
+            Step::Subscribe(Err(SubError::Many)),
+            Step::Join(Err(PassError::Many)),
+            Step::Cancel(0),
+            Step::Leave,
+            Step::Subscribe(Ok((1025, 0))),
+            Step::Join(Ok(1025)),
+            Step::Subscribe(Err(SubError::Many)),
+            Step::Join(Err(PassError::Many)),
+            Step::Cancel(0),
+            Step::Leave,
+            Step::Subscribe(Err(SubError::Spent)),
+            Step::Join(Err(PassError::Spent)),
+        ],
+    },
+    Row {
+        name: "a take adds nothing, also where nothing is pending",
+        kind: Kind::Plain,
+        limits: (64, 100, 10),
+        steps: &[
+            Step::Join(Ok(1)),
+            Step::Publish("ab", Ok(0)),
+            Step::Subscribe(Ok((1, 2))),
+            Step::Take(0, Taken::Nothing, [BLANK, BLANK, BLANK]),
+            Step::Publish("c", Ok(2)),
+            Step::Take(0, Taken::Got(1), [(1, b'c'), BLANK, BLANK]),
+            Step::Take(0, Taken::Nothing, [BLANK, BLANK, BLANK]),
+            Step::Ticket(0, (1, 2, 3)),
+            Step::Close(Ok(())),
+            Step::Take(0, Taken::End, [BLANK, BLANK, BLANK]),
+            Step::Shows(0, (3, 0, true)),
+            Step::Cancel(0),
         ],
     },
     Row {
@@ -294,12 +333,7 @@ impl Scene {
         }
     }
 
-    fn goes_through<R: Wait>(
-        &mut self,
-        rt: &R,
-        alloc: Global,
-        steps: &[Step],
-    ) -> Result<bool, AllocError> {
+    fn goes_through<R: Wait>(&mut self, rt: &R, alloc: Global, steps: &[Step]) -> io::Result<bool> {
         for step in steps {
             if !self.goes(rt, alloc, *step)? || !self.front_is_after(*step) {
                 return Ok(false);
@@ -327,7 +361,7 @@ impl Scene {
     }
 
     /// Whether the step goes so.
-    fn goes<R: Wait>(&mut self, rt: &R, alloc: Global, step: Step) -> Result<bool, AllocError> {
+    fn goes<R: Wait>(&mut self, rt: &R, alloc: Global, step: Step) -> io::Result<bool> {
         Ok(match step {
             Step::Subscribe(answer) => self.subscribe(rt)? == answer,
             Step::Join(answer) => self.join(rt)? == answer,
@@ -343,12 +377,7 @@ impl Scene {
         })
     }
 
-    fn publisher_goes<R: Wait>(
-        &mut self,
-        rt: &R,
-        alloc: Global,
-        step: Step,
-    ) -> Result<bool, AllocError> {
+    fn publisher_goes<R: Wait>(&mut self, rt: &R, alloc: Global, step: Step) -> io::Result<bool> {
         let Some(sender) = self.senders.last_mut() else {
             return Ok(false);
         };

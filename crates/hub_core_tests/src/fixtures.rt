@@ -2,15 +2,15 @@
 use hub_letters::Letter;
 use hub_record::Event;
 use std::alloc::{AllocError, Global};
+use std::io;
+use std::io::ErrorKind;
 use std::process::Abort;
 
-/// The letters of a text.
-pub(crate) fn word(alloc: Global, text: &str) -> Result<Vec<Letter>, AllocError> {
+/// The letters of a text. A byte that is no letter is an error.
+pub(crate) fn word(alloc: Global, text: &str) -> io::Result<Vec<Letter>> {
     let mut letters = Vec::new(alloc);
     for byte in text.as_bytes() {
-        if let Some(letter) = Letter::of(*byte) {
-            letters.push(letter)?;
-        }
+        letters.push(Letter::of(*byte).ok_or(ErrorKind::InvalidData)?)?;
     }
     Ok(letters)
 }

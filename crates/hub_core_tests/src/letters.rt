@@ -1,6 +1,7 @@
 use crate::fixtures::{none_is_unlike, word};
 use hub_letters::{Flags, Letter, Stage};
-use std::alloc::{AllocError, Global};
+use std::alloc::Global;
+use std::io;
 use std::test::Fail;
 
 /// A byte, and whether it is a letter.
@@ -130,7 +131,7 @@ static SENT: [Row; 12] = [
 ];
 
 /// The first word that isn't as its row says.
-fn first_unlike(alloc: Global, rows: &[Row]) -> Result<Option<&'static str>, AllocError> {
+fn first_unlike(alloc: Global, rows: &[Row]) -> io::Result<Option<&'static str>> {
     for (text, place, code) in rows {
         let letters = word(alloc, text)?;
         let unlawful = Stage::Off.follow(letters.as_slice()).err();

@@ -13,6 +13,8 @@ mod fifodirs;
 #[cfg(test)]
 mod fixtures;
 #[cfg(test)]
+mod ids;
+#[cfg(test)]
 mod letters;
 #[cfg(test)]
 mod listeners;
@@ -20,6 +22,8 @@ mod listeners;
 mod no_memory;
 #[cfg(test)]
 mod passes;
+#[cfg(test)]
+mod pauses;
 #[cfg(test)]
 mod posts;
 #[cfg(test)]

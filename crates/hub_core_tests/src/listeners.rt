@@ -6,6 +6,7 @@ use hub_letters::Letter;
 use hub_listen::{Each, Feed, FeedError, ListenError, Listener, Mode, feed_each};
 use regex::Regex;
 use std::alloc::{AllocError, Global};
+use std::io;
 use std::test::Fail;
 
 /// Makes a listener.
@@ -94,7 +95,7 @@ static HEARD: [Row; 10] = [
     ),
 ];
 
-fn hears_piece(alloc: Global, listener: &mut Listener, row: &Piece) -> Result<bool, AllocError> {
+fn hears_piece(alloc: Global, listener: &mut Listener, row: &Piece) -> io::Result<bool> {
     let (piece, answer, text, hit) = row;
     let piece = word(alloc, piece)?;
     let text = word(alloc, text)?;
@@ -106,7 +107,7 @@ fn hears_piece(alloc: Global, listener: &mut Listener, row: &Piece) -> Result<bo
     )
 }
 
-fn hears(alloc: Global, listener: &mut Listener, pieces: &[Piece]) -> Result<bool, AllocError> {
+fn hears(alloc: Global, listener: &mut Listener, pieces: &[Piece]) -> io::Result<bool> {
     for piece in pieces {
         if !hears_piece(alloc, listener, piece)? {
             return Ok(false);
@@ -115,7 +116,7 @@ fn hears(alloc: Global, listener: &mut Listener, pieces: &[Piece]) -> Result<boo
     Ok(true)
 }
 
-fn is_heard_so(alloc: Global, row: &Row) -> Result<bool, AllocError> {
+fn is_heard_so(alloc: Global, row: &Row) -> io::Result<bool> {
     let (pattern, mode, pieces) = row;
     match listener_for(alloc, pattern, *mode) {
         Ok(mut listener) => hears(alloc, &mut listener, pieces),
@@ -124,7 +125,7 @@ fn is_heard_so(alloc: Global, row: &Row) -> Result<bool, AllocError> {
 }
 
 /// The pattern of the first row that isn't so.
-fn first_unlike(alloc: Global) -> Result<Option<&'static str>, AllocError> {
+fn first_unlike(alloc: Global) -> io::Result<Option<&'static str>> {
     for row in HEARD.iter() {
         if !is_heard_so(alloc, row)? {
             return Ok(Some(row.0));
@@ -187,7 +188,7 @@ fn each(alloc: Global, pattern: &str, letters: &[Letter]) -> Option<Each> {
 }
 
 /// Whether a hit among letters that come one at a time is at its letter, and letters without a hit run through.
-fn are_heard_one_at_a_time(alloc: Global) -> Result<bool, AllocError> {
+fn are_heard_one_at_a_time(alloc: Global) -> io::Result<bool> {
     let hit = word(alloc, "suUU")?;
     let ran = word(alloc, "aaaaaaaaa")?;
     Ok(

@@ -8,11 +8,11 @@ use hub_letters::{Flags, Letter, Stage, Want};
 use hub_listen::{Feed, Listener, Mode};
 use hub_record::{Closed, Event, Kind, Letters, Limits, NoId, PubError, Record, Status, Taken};
 use hub_wait::{Span, Tally, Verdict, Watch, svlisten, svwait};
-use std::alloc::{AllocError, Global};
+use std::alloc::Global;
 use std::process::Abort;
 use std::sync::Wait;
 use std::test::Fail;
-use std::thread;
+use std::{io, thread};
 
 /// The counting `malloc` knows a mark by the call of the system that it makes.
 fn mark() {
@@ -40,7 +40,7 @@ fn letters_are_read() -> bool {
 }
 
 /// Each call of a record that has a subscription, and `Letters`.
-fn a_record_is_used(alloc: Global) -> Result<bool, AllocError> {
+fn a_record_is_used(alloc: Global) -> io::Result<bool> {
     let Some(limits) = Limits::of(2, 4, 10) else {
         return Ok(false);
     };
@@ -99,7 +99,7 @@ fn a_record_is_used(alloc: Global) -> Result<bool, AllocError> {
 }
 
 /// Each call of a `Locked` that has a subscription and a publisher.
-fn a_locked_is_used(alloc: Global) -> Result<bool, AllocError> {
+fn a_locked_is_used(alloc: Global) -> io::Result<bool> {
     let Some(limits) = Limits::of(2, 2, 10) else {
         return Ok(false);
     };
@@ -161,7 +161,7 @@ fn passes_are_used<R: Abort + Wait>(rt: &R, fifodir: &Fifodir, ab: &[Letter]) ->
 }
 
 /// The two calls of a listener that only show.
-fn a_listener_is_shown(alloc: Global) -> Result<bool, AllocError> {
+fn a_listener_is_shown(alloc: Global) -> io::Result<bool> {
     let letters = word(alloc, "aba")?;
     let Ok(mut listener) = Listener::new(alloc, "b", Mode::Repeat) else {
         return Ok(false);
@@ -227,7 +227,7 @@ fn posts_are_used<R: Abort + Wait>(
 }
 
 /// A call that takes memory, by which `tests/no-memory` sees that it counts.
-fn memory_is_taken(alloc: Global) -> Result<bool, AllocError> {
+fn memory_is_taken(alloc: Global) -> io::Result<bool> {
     mark();
     let letters = word(alloc, "ab")?;
     mark();

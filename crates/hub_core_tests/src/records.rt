@@ -5,7 +5,8 @@ use hub_record::{
     Call, Closed, Event, Kind, Letters, Limits, NoId, PubError, Record, Said, SubError, Taken,
     World, replay,
 };
-use std::alloc::{AllocError, Global};
+use std::alloc::Global;
+use std::io;
 use std::test::Fail;
 
 const MOST: u64 = 1_000_000_000_000;
@@ -179,7 +180,7 @@ fn subscribes_up_to(record: &mut Record, last: u64) -> bool {
     true
 }
 
-fn passes(alloc: Global, record: &mut Record, times: u64) -> Result<bool, AllocError> {
+fn passes(alloc: Global, record: &mut Record, times: u64) -> io::Result<bool> {
     let a = word(alloc, "a")?;
     let mut out = [Event::FILLER; 1];
     for number in 0..times {
@@ -193,7 +194,7 @@ fn passes(alloc: Global, record: &mut Record, times: u64) -> Result<bool, AllocE
 }
 
 /// Whether the record answers so.
-fn answers(alloc: Global, record: &mut Record, step: Step) -> Result<bool, AllocError> {
+fn answers(alloc: Global, record: &mut Record, step: Step) -> io::Result<bool> {
     Ok(match step {
         Step::Subscribe(answer) => record.subscribe() == answer,
         Step::SubscribeUpTo(last) => subscribes_up_to(record, last),
@@ -211,7 +212,7 @@ fn answers(alloc: Global, record: &mut Record, step: Step) -> Result<bool, Alloc
     })
 }
 
-fn answers_all(alloc: Global, record: &mut Record, steps: &[Step]) -> Result<bool, AllocError> {
+fn answers_all(alloc: Global, record: &mut Record, steps: &[Step]) -> io::Result<bool> {
     for step in steps {
         if !answers(alloc, record, *step)? {
             return Ok(false);
@@ -220,7 +221,7 @@ fn answers_all(alloc: Global, record: &mut Record, steps: &[Step]) -> Result<boo
     Ok(true)
 }
 
-fn goes_so(alloc: Global, row: &Row) -> Result<bool, AllocError> {
+fn goes_so(alloc: Global, row: &Row) -> io::Result<bool> {
     let (waiting, total, ids) = row.limits;
     let Some(limits) = Limits::of(waiting, total, ids) else {
         return Ok(false);
@@ -230,7 +231,7 @@ fn goes_so(alloc: Global, row: &Row) -> Result<bool, AllocError> {
 }
 
 /// The name of the first row that goes otherwise.
-fn first_unlike(alloc: Global) -> Result<Option<&'static str>, AllocError> {
+fn first_unlike(alloc: Global) -> io::Result<Option<&'static str>> {
     for row in ROWS.iter() {
         if !goes_so(alloc, row)? {
             return Ok(Some(row.name));
@@ -268,7 +269,7 @@ static CALLS: [(Plan, Said); 8] = [
     (Plan::Close, Said::Shut(Ok(()))),
 ];
 
-fn call_of(alloc: Global, plan: Plan) -> Result<Call, AllocError> {
+fn call_of(alloc: Global, plan: Plan) -> io::Result<Call> {
     Ok(match plan {
         Plan::Subscribe => Call::Subscribe,
         Plan::Publish(who, text) => Call::Publish {
@@ -281,7 +282,7 @@ fn call_of(alloc: Global, plan: Plan) -> Result<Call, AllocError> {
     })
 }
 
-fn some_calls(alloc: Global) -> Result<Vec<Call>, AllocError> {
+fn some_calls(alloc: Global) -> io::Result<Vec<Call>> {
     let mut calls = Vec::new(alloc);
     for (plan, _) in CALLS.iter() {
         calls.push(call_of(alloc, *plan)?)?;
@@ -311,7 +312,7 @@ fn is_after_some_calls(world: &World) -> bool {
         && are_the_replies(world.replies.as_slice())
 }
 
-fn replays_so(alloc: Global, limits: Limits) -> Result<bool, AllocError> {
+fn replays_so(alloc: Global, limits: Limits) -> io::Result<bool> {
     let calls = some_calls(alloc)?;
     let world = replay(alloc, Kind::Plain, limits, &calls)?;
     Ok(is_after_some_calls(&world))
@@ -345,7 +346,7 @@ fn a_hundred_subscribe(record: &mut Record) -> bool {
     true
 }
 
-fn a_new_record_has_a_hundred(alloc: Global, limits: Limits) -> Result<bool, AllocError> {
+fn a_new_record_has_a_hundred(alloc: Global, limits: Limits) -> io::Result<bool> {
     let mut record = Record::new(alloc, Kind::Plain, limits).or_else(|_| Record::new(
         alloc,
         Kind::Plain,

@@ -2,7 +2,8 @@ use crate::fixtures::{none_is_unlike, word};
 use hub_letters::{Flags, Want};
 use hub_record::Status;
 use hub_wait::{Span, Tally, Verdict, Watch};
-use std::alloc::{AllocError, Global};
+use std::alloc::Global;
+use std::io;
 use std::test::Fail;
 
 /// A watch that begins at an open status.
@@ -17,7 +18,7 @@ fn watch_at(want: Want, number: u64, code: u64) -> Option<Watch> {
 }
 
 /// Gives a watch the letters of a text, as far as they leave no gap.
-fn give(alloc: Global, watch: &mut Watch, first: u64, text: &str) -> Result<(), AllocError> {
+fn give(alloc: Global, watch: &mut Watch, first: u64, text: &str) -> io::Result<()> {
     let letters = word(alloc, text)?;
     if first <= watch.at() && letters.len() < 100 && first < 100 {
         watch.step(first, letters.as_slice());
@@ -76,7 +77,7 @@ static HEARD: [Heard; 4] = [
     },
 ];
 
-fn hears(alloc: Global, watch: &mut Watch, pieces: &[Piece]) -> Result<bool, AllocError> {
+fn hears(alloc: Global, watch: &mut Watch, pieces: &[Piece]) -> io::Result<bool> {
     for (first, text, at, code) in pieces {
         give(alloc, watch, *first, text)?;
         if watch.at() != *at || watch.flags().code() != *code {
@@ -87,7 +88,7 @@ fn hears(alloc: Global, watch: &mut Watch, pieces: &[Piece]) -> Result<bool, All
 }
 
 /// The name of the first row that isn't so.
-fn first_unlike(alloc: Global) -> Result<Option<&'static str>, AllocError> {
+fn first_unlike(alloc: Global) -> io::Result<Option<&'static str>> {
     for row in HEARD.iter() {
         let (number, code) = row.begins;
         let Some(mut watch) = watch_at(row.want, number, code) else {
