@@ -36,6 +36,11 @@ impl Client {
     pub fn ask(&mut self, line: &[u8]) -> io::Result<&[u8]> {
         self.send(line)?;
         self.send(b"\n")?;
+        self.next_reply()
+    }
+
+    /// The next reply without its LF.
+    pub fn next_reply(&mut self) -> io::Result<&[u8]> {
         self.reply.clear();
         let mut byte = [0u8];
         for _ in 0..8_192 {

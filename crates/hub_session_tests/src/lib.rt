@@ -17,3 +17,5 @@ mod gates;
 mod memory;
 #[cfg(test)]
 mod sockets;
+#[cfg(test)]
+mod waits;
