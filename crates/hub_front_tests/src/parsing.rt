@@ -9,16 +9,8 @@ use std::process::Abort;
 use std::test::Fail;
 
 /// A line, of which a test knows nothing.
-fn read_once(alloc: Global, line: &[u8]) -> Result<Request, Bad> {
-    parse(alloc, line)
-}
-
-// One growth may be refused in a test, so want of memory isn't met twice.
 fn read(alloc: Global, line: &[u8]) -> Result<Request, Bad> {
-    match read_once(alloc, line) {
-        Err(Bad::Memory) => read_once(alloc, line),
-        answer => answer,
-    }
+    parse(alloc, line)
 }
 
 /// Lines, and the requests that they spell, in words.
@@ -181,7 +173,7 @@ static BAD: [(&str, Bad); 65] = [
 #[test]
 fn other_lines_are_refused_by_the_first_rule_they_break(rt: HostRuntime) {
     for (line, want) in &BAD {
-        let answer = read_once(rt.alloc(), line.as_bytes());
+        let answer = read(rt.alloc(), line.as_bytes());
         assert_eq!(rt; answer.err(), Some(*want), "{line}");
     }
 }
@@ -200,14 +192,8 @@ static LONG: [(&str, u8, usize, &str, usize, Option<Bad>); 6] = [
 #[test]
 fn lines_and_patterns_have_their_longest(rt: HostRuntime) -> Result<(), Fail> {
     for (front, letter, count, end, size, want) in &LONG {
-        let line = match text_of(rt.alloc(), front, *letter, *count, end) {
-            Err(_) => text_of(rt.alloc(), front, *letter, *count, end)?,
-            Ok(line) => line,
-        };
-        let answer = match want {
-            None => read(rt.alloc(), &line),
-            Some(_) => read_once(rt.alloc(), &line),
-        };
+        let line = text_of(rt.alloc(), front, *letter, *count, end)?;
+        let answer = read(rt.alloc(), &line);
         assert_eq!(rt; line.len(), *size);
         assert_eq!(rt; answer.err(), *want, "{size} bytes");
     }
