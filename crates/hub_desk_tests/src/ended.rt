@@ -1,14 +1,21 @@
 //! Sessions one after the other: what one held when it ended holds the next one up in nothing.
 
 use crate::desks::{Session, new_hub, session};
+use crate::rows::{Ask, Row, run};
 use hub_fakes::{Dripping, Narrow};
 use hub_front::serve;
 use hub_io::FrontError;
-use std::alloc::Global;
+use hub_letters::Mode;
+use hub_requests::Desk;
+use std::alloc::{AllocGlobal, Global};
+use std::process::Abort;
 use std::sync::Wait;
 
 /// Its subscription is the only one, and what waits for it fills the fifodir.
-const FIRST: &[u8] = b"dir web 2 100\nsub web\npub web ab\npub web c\n";
+const SUBSCRIBES: &[u8] = b"dir web 2 100\nsub web\npub web ab\npub web c\n";
+
+/// The same of a listener.
+const LISTENS: &[u8] = b"dir web 2 100\nlisten web repeat c\npub web ab\npub web c\n";
 
 const SECOND: &[u8] = b"pub web c\nstatus web\n";
 
@@ -26,8 +33,16 @@ fn serve_once<H: Wait>(
     serve(rt, alloc, desk, reader, writer)
 }
 
-/// The read or the write of the first session that fails, 0 for none, what the session ends with, and its replies.
-static FIRSTS: [(&str, u64, u64, Result<u64, FrontError>, &str); 3] = [
+/// The read or the write of a first session that fails, 0 for none, what the session ends with, and its replies.
+type First = (
+    &'static str,
+    u64,
+    u64,
+    Result<u64, FrontError>,
+    &'static str,
+);
+
+static FIRSTS: [First; 3] = [
     (
         "ended with its input",
         0,
@@ -51,24 +66,56 @@ static FIRSTS: [(&str, u64, u64, Result<u64, FrontError>, &str); 3] = [
     ),
 ];
 
+fn next_finds_room<H: AllocGlobal + Abort + Wait>(rt: &H, input: &[u8], first: &First) {
+    let (name, read, write, result, written) = first;
+    let hub = new_hub(rt);
+    let mut first = session(rt, &hub);
+    let mut reader = Dripping::new(input, 64, *read);
+    let mut writer = Narrow::new(64, *write);
+    let ended = serve_once(rt, rt.alloc(), &mut first, &mut reader, &mut writer);
+    assert_eq!(rt; ended, *result, "{name}");
+    assert_eq!(rt; writer.bytes_held(), written.as_bytes(), "{name}");
+
+    let mut second = session(rt, &hub);
+    let mut reader = Dripping::new(SECOND, 64, 0);
+    let mut writer = Narrow::new(64, 0);
+    let ended = serve_once(rt, rt.alloc(), &mut second, &mut reader, &mut writer);
+    assert_eq!(rt; ended, Ok(2), "{name}");
+    assert_eq!(rt; writer.bytes_held(), ROOM, "{name}");
+    second.release(rt);
+    first.release(rt);
+}
+
 #[test]
 fn the_next_session_finds_room(rt: HostRuntime) {
-    for (name, read, write, result, written) in &FIRSTS {
-        let hub = new_hub(&rt);
-        let mut first = session(&rt, &hub);
-        let mut reader = Dripping::new(FIRST, 64, *read);
-        let mut writer = Narrow::new(64, *write);
-        let ended = serve_once(&rt, rt.alloc(), &mut first, &mut reader, &mut writer);
-        assert_eq!(rt; ended, *result, "{name}");
-        assert_eq!(rt; writer.bytes_held(), written.as_bytes(), "{name}");
-
-        let mut second = session(&rt, &hub);
-        let mut reader = Dripping::new(SECOND, 64, 0);
-        let mut writer = Narrow::new(64, 0);
-        let ended = serve_once(&rt, rt.alloc(), &mut second, &mut reader, &mut writer);
-        assert_eq!(rt; ended, Ok(2), "{name}");
-        assert_eq!(rt; writer.bytes_held(), ROOM, "{name}");
-        second.release(&rt);
-        first.release(&rt);
+    for first in &FIRSTS {
+        next_finds_room(&rt, SUBSCRIBES, first);
+        next_finds_room(&rt, LISTENS, first);
     }
+}
+
+static MAKES: [Row; 1] = [(Ask::Dir("web", 64, 1000), "ok")];
+
+/// A session that has a subscription, a listener and a publisher.
+static HOLDS: [Row; 3] = [
+    (Ask::Sub("web"), "ok 1"),
+    (Ask::Listen("web", Mode::Once, "a"), "ok 2"),
+    (Ask::Status("web"), "ok 0 0 open"),
+];
+
+// A fifodir has room for 1,024 subscriptions and for as many publishers at one time.
+#[test]
+fn many_sessions_end_one_after_the_other(rt: HostRuntime) {
+    let hub = new_hub(&rt);
+    let mut last = session(&rt, &hub);
+    run(&rt, &mut last, &MAKES);
+    for _ in 0..1025 {
+        let mut desk = session(&rt, &hub);
+        run(&rt, &mut desk, &HOLDS);
+        desk.end(&rt);
+        run(&rt, &mut last, &HOLDS[2..]);
+        desk.release(&rt);
+    }
+    run(&rt, &mut last, &HOLDS);
+    last.release(&rt);
 }

@@ -1,8 +1,9 @@
 //! Several sessions over one hub.
 use crate::desks::{new_hub, session};
 use crate::rows::{Ask, Row, name_of, run};
+use hub_record::{Kind, Limits};
 use hub_requests::Desk;
-use hub_shared::Hub;
+use hub_shared::{Hub, HubError};
 use std::alloc::AllocGlobal;
 use std::process::Abort;
 use std::sync::Wait;
@@ -42,14 +43,16 @@ fn a_session_that_ends_holds_no_one_up(rt: HostRuntime) {
     second.release(&rt);
 }
 
-/// The number that the next publisher under the name gets.
-fn next_number<H: AllocGlobal + Abort + Wait>(rt: &H, hub: &Hub) -> Result<u64, Fail> {
+/// The number that the next publisher under the name gets. None if it is refused.
+fn next_number<H: AllocGlobal + Abort + Wait>(rt: &H, hub: &Hub) -> Result<Option<u64>, Fail> {
     let web = name_of(rt, rt.alloc(), "web")?;
     let found = hub.find(rt, &web)?.ok_or("found")?;
-    let publisher = found.dir.publisher(rt)?;
+    let Ok(publisher) = found.dir.publisher(rt) else {
+        return Ok(None);
+    };
     let number = publisher.number();
     found.dir.leave(rt, publisher);
-    Ok(number)
+    Ok(Some(number))
 }
 
 /// A session makes one publisher under a name, whatever it asks of it.
@@ -68,6 +71,42 @@ fn a_session_keeps_its_publisher(rt: HostRuntime) -> Result<(), Fail> {
     run(&rt, &mut desk, &SPEAKS);
     let number = next_number(&rt, &hub);
     desk.release(&rt);
-    assert_eq!(rt; number?, 2);
+    assert_eq!(rt; number?, Some(2));
+    Ok(())
+}
+
+/// The kind of a name's fifodir, and whether its service reports readiness.
+fn found<H: AllocGlobal + Abort + Wait>(
+    rt: &H,
+    hub: &Hub,
+    text: &str,
+) -> Result<Option<(Kind, bool)>, Fail> {
+    let name = name_of(rt, rt.alloc(), text)?;
+    let found = hub.find(rt, &name)?;
+    Ok(found.map(|found| (found.dir.kind(), found.notifies)))
+}
+
+#[test]
+fn a_hub_finds_what_was_made_in_it(rt: HostRuntime) -> Result<(), Fail> {
+    let hub = new_hub(&rt);
+    let limits = Limits::of(2, 100, 3).ok_or("no limits")?;
+    let web = name_of(&rt, rt.alloc(), "web")?;
+    let db = name_of(&rt, rt.alloc(), "db")?;
+    assert_eq!(rt; found(&rt, &hub, "web")?, None);
+    assert_eq!(rt;
+        hub.make_named(&rt, &web, Kind::Service, limits, true),
+        Ok(())
+    );
+    assert_eq!(rt; found(&rt, &hub, "web")?, Some((Kind::Service, true)));
+    assert_eq!(rt; found(&rt, &hub, "db")?, None);
+    assert_eq!(rt; hub.make(&rt, db, Kind::Plain, limits, false), Ok(()));
+    assert_eq!(rt; found(&rt, &hub, "db")?, Some((Kind::Plain, false)));
+    let again = hub.make_named(&rt, &web, Kind::Plain, limits, false);
+    assert_eq!(rt; again, Err(HubError::Exists));
+    assert_eq!(rt; found(&rt, &hub, "web")?, Some((Kind::Service, true)));
+    for number in 1..4 {
+        assert_eq!(rt; next_number(&rt, &hub)?, Some(number));
+    }
+    assert_eq!(rt; next_number(&rt, &hub)?, None);
     Ok(())
 }
