@@ -1,25 +1,28 @@
 -- The replies of a run over a local desk are the model's answers, with the refusals in the places of their lines.
-use Rattle.std.proofs.Common.{◌≡◌, ◌≢◌, ℕ, suc, Bool, List, [], ◌∷◌, length, Option, Result, Ok, Err, refl, sym, ap, subst, ◌∙◌}
-use Rattle.std.specs.Prelude.{All, IfOk, flat_map}
+use Rattle.std.proofs.Common.{◌≡◌, ◌≢◌, ℕ, suc, Bool, rules, List, [], ◌∷◌, length, Option, Result, Ok, Err, refl, sym, ap, subst, ◌∙◌}
+use Rattle.std.specs.Prelude.{All, IfOk, IfErr, flat_map}
+use Rattle.std.proofs.KnownBytes.{Appends-nil, Consumes-nil}
 use Rattle.std.proofs.lemmas.List.Elements.{All-head, All-tail}
 use Rattle.std.specs.List.{AllZip}
 use Rattle.hub_local.specs.DeskAnswers.{answers}
 use Rattle.hub_local.specs.Desks.{new_desk}
-use Rattle.hub_local.specs.Standing.{Local, StandsForDesk, AsksDesk, Ended, Runs, over, asked, IsModels}
+use Rattle.hub_local.specs.Standing.{Local, StandsForDesk, AsksDesk, Ended, Runs, over, asked}
 use Rattle.hub_requests.specs.Texts.{text_of}
 use Rattle.hub_requests.specs.declared.reply.Reply.{Reply}
 use Rattle.hub_requests.specs.declared.request.Request.{Request}
 use Rattle.hub_io.specs.Lines.{lines_of}
+use Rattle.hub_io.specs.declared.fault.FrontError.{FrontError}
+use Rattle.hub_io.specs.declared.fault.FrontError.TheVariants as fault
 use Rattle.hub_front.specs.Places.{AreInPlace, NoneIsMemory, in_place, requests_of}
 use Rattle.hub_front.specs.Places as places
 use Rattle.hub_protocol.specs.Reading.{IsReading}
-use Rattle.hub_front.specs.Serving.{Finished, Run}
+use Rattle.hub_front.specs.Serving.{Finished, Stopped, Run}
 use Rattle.hub_protocol.specs.declared.parsing.Bad.{Bad}
 use Rattle.hub_protocol.specs.declared.parsing.Bad.TheVariants.{Memory}
 use Rattle.hub_local.proofs.Running.{runs_answer}
 use Rattle.hub_protocol.proofs.OneReading.{one_reading}
 use Rattle.hub_front.proofs.Placed.{run_in_place}
-use Rattle.hub_script.specs.Output.{AreReplies, IsOutput, Serves}
+use Rattle.hub_script.specs.Output.{AreReplies, IsOutput, Serves, Stops}
 
 abbrev IsEnough : Result Request Bad → Type 0
 IsEnough read = read ≢ Err Memory
@@ -67,12 +70,39 @@ session_serves old new held holds had has n stands f = record {
   consumed = f.consumed;
   whole = f.whole;
   counted = f.counted;
-  replies = f.served.replies;
+  desk = old;
+  is_new = stands;
+  left = f.mid;
+  served = f.served;
   each = run_length (lines_of f.input) f.served.replies old f.mid f.served.run ∙ sym f.counted;
-  written = f.served.written;
   output = λ none. output_of f.input f.served.replies
       (replies_placed (lines_of f.input) f.served.replies old f.mid stands
       (run_in_place AsksDesk old f.mid (lines_of f.input) f.served.replies f.served.run) none);
+}
+
+-- a session over a new desk that stopped
+pub session_stops : (old new : Local) (held holds had has : Option (List ℕ)) (e : FrontError) → StandsForDesk old new_desk
+    → Stopped AsksDesk Ended old new held holds had has e → Stops held holds had has e
+session_stops old new held holds had has e stands s =
+    record { input = s.input; consumed = s.consumed; desk = old; is_new = stands; left = s.mid; stopped = s.stopped }
+
+-- what a new desk keeps
+empty_local : Local
+empty_local = record { fifodirs = []; holdings = []; given = 0 }
+
+empty_is_new : StandsForDesk empty_local new_desk
+unfolding empty_local
+empty_is_new = search rules
+
+-- a session that has no desk has read nothing and written nothing
+pub no_session_stops : (held had : Option (List ℕ)) → Stops held held had had fault.Memory
+no_session_stops held had = record {
+  input = [];
+  consumed = Consumes-nil had;
+  desk = empty_local;
+  is_new = empty_is_new;
+  left = empty_local;
+  stopped = (refl, record { replies = []; run = refl; written = Appends-nil held });
 }
 
 -- lines are read in one way
@@ -97,3 +127,8 @@ one_output patterns input a b oa ob =
 pub if_ok_then : {A X : Type 0} (r : Result A X) (P Q : A → Type 0) → ((a : A) → P a → Q a) → IfOk r P → IfOk r Q
 if_ok_then (Ok a) P Q then h = then a h
 if_ok_then (Err x) P Q then h = h
+
+-- what follows from each error follows if there is one
+pub if_err_then : {A X : Type 0} (r : Result A X) (P Q : X → Type 0) → ((x : X) → P x → Q x) → IfErr r P → IfErr r Q
+if_err_then (Ok a) P Q then h = h
+if_err_then (Err x) P Q then h = then x h

@@ -1,9 +1,9 @@
 //! One session over a desk of its own.
-ghost use Rattle.std.specs.Prelude.{◌≡◌, ℕ, Bool, List, Err, IfOk};
+ghost use Rattle.std.specs.Prelude.{◌≡◌, ℕ, Bool, List, Err, IfOk, IfErr};
 ghost use Rattle.hub_io.specs.Faults.{read_faults, write_faults};
 ghost use Rattle.hub_front.specs.Serving.{ReadsWithin};
 ghost use Rattle.hub_io.specs.Telling.{Rises};
-ghost use Rattle.hub_script.specs.Output.{IsOutput, Serves};
+ghost use Rattle.hub_script.specs.Output.{IsOutput, Serves, Stops};
 
 use hub_front::serve;
 use hub_io::{FrontError, Sink, Source};
@@ -18,10 +18,15 @@ pub fn script<H: Wait, R: Source, W: Sink>(
     reader: &mut R,
     writer: &mut W,
 ) -> Result<u64, FrontError>
-    // If no reply is `no memory`, the output of the input is written: a function of the input's bytes, and of which
-    // texts in it are patterns.
+    // A new desk answers each line, and the texts of the replies are written. If none is `no memory`, they are the
+    // output of the input: a function of the input's bytes, and of which texts in it are patterns.
     ensures output { IfOk result (λ n. Serves
         (W.contents writer.old) (W.contents writer.new) (R.remaining reader.old) (R.remaining reader.new) n) }
+
+    // After an error nothing is written but the texts of a new desk's replies to the lines that were read, of the
+    // last one perhaps a part.
+    ensures stopped { IfErr result (Stops
+        (W.contents writer.old) (W.contents writer.new) (R.remaining reader.old) (R.remaining reader.new)) }
 
     // Memory is allocated before the first read.
     ensures memory { result ≡ Err FrontError.Memory → (reader.new ≡ reader.old)
