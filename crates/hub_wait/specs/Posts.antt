@@ -1,14 +1,15 @@
 -- What the calls on a post make of it.
-use Rattle.std.specs.Prelude.{ℕ, ◌≡◌, ◌≢◌, ◌+◌, ◌*◌, ◌≤◌, ◌⊎◌, Bool, true, false, List, length}
+use Rattle.std.specs.Prelude.{ℕ, ◌≡◌, ◌≢◌, ◌+◌, ◌*◌, ◌≤◌, ◌⊎◌, Bool, true, false, List, length, take}
 use Rattle.std.specs.Arc.{arc_value}
 use Rattle.hub_letters.specs.declared.want.Want.{Want}
 use Rattle.hub_letters.specs.Flags.{flags_of}
+use Rattle.hub_letters.specs.Wants.{is_met}
 use Rattle.hub_record.specs.declared.Event.{Event}
 use Rattle.hub_record.specs.declared.Status.{Status}
 use Rattle.hub_record.specs.World.{letters}
 use Rattle.hub_fifodir.specs.declared.fifodir.Fifodir.{Fifodir}
 use Rattle.hub_fifodir.specs.Events.{StartsWith, is_closed}
-use Rattle.hub_fifodir.specs.Passes.{ticket_mark, ticket_next, ticket_seen, ticket_closed}
+use Rattle.hub_fifodir.specs.Passes.{IsTicketOf, ticket_mark, ticket_next, ticket_seen, ticket_closed}
 use Rattle.hub_wait.specs.declared.post.Post.{Post}
 use Rattle.hub_wait.specs.declared.post.TheConstants.{SLICE, SLICES}
 use Rattle.hub_wait.specs.Watching.{Watching, new_watching}
@@ -51,20 +52,30 @@ pub record IsKept (old new : Post) : Type 0 where
   pub want : (watch_of new).want ≡ (watch_of old).want
   pub notifies : (watch_of new).notifies ≡ (watch_of old).notifies
   pub ended : (watch_of old).ended ≡ true → (watch_of new).ended ≡ true
+  pub marked : mark_of new ≤ (watch_of new).at
   pub forward : (watch_of old).at ≤ (watch_of new).at
   pub taken : next_of old ≤ next_of new
   pub seen : StartsWith (seen_of new) (seen_of old)
   pub follows : ShowsFlagsOf (watch_of new) (letters (seen_of new))
 
--- its watch knows all that was seen, or it took as many slices as it may; it is ended only at the end of a closed record,
--- and it is ended if it took nothing and has seen the close
+-- it took all that was seen, or as many slices as it may; it is ended only at the end of a closed record, and it is ended
+-- if it took nothing and has seen the close
 pub record HasCaughtUp (old new : Post) : Type 0 where
-  pub all : ((watch_of new).at ≡ length (seen_of new)) ⊎ (next_of new ≡ next_of old + SLICE * SLICES)
+  pub all : (next_of new ≡ length (seen_of new)) ⊎ (next_of new ≡ next_of old + SLICE * SLICES)
   pub ended_only : (watch_of new).ended ≡ true → (closed_of new ≢ 0) × ((watch_of new).at ≡ length (seen_of new))
   pub ended : closed_of new ≢ 0 → next_of new ≡ next_of old → (watch_of new).ended ≡ true
 
--- the slice was full, or the watch knows all that was seen; and it is ended if nothing was taken and the close was seen
+-- the slice was full, or all that was seen is taken; and it is ended if nothing was taken and the close was seen
 pub record HasTakenSlice (old : Post) (whole : Bool) (new : Post) : Type 0 where
   pub more : whole ≡ true → next_of new ≡ next_of old + SLICE
-  pub all : whole ≡ false → (watch_of new).at ≡ length (seen_of new)
+  pub all : whole ≡ false → next_of new ≡ length (seen_of new)
   pub ended : closed_of new ≢ 0 → next_of new ≡ next_of old → (watch_of new).ended ≡ true
+
+-- Its fifodir had a wanted state after it subscribed: that of the first so many events of the record, as far as its ticket
+-- has seen it.
+pub record HadState (p : Post) : Type 0 where
+  pub of : IsTicketOf (fifodir_of p) p.ticket
+  pub number : ℕ
+  pub marked : mark_of p ≤ number
+  pub within : number ≤ length (seen_of p)
+  pub met : is_met (watch_of p).want (flags_of (letters (take number (seen_of p)))) (watch_of p).notifies ≡ true

@@ -1,5 +1,5 @@
 //! A watch with the ticket that feeds it.
-ghost use Rattle.std.specs.Prelude.{◌≡◌, ◌+◌, ◌≤◌, length, IfOk};
+ghost use Rattle.std.specs.Prelude.{◌≡◌, ◌+◌, ◌≤◌, List, Some, length, IfOk};
 ghost use Rattle.std.specs.Arc.{arc_value};
 ghost use Rattle.hub_record.specs.declared.limits.TheConstants.{MOST_EVENTS};
 ghost use Rattle.hub_fifodir.specs.Passes.{IsTicketOf};
@@ -32,6 +32,11 @@ pub struct Post {
 }
 
 impl Post {
+    ghost use Rattle.hub_letters.specs.declared.span.Span.{Span};
+    ghost use Rattle.hub_wait.specs.declared.post.Post.{Post};
+    ghost use Rattle.hub_wait.specs.declared.tally.Verdict.{Verdict};
+    ghost use Rattle.hub_wait.specs.Verdicts.{verdict};
+    ghost use Rattle.hub_wait.specs.Waits.{HadStates, watches_of};
     ghost use Rattle.hub_wait.specs.Posts.{HasOpened, IsKept, HasCaughtUp, HasTakenSlice, watch_of, mark_of};
 
     /// Subscribes, and then reads the status by the new ticket: a change between the two is told by the status, and its
@@ -108,6 +113,13 @@ impl Post {
         } = self;
         fifodir.cancel(rt, ticket);
     }
+
+    /// A law: a wait's yes names a state that its fifodir had after the post subscribed. For all, each post does so, and
+    /// for any, one.
+    pub fn names_a_state()
+        ensures { (span : Span) (posts : List Post) → verdict span (watches_of posts) ≡ Some Verdict.Yes
+            → HadStates span posts }
+    {}
 }
 
 /// Steps a watch by the letters of events.

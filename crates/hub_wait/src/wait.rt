@@ -2,7 +2,7 @@
 ghost use Rattle.std.specs.Prelude.{◌≡◌};
 ghost use Rattle.std.specs.Fn.{FnOnceReturnsAt};
 ghost use Rattle.hub_wait.specs.Verdicts.{verdict};
-ghost use Rattle.hub_wait.specs.Waits.{AreKept, IsAnswer, watches_of};
+ghost use Rattle.hub_wait.specs.Waits.{AreCaughtUp, AreKept, HaveCaughtUp, IsAnswer, watches_of};
 
 use crate::{Go, Pause, Post, Span, Tally, Verdict};
 use std::sync::Wait;
@@ -19,6 +19,7 @@ pub fn svwait<R: Wait, P: Pause>(
 ) -> Verdict
     ensures answer { IsAnswer span (watches_of posts.new) result }
     ensures kept { AreKept posts.old posts.new }
+    ensures caught_up { AreCaughtUp posts.old posts.new }
     ensures still { turns ≡ 0 → posts.new ≡ posts.old }
 {
     for _ in 0..turns {
@@ -47,6 +48,7 @@ pub fn svlisten<R: Wait, P: Pause, T, F: FnOnce(&[Post]) -> T>(
     ensures acted { FnOnceReturnsAt F.FnOnce act posts.old result.0 }
     ensures answer { IsAnswer span (watches_of posts.new) result.1 }
     ensures kept { AreKept posts.old posts.new }
+    ensures caught_up { AreCaughtUp posts.old posts.new }
     ensures still { turns ≡ 0 → posts.new ≡ posts.old }
 {
     let acted = act(posts);
@@ -66,7 +68,8 @@ fn look(span: Span, posts: &[Post]) -> Option<Verdict>
 }
 
 fn catch_up_all<R: Wait>(rt: &R, posts: &mut [Post])
-    ensures { AreKept posts.old posts.new }
+    ensures kept { AreKept posts.old posts.new }
+    ensures caught_up { HaveCaughtUp posts.old posts.new }
 {
     for i in 0..posts.len() {
         posts[i].catch_up(rt);
