@@ -22,10 +22,11 @@ use Rattle.hub_handles.specs.Taking.{HasLooked, IsSameTicket, TakesOne}
 use Rattle.hub_handles.specs.Hearings.{held_letters, Comes, Hears, Stops, Gives, HearsOne, Polls}
 
 same_ticket : (s : Subscription) → IsSameTicket s s
-same_ticket s = record { dir = refl; id = refl; mark = refl; seen = grows_self (ticket_sight s.ticket) }
+same_ticket s = record { named = refl; dir = refl; id = refl; mark = refl; seen = grows_self (ticket_sight s.ticket) }
 
 same_ticket_through : (a b c : Subscription) → IsSameTicket a b → IsSameTicket b c → IsSameTicket a c
 same_ticket_through a b c p q = record {
+  named = q.named ∙ p.named;
   dir = q.dir ∙ p.dir;
   id = q.id ∙ p.id;
   mark = q.mark ∙ p.mark;

@@ -6,7 +6,7 @@ use Rattle.hub_fifodir.specs.Events.{is_closed}
 use Rattle.hub_fifodir.specs.Passes.{OnlyLooks, ticket_closed, ticket_next, ticket_seen, ticket_sight, ticket_view}
 use Rattle.hub_fifodir.specs.Steps.{Grows, got_of}
 use Rattle.hub_handles.specs.declared.subscription.Subscription.{Subscription}
-use Rattle.hub_handles.specs.Taking.{HasLooked, TakesOne}
+use Rattle.hub_handles.specs.Taking.{HasLooked, TakesOne, name_of}
 
 abbrev mark_at : Option (ℕ × ℕ) → ℕ
 mark_at None = 0
@@ -16,9 +16,9 @@ abbrev next_at : Option (ℕ × ℕ) → ℕ
 next_at None = 0
 next_at (Some place) = place.1
 
-pub looked : (old new : Subscription) → new.dir ≡ old.dir → OnlyLooks (ticket_view old.ticket) (ticket_view new.ticket) → Grows (ticket_sight old.ticket) (ticket_sight new.ticket) → HasLooked old new
-looked old new dir looks seen = record {
-  same = record { dir = dir; id = looks.number; mark = ap mark_at looks.place; seen = seen };
+pub looked : (old new : Subscription) → name_of new ≡ name_of old → new.dir ≡ old.dir → OnlyLooks (ticket_view old.ticket) (ticket_view new.ticket) → Grows (ticket_sight old.ticket) (ticket_sight new.ticket) → HasLooked old new
+looked old new named dir looks seen = record {
+  same = record { named = named; dir = dir; id = looks.number; mark = ap mark_at looks.place; seen = seen };
   next = ap next_at looks.place;
   got = ap got_of looks.role;
 }

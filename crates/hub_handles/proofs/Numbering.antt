@@ -1,5 +1,5 @@
 -- A handle under the next number.
-use Rattle.std.proofs.Common.{◌≡◌, ℕ, ◌+◌, ◌<◌, List, None, Some, false, nat_eq, refl, arith}
+use Rattle.std.proofs.Common.{◌≡◌, ℕ, ◌+◌, ◌<◌, List, Option, None, Some, false, nat_eq, refl, sym, subst, arith}
 use Rattle.hub_requests.specs.declared.reply.Refusal.{Refusal}
 use Rattle.hub_requests.proofs.NextHandle.{room_for_handle}
 use Rattle.hub_fifodir.specs.declared.fifodir.Fifodir.{Fifodir}
@@ -10,7 +10,7 @@ use Rattle.hub_handles.specs.declared.handles.Handles.{Handles}
 use Rattle.hub_handles.specs.declared.session_listener.SessionListener.{SessionListener}
 use Rattle.hub_handles.specs.declared.subscription.Subscription.{Subscription}
 use Rattle.hub_handles.specs.Taking.{Begins}
-use Rattle.hub_handles.specs.Handles.{IsInPlace, IsNext, AddsSubscription, AddsListener, refusal_of, standing, subscription_of, listener_of}
+use Rattle.hub_handles.specs.Handles.{IsFirst, IsNext, AddsSubscription, AddsListener, refusal_of, standing, subscription_of, listener_of}
 
 is_next : (old new : Handles) → refusal_of old ≡ None → new.given ≡ old.given + 1 → IsNext old (old.given + 1) new
 is_next old new room given =
@@ -25,25 +25,26 @@ is_next old new room given =
       unheard = old.listening (old.given + 1) (omega arith);
     }
 
-pub adds_subscription : (old new : Handles) (fifodir : Fifodir) (s : Subscription) → refusal_of old ≡ None → Begins fifodir s → new.given ≡ old.given + 1
+pub adds_subscription : (old new : Handles) (name : List ℕ) (fifodir : Fifodir) (s : Subscription) → refusal_of old ≡ None → Begins name fifodir s → new.given ≡ old.given + 1
     → new.listeners.entries ≡ old.listeners.entries → subscription_of new (old.given + 1) ≡ Some s
     → ((other : ℕ) → nat_eq (old.given + 1) other ≡ false → subscription_of new other ≡ subscription_of old other)
-    → AddsSubscription old fifodir (old.given + 1) new
-adds_subscription old new fifodir s room begins given listeners stands others =
+    → AddsSubscription old name fifodir (old.given + 1) new
+adds_subscription old new name fifodir s room begins given listeners stands others =
     record { is_next = is_next old new room given; subscription = s; begins = begins; placed = stands; others = others; listeners = listeners }
 
-pub adds_listener : (old new : Handles) (fifodir : Fifodir) (mode : Mode) (pattern : List ℕ) (h : SessionListener) → refusal_of old ≡ None → Begins fifodir h.subscription
+pub adds_listener : (old new : Handles) (name : List ℕ) (fifodir : Fifodir) (mode : Mode) (pattern : List ℕ) (h : SessionListener) → refusal_of old ≡ None → Begins name fifodir h.subscription
     → h.listener ≡ new_listening pattern Repeat → h.mode ≡ mode → h.held ≡ None → new.given ≡ old.given + 1 → new.subscriptions.entries ≡ old.subscriptions.entries
     → listener_of new (old.given + 1) ≡ Some h → ((other : ℕ) → nat_eq (old.given + 1) other ≡ false → listener_of new other ≡ listener_of old other)
-    → AddsListener old fifodir mode pattern (old.given + 1) new
-adds_listener old new fifodir mode pattern h room begins heard mode_is unheld given subscriptions stands others =
+    → AddsListener old name fifodir mode pattern (old.given + 1) new
+adds_listener old new name fifodir mode pattern h room begins heard mode_is unheld given subscriptions stands others =
     record { is_next = is_next old new room given; hearing = h; begins = begins; heard = heard; mode_is = mode_is; unheld = unheld; placed = stands; others = others; subscriptions = subscriptions }
 
 -- ---- refusals
 
--- with room for a handle, no refusal has to come first
-pub in_place : (hs : Handles) (refusal : Refusal) → refusal_of hs ≡ None → IsInPlace hs refusal
-in_place hs refusal room first is = cc
+-- with no room for a handle, the refusal that says so comes first
+pub first_refusal : (first : Option Refusal) (IsOther : Refusal → Type 0) (refusal : Refusal) → first ≡ Some refusal → IsFirst first IsOther refusal
+first_refusal first IsOther refusal e = subst (λ (o : Option Refusal). IsFirst o IsOther refusal) (sym e) refl
 
-pub full_in_place : (hs : Handles) (refusal : Refusal) → refusal_of hs ≡ Some refusal → IsInPlace hs refusal
-full_in_place hs refusal full first is = cc
+-- and with room any other
+pub other_refusal : (first : Option Refusal) (IsOther : Refusal → Type 0) (refusal : Refusal) → first ≡ None → IsOther refusal → IsFirst first IsOther refusal
+other_refusal first IsOther refusal e other = subst (λ (o : Option Refusal). IsFirst o IsOther refusal) (sym e) other

@@ -3,6 +3,8 @@ use Rattle.std.specs.Prelude.{◌≡◌, ◌+◌, ◌≤◌, ◌<◌, ℕ, Optio
 use Rattle.std.specs.Map.{lookup}
 use Rattle.indexmap.specs.IndexMap.{index_map_len}
 use Rattle.hub_requests.specs.Room.{refusal_of_handle}
+use Rattle.hub_requests.specs.Refusals.{refusal_of_sub}
+use Rattle.hub_record.specs.declared.SubError.{SubError}
 use Rattle.hub_requests.specs.declared.reply.Refusal.{Refusal}
 use Rattle.hub_requests.specs.declared.reply.Refusal.TheVariants as no
 use Rattle.hub_requests.specs.declared.reply.Reply.{Reply}
@@ -42,9 +44,24 @@ standing hs = index_map_len hs.subscriptions + index_map_len hs.listeners
 abbrev pub refusal_of : Handles → Option Refusal
 refusal_of hs = refusal_of_handle (standing hs) (given_of hs)
 
--- such a refusal comes first
-abbrev pub IsInPlace : Handles → Refusal → Type 0
-IsInPlace hs refusal = (first : Refusal) → refusal_of hs ≡ Some first → refusal ≡ first
+-- it comes before any other
+abbrev pub IsFirst : Option Refusal → (Refusal → Type 0) → Refusal → Type 0
+IsFirst (Some first) IsOther refusal = refusal ≡ first
+IsFirst None IsOther refusal = IsOther refusal
+
+-- the fifodir gives no subscription, or there is no memory for one more handle
+abbrev pub IsOfSub : Refusal → Type 0
+IsOfSub refusal = (refusal ≡ no.Memory) ⊎ ((error : SubError) × (refusal ≡ refusal_of_sub error))
+
+abbrev pub IsRefusedSub : Handles → Refusal → Type 0
+IsRefusedSub hs refusal = IsFirst (refusal_of hs) IsOfSub refusal
+
+-- a listener also needs a pattern
+abbrev pub IsOfListener : Refusal → Type 0
+IsOfListener refusal = (refusal ≡ no.Pattern) ⊎ IsOfSub refusal
+
+abbrev pub IsRefusedListener : Handles → Refusal → Type 0
+IsRefusedListener hs refusal = IsFirst (refusal_of hs) IsOfListener refusal
 
 -- the same handles are current, and as many were given
 pub record IsStill (old new : Handles) : Type 0 where
@@ -61,20 +78,20 @@ pub record IsNext (old : Handles) (number : ℕ) (new : Handles) : Type 0 where
   pub unsubscribed : subscription_of old number ≡ None
   pub unheard : listener_of old number ≡ None
 
--- a subscription to the fifodir that begins now has the next number
-pub record AddsSubscription (old : Handles) (fifodir : Fifodir) (number : ℕ) (new : Handles) : Type 0 where
+-- a subscription to the fifodir by this name that begins now has the next number
+pub record AddsSubscription (old : Handles) (name : List ℕ) (fifodir : Fifodir) (number : ℕ) (new : Handles) : Type 0 where
   pub is_next : IsNext old number new
   pub subscription : Subscription
-  pub begins : Begins fifodir subscription
+  pub begins : Begins name fifodir subscription
   pub placed : subscription_of new number ≡ Some subscription
   pub others : (other : ℕ) → nat_eq number other ≡ false → subscription_of new other ≡ subscription_of old other
   pub listeners : new.listeners.entries ≡ old.listeners.entries
 
 -- a listener in this mode that has heard nothing hears such a subscription
-pub record AddsListener (old : Handles) (fifodir : Fifodir) (mode : Mode) (pattern : List ℕ) (number : ℕ) (new : Handles) : Type 0 where
+pub record AddsListener (old : Handles) (name : List ℕ) (fifodir : Fifodir) (mode : Mode) (pattern : List ℕ) (number : ℕ) (new : Handles) : Type 0 where
   pub is_next : IsNext old number new
   pub hearing : SessionListener
-  pub begins : Begins fifodir hearing.subscription
+  pub begins : Begins name fifodir hearing.subscription
   pub heard : hearing.listener ≡ new_listening pattern Repeat
   pub mode_is : hearing.mode ≡ mode
   pub unheld : hearing.held ≡ None
@@ -83,15 +100,15 @@ pub record AddsListener (old : Handles) (fifodir : Fifodir) (mode : Mode) (patte
   pub subscriptions : new.subscriptions.entries ≡ old.subscriptions.entries
 
 -- a handle under the next number, or none
-abbrev pub Subscribes : Fifodir → Handles → Reply → Handles → Type 0
-Subscribes fifodir old (Number n) new = AddsSubscription old fifodir n new
-Subscribes fifodir old (No refusal) new = IsStill old new × IsInPlace old refusal
-Subscribes fifodir old _ new = ⊥
+abbrev pub Subscribes : List ℕ → Fifodir → Handles → Reply → Handles → Type 0
+Subscribes name fifodir old (Number n) new = AddsSubscription old name fifodir n new
+Subscribes name fifodir old (No refusal) new = IsStill old new × IsRefusedSub old refusal
+Subscribes name fifodir old _ new = ⊥
 
-abbrev pub Listens : Fifodir → Mode → List ℕ → Handles → Reply → Handles → Type 0
-Listens fifodir mode pattern old (Number n) new = AddsListener old fifodir mode pattern n new
-Listens fifodir mode pattern old (No refusal) new = IsStill old new × IsInPlace old refusal
-Listens fifodir mode pattern old _ new = ⊥
+abbrev pub Listens : List ℕ → Fifodir → Mode → List ℕ → Handles → Reply → Handles → Type 0
+Listens name fifodir mode pattern old (Number n) new = AddsListener old name fifodir mode pattern n new
+Listens name fifodir mode pattern old (No refusal) new = IsStill old new × IsRefusedListener old refusal
+Listens name fifodir mode pattern old _ new = ⊥
 
 -- ---- take
 
@@ -139,7 +156,8 @@ PollsAt old id reply new = PollsHere old id reply new ⊎ PollsNone old id reply
 pub record Cancels (old : Handles) (id : ℕ) (reply : Reply) (new : Handles) : Type 0 where
   pub unknown : subscription_of old id ≡ None → listener_of old id ≡ None → (reply ≡ No no.Id) × IsStill old new
   pub known : (is_some (subscription_of old id) ≡ true) ⊎ (is_some (listener_of old id) ≡ true) → reply ≡ Done
-  pub gone : is_some (subscription_of old id) ≡ true → subscription_of new id ≡ None
+  pub gone : subscription_of new id ≡ None
+  pub heard : is_some (subscription_of old id) ≡ true → new.listeners.entries ≡ old.listeners.entries
   pub unheard : subscription_of old id ≡ None → listener_of new id ≡ None
   pub others : (other : ℕ) → nat_eq id other ≡ false → (subscription_of new other ≡ subscription_of old other) × (listener_of new other ≡ listener_of old other)
   pub given : new.given ≡ old.given

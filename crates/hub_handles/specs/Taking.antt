@@ -1,5 +1,5 @@
 -- What a session takes by a ticket.
-use Rattle.std.specs.Prelude.{◌≡◌, ℕ, [], ◌∷◌, Result, Ok, Err}
+use Rattle.std.specs.Prelude.{◌≡◌, ℕ, List, [], ◌∷◌, Result, Ok, Err}
 use Rattle.std.specs.Arc.{arc_value}
 use Rattle.hub_requests.specs.declared.reply.Reply.{Reply}
 use Rattle.hub_requests.specs.declared.reply.Reply.TheVariants as answer
@@ -17,8 +17,13 @@ Shows max old answer.Nothing new = HasTaken old max Nothing new
 Shows max old answer.End new = HasTaken old max End new
 Shows max old _ new = ⊥
 
--- it is the same ticket, of the same fifodir, and has seen no less
+-- the name that it was asked for by
+abbrev pub name_of : Subscription → List ℕ
+name_of s = s.name.value
+
+-- it is the same ticket, of the same fifodir by the same name, and has seen no less
 pub record IsSameTicket (old new : Subscription) : Type 0 where
+  pub named : name_of new ≡ name_of old
   pub dir : new.dir ≡ old.dir
   pub id : ticket_id new.ticket ≡ ticket_id old.ticket
   pub mark : ticket_mark new.ticket ≡ ticket_mark old.ticket
@@ -41,7 +46,8 @@ TakesOne old (Err answer.Nothing) new = TakesFrom 1 old answer.Nothing new
 TakesOne old (Err answer.End) new = TakesFrom 1 old answer.End new
 TakesOne old (Err _) new = ⊥
 
--- a subscription that begins now, at the end of what its ticket has seen
-pub record Begins (fifodir : Fifodir) (s : Subscription) : Type 0 where
+-- a subscription by this name that begins now, at the end of what its ticket has seen
+pub record Begins (name : List ℕ) (fifodir : Fifodir) (s : Subscription) : Type 0 where
+  pub named : name_of s ≡ name
   pub dir : arc_value s.dir ≡ fifodir
   pub begun : HasSubscribed s.ticket

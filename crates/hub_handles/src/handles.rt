@@ -10,7 +10,7 @@ use crate::session_listener::SessionListener;
 use crate::subscription::Subscription;
 use hub_fifodir::Fifodir;
 use hub_listen::{ListenError, Listener, Mode};
-use hub_requests::{PatternText, Refusal, Reply, refusal_of_handle};
+use hub_requests::{Name, PatternText, Refusal, Reply, refusal_of_handle};
 use indexmap::IndexMap;
 use std::alloc::{AllocError, Global};
 use std::mem;
@@ -32,7 +32,7 @@ pub struct Handles {
 }
 
 impl Handles {
-    ghost use Rattle.hub_handles.specs.Handles.{Subscribes, Listens, TakesAt, PollsAt, Cancels, IsStill, IsInPlace, HoldsNone, AddsSubscription, AddsListener, given_of, listener_of, refusal_of};
+    ghost use Rattle.hub_handles.specs.Handles.{Subscribes, Listens, TakesAt, PollsAt, Cancels, IsStill, IsRefusedSub, IsRefusedListener, HoldsNone, AddsSubscription, AddsListener, given_of, listener_of, refusal_of};
 
     pub fn new(alloc: Global) -> Result<Handles, AllocError>
         ensures given { IfOk result (λ handles. given_of handles ≡ 0) }
@@ -61,12 +61,12 @@ impl Handles {
         }
     }
 
-    /// Begins a subscription, under the next number.
-    pub fn subscribe<H: Wait>(&mut self, rt: &H, dir: Arc<Fifodir, Global>) -> Reply
-        ensures step { Subscribes (arc_value dir) self.old result self.new }
+    /// Begins a subscription to the fifodir that has this name, under the next number.
+    pub fn subscribe<H: Wait>(&mut self, rt: &H, name: &Name, dir: Arc<Fifodir, Global>) -> Reply
+        ensures step { Subscribes name.now (arc_value dir) self.old result self.new }
         ensures short { IsShort result }
     {
-        match self.add_subscription(rt, dir) {
+        match self.add_subscription(rt, name, dir) {
             Ok(number) => Reply::Number(number),
             Err(refusal) => Reply::No(refusal),
         }
@@ -75,19 +75,20 @@ impl Handles {
     fn add_subscription<H: Wait>(
         &mut self,
         rt: &H,
+        name: &Name,
         dir: Arc<Fifodir, Global>,
     ) -> Result<u64, Refusal>
         ensures ok { IfOk result (λ number. AddsSubscription self.old
-            (arc_value dir) number self.new) }
+            name.now (arc_value dir) number self.new) }
         ensures err { OnErr result (IsStill self.old self.new) }
-        ensures in_place { IfErr result (IsInPlace self.old) }
+        ensures in_place { IfErr result (IsRefusedSub self.old) }
         ensures brief { IfErr result IsBrief }
     {
         self.has_room()?;
         if self.subscriptions.reserve(1).is_err() {
             return Err(Refusal::Memory);
         }
-        let subscription = Subscription::new(rt, dir)?;
+        let subscription = Subscription::new(rt, name, dir)?;
         let number = self.given + 1;
         let replaced = self.subscriptions.insert(number, subscription).unwrap();
         let None = replaced else { unreachable!() };
@@ -95,18 +96,20 @@ impl Handles {
         Ok(number)
     }
 
-    /// Begins a subscription that a listener hears, under the next number.
+    /// Begins a subscription that a listener hears, to the fifodir that has this name, under the next number.
     pub fn listen<H: Wait>(
         &mut self,
         rt: &H,
+        name: &Name,
         dir: Arc<Fifodir, Global>,
         mode: Mode,
         pattern: &PatternText,
     ) -> Reply
-        ensures step { Listens (arc_value dir) mode pattern.now self.old result self.new }
+        ensures step { Listens name.now (arc_value dir) mode pattern.now
+            self.old result self.new }
         ensures short { IsShort result }
     {
-        match self.add_listener(rt, dir, mode, pattern) {
+        match self.add_listener(rt, name, dir, mode, pattern) {
             Ok(number) => Reply::Number(number),
             Err(refusal) => Reply::No(refusal),
         }
@@ -115,14 +118,15 @@ impl Handles {
     fn add_listener<H: Wait>(
         &mut self,
         rt: &H,
+        name: &Name,
         dir: Arc<Fifodir, Global>,
         mode: Mode,
         pattern: &PatternText,
     ) -> Result<u64, Refusal>
         ensures ok { IfOk result (λ number. AddsListener self.old
-            (arc_value dir) mode pattern.now number self.new) }
+            name.now (arc_value dir) mode pattern.now number self.new) }
         ensures err { OnErr result (IsStill self.old self.new) }
-        ensures in_place { IfErr result (IsInPlace self.old) }
+        ensures in_place { IfErr result (IsRefusedListener self.old) }
         ensures brief { IfErr result IsBrief }
     {
         self.has_room()?;
@@ -134,7 +138,7 @@ impl Handles {
         if self.listeners.reserve(1).is_err() {
             return Err(Refusal::Memory);
         }
-        let subscription = Subscription::new(rt, dir)?;
+        let subscription = Subscription::new(rt, name, dir)?;
         let number = self.given + 1;
         let hearing = SessionListener::new(subscription, listener, mode);
         let replaced = self.listeners.insert(number, hearing).unwrap();

@@ -9,12 +9,15 @@ use crate::room::Room;
 use hub_fifodir::{Fifodir, Ticket};
 use hub_letters::Letter;
 use hub_record::{Event, SubError, Taken};
-use hub_requests::{Reply, letters_of};
+use hub_requests::{Name, Reply, letters_of};
 use std::alloc::Global;
+use std::snapshot::Snapshot;
 use std::sync::{Arc, Wait};
 
 /// A ticket beside its fifodir. It isn't `Drop`, and only `cancel` takes it.
 pub struct Subscription {
+    /// The name that it was asked for by, as contracts see it.
+    name: Snapshot<Name>,
     dir: Arc<Fifodir, Global>,
     ticket: Ticket,
     ghost of: { IsTicketOf (arc_value dir) ticket },
@@ -23,11 +26,19 @@ pub struct Subscription {
 impl Subscription {
     ghost use Rattle.hub_handles.specs.Taking.{Begins, HasLooked, TakesFrom, TakesOne};
 
-    pub fn new<H: Wait>(rt: &H, dir: Arc<Fifodir, Global>) -> Result<Subscription, SubError>
-        ensures { IfOk result (λ s. Begins (arc_value dir) s) }
+    pub fn new<H: Wait>(
+        rt: &H,
+        name: &Name,
+        dir: Arc<Fifodir, Global>,
+    ) -> Result<Subscription, SubError>
+        ensures { IfOk result (λ s. Begins name.now (arc_value dir) s) }
     {
         let ticket = dir.subscribe(rt)?;
-        Ok(Subscription { dir, ticket })
+        Ok(Subscription {
+            name: Snapshot::of(name),
+            dir,
+            ticket,
+        })
     }
 
     /// Takes at most `max` events through the room, and answers their letters in a list that has room for them.
@@ -99,7 +110,11 @@ impl Subscription {
 
     /// Ends the subscription.
     pub fn cancel<H: Wait>(self, rt: &H) {
-        let Subscription { dir, ticket } = self;
+        let Subscription {
+            name: _,
+            dir,
+            ticket,
+        } = self;
         dir.cancel(rt, ticket);
     }
 }

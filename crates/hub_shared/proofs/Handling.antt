@@ -12,11 +12,11 @@ use Rattle.hub_handles.specs.Handles.{Subscribes, Listens}
 use Rattle.hub_shared.specs.Desks.{SubscribesTo, ListensTo}
 
 pub subscribes_to : (fs : Fifodirs) (name : List ℕ) (found : Made) (old new : Handles) (reply : Reply) → IsKeptAs fs name found
-    → Subscribes (arc_value found.dir) old reply new → SubscribesTo fs name old reply new
+    → Subscribes name (arc_value found.dir) old reply new → SubscribesTo fs name old reply new
 subscribes_to fs name found old new reply kept step =
-    inl (kept.joined, kept.kept_is, subst (λ (dir : Fifodir). Subscribes dir old reply new) kept.dir step)
+    inl (kept.joined, kept.kept_is, subst (λ (dir : Fifodir). Subscribes name dir old reply new) kept.dir step)
 
 pub listens_to : (fs : Fifodirs) (name : List ℕ) (found : Made) (mode : Mode) (pattern : List ℕ) (old new : Handles) (reply : Reply) → IsKeptAs fs name found
-    → Listens (arc_value found.dir) mode pattern old reply new → ListensTo fs name mode pattern old reply new
+    → Listens name (arc_value found.dir) mode pattern old reply new → ListensTo fs name mode pattern old reply new
 listens_to fs name found mode pattern old new reply kept step =
-    inl (kept.joined, kept.kept_is, subst (λ (dir : Fifodir). Listens dir mode pattern old reply new) kept.dir step)
+    inl (kept.joined, kept.kept_is, subst (λ (dir : Fifodir). Listens name dir mode pattern old reply new) kept.dir step)

@@ -1,3 +1,4 @@
 pub mod WaitedNames
 pub mod Handling
 pub mod NewDesks
+pub mod Named

@@ -32,10 +32,10 @@ IsUnfoundReply fs name _ = ⊥
 
 -- a handle on the fifodir that is kept under the name; where it isn't found, or refuses, no handle is given
 abbrev pub SubscribesTo : Fifodirs → List ℕ → Handles → Reply → Handles → Type 0
-SubscribesTo fs name old reply new = ((j : Joined) × (joined_at fs name ≡ Some j) × Subscribes (fifodir_of j) old reply new) ⊎ (IsUnfoundReply fs name reply × (new ≡ old))
+SubscribesTo fs name old reply new = ((j : Joined) × (joined_at fs name ≡ Some j) × Subscribes name (fifodir_of j) old reply new) ⊎ (IsUnfoundReply fs name reply × (new ≡ old))
 
 abbrev pub ListensTo : Fifodirs → List ℕ → Mode → List ℕ → Handles → Reply → Handles → Type 0
-ListensTo fs name mode pattern old reply new = ((j : Joined) × (joined_at fs name ≡ Some j) × Listens (fifodir_of j) mode pattern old reply new) ⊎ (IsUnfoundReply fs name reply × (new ≡ old))
+ListensTo fs name mode pattern old reply new = ((j : Joined) × (joined_at fs name ≡ Some j) × Listens name (fifodir_of j) mode pattern old reply new) ⊎ (IsUnfoundReply fs name reply × (new ≡ old))
 
 -- What a request leads to. Of what the hub has, which other sessions change, nothing can be said but by what the
 -- session's own passes see.

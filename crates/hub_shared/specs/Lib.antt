@@ -1,3 +1,4 @@
 pub mod Waits
 pub mod OpenPosts
 pub mod Desks
+pub mod Named

@@ -9,6 +9,7 @@
 //! publishing. A desk, a publisher and a post aren't `Drop`, so code that drops one doesn't compile.
 #![tactic(auto)]
 
+pub mod laws;
 mod shared_desk;
 
 pub use hub_names::{Found, Hub, HubError};

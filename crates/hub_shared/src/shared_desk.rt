@@ -115,7 +115,7 @@ impl<P: Pause + Copy> Desk for SharedDesk<P> {
                 notifies,
             } => self.make(rt, name, Kind::Service, *notifies, limits(*waiting, *total)),
             Request::Sub { name } => match self.fifodirs.find(rt, &self.hub, name) {
-                Ok(found) => self.handles.subscribe(rt, found.dir),
+                Ok(found) => self.handles.subscribe(rt, name, found.dir),
                 Err(refusal) => Reply::No(refusal),
             },
             Request::Pub { name, letters } => {
@@ -131,7 +131,7 @@ impl<P: Pause + Copy> Desk for SharedDesk<P> {
                 mode,
                 pattern,
             } => match self.fifodirs.find(rt, &self.hub, name) {
-                Ok(found) => self.handles.listen(rt, found.dir, *mode, pattern),
+                Ok(found) => self.handles.listen(rt, name, found.dir, *mode, pattern),
                 Err(refusal) => Reply::No(refusal),
             },
             Request::Poll { id } => self.handles.poll(rt, *id),

@@ -13,8 +13,8 @@ pub returns-clause-ok : goal.returns-clause-ok
 returns-clause-ok g c =
     let put = rw c.unwrap-replaced.ensures at c.insert.ensures.updates in
     let made = c.new-hearing.ensures in
-    adds_listener c.args.self.now _ _ _ _ c.new-hearing.result c.in_ok-has_room.ensures.ok
-    (subst (λ (s : Subscription). Begins (arc_value c.args.dir) s) (sym made.subscription_is) c.in_ok-subscription.ensures)
+    adds_listener c.args.self.now _ _ _ _ _ c.new-hearing.result c.in_ok-has_room.ensures.ok
+    (subst (λ (s : Subscription). Begins c.args.name.now (arc_value c.args.dir) s) (sym made.subscription_is) c.in_ok-subscription.ensures)
     (made.listener_is ∙ c.in-Ok.ensures.ok ∙ ap (λ (p : List ℕ). new_listening p Repeat) c.items.ensures) made.mode_is made.unheld refl refl put.1
     (λ other h. put.2 other h ∙ ap (lookup (nat_eq other)) c.reserve.ensures.entries)
 

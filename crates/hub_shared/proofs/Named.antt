@@ -1,0 +1,247 @@
+-- A session's handles stay at the fifodirs of their names, whatever it is asked.
+use Rattle.std.proofs.Common.{◌≡◌, ◌⊎◌, ℕ, List, [], Bool, true, false, Option, None, Some, nat_eq, refl, sym, ap, subst, ◌∙◌, inl, inr}
+use Rattle.std.specs.Prelude.{if◌then◌else◌}
+use Rattle.std.proofs.lemmas.Bool.{cases_Bool, eqb-true}
+use Rattle.std.proofs.lemmas.Slice.Eq.{bytes_eq-Decides}
+use Rattle.std.specs.Arc.{arc_value}
+use Rattle.std.specs.Map.{lookup}
+use Rattle.std.specs.Option.{is_some}
+use Rattle.std.specs.Str.{bytes_eq}
+use Rattle.hub_requests.specs.declared.request.Request.{Request}
+use Rattle.hub_requests.specs.declared.request.Request.TheVariants.{Dir, Svc, Sub, Pub, Take, Cancel, Close, Status, Listen, Poll, Wait}
+use Rattle.hub_requests.specs.declared.reply.Reply.{Reply}
+use Rattle.hub_requests.specs.declared.reply.Reply.TheVariants as answer
+use Rattle.hub_letters.specs.declared.mode.Mode.{Mode}
+use Rattle.hub_fifodir.specs.declared.publisher.Publisher.{Publisher}
+use Rattle.hub_names.specs.declared.hub.Hub.{Hub}
+use Rattle.hub_names.specs.declared.fifodirs.Fifodirs.{Fifodirs}
+use Rattle.hub_names.specs.declared.joined.Joined.{Joined}
+use Rattle.hub_names.specs.Fifodirs.{AsksByName, IsAsBefore, KeepsAll, KeepsNone, joined_at}
+use Rattle.hub_names.specs.Hubs.{IsFoundIn}
+use Rattle.hub_names.specs.Speaking.{AsksAsPublisher, fifodir_of}
+use Rattle.hub_handles.specs.declared.handles.Handles.{Handles}
+use Rattle.hub_handles.specs.declared.session_listener.SessionListener.{SessionListener}
+use Rattle.hub_handles.specs.declared.subscription.Subscription.{Subscription}
+use Rattle.hub_handles.specs.Handles.{AddsSubscription, AddsListener, Cancels, HoldsNone, IsStill, Listens, PollsAt, Subscribes, TakesAt, listener_of, subscription_of}
+use Rattle.hub_handles.specs.Hearings.{Polls, ends_by}
+use Rattle.hub_handles.specs.Taking.{IsSameTicket, name_of}
+use Rattle.hub_shared.specs.Desks.{CarriesOut, ListensTo, SubscribesTo}
+use Rattle.hub_shared.specs.Named.{AreNamed, IsNamed, StaysNamed}
+
+one_of : {A : Type 0} (a b : A) (o : Option A) → o ≡ Some a → o ≡ Some b → a ≡ b
+one_of a b o e f = cc
+
+not_both : {A : Type 0} (a : A) (o : Option A) → o ≡ Some a → o ≡ None → ⊥
+not_both a o e f = cc
+
+same_name : (a b : List ℕ) → bytes_eq a b ≡ true → a ≡ b
+same_name a b e = (bytes_eq-Decides a b).0 e
+
+-- what holds under each number holds still, if it holds under one number and nothing else has changed
+at_number : {A : Type 0} (P : A → Type 0) (old new : ℕ → Option A) (n : ℕ) (here : Option A) → new n ≡ here → ((a : A) → here ≡ Some a → P a)
+    → ((other : ℕ) → nat_eq n other ≡ false → new other ≡ old other) → ((id : ℕ) (a : A) → old id ≡ Some a → P a) → (id : ℕ) (a : A) → new id ≡ Some a → P a
+at_number P old new n here is holds others was id a at =
+    elim (cases_Bool (nat_eq n id)) [
+      | inl e ↦ holds a (sym is ∙ ap new (eqb-true n id e) ∙ at)
+      | inr e ↦ was id a (sym (others id e) ∙ at)
+    ]
+
+-- ---- the same handles, and more that is kept
+
+named_still : (hub : Hub) (fs gs : Fifodirs) → KeepsAll hub fs gs → (s : Subscription) → IsNamed fs s → IsNamed gs s
+named_still hub fs gs keeps s n = record { joined = n.joined; kept_is = keeps.each (name_of s) n.joined n.kept_is; dir = n.dir }
+
+found_still : (hub : Hub) (fs gs : Fifodirs) → KeepsAll hub fs gs → ((name : List ℕ) (j : Joined) → joined_at fs name ≡ Some j → IsFoundIn hub name j.found)
+    → (name : List ℕ) (j : Joined) → joined_at gs name ≡ Some j → IsFoundIn hub name j.found
+found_still hub fs gs keeps found name j at = of (joined_at fs name) refl
+  where
+    of : (o : Option Joined) → joined_at fs name ≡ o → IsFoundIn hub name j.found
+    of None was = (keeps.fresh name j at was).found
+    of (Some k) was = subst (λ (i : Joined). IsFoundIn hub name i.found) (one_of k j (joined_at gs name) (keeps.each name k was) at) (found name k was)
+
+all_still : (hub : Hub) (fs gs : Fifodirs) (hs : Handles) → KeepsAll hub fs gs → AreNamed hub fs hs → AreNamed hub gs hs
+all_still hub fs gs hs keeps n = record {
+  found = found_still hub fs gs keeps n.found;
+  subscriptions = λ id s at. named_still hub fs gs keeps s (n.subscriptions id s at);
+  listeners = λ id h at. named_still hub fs gs keeps h.subscription (n.listeners id h at);
+}
+
+-- ---- a publisher speaks
+
+asked_found : (says : Publisher → Reply → Publisher → Type 0) (before after : Joined) (reply : Reply) → AsksAsPublisher says before reply after → after.found ≡ before.found
+asked_found says before after reply (inl spoke) = spoke.spoken.found
+asked_found says before after reply (inr unmade) = unmade.found
+
+spoken_named : (hub : Hub) (says : Publisher → Reply → Publisher → Type 0) (fs gs : Fifodirs) (hs : Handles) (name : List ℕ) (reply : Reply) → AsksByName hub says fs name reply gs
+    → AreNamed hub fs hs → AreNamed hub gs hs
+spoken_named hub says fs gs hs name reply (inl a) n =
+    let same = asked_found says a.before a.after reply a.asked in
+    let still : (s : Subscription) → IsNamed fs s → IsNamed gs s = λ s was.
+    elim (cases_Bool (bytes_eq name (name_of s))) [
+      | inl e ↦ (
+          let is = same_name name (name_of s) e in
+          elim a.found [
+            | inl at ↦ record {
+              joined = a.after;
+              kept_is = subst (λ (z : List ℕ). joined_at gs z ≡ Some a.after) is a.keeps.here;
+              dir = was.dir ∙ ap fifodir_of (one_of was.joined a.before (joined_at fs name) (ap (joined_at fs) is ∙ was.kept_is) at) ∙ sym (ap (λ f. arc_value f.dir) same);
+            }
+            | inr new ↦ absurd (not_both was.joined (joined_at fs name) (ap (joined_at fs) is ∙ was.kept_is) new.0)
+          ]
+          )
+      | inr e ↦ record { joined = was.joined; kept_is = a.keeps.others (name_of s) e ∙ was.kept_is; dir = was.dir }
+    ]
+    in
+    record {
+      found = λ other j at.
+          elim (cases_Bool (bytes_eq name other)) [
+            | inl e ↦ (
+                let is = same_name name other e in
+                let here = one_of a.after j (joined_at gs name) a.keeps.here (ap (joined_at gs) is ∙ at) in
+                let was : IsFoundIn hub name a.before.found = elim a.found [ inl at ↦ n.found name a.before at | inr new ↦ new.1.found ] in
+                subst (λ (z : List ℕ). IsFoundIn hub z j.found) is (subst (λ (f : Joined). IsFoundIn hub name f.found) here (subst (IsFoundIn hub name) (sym same) was))
+                )
+            | inr e ↦ n.found other j (sym (a.keeps.others other e) ∙ at)
+          ];
+      subscriptions = λ id s at. still s (n.subscriptions id s at);
+      listeners = λ id h at. still h.subscription (n.listeners id h at);
+    }
+spoken_named hub says fs gs hs name reply (inr u) n =
+    let as_before : (key : List ℕ) → joined_at gs key ≡ joined_at fs key = λ key. ap (lookup (bytes_eq key)) u.finding.before in
+    let still : (s : Subscription) → IsNamed fs s → IsNamed gs s = λ s was. record { joined = was.joined; kept_is = as_before (name_of s) ∙ was.kept_is; dir = was.dir } in
+    record {
+      found = λ other j at. n.found other j (sym (as_before other) ∙ at);
+      subscriptions = λ id s at. still s (n.subscriptions id s at);
+      listeners = λ id h at. still h.subscription (n.listeners id h at);
+    }
+
+-- ---- other handles
+
+handles_still : (hub : Hub) (fs : Fifodirs) (hs ks : Handles) → IsStill hs ks → AreNamed hub fs hs → AreNamed hub fs ks
+handles_still hub fs hs ks still n = record {
+  found = n.found;
+  subscriptions = λ id s at. n.subscriptions id s (sym (ap (lookup (nat_eq id)) still.subscriptions) ∙ at);
+  listeners = λ id h at. n.listeners id h (sym (ap (lookup (nat_eq id)) still.listeners) ∙ at);
+}
+
+begun_named : (fs : Fifodirs) (name : List ℕ) (j : Joined) (s : Subscription) → joined_at fs name ≡ Some j → name_of s ≡ name → arc_value s.dir ≡ fifodir_of j → IsNamed fs s
+begun_named fs name j s at named dir = record { joined = j; kept_is = ap (joined_at fs) named ∙ at; dir = dir }
+
+subscribed_named : (hub : Hub) (fs : Fifodirs) (hs ks : Handles) (name : List ℕ) (reply : Reply) → SubscribesTo fs name hs reply ks → AreNamed hub fs hs → AreNamed hub fs ks
+subscribed_named hub fs hs ks name (answer.Number number) (inl (j, at, a)) n = record {
+  found = n.found;
+  subscriptions = at_number (IsNamed fs) (subscription_of hs) (subscription_of ks) number (Some a.subscription) a.placed
+      (λ s is. subst (IsNamed fs) (one_of a.subscription s (Some a.subscription) refl is) (begun_named fs name j a.subscription at a.begins.named a.begins.dir)) a.others n.subscriptions;
+  listeners = λ id h held. n.listeners id h (sym (ap (lookup (nat_eq id)) a.listeners) ∙ held);
+}
+subscribed_named hub fs hs ks name (answer.No refusal) (inl (j, at, a)) n = handles_still hub fs hs ks a.0 n
+subscribed_named hub fs hs ks name answer.Done (inl (j, at, a)) n = absurd a
+subscribed_named hub fs hs ks name (answer.State s) (inl (j, at, a)) n = absurd a
+subscribed_named hub fs hs ks name (answer.Got l) (inl (j, at, a)) n = absurd a
+subscribed_named hub fs hs ks name (answer.Hit l) (inl (j, at, a)) n = absurd a
+subscribed_named hub fs hs ks name answer.Nothing (inl (j, at, a)) n = absurd a
+subscribed_named hub fs hs ks name answer.End (inl (j, at, a)) n = absurd a
+subscribed_named hub fs hs ks name (answer.Yes l) (inl (j, at, a)) n = absurd a
+subscribed_named hub fs hs ks name answer.Never (inl (j, at, a)) n = absurd a
+subscribed_named hub fs hs ks name answer.Late (inl (j, at, a)) n = absurd a
+subscribed_named hub fs hs ks name reply (inr (unfound, same)) n = subst (AreNamed hub fs) (sym same) n
+
+listened_named : (hub : Hub) (fs : Fifodirs) (hs ks : Handles) (name : List ℕ) (mode : Mode) (pattern : List ℕ) (reply : Reply) → ListensTo fs name mode pattern hs reply ks
+    → AreNamed hub fs hs → AreNamed hub fs ks
+listened_named hub fs hs ks name mode pattern (answer.Number number) (inl (j, at, a)) n = record {
+  found = n.found;
+  subscriptions = λ id s held. n.subscriptions id s (sym (ap (lookup (nat_eq id)) a.subscriptions) ∙ held);
+  listeners = at_number (λ h. IsNamed fs h.subscription) (listener_of hs) (listener_of ks) number (Some a.hearing) a.placed
+      (λ h is. subst (λ (h : SessionListener). IsNamed fs h.subscription) (one_of a.hearing h (Some a.hearing) refl is) (begun_named fs name j a.hearing.subscription at a.begins.named a.begins.dir))
+      a.others n.listeners;
+}
+listened_named hub fs hs ks name mode pattern (answer.No refusal) (inl (j, at, a)) n = handles_still hub fs hs ks a.0 n
+listened_named hub fs hs ks name mode pattern answer.Done (inl (j, at, a)) n = absurd a
+listened_named hub fs hs ks name mode pattern (answer.State s) (inl (j, at, a)) n = absurd a
+listened_named hub fs hs ks name mode pattern (answer.Got l) (inl (j, at, a)) n = absurd a
+listened_named hub fs hs ks name mode pattern (answer.Hit l) (inl (j, at, a)) n = absurd a
+listened_named hub fs hs ks name mode pattern answer.Nothing (inl (j, at, a)) n = absurd a
+listened_named hub fs hs ks name mode pattern answer.End (inl (j, at, a)) n = absurd a
+listened_named hub fs hs ks name mode pattern (answer.Yes l) (inl (j, at, a)) n = absurd a
+listened_named hub fs hs ks name mode pattern answer.Never (inl (j, at, a)) n = absurd a
+listened_named hub fs hs ks name mode pattern answer.Late (inl (j, at, a)) n = absurd a
+listened_named hub fs hs ks name mode pattern reply (inr (unfound, same)) n = subst (AreNamed hub fs) (sym same) n
+
+same_named : (fs : Fifodirs) (a b : Subscription) → IsSameTicket a b → IsNamed fs a → IsNamed fs b
+same_named fs a b same n = record { joined = n.joined; kept_is = ap (joined_at fs) same.named ∙ n.kept_is; dir = ap arc_value same.dir ∙ n.dir }
+
+taken_named : (hub : Hub) (fs : Fifodirs) (hs ks : Handles) (id max : ℕ) (reply : Reply) → TakesAt hs id max reply ks → AreNamed hub fs hs → AreNamed hub fs ks
+taken_named hub fs hs ks id max reply (inl t) n = record {
+  found = n.found;
+  subscriptions = at_number (IsNamed fs) (subscription_of hs) (subscription_of ks) id (Some t.after) t.kept
+      (λ s is. subst (IsNamed fs) (one_of t.after s (Some t.after) refl is) (same_named fs t.before t.after t.takes.same (n.subscriptions id t.before t.held))) t.others n.subscriptions;
+  listeners = λ other h held. n.listeners other h (sym (ap (lookup (nat_eq other)) t.listeners) ∙ held);
+}
+taken_named hub fs hs ks id max reply (inr t) n = handles_still hub fs hs ks t.still n
+
+polls_named : (fs : Fifodirs) (before after : SessionListener) (reply : Reply) → Polls before reply after → IsNamed fs before.subscription → IsNamed fs after.subscription
+polls_named fs before after (answer.Hit hit) (fed, hears, is, unheld) n = same_named fs before.subscription after.subscription hears.comes.ticket n
+polls_named fs before after answer.Nothing (few, (fed, hears), why) n = same_named fs before.subscription after.subscription hears.comes.ticket n
+polls_named fs before after answer.End (few, (fed, hears), why) n = same_named fs before.subscription after.subscription hears.comes.ticket n
+polls_named fs before after (answer.No refusal) (inl (e, full, same)) n = subst (λ (h : SessionListener). IsNamed fs h.subscription) (sym same) n
+polls_named fs before after (answer.No refusal) (inr (e, few, (fed, hears))) n = same_named fs before.subscription after.subscription hears.comes.ticket n
+polls_named fs before after answer.Done p n = absurd p
+polls_named fs before after (answer.Number k) p n = absurd p
+polls_named fs before after (answer.State s) p n = absurd p
+polls_named fs before after (answer.Got l) p n = absurd p
+polls_named fs before after (answer.Yes l) p n = absurd p
+polls_named fs before after answer.Never p n = absurd p
+polls_named fs before after answer.Late p n = absurd p
+
+left_is : {A : Type 0} (ends : Bool) (after a : A) → (if ends then None else Some after) ≡ Some a → after ≡ a
+left_is true after a e = cc
+left_is false after a e = cc
+
+polled_named : (hub : Hub) (fs : Fifodirs) (hs ks : Handles) (id : ℕ) (reply : Reply) → PollsAt hs id reply ks → AreNamed hub fs hs → AreNamed hub fs ks
+polled_named hub fs hs ks id reply (inl p) n = record {
+  found = n.found;
+  subscriptions = λ other s held. n.subscriptions other s (sym (ap (lookup (nat_eq other)) p.subscriptions) ∙ held);
+  listeners = at_number (λ h. IsNamed fs h.subscription) (listener_of hs) (listener_of ks) id _ p.kept
+      (λ h is. subst (λ (h : SessionListener). IsNamed fs h.subscription) (left_is (ends_by p.after.mode reply) p.after h is) (polls_named fs p.before p.after reply p.polls (n.listeners id p.before p.held)))
+      p.others n.listeners;
+}
+polled_named hub fs hs ks id reply (inr p) n = handles_still hub fs hs ks p.still n
+
+cancelled_named : (hub : Hub) (fs : Fifodirs) (hs ks : Handles) (id : ℕ) (reply : Reply) → Cancels hs id reply ks → AreNamed hub fs hs → AreNamed hub fs ks
+cancelled_named hub fs hs ks id reply c n = record {
+  found = n.found;
+  subscriptions = at_number (IsNamed fs) (subscription_of hs) (subscription_of ks) id None c.gone (λ s is. absurd (not_both s None is refl)) (λ other e. (c.others other e).0) n.subscriptions;
+  listeners = heard (subscription_of hs id) refl;
+}
+  where
+    heard : (o : Option Subscription) → subscription_of hs id ≡ o → (other : ℕ) (h : SessionListener) → listener_of ks other ≡ Some h → IsNamed fs h.subscription
+    heard None was = at_number (λ h. IsNamed fs h.subscription) (listener_of hs) (listener_of ks) id None (c.unheard was) (λ h is. absurd (not_both h None is refl)) (λ other e. (c.others other e).1) n.listeners
+    heard (Some s) was = λ other h held. n.listeners other h (sym (ap (lookup (nat_eq other)) (c.heard (ap is_some was))) ∙ held)
+
+-- ---- whatever is asked
+
+same_both : (hub : Hub) (fs gs : Fifodirs) (hs ks : Handles) → gs ≡ fs → ks ≡ hs → AreNamed hub fs hs → AreNamed hub gs ks
+same_both hub fs gs hs ks e f n = subst (λ (z : Fifodirs). AreNamed hub z ks) (sym e) (subst (AreNamed hub fs) (sym f) n)
+
+asked_named : (hub : Hub) (fs gs : Fifodirs) (hs ks : Handles) (request : Request) (reply : Reply) → AreNamed hub fs hs → CarriesOut hub fs hs request reply gs ks → AreNamed hub gs ks
+asked_named hub fs gs hs ks (Dir name waiting total) reply n (made, e, f) = same_both hub fs gs hs ks e f n
+asked_named hub fs gs hs ks (Svc name waiting total notifies) reply n (made, e, f) = same_both hub fs gs hs ks e f n
+asked_named hub fs gs hs ks (Sub name) reply n (keeps, a) = subscribed_named hub gs hs ks name reply a (all_still hub fs gs hs keeps n)
+asked_named hub fs gs hs ks (Pub name letters) reply n (a, f) = subst (AreNamed hub gs) (sym f) (spoken_named hub _ fs gs hs name reply a n)
+asked_named hub fs gs hs ks (Take id max) reply n (e, a) = subst (λ (z : Fifodirs). AreNamed hub z ks) (sym e) (taken_named hub fs hs ks id max reply a n)
+asked_named hub fs gs hs ks (Cancel id) reply n (e, a) = subst (λ (z : Fifodirs). AreNamed hub z ks) (sym e) (cancelled_named hub fs hs ks id reply a n)
+asked_named hub fs gs hs ks (Close name) reply n (a, f) = subst (AreNamed hub gs) (sym f) (spoken_named hub _ fs gs hs name reply a n)
+asked_named hub fs gs hs ks (Status name) reply n (a, f) = subst (AreNamed hub gs) (sym f) (spoken_named hub _ fs gs hs name reply a n)
+asked_named hub fs gs hs ks (Listen name mode pattern) reply n (keeps, a) = listened_named hub gs hs ks name _ _ reply a (all_still hub fs gs hs keeps n)
+asked_named hub fs gs hs ks (Poll id) reply n (e, a) = subst (λ (z : Fifodirs). AreNamed hub z ks) (sym e) (polled_named hub fs hs ks id reply a n)
+asked_named hub fs gs hs ks (Wait span want turns names) reply n (keeps, why, f) = subst (AreNamed hub gs) (sym f) (all_still hub fs gs hs keeps n)
+
+new_named : (hub : Hub) (fs : Fifodirs) (hs : Handles) → KeepsNone fs → HoldsNone hs → AreNamed hub fs hs
+new_named hub fs hs none holds = record {
+  found = λ name j at. absurd (not_both j (joined_at fs name) at (ap (lookup (bytes_eq name)) none));
+  subscriptions = λ id s at. absurd (not_both s (subscription_of hs id) at (ap (lookup (nat_eq id)) holds.subscriptions));
+  listeners = λ id h at. absurd (not_both h (listener_of hs id) at (ap (lookup (nat_eq id)) holds.listeners));
+}
+
+pub stays_named : (hub : Hub) → StaysNamed hub
+stays_named hub = record { new = new_named hub; asked = asked_named hub }

@@ -1,0 +1,9 @@
+//! Laws of a desk: each is the contract of a function that does nothing.
+ghost use Rattle.hub_names.specs.declared.hub.Hub.{Hub};
+ghost use Rattle.hub_shared.specs.Named.{StaysNamed};
+
+/// A session of a hub has each handle at the fifodir that the hub had under the name that the handle was made for, and
+/// each publisher too. It begins so, and each request keeps it so.
+pub fn handles_are_named()
+    ensures { (hub : Hub) → StaysNamed hub }
+{}
