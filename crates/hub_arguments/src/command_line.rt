@@ -7,7 +7,7 @@ use crate::help::{
     SERVE_LINES,
 };
 use clap::error::ErrorKind;
-use clap::{Arg, ArgAction, Command, Error, value_parser};
+use clap::{Arg, Command, Error, value_parser};
 use hub_io::FrontError;
 use std::alloc::{AllocError, AllocGlobal, Global};
 use std::rt::Runtime;
@@ -39,7 +39,6 @@ fn socket<'a>(alloc: Global) -> Arg<'a> {
         .value_name("SOCKET")
         .help("The path of the socket")
         .required(true)
-        .action(ArgAction::Set)
 }
 
 fn sessions<'a>(alloc: Global) -> Arg<'a> {
@@ -51,19 +50,28 @@ fn sessions<'a>(alloc: Global) -> Arg<'a> {
         .default_value("1")
 }
 
-fn command<'a>(alloc: Global) -> Result<Command<'a>, AllocError> {
-    let script = Command::new(alloc, "script")
+fn script_command<'a>(alloc: Global) -> Command<'a> {
+    Command::new(alloc, "script")
         .about(SCRIPT_ABOUT)
-        .after_help(SCRIPT_LINES);
-    let serve = Command::new(alloc, "serve")
+        .after_help(SCRIPT_LINES)
+}
+
+fn serve_command<'a>(alloc: Global) -> Result<Command<'a>, AllocError> {
+    Command::new(alloc, "serve")
         .about(SERVE_ABOUT)
         .after_help(SERVE_LINES)
         .arg(socket(alloc))?
-        .arg(sessions(alloc))?;
-    let call = Command::new(alloc, "call")
+        .arg(sessions(alloc))
+}
+
+fn call_command<'a>(alloc: Global) -> Result<Command<'a>, AllocError> {
+    Command::new(alloc, "call")
         .about(CALL_ABOUT)
         .after_help(CALL_LINES)
-        .arg(socket(alloc))?;
+        .arg(socket(alloc))
+}
+
+fn program<'a>(alloc: Global) -> Command<'a> {
     Command::new(alloc, NAME)
         .version(VERSION)
         .about(ABOUT)
@@ -71,9 +79,13 @@ fn command<'a>(alloc: Global) -> Result<Command<'a>, AllocError> {
         .after_help(EXIT)
         .after_long_help(SCRIPT_LINES)
         .subcommand_required(true)
-        .subcommand(script)?
-        .subcommand(serve)?
-        .subcommand(call)
+}
+
+fn command<'a>(alloc: Global) -> Result<Command<'a>, AllocError> {
+    program(alloc)
+        .subcommand(script_command(alloc))?
+        .subcommand(serve_command(alloc)?)?
+        .subcommand(call_command(alloc)?)
 }
 
 /// Reads the words. The first word is the program's name, which the usage lines print. An error has the text to print:
