@@ -72,17 +72,28 @@ where
     match plan {
         Plan::Script => {
             script(rt, alloc, input, output)?;
+            Ok(0)
         }
-        Plan::Serve { socket, sessions } => {
-            let report = serve(rt, alloc, socket, sessions)?;
-            let _: io::Result<()> = tell_faults(alloc, &report, faults);
-            if !report.is_clean() {
-                return Ok(FAULTY);
-            }
-        }
+        Plan::Serve { socket, sessions } => serve_all(rt, alloc, socket, sessions, faults),
         Plan::Call { socket } => {
             call(rt, alloc, socket, input, output)?;
+            Ok(0)
         }
     }
-    Ok(0)
+}
+
+/// Serves the sessions, tells their faults, and returns the exit status.
+fn serve_all<H, F: Write>(
+    rt: &H,
+    alloc: Global,
+    socket: &str,
+    sessions: u64,
+    faults: &mut F,
+) -> Result<u8, Fault>
+where
+    H: Runtime + AllocGlobal + Net + Threads + Wait + Copy + Send + 'static,
+{
+    let report = serve(rt, alloc, socket, sessions)?;
+    let _: io::Result<()> = tell_faults(alloc, &report, faults);
+    Ok(if report.is_clean() { 0 } else { FAULTY })
 }
