@@ -211,16 +211,10 @@ impl Handles {
         ensures given { given_of self.new ≡ given_of self.old }
         ensures none { HoldsNone self.new }
     {
-        let mut subscriptions = mem::replace(&mut self.subscriptions, IndexMap::new(self.alloc));
-        while let Some((_, subscription)) = subscriptions.pop() {
-            subscription.cancel(rt);
-        }
-        subscriptions.destroy_empty();
-        let mut listeners = mem::replace(&mut self.listeners, IndexMap::new(self.alloc));
-        while let Some((_, hearing)) = listeners.pop() {
-            hearing.cancel(rt);
-        }
-        listeners.destroy_empty();
+        let subscriptions = mem::replace(&mut self.subscriptions, IndexMap::new(self.alloc));
+        cancel_subscriptions(rt, subscriptions);
+        let listeners = mem::replace(&mut self.listeners, IndexMap::new(self.alloc));
+        cancel_listeners(rt, listeners);
     }
 
     /// Ends all subscriptions and listeners, and frees what is left of the handles.
@@ -236,4 +230,18 @@ impl Handles {
         subscriptions.destroy_empty();
         listeners.destroy_empty();
     }
+}
+
+fn cancel_subscriptions<H: Wait>(rt: &H, mut subscriptions: IndexMap<u64, Subscription>) {
+    while let Some((_, subscription)) = subscriptions.pop() {
+        subscription.cancel(rt);
+    }
+    subscriptions.destroy_empty();
+}
+
+fn cancel_listeners<H: Wait>(rt: &H, mut listeners: IndexMap<u64, SessionListener>) {
+    while let Some((_, hearing)) = listeners.pop() {
+        hearing.cancel(rt);
+    }
+    listeners.destroy_empty();
 }
