@@ -13,6 +13,7 @@ use hub_server::{Desks, Gate, Report, ServeError, serve_each};
 use hub_shared::{Hub, SharedDesk};
 use hub_wait::Pause;
 use std::alloc::{AllocError, Global};
+use std::os::unix::net::UnixStream;
 use std::sync::{Arc, Wait};
 use std::thread::Threads;
 
@@ -21,6 +22,18 @@ use std::thread::Threads;
 struct HubDesks<P: Pause + Copy> {
     hub: Arc<Hub, Global>,
     pause: P,
+}
+
+impl<P: Pause + Copy> HubDesks<P> {
+    // A desk for one session, which watches this client.
+    fn open(&self, alloc: Global, client: Option<UnixStream>) -> Result<SharedDesk<P>, AllocError>
+        ensures { IfOk result (IsNewDesk (arc_value self.now.hub) self.now.pause) }
+    {
+        let hub = Arc::try_clone(&self.hub)?;
+        let mut desk = SharedDesk::new(alloc, hub, self.pause)?;
+        desk.watch(client);
+        Ok(desk)
+    }
 }
 
 impl<P: Pause + Copy> Desks for HubDesks<P> {
@@ -47,13 +60,9 @@ impl<P: Pause + Copy> Desks for HubDesks<P> {
         reader: &mut R,
         writer: &mut W,
     ) -> Result<u64, FrontError> {
-        let Ok(hub) = Arc::try_clone(&self.hub) else {
+        let Ok(mut desk) = self.open(alloc, reader.connection()) else {
             return Err(FrontError::Memory);
         };
-        let Ok(mut desk) = SharedDesk::new(alloc, hub, self.pause) else {
-            return Err(FrontError::Memory);
-        };
-        desk.watch(reader.connection());
         let served = serve(rt, alloc, &mut desk, reader, writer);
         desk.release(rt);
         served
