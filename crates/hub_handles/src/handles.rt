@@ -1,8 +1,11 @@
 //! What a session holds, by handle.
-ghost use Rattle.std.specs.Prelude.{◌≡◌, ◌<◌, ℕ, None, Some, false, nat_eq, IfOk, IfErr, OnOk, OnErr};
+ghost use Rattle.std.specs.Prelude.{◌≡◌, ◌<◌, ◌⊎◌, ℕ, None, Some, false, nat_eq, IfOk, IfErr, OnOk, OnErr};
 ghost use Rattle.std.specs.Arc.{arc_value};
 ghost use Rattle.std.specs.Map.{lookup};
+ghost use Rattle.hub_letters.specs.declared.mode.Mode.TheVariants.{Repeat};
+ghost use Rattle.hub_listen.specs.Listening.{new_listening};
 ghost use Rattle.hub_requests.specs.Ranges.{IsTake};
+ghost use Rattle.hub_requests.specs.declared.reply.Refusal.TheVariants as no;
 ghost use Rattle.hub_requests.specs.Brief.{IsBrief, IsShort};
 
 use crate::room::Room;
@@ -130,11 +133,7 @@ impl Handles {
         ensures brief { IfErr result IsBrief }
     {
         self.has_room()?;
-        let listener = match Listener::new(self.alloc, pattern.items(), Mode::Repeat) {
-            Ok(listener) => listener,
-            Err(ListenError::Pattern) => return Err(Refusal::Pattern),
-            Err(ListenError::Memory) => return Err(Refusal::Memory),
-        };
+        let listener = listener_for(self.alloc, pattern)?;
         if self.listeners.reserve(1).is_err() {
             return Err(Refusal::Memory);
         }
@@ -230,6 +229,18 @@ impl Handles {
         subscriptions.destroy_empty();
         listeners.destroy_empty();
     }
+}
+
+/// A listener for this pattern that has heard nothing.
+fn listener_for(alloc: Global, pattern: &PatternText) -> Result<Listener, Refusal>
+    ensures ok { IfOk result (λ listener. listener ≡ new_listening pattern.now Repeat) }
+    ensures err { IfErr result (λ refusal. (refusal ≡ no.Pattern) ⊎ (refusal ≡ no.Memory)) }
+    ensures brief { IfErr result IsBrief }
+{
+    Listener::new(alloc, pattern.items(), Mode::Repeat).map_err(|error| match error {
+        ListenError::Pattern => Refusal::Pattern,
+        ListenError::Memory => Refusal::Memory,
+    })
 }
 
 fn cancel_subscriptions<H: Wait>(rt: &H, mut subscriptions: IndexMap<u64, Subscription>) {

@@ -1,8 +1,6 @@
-use Rattle.std.proofs.Common.{◌+◌, refl, sym, subst, ap, ◌∙◌, nat_eq, List, ℕ, arith}
+use Rattle.std.proofs.Common.{◌+◌, refl, sym, subst, ap, ◌∙◌, nat_eq, arith}
 use Rattle.std.proofs.lemmas.Bool.{ne_eqb}
 use Rattle.std.specs.Map.{lookup}
-use Rattle.hub_listen.specs.Listening.{new_listening}
-use Rattle.hub_letters.specs.declared.mode.Mode.TheVariants.{Repeat}
 use Rattle.hub_handles.specs.declared.subscription.Subscription.{Subscription}
 use Rattle.hub_handles.specs.Taking.{Begins}
 use Rattle.std.specs.Arc.{arc_value}
@@ -15,7 +13,7 @@ returns-clause-ok g c =
     let made = c.new-hearing.ensures in
     adds_listener c.args.self.now _ _ _ _ _ c.new-hearing.result c.in_ok-has_room.ensures.ok
     (subst (λ (s : Subscription). Begins c.args.name.now (arc_value c.args.dir) s) (sym made.subscription_is) c.in_ok-subscription.ensures)
-    (made.listener_is ∙ c.in-Ok.ensures.ok ∙ ap (λ (p : List ℕ). new_listening p Repeat) c.items.ensures) made.mode_is made.unheld refl refl put.1
+    (made.listener_is ∙ c.in_ok-listener.ensures.ok) made.mode_is made.unheld refl refl put.1
     (λ other h. put.2 other h ∙ ap (lookup (nat_eq other)) c.reserve.ensures.entries)
 
 pub invariant_of-self-2 : goal.invariant_of-self-2
@@ -27,3 +25,10 @@ invariant_of-self-2 g c =
       listening = λ id above.
           put.2 id (ne_eqb (old.given + 1) id (λ e. absurd (omega arith))) ∙ ap (lookup (nat_eq id)) c.reserve.ensures.entries ∙ old.listening id (omega arith);
     }
+
+pub unreachable-requires : goal.unreachable-requires
+unreachable-requires g c =
+    let old = c.args.self.now in
+    let number = old.given + 1 in
+    c.in_default.not-None ((rw c.unwrap-replaced.ensures at c.insert.ensures.old) ∙ ap (lookup (nat_eq number)) c.reserve.ensures.entries
+    ∙ old.listening number (omega arith))
