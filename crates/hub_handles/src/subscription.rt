@@ -1,7 +1,7 @@
 //! A session's subscriptions.
 ghost use Rattle.std.specs.Prelude.{◌≡◌, ◌≤◌, length, vec_len, vec_capacity, Err, IfOk, IfErr, IfSome};
 ghost use Rattle.std.specs.Arc.{arc_value};
-ghost use Rattle.hub_fifodir.specs.Passes.{IsTicketOf};
+ghost use Rattle.hub_fifodir.specs.Passes.{IsTicketOf, HasSoundSight, ticket_view};
 ghost use Rattle.hub_requests.specs.declared.bounds.TheConstants.{MOST_TAKEN};
 ghost use Rattle.hub_requests.specs.Brief.{IsShort};
 
@@ -21,6 +21,7 @@ pub struct Subscription {
     dir: Arc<Fifodir, Global>,
     ticket: Ticket,
     ghost of: { IsTicketOf (arc_value dir) ticket },
+    ghost sound: { ∥ HasSoundSight (ticket_view ticket) ∥₁ },
 }
 
 impl Subscription {

@@ -1,5 +1,5 @@
 -- What stays and what comes in the fifodirs that a session keeps.
-use Rattle.std.proofs.Common.{◌≡◌, ℕ, List, Option, None, Some, true, false, Result, Ok, Err, IfOk, IfErr, refl, sym, subst, ap, ◌∙◌, inl, inr, ⊎_elim, lit≤}
+use Rattle.std.proofs.Common.{◌≡◌, ℕ, List, Option, None, Some, true, false, Result, Ok, Err, IfOk, IfErr, IfNone, IfSome, refl, sym, subst, ap, ◌∙◌, inl, inr, ⊎_elim, lit≤}
 use Rattle.std.proofs.lemmas.Bool.{cases_Bool}
 use Rattle.std.proofs.lemmas.Slice.Eq.{bytes_eq-Decides}
 use Rattle.std.specs.Arc.{arc_value}
@@ -15,8 +15,9 @@ use Rattle.hub_names.specs.declared.hub.Made.{Made}
 use Rattle.hub_names.specs.declared.fifodirs.Fifodirs.{Fifodirs}
 use Rattle.hub_names.specs.declared.joined.Joined.{Joined}
 use Rattle.hub_names.specs.Hubs.{IsFoundIn}
-use Rattle.hub_names.specs.Speaking.{AsksAsPublisher, found_of, fifodir_of}
-use Rattle.hub_names.specs.Fifodirs.{joined_at, IsFound, IsKeptAs, IsMissing, IsNewIn, Joins, IsAsBefore, AsksByName, KeepsAll}
+use Rattle.hub_names.specs.Says.{says_status}
+use Rattle.hub_names.specs.Speaking.{AsksAsPublisher, found_of, fifodir_of, publisher_of}
+use Rattle.hub_names.specs.Fifodirs.{joined_at, IsFound, IsKeptAs, IsMissing, IsNewIn, IsSilent, Joins, IsAsBefore, AsksByName, KeepsAll}
 
 same_kept : (j k : Joined) (o : Option Joined) → o ≡ Some j → o ≡ Some k → j ≡ k
 same_kept j k o e f = cc
@@ -55,6 +56,22 @@ asks_kept hub says old mid new name was now reply joins at here others asked =
       asked = asked;
       keeps = record { here = here; others = λ other h. others other h ∙ joins.keeps.others other h };
     })
+
+-- ---- a status without the lock
+
+-- told by the publisher that is kept
+pub status_known : (old new : Fifodirs) (name : List ℕ) (was now : Joined) (told : Option Reply) → joined_at old name ≡ Some was → joined_at new name ≡ Some now
+    → ((other : List ℕ) → bytes_eq name other ≡ false → joined_at new other ≡ joined_at old other) → IfSome told (λ reply. AsksAsPublisher says_status was reply now)
+    → IfSome told (λ reply. (hub : Hub) → AsksByName hub says_status old name reply new)
+status_known old new name was now (Some reply) at here others asked = λ hub. asks_known hub says_status old new name was now reply at here others asked
+status_known old new name was now None at here others asked = tt
+
+-- or not told, where none is kept
+pub status_silent : (old new : Fifodirs) (name : List ℕ) (was now : Joined) (told : Option Reply) → joined_at old name ≡ Some was → (now ≡ was → IsAsBefore old new)
+    → IfNone told ((publisher_of was ≡ None) × (now ≡ was)) → IfNone told (IsSilent old name × IsAsBefore old new)
+status_silent old new name was now (Some reply) at before h = tt
+status_silent old new name was now None at before (silent, same) =
+    (λ j here. subst (λ (k : Joined). publisher_of k ≡ None) (same_kept was j (joined_at old name) at here) silent, before same)
 
 -- ---- a copy of what is kept
 

@@ -13,7 +13,7 @@ use Rattle.hub_names.specs.declared.hub.Made.{Made}
 use Rattle.hub_names.specs.declared.fifodirs.Fifodirs.{Fifodirs}
 use Rattle.hub_names.specs.declared.joined.Joined.{Joined}
 use Rattle.hub_names.specs.Hubs.{IsFoundIn}
-use Rattle.hub_names.specs.Speaking.{AsksAsPublisher, fifodir_of, notifies_of}
+use Rattle.hub_names.specs.Speaking.{AsksAsPublisher, fifodir_of, notifies_of, publisher_of}
 
 -- what is kept under the name
 abbrev pub joined_at : Fifodirs → List ℕ → Option Joined
@@ -44,6 +44,10 @@ pub record Joins (hub : Hub) (old : Fifodirs) (name : List ℕ) (new : Fifodirs)
 
 abbrev pub IsAsBefore : Fifodirs → Fifodirs → Type 0
 IsAsBefore old new = new.by_name.entries ≡ old.by_name.entries
+
+-- no publisher is kept under the name
+abbrev pub IsSilent : Fifodirs → List ℕ → Type 0
+IsSilent fs name = (j : Joined) → joined_at fs name ≡ Some j → publisher_of j ≡ None
 
 -- a copy of what is kept under the name
 pub record IsKeptAs (fs : Fifodirs) (name : List ℕ) (found : Made) : Type 0 where

@@ -1,7 +1,8 @@
 //! The fifodirs that a session found, by name.
-ghost use Rattle.std.specs.Prelude.{◌≡◌, None, IfErr, OnOk, IfOk};
+ghost use Rattle.std.specs.Prelude.{◌≡◌, None, IfErr, IfNone, IfSome, OnOk, IfOk};
 ghost use Rattle.hub_requests.specs.Brief.{IsBrief, IsShort};
-ghost use Rattle.hub_names.specs.Says.{says};
+ghost use Rattle.hub_names.specs.Says.{says, says_status};
+ghost use Rattle.hub_names.specs.declared.hub.Hub.{Hub};
 
 use crate::hub::{Hub, Made};
 use crate::joined::Joined;
@@ -22,7 +23,7 @@ pub struct Fifodirs {
 }
 
 impl Fifodirs {
-    ghost use Rattle.hub_names.specs.Fifodirs.{AsksByName, IsKeptAs, KeepsAll, KeepsNone, Joins, IsFinding, IsMissing, joined_at};
+    ghost use Rattle.hub_names.specs.Fifodirs.{AsksByName, IsAsBefore, IsSilent, IsKeptAs, KeepsAll, KeepsNone, Joins, IsFinding, IsMissing, joined_at};
 
     pub fn new(alloc: Global) -> Fifodirs
         ensures { KeepsNone result }
@@ -93,6 +94,20 @@ impl Fifodirs {
             unreachable!()
         };
         joined.speak(rt, speech)
+    }
+
+    /// Answers the status by the session's publisher at the fifodir of this name. None if it has no publisher there yet. It
+    /// gets no `rt`, and so can't wait for the lock.
+    pub fn status(&mut self, name: &Name) -> Option<Reply>
+        ensures step { IfSome result (λ reply. (hub : Hub)
+            → AsksByName hub says_status self.old name.now reply self.new) }
+        ensures none { IfNone result (IsSilent self.old name.now × IsAsBefore self.old self.new) }
+        ensures short { IfSome result IsShort }
+    {
+        let Some(joined) = self.by_name.get_mut(name) else {
+            return None;
+        };
+        joined.status()
     }
 
     /// Ends all publishers.

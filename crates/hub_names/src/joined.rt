@@ -1,14 +1,14 @@
 //! A fifodir that a session found, with the session's publisher there.
-ghost use Rattle.std.specs.Prelude.{◌≡◌, None, Some, IfErr, IfOk, OnErr};
+ghost use Rattle.std.specs.Prelude.{◌≡◌, None, Some, IfErr, IfOk, IfNone, IfSome, OnErr};
 ghost use Rattle.std.specs.Arc.{arc_value};
-ghost use Rattle.hub_fifodir.specs.Passes.{IsPublisherOf};
+ghost use Rattle.hub_fifodir.specs.Passes.{IsPublisherOf, HasSoundSight, publisher_view};
 ghost use Rattle.hub_fifodir.specs.declared.publisher.Publisher.{Publisher};
 ghost use Rattle.hub_requests.specs.Brief.{IsShort};
 ghost use Rattle.hub_names.specs.Refusals.{refusal_of_pass};
-ghost use Rattle.hub_names.specs.Says.{says};
+ghost use Rattle.hub_names.specs.Says.{says, says_status};
 
 use crate::hub::{Found, Made};
-use crate::speech::Speech;
+use crate::speech::{Speech, status_reply};
 use hub_fifodir::{PassError, Publisher};
 use hub_requests::{Refusal, Reply};
 use std::mem;
@@ -20,6 +20,7 @@ pub struct Joined {
     found: Found,
     publisher: Option<Publisher>,
     ghost of: { (p : Publisher) → publisher ≡ Some p → IsPublisherOf (arc_value found.dir) p },
+    ghost sound: { (p : Publisher) → publisher ≡ Some p → ∥ HasSoundSight (publisher_view p) ∥₁ },
 }
 
 impl Joined {
@@ -52,6 +53,7 @@ impl Joined {
         ensures found { self.new.found ≡ self.old.found }
         ensures silent { self.new.publisher ≡ None }
         ensures of { IfOk result (λ p. IsPublisherOf (arc_value self.old.found.dir) p) }
+        ensures sound { IfOk result (λ p. ∥ HasSoundSight (publisher_view p) ∥₁) }
         ensures ok { IfOk result (λ p. IsSpeaker
             (arc_value self.old.found.dir) self.old.publisher p) }
         ensures err { OnErr result (self.old.publisher ≡ None) }
@@ -66,6 +68,7 @@ impl Joined {
     fn keep(&mut self, publisher: Publisher)
         requires silent { self.old.publisher ≡ None }
         requires of { IsPublisherOf (arc_value self.old.found.dir) publisher }
+        requires sound { ∥ HasSoundSight (publisher_view publisher) ∥₁ }
         ensures found { self.new.found ≡ self.old.found }
         ensures kept { self.new.publisher ≡ Some publisher }
     {
@@ -85,6 +88,21 @@ impl Joined {
         let reply = speech.say(rt, &self.found.dir, &mut publisher);
         self.keep(publisher);
         reply
+    }
+
+    /// Answers the status by the publisher that it keeps. None if it keeps none.
+    pub fn status(&mut self) -> Option<Reply>
+        ensures step { IfSome result (λ reply. AsksAsPublisher says_status
+            self.old reply self.new) }
+        ensures none { IfNone result ((publisher_of self.old ≡ None) × (self.new ≡ self.old)) }
+        ensures short { IfSome result IsShort }
+    {
+        let Some(mut publisher) = self.publisher.take() else {
+            return None;
+        };
+        let reply = status_reply(&self.found.dir, &mut publisher);
+        self.keep(publisher);
+        Some(reply)
     }
 
     /// Ends the publisher, if there is one.

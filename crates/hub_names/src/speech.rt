@@ -1,8 +1,9 @@
 //! What a session says by its publisher at a fifodir, and what it is answered.
 ghost use Rattle.std.specs.Prelude.{◌≡◌};
-ghost use Rattle.hub_fifodir.specs.Passes.{IsPublisherOf, publisher_number, publisher_sight};
+ghost use Rattle.hub_fifodir.specs.Passes.{IsPublisherOf, HasSoundSight, publisher_number, publisher_sight, publisher_view};
 ghost use Rattle.hub_fifodir.specs.Steps.{Grows};
 ghost use Rattle.hub_requests.specs.Brief.{IsShort};
+ghost use Rattle.hub_names.specs.Says.{says_status};
 
 use hub_fifodir::{Fifodir, Publisher};
 use hub_record::{Closed, Letters};
@@ -27,6 +28,7 @@ impl Speech<'_> {
     pub fn say<H: Wait>(self, rt: &H, dir: &Fifodir, publisher: &mut Publisher) -> Reply
         requires { IsPublisherOf dir.now publisher.old }
         ensures of { IsPublisherOf dir.now publisher.new }
+        ensures sound { HasSoundSight (publisher_view publisher.new) }
         ensures same { publisher_number publisher.new ≡ publisher_number publisher.old }
         ensures seen { Grows (publisher_sight publisher.old) (publisher_sight publisher.new) }
         ensures said { says self.entry publisher.old result publisher.new }
@@ -41,7 +43,20 @@ impl Speech<'_> {
                 Ok(()) => Reply::Done,
                 Err(Closed) => Reply::No(Refusal::Closed),
             },
-            Speech::Status => Reply::State(dir.status(publisher)),
+            Speech::Status => status_reply(dir, publisher),
         }
     }
+}
+
+/// The status as the publisher then sees it. It gets no `rt`, and so can't wait for the lock.
+pub(crate) fn status_reply(dir: &Fifodir, publisher: &mut Publisher) -> Reply
+    requires { IsPublisherOf dir.now publisher.old }
+    ensures of { IsPublisherOf dir.now publisher.new }
+    ensures sound { HasSoundSight (publisher_view publisher.new) }
+    ensures same { publisher_number publisher.new ≡ publisher_number publisher.old }
+    ensures seen { Grows (publisher_sight publisher.old) (publisher_sight publisher.new) }
+    ensures said { says_status publisher.old result publisher.new }
+    ensures short { IsShort result }
+{
+    Reply::State(dir.status(publisher))
 }

@@ -2,3 +2,4 @@ pub mod WaitedNames
 pub mod Handling
 pub mod NewDesks
 pub mod Named
+pub mod Sound

@@ -125,7 +125,10 @@ impl<P: Pause + Copy> Desk for SharedDesk<P> {
             Request::Take { id, max } => self.handles.take(rt, *id, *max),
             Request::Cancel { id } => self.handles.cancel(rt, *id),
             Request::Close { name } => self.fifodirs.speak(rt, &self.hub, name, Speech::Close),
-            Request::Status { name } => self.fifodirs.speak(rt, &self.hub, name, Speech::Status),
+            Request::Status { name } => match self.fifodirs.status(name) {
+                Some(reply) => reply,
+                None => self.fifodirs.speak(rt, &self.hub, name, Speech::Status),
+            },
             Request::Listen {
                 name,
                 mode,

@@ -2,7 +2,7 @@
 ghost use Rattle.std.specs.Prelude.{◌≡◌, ◌+◌, ◌≤◌, List, Some, length, IfOk};
 ghost use Rattle.std.specs.Arc.{arc_value};
 ghost use Rattle.hub_record.specs.declared.limits.TheConstants.{MOST_EVENTS};
-ghost use Rattle.hub_fifodir.specs.Passes.{IsTicketOf};
+ghost use Rattle.hub_fifodir.specs.Passes.{IsTicketOf, HasSoundSight, ticket_view};
 ghost use Rattle.hub_record.specs.World.{letters};
 ghost use Rattle.hub_wait.specs.Reading.{Reads};
 ghost use Rattle.hub_wait.specs.Watching.{watching_after_step};
@@ -28,6 +28,7 @@ pub struct Post {
     ticket: Ticket,
     watch: Watch,
     ghost of: { IsTicketOf (arc_value fifodir) ticket },
+    ghost sound: { ∥ HasSoundSight (ticket_view ticket) ∥₁ },
     ghost reads: { Reads ticket watch },
 }
 

@@ -1,14 +1,12 @@
-use Rattle.std.proofs.Common.{ℕ, List, refl, ap, subst, sym, arith}
+use Rattle.std.proofs.Common.{ℕ, List, subst, sym, arith}
 use Rattle.hub_requests.specs.declared.reply.Refusal.{Refusal}
-use Rattle.hub_requests.specs.declared.reply.Reply.TheVariants.{Number, State, No}
+use Rattle.hub_requests.specs.declared.reply.Reply.TheVariants.{Number, No}
 use Rattle.hub_fifodir.specs.Passes.{HasPublished, IsRefusedAt}
-use Rattle.hub_fifodir.specs.Steps.{mine_of}
-use Rattle.hub_requests.proofs.ShortReplies.{short_number, short_state}
+use Rattle.hub_requests.proofs.ShortReplies.{short_number}
 use Rattle.hub_requests.specs.Brief.{IsShort}
 use Rattle.hub_names.specs.Says.{says}
 use Rattle.hub_names.specs.declared.speech.Speech.{Speech}
 use Rattle.hub_names.proofs.ShortRefusals.{short_refused}
-use Rattle.hub_names.proofs.Speakers.{knew}
 use Rattle.hub_names.proofs.speech.Speech.say.Goals as goal
 
 pub returns-in-Ok-clause-said : goal.returns-in-Ok-clause-said
@@ -33,9 +31,4 @@ returns-in-Err-clause-short g c =
 
 pub returns-in-Status-clause-said : goal.returns-in-Status-clause-said
 returns-in-Status-clause-said g c =
-    let own = c.status.ensures in
-    subst (λ (s : Speech). says s c.args.publisher.now (State c.status.result) c.status.new.me) (sym c.in-Status.is)
-    (own.status, knew c.args.publisher.now c.status.new.me own.looks, ap mine_of own.looks.role)
-
-pub returns-in-Status-clause-short : goal.returns-in-Status-clause-short
-returns-in-Status-clause-short g c = short_state c.status.result (omega arith)
+    subst (λ (s : Speech). says s c.args.publisher.now c.status_reply.result c.status_reply.new.publisher) (sym c.in-Status.is) c.status_reply.ensures.said

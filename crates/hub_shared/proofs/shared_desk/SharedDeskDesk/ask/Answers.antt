@@ -3,9 +3,10 @@ use Rattle.std.specs.Arc.{arc_value}
 use Rattle.hub_requests.specs.declared.request.Request.{Request}
 use Rattle.hub_names.specs.declared.hub.Hub.{Hub}
 use Rattle.hub_shared.specs.Desks.{CarriesOut}
-use Rattle.hub_names.specs.Fifodirs.{KeepsAll}
+use Rattle.hub_names.specs.Fifodirs.{AsksByName, KeepsAll}
+use Rattle.hub_names.specs.Says.{says_status}
 use Rattle.hub_shared.specs.Waits.{WaitsFor}
-use Rattle.hub_shared.proofs.Handling.{subscribes_to, listens_to}
+use Rattle.hub_shared.proofs.Handling.{subscribes_to, listens_to, asks_as_before}
 use Rattle.hub_shared.proofs.shared_desk.SharedDeskDesk.ask.Goals as goal
 
 pub returns-in-Ok-clause-step : goal.returns-in-Ok-clause-step
@@ -46,6 +47,21 @@ returns-in-Ok-open-clause-step g c =
       answers = subst (λ (r : Request). CarriesOut (arc_value c.args.self.now.hub) c.args.self.now.fifodirs c.args.self.now.handles r c.settle.result fifodirs c.args.self.now.handles) (sym c.in-Wait.is) (
         subst (λ (hub : Hub). KeepsAll hub c.args.self.now.fifodirs fifodirs) c.deref-in-Wait.ensures opened.kept,
         inl (subst (λ (names : List (List ℕ)). WaitsFor fifodirs c.in-Wait.span c.in-Wait.want names c.settle.result) c.items.ensures waits),
+        refl {a = c.args.self.now.handles},
+      );
+    }
+
+pub returns-in-None-clause-step : goal.returns-in-None-clause-step
+returns-in-None-clause-step g c =
+    let fifodirs = c.args.self.now.fifodirs in
+    let new = c.speak-in-None.new.self in
+    record {
+      hub = refl;
+      pause = refl;
+      client = refl;
+      answers = subst (λ (r : Request). CarriesOut (arc_value c.args.self.now.hub) fifodirs c.args.self.now.handles r c.speak-in-None.result new c.args.self.now.handles) (sym c.in-Status.is) (
+        asks_as_before (arc_value c.args.self.now.hub) says_status fifodirs c.status.new.self new c.in-Status.name c.speak-in-None.result c.in-None.ensures.none.1
+            (subst (λ (hub : Hub). AsksByName hub says_status c.status.new.self c.in-Status.name c.speak-in-None.result new) c.deref-in-None.ensures c.speak-in-None.ensures.step),
         refl {a = c.args.self.now.handles},
       );
     }
