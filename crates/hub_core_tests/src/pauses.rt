@@ -25,7 +25,7 @@ impl Clock for Counting {
 
     fn sleep(&self, duration: Duration) {
         self.sleeps.fetch_add(1, Ordering::SeqCst);
-        let asked = duration.as_micros() as u64;
+        let asked = u64::try_from(duration.as_micros()).unwrap_or(u64::MAX);
         self.microseconds.fetch_add(asked, Ordering::SeqCst);
     }
 }

@@ -69,21 +69,23 @@ static FIRSTS: [First; 3] = [
 fn next_finds_room<H: AllocGlobal + Abort + Wait>(rt: &H, input: &[u8], first: &First) {
     let (name, read, write, result, written) = first;
     let hub = new_hub(rt);
-    let mut first = session(rt, &hub);
+    let mut desk = session(rt, &hub);
     let mut reader = Dripping::new(input, 64, *read);
     let mut writer = Narrow::new(64, *write);
-    let ended = serve_once(rt, rt.alloc(), &mut first, &mut reader, &mut writer);
+    let ended = serve_once(rt, rt.alloc(), &mut desk, &mut reader, &mut writer);
     assert_eq!(rt; ended, *result, "{name}");
     assert_eq!(rt; writer.bytes_held(), written.as_bytes(), "{name}");
+    finds_room(rt, session(rt, &hub), name);
+    desk.release(rt);
+}
 
-    let mut second = session(rt, &hub);
+fn finds_room<H: AllocGlobal + Abort + Wait>(rt: &H, mut desk: Session, name: &str) {
     let mut reader = Dripping::new(SECOND, 64, 0);
     let mut writer = Narrow::new(64, 0);
-    let ended = serve_once(rt, rt.alloc(), &mut second, &mut reader, &mut writer);
+    let ended = serve_once(rt, rt.alloc(), &mut desk, &mut reader, &mut writer);
     assert_eq!(rt; ended, Ok(2), "{name}");
     assert_eq!(rt; writer.bytes_held(), ROOM, "{name}");
-    second.release(rt);
-    first.release(rt);
+    desk.release(rt);
 }
 
 #[test]
