@@ -1,8 +1,7 @@
 -- The requests that begin a subscription or a listener: one more handle.
-use Rattle.std.proofs.Common.{◌≡◌, ◌≢◌, ℕ, ◌+◌, ◌<◌, ◌≤◌, Bool, true, false, List, [], ◌∷◌, ◌++◌, length, nat_eq, nat_le, Option, Some, None, is_some, Ok, Err, refl, sym, ap, subst, ◌∙◌, inl, inr, length-append, arith}
-use Rattle.std.proofs.lemmas.Bool.{cases_Bool}
+use Rattle.std.proofs.Common.{◌≡◌, ℕ, ◌+◌, ◌<◌, Bool, true, false, List, [], ◌∷◌, ◌++◌, length, nat_eq, Option, Some, None, is_some, Result, Ok, Err, refl, sym, ap, subst, ◌∙◌, inl, inr, length-append, true≢false, arith}
 use Rattle.std.proofs.lemmas.Slice.Eq.{bytes_eq-Decides}
-use Rattle.std.specs.Map.{lookup}
+use Rattle.std.specs.Map.{lookup, set_value}
 use Rattle.std.specs.Str.{bytes_eq}
 use Rattle.hub_listen.specs.Listening.{Listening, new_listening}
 use Rattle.hub_letters.specs.declared.mode.Mode.{Mode}
@@ -12,8 +11,10 @@ use Rattle.hub_record.specs.declared.SubError.TheVariants as sub
 use Rattle.hub_record.specs.Kept.{Kept, StandsFor}
 use Rattle.hub_record.specs.World.{World, new_subscription, SubscribeReply, after_subscribe}
 use Rattle.hub_requests.specs.declared.bounds.TheConstants.{MOST_NUMBERS}
+use Rattle.hub_local.specs.Beginning.{Begins}
 use Rattle.hub_local.specs.DeskAnswers.{in_world, refusal_to_hold, refusal_to_listen, subscribe_answer}
-use Rattle.hub_local.specs.Desks.{Desk, Handle, standing, world_of, with_world, subscription_of, AreHeld, AreApart, GoesOn, AllGoOn, refusal_answer}
+use Rattle.hub_local.specs.Desks.{Fifodir, Desk, Handle, standing, world_of, with_world, subscription_of, AreHeld, AreApart, GoesOn, AllGoOn, refusal_answer}
+use Rattle.hub_local.specs.Opening.{is_there}
 use Rattle.hub_local.specs.Replies.{subscribe_reply}
 use Rattle.hub_requests.specs.Refusals.{refusal_of_sub}
 use Rattle.hub_requests.specs.Room.{refusal_of_handle}
@@ -25,11 +26,12 @@ use Rattle.hub_local.specs.declared.local_desk.LocalFifodir.{LocalFifodir}
 use Rattle.hub_requests.specs.declared.request.Request.TheVariants.{Listen}
 use Rattle.hub_requests.specs.declared.reply.Reply.{Reply}
 use Rattle.hub_requests.specs.declared.reply.Reply.TheVariants.{Number, No}
+use Rattle.hub_requests.specs.declared.reply.Refusal.{Refusal}
 use Rattle.hub_requests.specs.declared.reply.Refusal.TheVariants as no
-use Rattle.hub_local.proofs.Asking.{answers_like, by_carrying, by_lacking, still_lacking, stands_same, Replaces, world_there, stands_replaced, stands_still}
-use Rattle.hub_local.proofs.Holdings.{none_above, standing-push, held_push, apart_push, go_on_push, unheld_id}
-use Rattle.hub_local.proofs.KeptFifodirs.{is_some-world_of, none_kept, world_of-with_world}
-use Rattle.hub_local.proofs.RecordReplies.{subscribe_reply_is}
+use Rattle.hub_local.proofs.Asking.{answers_like, by_carrying, by_lacking, is_memory, still_lacking}
+use Rattle.hub_local.proofs.Holdings.{held_in_changed, held_still, none_above, standing-push, held_push, apart_push, go_on_push, unheld_id}
+use Rattle.hub_local.proofs.KeptFifodirs.{is_some-world_of, some_kept, kept_set, kept_still, world_of-with_world}
+use Rattle.hub_local.proofs.RecordReplies.{given_is, subscribe_reply_is}
 use Rattle.hub_local.proofs.Worlds.{found-push, found_new}
 
 same_name : (name : List ℕ) → bytes_eq name name ≡ true
@@ -54,15 +56,24 @@ module _ (local : Local) (name : List ℕ) (d : Desk) (st : StandsForDesk local 
 some_none : {X : Type 0} (x : X) → Some x ≡ None → ⊥
 some_none x e = cc
 
-pub named_there : (local : Local) (name : List ℕ) (d : Desk) → StandsForDesk local d → refusal_to_hold d name ≡ None → None ≡ lookup (bytes_eq name) local.fifodirs → ⊥
-named_there local name d st may none = let e = none_kept name local.fifodirs d.fifodirs st.fifodirs (sym none) in some_none no.Name (simp e at may)
+pub unrefused_world : (d : Desk) (name : List ℕ) → refusal_to_hold d name ≡ None → (w : World) × (world_of d.fifodirs name ≡ Some w)
+unrefused_world d name may = by (world_of d.fifodirs name) refl
+  where
+    by : (o : Option World) → world_of d.fifodirs name ≡ o → (w : World) × (world_of d.fifodirs name ≡ Some w)
+    by None e = absurd (some_none no.Name (simp e at may))
+    by (Some w) e = (w, e)
+
+pub named_there : (local : Local) (name : List ℕ) (d : Desk) → StandsForDesk local d → refusal_to_hold d name ≡ None → is_there local.fifodirs name ≡ true
+named_there local name d st may = is_some-world_of name local.fifodirs d.fifodirs st.fifodirs ∙ ap is_some (unrefused_world d name may).1
+
+pub none_there : (name : List ℕ) (es : List (List ℕ × LocalFifodir)) → is_there es name ≡ true → None ≡ lookup (bytes_eq name) es → ⊥
+none_there name es there none = true≢false (sym there ∙ ap is_some (sym none))
 
 pub numbers_left : (local : Local) (name : List ℕ) (d : Desk) → StandsForDesk local d → refusal_to_hold d name ≡ None → local.given < MOST_NUMBERS
 numbers_left local name d st may =
-    elim (cases_Bool (is_some (world_of d.fifodirs name))) [
-      | inl t ↦ (let left = room_for_handle (length (standing d)) (length d.handles) (simp t at may) in let l = left.1 in let g = st.given in omega arith)
-      | inr t ↦ absurd (some_none no.Name (simp t at may))
-    ]
+    let t = unrefused_world d name may in
+    let e = t.1 in
+    let left = room_for_handle (length (standing d)) (length d.handles) (simp e at may) in let l = left.1 in let g = st.given in omega arith
 
 -- with another expression for the desk
 pub unrefused_at : {before old : Local} (name : List ℕ) → before ≡ old → ((d : Desk) → StandsForDesk old d → refusal_to_hold d name ≡ None) → (d : Desk) → StandsForDesk before d → refusal_to_hold d name ≡ None
@@ -74,74 +85,100 @@ fresh_number local d st = let g = st.given in ap (lookup (nat_eq (local.given + 
 
 -- ---- one more handle
 
-module _ (old : Local) (name : List ℕ) (hearing : Option LocalListener) where
+module _ (name : List ℕ) (es : List (List ℕ × LocalFifodir)) (r : LocalFifodir) (kept : Kept) (was : lookup (bytes_eq name) es ≡ Some r) (fs : List Fifodir) (w : World) (h : AreKept es fs) (is : world_of fs name ≡ Some w) where
+  -- the record stands for the world
+  stands_there : StandsFor r.kept w
+  stands_there = let t = some_kept name es fs r h was in let same : t.0 ≡ w = (let k = sym t.1 ∙ is in cc) in subst (StandsFor r.kept) same t.2
+
+  pub begins_one : (begun : List ℕ × ℕ) (mark : ℕ) → ((v : World) → StandsFor r.kept v → SubscribeReply v (Ok (begun.1, mark))) → ((v : World) → StandsFor r.kept v → StandsFor kept (after_subscribe v (Ok (begun.1, mark))))
+      → Begins name w fs (Ok begun) (set_value (bytes_eq name) es (record { kept = kept; reports = r.reports }))
+  begins_one begun mark replies after =
+      let said : subscribe_reply w ≡ Ok (begun.1, mark) = sym (subscribe_reply_is w (Ok (begun.1, mark)) (replies w stands_there) (λ e. cc)) in
+      let marked : mark ≡ length w.events = ap (λ (g : ℕ × ℕ). g.1) (replies w stands_there).1 in record {
+        said = said ∙ ap (λ (n : ℕ). Ok (begun.1, n)) marked;
+        kept = subst (λ (v : World). AreKept (set_value (bytes_eq name) es (record { kept = kept; reports = r.reports })) (with_world fs name v)) (ap (after_subscribe w) (sym said))
+            (kept_set name es fs r (record { kept = kept; reports = r.reports }) (after_subscribe w (Ok (begun.1, mark))) h was refl (after w stands_there));
+      }
+
+  pub begins_refused : (error : SubError) (refusal : Refusal) → ((v : World) → StandsFor r.kept v → SubscribeReply v (Err error)) → kept ≡ r.kept → refusal ≡ refusal_of_sub error
+      → Begins name w fs (Err refusal) (set_value (bytes_eq name) es (record { kept = kept; reports = r.reports }))
+  begins_refused error refusal replies still named = (
+    kept_still name es fs r (record { kept = kept; reports = r.reports }) w h was is refl (subst (λ (k : Kept). StandsFor k w) (sym still) stands_there),
+    λ real. record {
+      error = error;
+      said = sym (subscribe_reply_is w (Err error) (replies w stands_there) (λ e. real (let k : error ≡ sub.Memory = cc in named ∙ ap refusal_of_sub k)));
+      named = named;
+    },
+  )
+
+module _ (old new : Local) (name : List ℕ) (hearing : Option LocalListener) (may : (d : Desk) → StandsForDesk old d → refusal_to_hold d name ≡ None) where
   abbrev Holds : Reply → Local → Type 0
-  Holds reply new = CarriesOut old true (λ d. refusal_to_hold d name) (λ d. in_world d (λ w. subscribe_answer d name hearing w (subscribe_reply w)) (world_of d.fifodirs name)) Unchanged reply new
+  Holds reply now = CarriesOut old true (λ d. refusal_to_hold d name) (λ d. in_world d (λ w. subscribe_answer d name hearing w (subscribe_reply w)) (world_of d.fifodirs name)) Unchanged reply now
 
-  module _ (may : (d : Desk) → StandsForDesk old d → refusal_to_hold d name ≡ None) where
-    pub hold_lacks : (new : Local) → new ≡ old → Holds (No no.Memory) new
-    hold_lacks new same = by_lacking old new true _ _ _ _ refl refl (λ d st. still_lacking new d (refusal_to_hold d name) (may d st) (stands_same old new d same st))
+  abbrev Begun : Result (List ℕ × ℕ) Refusal → Type 0
+  Begun begun = (model : List Fifodir) (w : World) → AreKept old.fifodirs model → world_of model name ≡ Some w → Begins name w model begun new.fifodirs
 
-    -- `mid` has the record's answer, and then `new` the handle
-    module _ (mid new : Local) (r : LocalFifodir) (kept : Kept) (put : Replaces old mid name r kept) where
-      pub hold_done : GoesOn hearing → (given : ℕ × ℕ) → ((w : World) → StandsFor r.kept w → SubscribeReply w (Ok given)) → ((w : World) → StandsFor r.kept w → StandsFor kept (after_subscribe w (Ok given)))
-          → new.fifodirs ≡ mid.fifodirs → new.holdings ≡ old.holdings ++ (old.given + 1, record { name = name; id = given.0; hearing = hearing }) ∷ [] → new.given ≡ old.given + 1
-          → Holds (Number (old.given + 1)) new
-      hold_done goes_on given replies after fifodirs holdings number = by_carrying old new true _ _ _ _ (λ e. cc) (λ d st.
-          let t = world_there old mid name r kept put d st in
-          let w = t.0 in
-          let says = replies w t.2 in
-          let next = after_subscribe w (Ok given) in
-          let h : Holding = record { name = name; id = given.0; hearing = hearing } in
-          let fs = with_world d.fifodirs name next in
-          let id : given.0 ≡ length w.subscriptions + 1 = ap (λ (g : ℕ × ℕ). g.0) says.1 in
-          let was = stands_replaced old mid name r kept put d st w next t.1 (after w t.2) (λ i. found-push 1 w.subscriptions (new_subscription w) i) in
-          let same : old.given + 1 ≡ length d.handles + 1 = ap (λ (n : ℕ). n + 1) st.given in
-          let stood = standing-push 1 d.handles (record { holding = h; current = true }) (old.given + 1) refl (omega arith) in
-          let there_now : is_some (subscription_of (with_world d.fifodirs name next) h) ≡ true =
-          simp (world_of-with_world name d.fifodirs w next name t.1, same_name name) (found_new 1 w.subscriptions (new_subscription w) given.0 refl (omega arith)) in record {
-            answer = subscribe_answer d name hearing w (Ok given);
+  pub hold_done : GoesOn hearing → (begun : List ℕ × ℕ) → Begun (Ok begun)
+      → new.holdings ≡ old.holdings ++ (old.given + 1, record { name = name; id = begun.1; hearing = hearing }) ∷ [] → new.given ≡ old.given + 1
+      → Holds (Number (old.given + 1)) new
+  hold_done goes_on begun begins holdings number = by_carrying old new true _ _ _ _ (λ e. cc) (λ d st.
+      let t = unrefused_world d name (may d st) in
+      let w = t.0 in
+      let b = begins d.fifodirs w st.fifodirs t.1 in
+      let reply : Result (ℕ × ℕ) SubError = Ok (begun.1, length w.events) in
+      let next = after_subscribe w reply in
+      let h : Holding = record { name = name; id = begun.1; hearing = hearing } in
+      let fs = with_world d.fifodirs name next in
+      let id : begun.1 ≡ length w.subscriptions + 1 = given_is w (begun.1, length w.events) b.said in
+      let same : old.given + 1 ≡ length d.handles + 1 = ap (λ (n : ℕ). n + 1) st.given in
+      let stood = standing-push 1 d.handles (record { holding = h; current = true }) (old.given + 1) refl (omega arith) in
+      let still = held_still d.fifodirs fs (λ g. held_in_changed d.fifodirs name w next t.1 g (λ _. found-push 1 w.subscriptions (new_subscription w) g.id)) _ st.is_desk.held in
+      let there_now : is_some (subscription_of (with_world d.fifodirs name next) h) ≡ true =
+      simp (world_of-with_world name d.fifodirs w next name t.1, same_name name) (found_new 1 w.subscriptions (new_subscription w) begun.1 refl (omega arith)) in record {
+        answer = subscribe_answer d name hearing w reply;
+        unrefused = may d st;
+        done_is = ap (in_world d (λ v. subscribe_answer d name hearing v (subscribe_reply v))) t.1 ∙ ap (subscribe_answer d name hearing w) b.said;
+        said = ap (λ (n : ℕ). Number n) same;
+        stands = record {
+          fifodirs = subst (λ (r : Result (ℕ × ℕ) SubError). AreKept new.fifodirs (with_world d.fifodirs name (after_subscribe w r))) b.said b.kept;
+          holdings = holdings ∙ ap (λ (es : List (ℕ × Holding)). es ++ (old.given + 1, h) ∷ []) st.holdings ∙ sym stood;
+          given = number ∙ same ∙ sym (length-push d.handles _);
+          is_desk = record {
+            held = subst (AreHeld fs) (sym stood) (held_push fs (standing d) (old.given + 1, h) still there_now);
+            apart = subst AreApart (sym stood) (apart_push d.fifodirs (standing d) (old.given + 1, h) st.is_desk.apart st.is_desk.held
+                (λ g s name_is id_is. unheld_id d.fifodirs name w next t.1 g s name_is (id_is ∙ id)));
+            go_on = subst AllGoOn (sym stood) (go_on_push (standing d) (old.given + 1, h) st.is_desk.go_on goes_on);
+          };
+        };
+      })
+
+  module _ (refusal : Refusal) (begins : Begun (Err refusal)) (holdings : new.holdings ≡ old.holdings) (given : new.given ≡ old.given) where
+    stands_after : (d : Desk) → StandsForDesk old d → StandsForDesk new d
+    stands_after d st = (let t = unrefused_world d name (may d st) in record {
+      fifodirs = (begins d.fifodirs t.0 st.fifodirs t.1).0;
+      holdings = holdings ∙ st.holdings;
+      given = given ∙ st.given;
+      is_desk = st.is_desk;
+    })
+
+    refused : Holds (No refusal) new
+    refused = elim (is_memory refusal) [
+      | inl e ↦ by_lacking old new true _ _ _ _ (ap (λ (r : Refusal). No r) e) refl (λ d st. still_lacking new d (refusal_to_hold d name) (may d st) (stands_after d st))
+      | inr real ↦ by_carrying old new true _ _ _ _ (λ e. real (let k : refusal ≡ no.Memory = cc in k)) (λ d st.
+          let t = unrefused_world d name (may d st) in
+          let b = (begins d.fifodirs t.0 st.fifodirs t.1).1 real in record {
+            answer = refusal_answer d refusal;
             unrefused = may d st;
-            done_is = ap (in_world d (λ v. subscribe_answer d name hearing v (subscribe_reply v))) t.1 ∙ ap (subscribe_answer d name hearing w) (sym (subscribe_reply_is w (Ok given) says (λ e. cc)));
-            said = ap (λ (n : ℕ). Number n) same;
-            stands = record {
-              fifodirs = subst (λ (es : List (List ℕ × LocalFifodir)). AreKept es (with_world d.fifodirs name next)) (sym fifodirs) was.fifodirs;
-              holdings = holdings ∙ ap (λ (es : List (ℕ × Holding)). es ++ (old.given + 1, h) ∷ []) st.holdings ∙ sym stood;
-              given = number ∙ same ∙ sym (length-push d.handles _);
-              is_desk = record {
-                held = subst (AreHeld fs) (sym stood) (held_push fs (standing d) (old.given + 1, h) was.is_desk.held there_now);
-                apart = subst AreApart (sym stood) (apart_push d.fifodirs (standing d) (old.given + 1, h) st.is_desk.apart st.is_desk.held
-                    (λ g s name_is id_is. unheld_id d.fifodirs name w next t.1 g s name_is (id_is ∙ id)));
-                go_on = subst AllGoOn (sym stood) (go_on_push (standing d) (old.given + 1, h) st.is_desk.go_on goes_on);
-              };
-            };
+            done_is = ap (in_world d (λ v. subscribe_answer d name hearing v (subscribe_reply v))) t.1 ∙ ap (subscribe_answer d name hearing t.0) b.said
+                ∙ ap (refusal_answer d) (sym b.named);
+            said = refl;
+            stands = stands_after d st;
           })
+    ]
 
-      module _ (error : SubError) (reply : Reply) (replies : (w : World) → StandsFor r.kept w → SubscribeReply w (Err error)) (still : kept ≡ r.kept) (same : new ≡ mid) (is : reply ≡ No (refusal_of_sub error)) where
-        stands_after : (d : Desk) → StandsForDesk old d → StandsForDesk new d
-        stands_after d st = (let t = world_there old mid name r kept put d st in
-            stands_same mid new d same (stands_still old mid name r kept put d st t.0 t.1 (subst (λ (k : Kept). StandsFor k t.0) (sym still) t.2)))
-
-        refused_by_record : error ≢ sub.Memory → refusal_of_sub error ≢ no.Memory → Holds reply new
-        refused_by_record real named = by_carrying old new true _ _ _ reply (λ e. named (let k : refusal_of_sub error ≡ no.Memory = cc in k)) (λ d st.
-            let t = world_there old mid name r kept put d st in
-            let w = t.0 in record {
-              answer = refusal_answer d (refusal_of_sub error);
-              unrefused = may d st;
-              done_is = ap (in_world d (λ v. subscribe_answer d name hearing v (subscribe_reply v))) t.1
-                  ∙ ap (subscribe_answer d name hearing w) (sym (subscribe_reply_is w (Err error) (replies w t.2) (λ e. real (let k : error ≡ sub.Memory = cc in k))));
-              said = is;
-              stands = stands_after d st;
-            })
-
-        lacked_by_record : error ≡ sub.Memory → Holds reply new
-        lacked_by_record e = by_lacking old new true _ _ _ reply (is ∙ ap (λ (x : SubError). No (refusal_of_sub x)) e) refl (λ d st. still_lacking new d (refusal_to_hold d name) (may d st) (stands_after d st))
-
-      pub hold_refused : (error : SubError) (reply : Reply) → ((w : World) → StandsFor r.kept w → SubscribeReply w (Err error)) → kept ≡ r.kept → new ≡ mid → reply ≡ No (refusal_of_sub error) → Holds reply new
-      hold_refused sub.Closed reply replies still same is = refused_by_record sub.Closed reply replies still same is (λ e. cc) (λ e. cc)
-      hold_refused sub.Many reply replies still same is = refused_by_record sub.Many reply replies still same is (λ e. cc) (λ e. cc)
-      hold_refused sub.Spent reply replies still same is = refused_by_record sub.Spent reply replies still same is (λ e. cc) (λ e. cc)
-      hold_refused sub.Memory reply replies still same is = lacked_by_record sub.Memory reply replies still same is refl
+    -- with another expression for the desk after it
+    pub hold_refused : (now : Local) → now ≡ new → Holds (No refusal) now
+    hold_refused now same = subst (Holds (No refusal)) (sym same) refused
 
 -- ---- a listener whose text is a pattern
 

@@ -1,5 +1,5 @@
 -- The request about several services at once.
-use Rattle.std.proofs.Common.{◌≡◌, ◌≢◌, ℕ, ◌+◌, ◌≤◌, Bool, true, List, [], ◌∷◌, ◌++◌, length, drop, map, take, Option, Some, None, is_some, Result, Ok, Err, refl, sym, ap, subst, ◌∙◌, inl, inr, append_assoc, append-nil, arith}
+use Rattle.std.proofs.Common.{◌≡◌, ◌≢◌, ℕ, ◌≤◌, Bool, true, List, [], ◌∷◌, ◌++◌, length, drop, map, take, Option, Some, None, is_some, Result, Ok, Err, refl, sym, ap, subst, ◌∙◌, inl, inr, append_assoc, append-nil, arith}
 use Rattle.std.proofs.lemmas.Bool.{cases_Bool}
 use Rattle.std.proofs.lemmas.List.{take_all, take-append-drop}
 use Rattle.std.specs.List.{list_all}
@@ -7,7 +7,7 @@ use Rattle.std.specs.Prelude.{fold, ◌&&◌}
 use Rattle.std.specs.Str.{bytes_eq}
 use Rattle.hub_letters.specs.declared.want.Want.{Want}
 use Rattle.hub_record.specs.declared.SubError.{SubError}
-use Rattle.hub_record.specs.World.{World, SubscribeReply, new_subscription, after_subscribe}
+use Rattle.hub_record.specs.World.{World, new_subscription, after_subscribe}
 use Rattle.hub_letters.specs.declared.span.Span.{Span}
 use Rattle.hub_wait.specs.declared.tally.Verdict.{Verdict}
 use Rattle.hub_wait.specs.declared.tally.Verdict.TheVariants as verdict
@@ -29,7 +29,7 @@ use Rattle.hub_local.proofs.Asking.{by_carrying, by_refusing, by_lacking, is_mem
 use Rattle.hub_local.proofs.Holdings.{held_still, held_in_changed, held_beside_cancelled, unheld_id}
 use Rattle.hub_local.proofs.KeptFifodirs.{is_some-world_of}
 use Rattle.hub_local.proofs.Posts.{without_posts-none}
-use Rattle.hub_local.proofs.RecordReplies.{subscribe_is_of}
+use Rattle.hub_local.proofs.RecordReplies.{given_is}
 use Rattle.hub_local.proofs.Worlds.{found-push}
 
 -- ---- by name
@@ -86,9 +86,6 @@ pub record StandsBeside (now : List Fifodir) (names : List (List ℕ)) (before p
   pub are : posts ≡ before ++ more
   pub beside : AreBeside names more g
   pub stands : is_some (subscription_of now g) ≡ true
-
-pub given_is : (w : World) (given : ℕ × ℕ) → subscribe_reply w ≡ Ok given → given.0 ≡ length w.subscriptions + 1
-given_is w given said = let replies = subst (SubscribeReply w) said (subscribe_is_of w).0 in ap (λ (g : ℕ × ℕ). g.0) replies.1
 
 stays_stopped : (want : Want) (names : List (List ℕ)) (fs now : List Fifodir) (before posts : List LocalPost) (refusal : Refusal) → fold (with_post want) (opening_refused fs before refusal) names ≡ so_far now posts → ⊥
 stays_stopped want [] fs now before posts refusal e = let k : Some refusal ≡ None = ap (λ (o : Opening). o.refusal) e in cc

@@ -137,6 +137,9 @@ subscribe_holds w =
 pub subscribe_is_of : SubscribeIsOf
 subscribe_is_of w = (subscribe_holds w, subscribe_reply_is w)
 
+pub given_is : (w : World) (given : ℕ × ℕ) → subscribe_reply w ≡ Ok given → given.0 ≡ length w.subscriptions + 1
+given_is w given said = let replies = subst (SubscribeReply w) said (subscribe_is_of w).0 in ap (λ (g : ℕ × ℕ). g.0) replies.1
+
 none_lawful : (kind : Kind) (word message : List ℕ) → IsLawfulIn kind word → first_unlawful kind word message ≡ None → IsLawfulIn kind (word ++ message)
 none_lawful kind word [] lawful e = subst (IsLawfulIn kind) (sym (append-nil word)) lawful
 none_lawful kind word (letter ∷ rest) lawful e =

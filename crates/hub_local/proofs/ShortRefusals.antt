@@ -1,5 +1,5 @@
 -- The text of a refusal to publish is short.
-use Rattle.std.proofs.Common.{ℕ, ◌<◌, ◌≤◌, ◌^◌, List, length, Err, lit≤}
+use Rattle.std.proofs.Common.{ℕ, ◌<◌, ◌^◌, List, length, Err, lit≤}
 use Rattle.hub_record.specs.World.{World, letters, PublishReply}
 use Rattle.hub_record.specs.declared.PubError.{PubError}
 use Rattle.hub_record.specs.declared.PubError.TheVariants as post

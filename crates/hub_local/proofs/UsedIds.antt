@@ -17,7 +17,7 @@ use Rattle.hub_local.specs.declared.local_desk.Holding.{Holding}
 use Rattle.hub_local.specs.declared.local_desk.waits.LocalPost.{LocalPost}
 use Rattle.hub_requests.specs.declared.reply.Refusal.{Refusal}
 use Rattle.hub_requests.specs.declared.reply.Refusal.TheVariants as no
-use Rattle.hub_local.proofs.AskingServices.{given_is}
+use Rattle.hub_local.proofs.RecordReplies.{given_is}
 use Rattle.hub_local.proofs.KeptFifodirs.{world_of-with_world}
 use Rattle.hub_local.proofs.Worlds.{found_below}
 

@@ -6,3 +6,4 @@ pub mod DeskAnswers
 pub mod Hearings
 pub mod Standing
 pub mod Opening
+pub mod Beginning

@@ -1,12 +1,14 @@
 //! The requests about a subscription: begin one, take from it, and end it.
-ghost use Rattle.std.specs.Prelude.{◌≡◌, ◌≤◌, List, length, None, false, true, IfOk, IfSome, OnOk, OnErr};
-ghost use Rattle.indexmap.specs.IndexMap.{values};
+ghost use Rattle.std.specs.Prelude.{◌≡◌, ◌≤◌, ◌<◌, List, length, None, Some, false, true, nat_eq, IfOk, IfErr, IfSome, OnOk, OnErr};
+ghost use Rattle.indexmap.specs.IndexMap.{values, spare, insert_entry};
 ghost use Rattle.hub_record.specs.Kept.{StandsFor};
 ghost use Rattle.hub_record.specs.World.{World, letters, take_reply, take_events, after_take};
 ghost use Rattle.hub_requests.specs.declared.bounds.TheConstants.{MOST_TAKEN};
+ghost use Rattle.hub_local.specs.Beginning.{Begins};
 ghost use Rattle.hub_local.specs.DeskAnswers.{in_world, refusal_to_hold, subscribe_answer, take_shown};
 ghost use Rattle.hub_local.specs.Desks.{Desk, Fifodir, GoesOn, without_held, without_all, world_of};
 ghost use Rattle.hub_requests.specs.Ranges.{IsTake};
+ghost use Rattle.hub_local.specs.Opening.{is_there};
 ghost use Rattle.hub_local.specs.Replies.{subscribe_reply};
 ghost use Rattle.hub_local.specs.Standing.{AreKept, CarriesOut, AsksWith, HasSubscription, StandsForDesk, Unchanged};
 ghost use Rattle.hub_requests.specs.declared.reply.Reply.TheVariants.{No};
@@ -54,27 +56,14 @@ impl LocalDesk {
             (world_of desk.fifodirs name.now)) Unchanged result self.new }
         ensures short { IsShort result }
     {
-        let Ok(key) = name.copy() else {
-            return Reply::No(Refusal::Memory);
-        };
-        if self.holdings.reserve(1).is_err() {
-            return Reply::No(Refusal::Memory);
-        }
-        let Some(fifodir) = self.fifodirs.get_mut(name) else {
-            unreachable!()
-        };
-        match fifodir.kept.subscribe() {
-            Ok((id, _mark)) => {
+        match begin(&mut self.fifodirs, &mut self.holdings, name) {
+            Ok((name, id)) => {
                 self.given += 1;
-                let holding = Holding {
-                    name: key,
-                    id,
-                    hearing,
-                };
-                self.holdings.insert(self.given, holding).unwrap();
+                let holding = Holding { name, id, hearing };
+                give(&mut self.holdings, self.given, holding);
                 Reply::Number(self.given)
             }
-            Err(error) => Reply::No(Refusal::from(error)),
+            Err(refusal) => Reply::No(refusal),
         }
     }
 
@@ -108,6 +97,44 @@ impl LocalDesk {
         release(&mut self.fifodirs, &holding);
         Reply::Done
     }
+}
+
+/// Makes room for one more handle, and then subscribes. Returns what the handle is for: a copy of the name, and the
+/// subscription's id.
+fn begin(
+    fifodirs: &mut IndexMap<Name, LocalFifodir>,
+    holdings: &mut IndexMap<u64, Holding>,
+    name: &Name,
+) -> Result<(Name, u64), Refusal>
+    requires there { is_there fifodirs.old.entries name.now ≡ true }
+    ensures begins { (model : List Fifodir) (w : World) → AreKept fifodirs.old.entries model
+        → world_of model name.now ≡ Some w → Begins name.now w model result fifodirs.new.entries }
+    ensures name { IfOk result (λ begun. begun.0 ≡ name.now) }
+    ensures room { OnOk result (0 < spare holdings.new) }
+    ensures same { holdings.new.entries ≡ holdings.old.entries }
+    ensures short { IfErr result (λ refusal. IsShort (No refusal)) }
+{
+    let Ok(key) = name.copy() else {
+        return Err(Refusal::Memory);
+    };
+    if holdings.reserve(1).is_err() {
+        return Err(Refusal::Memory);
+    }
+    let Some(fifodir) = fifodirs.get_mut(name) else {
+        unreachable!()
+    };
+    match fifodir.kept.subscribe() {
+        Ok((id, _mark)) => Ok((key, id)),
+        Err(error) => Err(Refusal::from(error)),
+    }
+}
+
+/// Gives this number to what is held. There is room for it.
+fn give(holdings: &mut IndexMap<u64, Holding>, number: u64, holding: Holding)
+    requires { 0 < spare holdings.old }
+    ensures { holdings.new.entries ≡ insert_entry nat_eq holdings.old.entries number holding }
+{
+    holdings.insert(number, holding).unwrap();
 }
 
 /// Cancels the subscription of a handle, if it is current.

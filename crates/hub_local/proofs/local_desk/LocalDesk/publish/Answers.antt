@@ -2,7 +2,6 @@ use Rattle.std.proofs.Common.{false, refl, ap, sym, subst, ◌∙◌, List, ℕ,
 use Rattle.hub_record.specs.World.{World, PublishReply, after_publish}
 use Rattle.hub_record.specs.Kept.{StandsFor}
 use Rattle.hub_record.specs.declared.PubError.{PubError}
-use Rattle.hub_requests.specs.declared.reply.Reply.{Reply}
 use Rattle.hub_requests.specs.declared.reply.Reply.TheVariants.{No}
 use Rattle.hub_requests.specs.declared.reply.Refusal.{Refusal}
 use Rattle.hub_requests.proofs.ShortReplies.{short_number}

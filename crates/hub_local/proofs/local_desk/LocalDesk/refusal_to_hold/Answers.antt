@@ -1,6 +1,5 @@
-use Rattle.std.proofs.Common.{◌≡◌, ℕ, Option, length, ap, sym, ◌∙◌}
+use Rattle.std.proofs.Common.{ℕ, ap, sym, ◌∙◌}
 use Rattle.hub_requests.specs.Room.{refusal_of_handle}
-use Rattle.hub_requests.specs.declared.reply.Refusal.{Refusal}
 use Rattle.hub_local.proofs.Asking.{stands_same}
 use Rattle.hub_local.proofs.AskingHolds.{hold_unnamed, hold_there}
 use Rattle.hub_local.proofs.local_desk.LocalDesk.refusal_to_hold.Goals as goal
