@@ -1,7 +1,9 @@
 //! The flags of a service.
-ghost use Rattle.std.specs.Prelude.{◌≡◌, ◌≤◌, ◌<◌, ◌++◌, ℕ, List, Some, map, MatchOption, false};
+ghost use Rattle.std.specs.Prelude.{◌≡◌, ◌↔◌, ◌≤◌, ◌<◌, ◌++◌, ℕ, List, [], ◌∷◌, Some, map, codes, MatchOption, true, false};
 ghost use Rattle.hub_letters.specs.Marks.{mark};
 ghost use Rattle.hub_letters.specs.Flags.{flags_of, flags_next, flags_folded, no_flags, code_of};
+ghost use Rattle.hub_letters.specs.Occurrences.{LastIs};
+ghost use Rattle.hub_letters.specs.Codes.{sixteen_flags, coded_words};
 
 use crate::letter::Letter;
 
@@ -89,6 +91,26 @@ impl Flags {
     /// A law: the flags folded over a word, letter by letter, are the flags of the word.
     pub fn fold_to_those_of_the_word()
         ensures { (word : List ℕ) → flags_folded no_flags (map mark word) ≡ flags_of word }
+    {}
+
+    /// A law: each flag is decided by the last of the letters that bear on it.
+    pub fn are_by_last_letters()
+        ensures up { (word : List ℕ) → ((flags_of word).up ≡ true)
+            ↔ LastIs (codes "suUdD") (codes "uU") word }
+        ensures settled { (word : List ℕ) → ((flags_of word).settled ≡ true)
+            ↔ LastIs (codes "suUdD") (codes "sUD") word }
+        ensures supervised { (word : List ℕ) → ((flags_of word).supervised ≡ true)
+            ↔ LastIs (codes "sx") (codes "s") word }
+        ensures failed { (word : List ℕ) → ((flags_of word).failed ≡ true)
+            ↔ LastIs (codes "Osu") (codes "O") word }
+    {}
+
+    /// A law: these are the codes of all flags, and of some words.
+    pub fn have_sixteen_codes()
+        ensures codes { map code_of sixteen_flags
+            ≡ 0 ∷ 1 ∷ 2 ∷ 3 ∷ 4 ∷ 5 ∷ 6 ∷ 7 ∷ 8 ∷ 9 ∷ 10 ∷ 11 ∷ 12 ∷ 13 ∷ 14 ∷ 15 ∷ [] }
+        ensures words { map (λ row. code_of (flags_of row.0)) coded_words
+            ≡ map (λ row. row.1) coded_words }
     {}
 
     /// The flags as a number below 16: up counts 1, settled 2, supervised 4 and failed 8.

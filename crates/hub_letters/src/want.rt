@@ -1,6 +1,9 @@
 //! The state that a wait asks for.
-ghost use Rattle.std.specs.Prelude.{◌≡◌};
+ghost use Rattle.std.specs.Prelude.{◌≡◌, ◌↔◌, ◌⊎◌, ℕ, Bool, true, false, List, codes};
 ghost use Rattle.hub_letters.specs.Wants.{is_met, is_hopeless};
+ghost use Rattle.hub_letters.specs.Flags.{flags_of};
+ghost use Rattle.hub_letters.specs.Occurrences.{LastIs};
+ghost use Rattle.hub_letters.specs.declared.want.Want.{Want};
 
 use crate::flags::Flags;
 
@@ -42,4 +45,24 @@ impl Want {
             Want::Down | Want::Finished => false,
         }
     }
+
+    /// A law: a want is met by the last letter among `s u U d D`, and hopeless by the last among `O s u`.
+    pub fn are_by_last_letters()
+        ensures up { (word : List ℕ) (notifies : Bool)
+            → (is_met Want.Up (flags_of word) notifies ≡ true)
+            ↔ LastIs (codes "suUdD") (codes "uU") word }
+        ensures ready { (word : List ℕ) → (is_met Want.Ready (flags_of word) true ≡ true)
+            ↔ LastIs (codes "suUdD") (codes "U") word }
+        ensures ready_by_up { (word : List ℕ) → (is_met Want.Ready (flags_of word) false ≡ true)
+            ↔ LastIs (codes "suUdD") (codes "uU") word }
+        ensures down { (word : List ℕ) (notifies : Bool)
+            → (is_met Want.Down (flags_of word) notifies ≡ true)
+            ↔ (LastIs (codes "suUdD") (codes "uU") word → ⊥) }
+        ensures finished { (word : List ℕ) (notifies : Bool)
+            → (is_met Want.Finished (flags_of word) notifies ≡ true)
+            ↔ LastIs (codes "suUdD") (codes "sD") word }
+        ensures hopeless { (word : List ℕ) (want : Want) → (is_hopeless want (flags_of word) ≡ true)
+            ↔ (((want ≡ Want.Up) ⊎ (want ≡ Want.Ready))
+            × LastIs (codes "Osu") (codes "O") word) }
+    {}
 }
