@@ -51,11 +51,11 @@ letters_stamped : (who : ℕ) (message : List ℕ) → letters (as_events who me
 letters_stamped who [] = refl
 letters_stamped who (l ∷ ls) = ap (λ z. l ∷ z) (letters_stamped who ls)
 
-letters_after : (events : List Event) (who : ℕ) (message : List ℕ) → letters (events ++ as_events who message) ≡ letters events ++ message
+pub letters_after : (events : List Event) (who : ℕ) (message : List ℕ) → letters (events ++ as_events who message) ≡ letters events ++ message
 letters_after events who message = map-append (λ (e : Event). e.letter) events (as_events who message) ∙ ap (λ z. letters events ++ z) (letters_stamped who message)
 
 -- the base with more events: the same, or the end if no subscription is current
-grown : (w : World) (n : ℕ) (cs : List (ℕ × ℕ)) → standing w ≡ cs → IsWorld w → HasRoom w n → (length w.events + n) - least (length w.events + n) cs ≤ w.limits.waiting
+pub grown : (w : World) (n : ℕ) (cs : List (ℕ × ℕ)) → standing w ≡ cs → IsWorld w → HasRoom w n → (length w.events + n) - least (length w.events + n) cs ≤ w.limits.waiting
 grown w n [] is i room = omega arith
 grown w n (c ∷ cs) is i (inl none) = cc
 grown w n (c ∷ cs) is i (inr room) =

@@ -17,7 +17,7 @@ use Rattle.hub_record.proofs.StandsForWorlds.{held_of, with_held, found_some, fo
 
 -- ---- cancel
 
-cancelled : (w : World) (id : ℕ) (s : Subscription) → IsWorld w → subscription_in w id ≡ Some s → (base w ≤ base (with_changed w id as_cancelled)) × IsWorld (with_changed w id as_cancelled)
+pub cancelled : (w : World) (id : ℕ) (s : Subscription) → IsWorld w → subscription_in w id ≡ Some s → (base w ≤ base (with_changed w id as_cancelled)) × IsWorld (with_changed w id as_cancelled)
 cancelled w id s i f =
     let e = removed_standing 1 w.subscriptions id s f in
     let l = least-remove_entry (length w.events) (nat_eq id) (standing w) in
@@ -52,7 +52,7 @@ cancel_by r h w id room (Err no_id) s b =
 
 -- ---- take
 
-moved_world : (w : World) (id most : ℕ) (s : Subscription) → IsWorld w → subscription_in w id ≡ Some s → (base w ≤ base (with_changed w id (moved_on w most))) × IsWorld (with_changed w id (moved_on w most))
+pub moved_world : (w : World) (id most : ℕ) (s : Subscription) → IsWorld w → subscription_in w id ≡ Some s → (base w ≤ base (with_changed w id (moved_on w most))) × IsWorld (with_changed w id (moved_on w most))
 moved_world w id most s i f =
     let e = set_standing (moved_on w most) (λ s. refl) 1 w.subscriptions id s f in
     let at : lookup (nat_eq id) (standing w) ≡ Some s.next = lookup_standing 1 w.subscriptions id ∙ ap (option_map (λ (s : Subscription). s.next)) f in

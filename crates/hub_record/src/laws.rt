@@ -1,9 +1,9 @@
 //! Laws of the model, which no clause of a single call says. They are about the definitions alone, and so they hold for
 //! every record that stands for a world.
-ghost use Rattle.std.specs.Prelude.{◌≡◌, ◌≤◌, ℕ, List, [], length};
-ghost use Rattle.hub_record.specs.World.{World, empty_world, standing};
+ghost use Rattle.std.specs.Prelude.{◌≡◌, ◌≢◌, ◌<◌, ◌≤◌, ◌+◌, ℕ, List, [], Ok, length, get_or, false};
+ghost use Rattle.hub_record.specs.World.{World, IsWorld, empty_world, standing};
 ghost use Rattle.hub_record.specs.Kept.{Kept, StandsFor};
-ghost use Rattle.hub_record.specs.Runs.{IsRun, SaidTo, AllGatherSinceMark, after_call, by, letters_published, world_after};
+ghost use Rattle.hub_record.specs.Runs.{IsRun, SaidTo, AllGatherSinceMark, after_call, by, ids_given, letters_published, world_after};
 
 use crate::{Call, Kind, Limits, Said};
 
@@ -34,4 +34,32 @@ pub fn one_reply()
 pub fn no_more_than_may_wait()
     ensures most { (r : Kept) (w : World) → StandsFor r w → length r.events ≤ w.limits.waiting }
     ensures none { (r : Kept) (w : World) → StandsFor r w → standing w ≡ [] → r.events ≡ [] }
+{}
+
+/// Every run keeps the bounds of a world. There are at most `total` events, at most `waiting` are pending, at most `ids` ids
+/// were given, the letters of a service are lawful, and no cursor is before its mark or past the end.
+pub fn runs_keep_the_bounds()
+    ensures call { (w : World) (call : Call) (said : Said) → IsWorld w → SaidTo w call said
+        → IsWorld (after_call w call said) }
+    ensures run { (kind : Kind) (limits : Limits) (calls : List Call) (replies : List Said)
+        → IsRun (empty_world kind limits) calls replies
+        → IsWorld (world_after (empty_world kind limits) calls replies) }
+{}
+
+/// The ids that a run gives are 1, 2, 3, and so on, so that any two differ.
+pub fn ids_differ()
+    ensures counted { (kind : Kind) (limits : Limits) (calls : List Call) (replies : List Said)
+        (k d : ℕ) → IsRun (empty_world kind limits) calls replies
+        → k < length (ids_given replies) → get_or (ids_given replies) k d ≡ k + 1 }
+    ensures differ { (kind : Kind) (limits : Limits) (calls : List Call) (replies : List Said)
+        (j k d : ℕ) → IsRun (empty_world kind limits) calls replies
+        → j < k → k < length (ids_given replies)
+        → get_or (ids_given replies) j d ≢ get_or (ids_given replies) k d }
+{}
+
+/// An empty message changes nothing, and an open record accepts it.
+pub fn empty_message_changes_nothing()
+    ensures still { (w : World) (who : ℕ) (said : Said) → after_call w (Call.Publish who []) said ≡ w }
+    ensures accepted { (w : World) (who : ℕ) (said : Said) → IsWorld w → w.closed ≡ false
+        → SaidTo w (Call.Publish who []) said → said ≡ Said.Published (Ok (length w.events)) }
 {}
