@@ -2,12 +2,13 @@
 use Rattle.std.proofs.Common.{◌≡◌, ◌≢◌, ℕ, ◌+◌, ◌<◌, ◌≤◌, not, true, false, Bool, List, [], ◌++◌, length, Some, Ok, Err, sym, refl, ap, ◌∙◌, subst, inl, inr, arith, length-append, ne_eqb, eq-eqb}
 use mathlib.Core.Logic.{dite}
 use native.Mathlib.Decide.{ℕ_discrete}
-use Rattle.hub_letters.specs.declared.flags.Flags.{Flags}
 use Rattle.hub_letters.specs.Flags.{flags_of}
 use Rattle.hub_record.specs.declared.Event.{Event}
 use Rattle.hub_record.specs.declared.Kind.{Kind}
 use Rattle.hub_record.specs.declared.limits.Limits.{Limits}
+use Rattle.hub_record.specs.declared.limits.TheConstants.{MOST_EVENTS}
 use Rattle.hub_record.specs.declared.PubError.{PubError}
+use Rattle.hub_record.specs.declared.Status.{Status}
 use Rattle.hub_record.specs.declared.PubError.TheVariants as post
 use Rattle.hub_record.specs.World.{World, IsWorld, letters, as_events, load, IsLawfulIn, IsUnlawfulIn, PublishReply, after_publish, close_reply, after_close}
 use Rattle.hub_record.specs.declared.Closed.{Closed}
@@ -22,7 +23,7 @@ use Rattle.hub_fifodir.specs.declared.views.Role.TheVariants.{Publisher}
 use Rattle.hub_fifodir.specs.declared.locked.Locked.{Locked}
 use Rattle.hub_fifodir.specs.Word.{packed_word}
 use Rattle.hub_fifodir.specs.Events.{is_closed, front_word, StartsWith}
-use Rattle.hub_fifodir.specs.Locks.{StandsForWorld, KeepsPublishers}
+use Rattle.hub_fifodir.specs.Locks.{StandsForWorld, KeepsPublishers, status_of}
 use Rattle.hub_fifodir.specs.Rule.{IsLive, IsNumbered, IsSane, IsBehind, IsSound, book_of}
 use Rattle.hub_fifodir.specs.Steps.{M, Locks, Gives, Grows, IsWriter, WritesMessage, WritesMark, view_with_letters, closing, writing_of, mine_of, writer, view_at_rest}
 use Rattle.hub_fifodir.specs.Passes.{IsRefusedBy}
@@ -66,11 +67,17 @@ refused_by rules s b message post.Full h r = let full = full_only h.world (lengt
   subst (λ (l : Limits). l.waiting < length s.seen + length message) h.limits (subst (λ (l : List Event). h.world.limits.waiting < length l + length message) h.events full.1),
 )
 
--- the front word of a record that stands for a world
-pub word_is : (b : Locked) (w : World) (log : List Event) (mark : ℕ) (number : ℕ) (closed : Bool) (flags : Flags) (word : ℕ) → StandsForWorld b w → w.events ≡ log → w.closed ≡ is_closed mark
-    → number ≡ b.kept.end → flags ≡ b.kept.flags → closed ≡ b.kept.closed → word ≡ packed_word number closed flags → word ≡ front_word log mark
-word_is b w log mark number closed flags word h events shut n f c e =
-    e ∙ (λ i. packed_word ((n ∙ h.for.end ∙ ap length events) i) ((c ∙ h.for.closed ∙ shut) i) ((f ∙ h.for.flags ∙ ap (λ (l : List Event). flags_of (letters l)) events) i))
+-- a status never tells more events than a record may have
+pub within_events : {b : Locked} → (w : World) (status : Status) → StandsForWorld b w → status ≡ status_of w → status.number ≤ MOST_EVENTS
+within_events w status h s = let number : status.number ≡ length w.events = ap (λ (x : Status). x.number) s in
+    let total = w.limits.total_in_range.1 in let within = h.for.world.within in omega arith
+
+-- the front word of a world's status
+pub word_is : (w : World) (log : List Event) (mark : ℕ) (status : Status) (word : ℕ) → w.events ≡ log → w.closed ≡ is_closed mark
+    → status ≡ status_of w → word ≡ packed_word status.number status.closed status.flags → word ≡ front_word log mark
+word_is w log mark status word events shut s e =
+    e ∙ ap (λ (x : Status). packed_word x.number x.closed x.flags) s
+    ∙ (λ i. packed_word (length (events i)) (shut i) (flags_of (letters (events i))))
 
 module _ (m0 m1 : M) (n : ℕ) (b : Locked) (w : IsWriter m0 n) (h : Locks book_of IsBehind IsSound m0.0 m1.0 b) where
   pub role_held : m1.0.role ≡ writer n (mine_of m0.0.role)
@@ -125,14 +132,14 @@ module _ (m0 m1 : M) (n : ℕ) (b : Locked) (w : IsWriter m0 n) (h : Locks book_
         subst (λ (x : Kind). IsLawfulIn x (letters m1.0.sight.seen ++ message)) h.behind.kind (subst (λ (l : List Event). IsLawfulIn h.behind.world.kind (letters l ++ message)) h.behind.events r.0.lawful) in
         (omega arith, subst (IsLawfulIn m1.0.rules.kind) (sym (letters_longer m1.0.sight.seen k message)) lawful)
 
-    pub may_write : (number : ℕ) (closed : Bool) (flags : Flags) (word : ℕ) → number ≡ b'.kept.end → flags ≡ b'.kept.flags → closed ≡ b'.kept.closed → word ≡ packed_word number closed flags
+    pub may_write : (status : Status) (word : ℕ) → status ≡ status_of (after_publish h.behind.world n message (Ok first)) → word ≡ packed_word status.number status.closed status.flags
         → WritesMessage m1 word message (view_with_letters m1.0 (writing_of m1.0.role) message)
-    may_write number closed flags word x y z e = (
+    may_write status word s e = (
       book_of b,
       is_held,
       is_open,
       is_writing,
-      word_is b' (after_publish h.behind.world n message (Ok first)) (m1.0.sight.seen ++ as_events (writing_of m1.0.role).number message) 0 number closed flags word after events_are (h.behind.closed ∙ ap is_closed is_open) x y z e,
+      word_is (after_publish h.behind.world n message (Ok first)) (m1.0.sight.seen ++ as_events (writing_of m1.0.role).number message) 0 status word events_are (h.behind.closed ∙ ap is_closed is_open) s e,
       sound_longer (writing_of m1.0.role).number,
       refl,
     )
@@ -191,14 +198,14 @@ module _ (m0 m1 : M) (n : ℕ) (b : Locked) (w : IsWriter m0 n) (h : Locks book_
     is_shut : true ≡ is_closed (writing_of m1.0.role).number
     is_shut = sym (ap is_closed is_n ∙ ap not (ne_eqb n 0 (λ e. let p : 0 < n = pos in absurd (omega arith))))
 
-    pub may_mark : (number : ℕ) (closed : Bool) (flags : Flags) (word : ℕ) → number ≡ b'.kept.end → flags ≡ b'.kept.flags → closed ≡ b'.kept.closed → word ≡ packed_word number closed flags
+    pub may_mark : (status : Status) (word : ℕ) → status ≡ status_of (after_close h.behind.world) → word ≡ packed_word status.number status.closed status.flags
         → WritesMark m1 word (closing m1.0 (writing_of m1.0.role))
-    may_mark number closed flags word x y z e = (
+    may_mark status word s e = (
       book_of b,
       is_held,
       was_open,
       is_writing,
-      word_is b' (after_close h.behind.world) m1.0.sight.seen (writing_of m1.0.role).number number closed flags word after h.behind.events is_shut x y z e,
+      word_is (after_close h.behind.world) m1.0.sight.seen (writing_of m1.0.role).number status word h.behind.events is_shut s e,
       refl,
     )
 

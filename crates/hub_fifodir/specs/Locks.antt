@@ -1,16 +1,14 @@
 -- The value behind the lock, and what its calls do beside the calls of its record.
-use Rattle.std.specs.Prelude.{◌≡◌, ℕ, ◌+◌, ◌<◌, ◌≤◌, Bool, true, false, cond, List, length, Result, Ok, Err, nat_eq}
+use Rattle.std.specs.Prelude.{◌≡◌, ℕ, ◌+◌, ◌<◌, ◌≤◌, Bool, true, false, cond, if◌then◌else◌, List, length, Result, Ok, Err, nat_eq}
 use Rattle.std.specs.List.{list_any}
+use Rattle.hub_letters.specs.Flags.{flags_of}
 use Rattle.hub_record.specs.declared.limits.TheConstants.{MOST_PASSES}
-use Rattle.hub_record.specs.World.{World}
-use Rattle.hub_record.specs.Kept.{Kept, StandsFor}
+use Rattle.hub_record.specs.declared.Status.{Status}
+use Rattle.hub_record.specs.World.{World, letters}
+use Rattle.hub_record.specs.Kept.{StandsFor}
 use Rattle.hub_fifodir.specs.declared.PassError.{PassError}
 use Rattle.hub_fifodir.specs.declared.PassError.TheVariants as pass
 use Rattle.hub_fifodir.specs.declared.locked.Locked.{Locked}
-
--- what a contract sees of its record
-abbrev pub record_of : Locked → Kept
-record_of b = b.kept
 
 -- the numbers of the current publishers, and how many numbers were given
 abbrev pub numbers_of : Locked → List ℕ
@@ -23,6 +21,10 @@ given_by b = b.given
 pub record StandsForWorld (b : Locked) (w : World) : Type 0 where
   pub for : StandsFor b.kept w
   pub ids : b.ids ≡ w.limits.ids
+
+-- the status of a world's record
+abbrev pub status_of : World → Status
+status_of w = record { number = length w.events; flags = flags_of (letters w.events); closed = w.closed }
 
 -- the record is the same
 abbrev pub KeepsRecord : Locked → Locked → Type 0
@@ -42,10 +44,13 @@ PublisherReply b (Err pass.Memory) = (length b.standing.keys < MOST_PASSES) × (
 abbrev pub KeepsPublishers : Locked → Locked → Type 0
 KeepsPublishers old new = (new.standing.keys ≡ old.standing.keys) × (new.given ≡ old.given) × (new.ids ≡ old.ids)
 
+-- the number that was given is current too; if it wasn't current before, there is one more
 abbrev pub IsAfterPublisher : Locked → Result ℕ PassError → Locked → Type 0
 IsAfterPublisher old (Ok n) new = ((m : ℕ) → is_current new.standing.keys m ≡ cond (nat_eq n m) true (is_current old.standing.keys m)) × (new.given ≡ n)
+    × (length new.standing.keys ≡ length old.standing.keys + (if is_current old.standing.keys n then 0 else 1))
 IsAfterPublisher old (Err e) new = KeepsPublishers old new
 
--- the number n isn't current any more, and the others are as before
+-- the number n isn't current any more, and the others are as before; if it was current, there is one less
 abbrev pub HasLeft : Locked → ℕ → Locked → Type 0
 HasLeft old n new = ((m : ℕ) → is_current new.standing.keys m ≡ cond (nat_eq n m) false (is_current old.standing.keys m)) × (new.given ≡ old.given)
+    × (length new.standing.keys + (if is_current old.standing.keys n then 1 else 0) ≡ length old.standing.keys)

@@ -1,5 +1,5 @@
 -- What contracts say about a fifodir and its passes.
-use Rattle.std.specs.Prelude.{◌≡◌, ◌≢◌, ℕ, ◌+◌, ◌-◌, ◌<◌, ◌≤◌, ◌++◌, min, length, drop, List, [], Option, Some, None}
+use Rattle.std.specs.Prelude.{◌≡◌, ◌≢◌, ℕ, ◌+◌, ◌-◌, ◌<◌, ◌≤◌, ◌++◌, min, length, drop, List, [], Option, Some, None, Err}
 use Rattle.atomic_table.specs.Seated.{TableId}
 use Rattle.hub_letters.specs.Flags.{flags_of}
 use Rattle.hub_record.specs.declared.Event.{Event}
@@ -9,8 +9,9 @@ use Rattle.hub_record.specs.declared.Status.{Status}
 use Rattle.hub_record.specs.declared.Taken.{Taken}
 use Rattle.hub_record.specs.declared.Taken.TheVariants.{Got, Nothing, End}
 use Rattle.hub_record.specs.declared.PubError.{PubError}
+use Rattle.hub_record.specs.declared.SubError.{SubError}
 use Rattle.hub_record.specs.declared.PubError.TheVariants as post
-use Rattle.hub_record.specs.World.{letters, as_events, IsLawfulIn, IsUnlawfulIn}
+use Rattle.hub_record.specs.World.{World, IsWorld, letters, as_events, IsLawfulIn, IsUnlawfulIn, SubscribeReply}
 use Rattle.hub_fifodir.specs.declared.views.Rules.{Rules}
 use Rattle.hub_fifodir.specs.declared.views.Sight.{Sight}
 use Rattle.hub_fifodir.specs.declared.views.Role.{Role}
@@ -162,6 +163,10 @@ IsRefusedAt p message e = IsRefusedBy (publisher_view p).rules (publisher_sight 
 -- a ticket begins at the end of what it has seen
 abbrev pub HasSubscribed : Ticket → Type 0
 HasSubscribed t = (ticket_mark t ≡ length (ticket_seen t)) × (ticket_next t ≡ ticket_mark t) × (got t ≡ [])
+
+-- Why there is no ticket: some record of the fifodir's kind and within its limits refuses a subscription so.
+abbrev pub MayRefuseTicket : Fifodir → SubError → Type 0
+MayRefuseTicket f e = (w : World) × IsWorld w × (w.kind ≡ kind_of f) × (w.limits ≡ limits_of f) × SubscribeReply w (Err e)
 
 -- what a take into this many places reports, by what the ticket has then seen
 abbrev pub HasTaken : Ticket → ℕ → Taken → Ticket → Type 0

@@ -3,7 +3,7 @@ ghost use Rattle.std.specs.Prelude.{◌≡◌, ◌++◌, [], length, drop, IfOk,
 ghost use Rattle.hub_record.specs.World.{World, empty_world, SubscribeReply, after_subscribe, PublishReply, after_publish};
 ghost use Rattle.hub_record.specs.World.{take_reply, take_events, after_take};
 ghost use Rattle.hub_record.specs.World.{cancel_reply, after_cancel, close_reply, after_close};
-ghost use Rattle.hub_fifodir.specs.Locks.{StandsForWorld, record_of, numbers_of, given_by};
+ghost use Rattle.hub_fifodir.specs.Locks.{StandsForWorld, status_of, numbers_of, given_by};
 ghost use Rattle.hub_fifodir.specs.Locks.{PublisherReply, IsAfterPublisher, HasLeft, KeepsPublishers, KeepsRecord};
 
 use crate::PassError;
@@ -133,9 +133,7 @@ impl Locked {
 
     /// The number of events, the flags and whether the record is closed.
     pub fn status(&self) -> Status
-        ensures { (result.number ≡ (record_of self.now).end)
-            × (result.flags ≡ (record_of self.now).flags)
-            × (result.closed ≡ (record_of self.now).closed) }
+        ensures { (w : World) → StandsForWorld self.now w → result ≡ status_of w }
     {
         Status {
             number: self.kept.end(),
@@ -146,7 +144,7 @@ impl Locked {
 
     /// The number of events so far.
     pub fn front(&self) -> u64
-        ensures { result ≡ (record_of self.now).end }
+        ensures { (w : World) → StandsForWorld self.now w → result ≡ length w.events }
     {
         self.kept.end()
     }

@@ -1,5 +1,5 @@
 //! Tickets, and the calls of a fifodir that take one.
-ghost use Rattle.std.specs.Prelude.{◌≡◌, length, IfOk};
+ghost use Rattle.std.specs.Prelude.{◌≡◌, length, IfOk, IfErr};
 ghost use Rattle.hub_fifodir.specs.Steps.{IsTaker};
 
 use crate::fifodir::Fifodir;
@@ -47,13 +47,14 @@ impl Ticket {
 }
 
 impl Fifodir {
-    ghost use Rattle.hub_fifodir.specs.Passes.{IsTicketOf, Remains, HasSoundSight, HasSubscribed, HasTaken};
+    ghost use Rattle.hub_fifodir.specs.Passes.{IsTicketOf, Remains, HasSoundSight, HasSubscribed, MayRefuseTicket, HasTaken};
     ghost use Rattle.hub_fifodir.specs.Passes.{ticket_mark, ticket_view, slice_after_take};
 
     /// A new ticket, which begins at the end of the record.
     pub fn subscribe<R: Wait>(&self, rt: &R) -> Result<Ticket, SubError>
-        ensures { IfOk result (λ t. IsTicketOf self.now t × HasSoundSight (ticket_view t)
+        ensures ok { IfOk result (λ t. IsTicketOf self.now t × HasSoundSight (ticket_view t)
             × HasSubscribed t) }
+        ensures refused { IfErr result (MayRefuseTicket self.now) }
     {
         let board = self.board();
         let mut seat = steps::enter(board);

@@ -1,8 +1,8 @@
 //! A watch with the ticket that feeds it.
-ghost use Rattle.std.specs.Prelude.{◌≡◌, ◌+◌, ◌≤◌, List, Some, length, IfOk};
+ghost use Rattle.std.specs.Prelude.{◌≡◌, ◌+◌, ◌≤◌, List, Some, length, IfErr, IfOk};
 ghost use Rattle.std.specs.Arc.{arc_value};
 ghost use Rattle.hub_record.specs.declared.limits.TheConstants.{MOST_EVENTS};
-ghost use Rattle.hub_fifodir.specs.Passes.{IsTicketOf, HasSoundSight, ticket_view};
+ghost use Rattle.hub_fifodir.specs.Passes.{IsTicketOf, HasSoundSight, MayRefuseTicket, ticket_view};
 ghost use Rattle.hub_record.specs.World.{letters};
 ghost use Rattle.hub_wait.specs.Reading.{Reads};
 ghost use Rattle.hub_wait.specs.Watching.{watching_after_step};
@@ -48,7 +48,8 @@ impl Post {
         want: Want,
         notifies: bool,
     ) -> Result<Post, SubError>
-        ensures { IfOk result (λ post. HasOpened (arc_value fifodir) want notifies post) }
+        ensures ok { IfOk result (λ post. HasOpened (arc_value fifodir) want notifies post) }
+        ensures refused { IfErr result (MayRefuseTicket (arc_value fifodir)) }
     {
         let mut ticket = fifodir.subscribe(rt)?;
         let status = fifodir.status(&mut ticket);

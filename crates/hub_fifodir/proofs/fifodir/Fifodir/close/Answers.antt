@@ -1,12 +1,17 @@
 use Rattle.std.proofs.Common.{sym, ap, ◌∙◌}
+use Rattle.hub_record.specs.World.{after_close}
 use Rattle.hub_fifodir.specs.Steps.{M}
-use Rattle.hub_fifodir.proofs.Publishing.{shut_by, shut_already, closed_when, rests_refused, knew_own, may_mark, rests_shut}
+use Rattle.hub_fifodir.proofs.Publishing.{within_events, shut_by, shut_already, closed_when, rests_refused, knew_own, may_mark, rests_shut}
 use Rattle.hub_fifodir.proofs.fifodir.Fifodir.close.Goals as goal
 
+pub pack-word-requires : goal.pack-word-requires
+pack-word-requires g c = let h = c.lock-held.ensures.holding.1 in let ok = c.in-Ok.ensures in let w = h.behind.world in
+    within_events (after_close w) c.status.result (ok.world w h.behind.for) (c.status.ensures _ (ok.world w h.behind.for))
+
 pub write_mark-requires-clause-writes : goal.write_mark-requires-clause-writes
-write_mark-requires-clause-writes g c = let me = c.args.me.now in let t = c.lock-held in let h = t.ensures.holding.1 in let ok = c.in-Ok.ensures in let w = h.behind.world in let s = c.status.ensures in
+write_mark-requires-clause-writes g c = let me = c.args.me.now in let t = c.lock-held in let h = t.ensures.holding.1 in let ok = c.in-Ok.ensures in let w = h.behind.world in
     may_mark me.seat.me t.new.seat.me me.number t.result.locked me.is_writer h c.close.new.self (shut_by w (ok.reply w h.behind.for)) (ok.world w h.behind.for) ok.others me.positive
-    _ _ _ c.pack-word.result s.0 s.1 s.2 c.pack-word.ensures
+    _ c.pack-word.result (c.status.ensures _ (ok.world w h.behind.for)) c.pack-word.ensures
 
 pub rest-requires-clause-gives : goal.rest-requires-clause-gives
 rest-requires-clause-gives g c = let me = c.args.me.now in let t = c.lock-held in let h = t.ensures.holding.1 in let ok = c.in-Ok.ensures in let w = h.behind.world in

@@ -6,9 +6,9 @@ use Rattle.hub_fifodir.proofs.Publishing.{refused_by, rests_refused, knew_own, m
 use Rattle.hub_fifodir.proofs.fifodir.Fifodir.publish.Goals as goal
 
 pub write_message-requires-clause-writes : goal.write_message-requires-clause-writes
-write_message-requires-clause-writes g c = let me = c.args.me.now in let t = c.lock-held in let h = t.ensures.holding.1 in let ok = c.in-Ok.ensures in let w = h.behind.world in let s = c.status.ensures in
+write_message-requires-clause-writes g c = let me = c.args.me.now in let t = c.lock-held in let h = t.ensures.holding.1 in let ok = c.in-Ok.ensures in let w = h.behind.world in
     may_write me.seat.me t.new.seat.me me.number t.result.locked me.is_writer h c.publish.new.self c.args.letters.now c.in-Ok.first (ok.reply w h.behind.for) (ok.world w h.behind.for) ok.others
-    _ _ _ c.pack-word.result s.0 s.1 s.2 c.pack-word.ensures
+    _ c.pack-word.result (c.status.ensures _ (ok.world w h.behind.for)) c.pack-word.ensures
 
 pub rest-requires-clause-gives : goal.rest-requires-clause-gives
 rest-requires-clause-gives g c = let me = c.args.me.now in let t = c.lock-held in let h = t.ensures.holding.1 in let ok = c.in-Ok.ensures in let w = h.behind.world in

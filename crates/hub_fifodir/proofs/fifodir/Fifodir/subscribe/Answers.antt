@@ -1,5 +1,6 @@
-use Rattle.std.proofs.Common.{ℕ, length, sym, ap, ◌∙◌, subst}
+use Rattle.std.proofs.Common.{◌≡◌, ℕ, length, sym, ap, ◌∙◌, subst}
 use Rattle.hub_fifodir.specs.declared.views.View.{View}
+use Rattle.hub_fifodir.specs.declared.views.Rules.{Rules}
 use Rattle.hub_fifodir.specs.declared.locked.Locked.{Locked}
 use Rattle.hub_fifodir.specs.Rule.{IsLive, IsBehind, book_of}
 use Rattle.hub_fifodir.proofs.Rests.{rests}
@@ -24,3 +25,13 @@ rest-requires-clause-gives g c = let t = c.lock-held in let h = t.ensures.holdin
     let m = t.new.seat.me in
     rests m t.result.locked c.subscribe.new.self (subst IsLive (sym role) tt) (ap (λ (v : View). v.held) h.renews.is) h.bounded (ap book_of e)
     (subst (λ (b : Locked). IsBehind m.0.rules m.0.sight.seen m.0.sight.closed b) (sym e) h.behind)
+
+pub returns-in-Err-clause-refused : goal.returns-in-Err-clause-refused
+returns-in-Err-clause-refused g c = let t = c.lock-held in let h = t.ensures.holding.1 in let w = h.behind.world in
+    let ruled : t.new.seat.me.0.rules ≡ c.args.self.now.rules = ap (λ (v : View). v.rules) h.renews.is ∙ ap (λ (v : View). v.rules) c.enter-seat.ensures.view ∙ c.board-board.ensures.2 in (
+      w,
+      h.behind.for.for.world,
+      h.behind.kind ∙ ap (λ (r : Rules). r.kind) ruled,
+      h.behind.limits ∙ ap (λ (r : Rules). r.limits) ruled,
+      c.in-Err.ensures.reply w h.behind.for,
+    )
