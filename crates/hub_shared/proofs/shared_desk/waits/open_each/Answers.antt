@@ -18,7 +18,7 @@ loop-name-preserved g c =
     let post = c.in_ok-post.post in
     let more : take (i + 1) names ≡ take i names ++ name ∷ [] = take_more names i name c.loop-name-test.true ∙ ap (λ (n : List ℕ). take i names ++ n ∷ []) (sym c.name-item.is) in
     let opened = posts_more c.args.hub.now c.loop-name.fifodirs new want (take i names) c.loop-name.posts.items name post found.kept c.loop-name.invariant.opened
-    (post_found new want name c.in_ok-found.found post found.ok c.in_ok-post.ensures) in
+    (post_found new want name c.in_ok-found.found post found.ok c.in_ok-post.ensures.ok) in
     record {
       kept = KeepsAll-trans c.args.hub.now c.args.fifodirs.now c.loop-name.fifodirs new c.loop-name.invariant.kept found.kept;
       opened = subst (λ (ps : List Post). ArePosts new want (take (i + 1) names) ps) (sym {A = List Post} c.push_reserved.ensures.items)
