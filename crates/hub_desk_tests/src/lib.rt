@@ -5,20 +5,4 @@
 #![tactic(auto)]
 
 #[cfg(test)]
-mod desks;
-#[cfg(test)]
-mod ended;
-#[cfg(test)]
-mod listeners;
-#[cfg(test)]
-mod no_memory;
-#[cfg(test)]
-mod requests;
-#[cfg(test)]
-mod rows;
-#[cfg(test)]
-mod shared;
-#[cfg(test)]
-mod sizes;
-#[cfg(test)]
-mod waits;
+mod tests;

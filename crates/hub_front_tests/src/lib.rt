@@ -4,16 +4,4 @@
 #![tactic(auto)]
 
 #[cfg(test)]
-mod parsing;
-#[cfg(test)]
-mod relay_sizes;
-#[cfg(test)]
-mod relays;
-#[cfg(test)]
-mod scripts;
-#[cfg(test)]
-mod serving;
-#[cfg(test)]
-mod told;
-#[cfg(test)]
-mod writing;
+mod tests;

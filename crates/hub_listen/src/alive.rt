@@ -31,12 +31,10 @@ impl Alive {
         let count = nfa.states.len();
         let mut states = States::new(alloc, count)?;
         states.add(nfa.unanchored);
-        let reached = States::new(alloc, count)?;
-        let kept = States::new(alloc, count)?;
         Ok(Alive {
             states,
-            reached,
-            kept,
+            reached: States::new(alloc, count)?,
+            kept: States::new(alloc, count)?,
         })
     }
 
@@ -104,7 +102,8 @@ fn close(nfa: &Nfa, text: &[u8], at: usize, reached: &mut States) -> bool
     ensures room { reached.new.count ≡ reached.old.count }
     ensures found { IsTrue result → HasMatch nfa.now text.now at }
     ensures closed { result ≡ false →
-        ClosesBelow nfa.now text.now at reached.old.items reached.new.items (length reached.new.items) }
+        ClosesBelow nfa.now text.now at reached.old.items
+        reached.new.items (length reached.new.items) }
 {
     let mut done = 0;
     while done < reached.len() {
@@ -122,7 +121,8 @@ fn follow(nfa: &Nfa, text: &[u8], at: usize, state: StateId, reached: &mut State
     requires room { reached.old.count ≡ vec_len nfa.now.states }
     requires state { state < vec_len nfa.now.states }
     ensures room { reached.new.count ≡ reached.old.count }
-    ensures grows { Grows (EmptyEdge nfa.now text.now at state) reached.old.items reached.new.items }
+    ensures grows { Grows (EmptyEdge nfa.now text.now at state)
+        reached.old.items reached.new.items }
     ensures all { (q : ℕ) → EmptyEdge nfa.now text.now at state q → Has reached.new.items q }
     ensures matched { IsTrue result → state_of nfa.now state ≡ State.Match }
     ensures unmatched { result ≡ false → state_of nfa.now state ≢ State.Match }

@@ -1,5 +1,4 @@
 //! The answers of a listener to a piece of letters.
-use std::alloc::AllocError;
 use thiserror::Error;
 
 /// The answer to a piece of letters.
@@ -22,15 +21,4 @@ pub enum FeedError {
     /// The search ran out of memory. This can't happen today, since all room is made with the listener.
     #[error("out of memory")]
     Memory,
-}
-
-impl From<AllocError> for FeedError {
-    ghost use Rattle.std.specs.Prelude.{◌≡◌};
-    ghost use Rattle.hub_listen.specs.declared.feed.FeedError.TheVariants.{Memory};
-
-    ghost from_gives = { λ _ error. error ≡ Memory };
-
-    fn from(_: AllocError) -> FeedError {
-        FeedError::Memory
-    }
 }

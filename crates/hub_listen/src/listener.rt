@@ -1,5 +1,10 @@
 //! Listeners.
 ghost use Rattle.std.specs.Prelude.{◌≡◌, ◌≤◌, length, IfOk, OnOk};
+ghost use Rattle.hub_listen.specs.Hit.{IsPattern};
+ghost use Rattle.hub_listen.specs.Inside.{listening_of, IsKept};
+ghost use Rattle.hub_listen.specs.Listening.{Listening, Feeds, new_listening, is_spent};
+ghost use Rattle.hub_listen.specs.Size.{IsSmall};
+ghost use Rattle.hub_listen.specs.declared.listener.ListenError.TheVariants.{Memory};
 
 use crate::alive::Alive;
 use crate::feed::{Feed, FeedError};
@@ -23,9 +28,6 @@ pub enum ListenError {
 }
 
 impl From<AllocError> for ListenError {
-    ghost use Rattle.std.specs.Prelude.{◌≡◌};
-    ghost use Rattle.hub_listen.specs.declared.listener.ListenError.TheVariants.{Memory};
-
     ghost from_gives = { λ _ error. error ≡ Memory };
 
     fn from(_: AllocError) -> ListenError {
@@ -34,9 +36,9 @@ impl From<AllocError> for ListenError {
 }
 
 impl From<regex::Error> for ListenError {
-    ghost use Rattle.std.specs.Prelude.{◌≡◌, ◌≢◌};
+    ghost use Rattle.std.specs.Prelude.{◌≢◌};
     ghost use Rattle.regex.specs.declared.error.Error.TheVariants.{OutOfMemory};
-    ghost use Rattle.hub_listen.specs.declared.listener.ListenError.TheVariants.{Pattern, Memory};
+    ghost use Rattle.hub_listen.specs.declared.listener.ListenError.TheVariants.{Pattern};
 
     ghost from_gives = { λ refused error.
         (refused ≡ OutOfMemory → error ≡ Memory) × (refused ≢ OutOfMemory → error ≡ Pattern) };
@@ -65,11 +67,7 @@ pub struct Listener {
 }
 
 impl Model for Listener {
-    ghost use Rattle.hub_listen.specs.Listening.{Listening};
-
     ghost Value = { Listening };
-
-    ghost use Rattle.hub_listen.specs.Inside.{listening_of, IsKept};
 
     ghost view = { listening_of };
 
@@ -77,10 +75,6 @@ impl Model for Listener {
 }
 
 impl Listener {
-    ghost use Rattle.hub_listen.specs.Hit.{IsPattern};
-    ghost use Rattle.hub_listen.specs.Size.{IsSmall};
-    ghost use Rattle.hub_listen.specs.Listening.{Feeds, new_listening, is_spent};
-
     /// A listener that has heard nothing. All of its room is made here.
     pub fn new(alloc: Global, pattern: &str, mode: Mode) -> Result<Listener, ListenError>
         ensures ok { IfOk result (λ listener. listener ≡ new_listening pattern.now mode) }
@@ -89,16 +83,13 @@ impl Listener {
     {
         let pattern = Pattern::new(alloc, pattern)?;
         let alive = Alive::new(alloc, &pattern.nfa)?;
-        let text = String::with_capacity(alloc, MOST_GATHERED)?;
-        let letters = Vec::with_capacity(alloc, MOST_GATHERED)?;
-        let hit = Vec::with_capacity(alloc, MOST_GATHERED)?;
         Ok(Listener {
             pattern,
             mode,
-            text,
+            text: String::with_capacity(alloc, MOST_GATHERED)?,
             alive,
-            letters,
-            hit,
+            letters: Vec::with_capacity(alloc, MOST_GATHERED)?,
+            hit: Vec::with_capacity(alloc, MOST_GATHERED)?,
         })
     }
 

@@ -16,7 +16,8 @@ impl From<regex_syntax::Error> for ListenError {
     ghost use Rattle.hub_listen.specs.declared.listener.ListenError.TheVariants.{Pattern as no_pattern, Memory};
 
     ghost from_gives = { λ refused error.
-        (refused.kind ≡ OutOfMemory → error ≡ Memory) × (refused.kind ≢ OutOfMemory → error ≡ no_pattern) };
+        (refused.kind ≡ OutOfMemory → error ≡ Memory)
+        × (refused.kind ≢ OutOfMemory → error ≡ no_pattern) };
 
     fn from(refused: regex_syntax::Error) -> ListenError {
         match refused.kind {

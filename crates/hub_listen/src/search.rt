@@ -42,7 +42,8 @@ pub(crate) fn first_hit(
     ensures grown { IfNone result (string_bytes text.new
         ≡ string_bytes text.old ++ take (MOST_GATHERED - string_len text.old) piece.now) }
     ensures alive { IfNone result
-        (AreAlive pattern.now.nfa (string_bytes text.new) (string_len text.new) alive.new.states.items) }
+        (AreAlive pattern.now.nfa (string_bytes text.new) (string_len text.new)
+        alive.new.states.items) }
     ensures quiet { IfNone result (1 ≤ string_len text.new →
         finds (string_bytes pattern.now.text) (string_bytes text.new) ≡ false) }
     ensures states { HasRoom alive.new (vec_len pattern.now.nfa.states) }

@@ -4,18 +4,4 @@
 #![tactic(auto)]
 
 #[cfg(test)]
-mod calls;
-#[cfg(test)]
-mod clients;
-#[cfg(test)]
-mod crowd;
-#[cfg(test)]
-mod faults;
-#[cfg(test)]
-mod gates;
-#[cfg(test)]
-mod memory;
-#[cfg(test)]
-mod sockets;
-#[cfg(test)]
-mod waits;
+mod tests;

@@ -2,8 +2,8 @@
 //! have to retry.
 ghost use Rattle.std.specs.Prelude.{◌<◌};
 
-use crate::clients::Client;
-use crate::sockets::{open, serve_door};
+use crate::tests::clients::Client;
+use crate::tests::sockets::{open, serve_door};
 use std::alloc::Global;
 use std::test::Fail;
 use std::thread::{JoinHandle, Threads};

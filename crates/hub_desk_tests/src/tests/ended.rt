@@ -1,11 +1,10 @@
 //! Sessions one after the other: what one held when it ended holds the next one up in nothing.
 
-use crate::desks::{Session, new_hub, session};
-use crate::rows::{Ask, Row, run};
+use crate::tests::desks::{Session, new_hub, session};
+use crate::tests::rows::run;
 use hub_fakes::{Dripping, Narrow};
 use hub_front::serve;
 use hub_io::FrontError;
-use hub_letters::Mode;
 use hub_requests::Desk;
 use std::alloc::{AllocGlobal, Global};
 use std::process::Abort;
@@ -96,28 +95,31 @@ fn the_next_session_finds_room(rt: HostRuntime) {
     }
 }
 
-static MAKES: [Row; 1] = [(Ask::Dir("web", 64, 1000), "ok")];
+static MAKES: &str = "dir web 64 1000 -> ok";
 
 /// A session that has a subscription, a listener and a publisher.
-static HOLDS: [Row; 3] = [
-    (Ask::Sub("web"), "ok 1"),
-    (Ask::Listen("web", Mode::Once, "a"), "ok 2"),
-    (Ask::Status("web"), "ok 0 0 open"),
-];
+static HOLDS: &str = "
+    sub web -> ok 1
+    listen web once a -> ok 2
+    status web -> ok 0 0 open
+";
+
+/// What another one sees of it.
+static SEES: &str = "status web -> ok 0 0 open";
 
 // A fifodir has room for 1,024 subscriptions and for as many publishers at one time.
 #[test]
 fn many_sessions_end_one_after_the_other(rt: HostRuntime) {
     let hub = new_hub(&rt);
     let mut last = session(&rt, &hub);
-    run(&rt, &mut last, &MAKES);
+    run(&rt, &mut last, MAKES);
     for _ in 0..1025 {
         let mut desk = session(&rt, &hub);
-        run(&rt, &mut desk, &HOLDS);
+        run(&rt, &mut desk, HOLDS);
         desk.end(&rt);
-        run(&rt, &mut last, &HOLDS[2..]);
+        run(&rt, &mut last, SEES);
         desk.release(&rt);
     }
-    run(&rt, &mut last, &HOLDS);
+    run(&rt, &mut last, HOLDS);
     last.release(&rt);
 }

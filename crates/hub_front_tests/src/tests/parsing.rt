@@ -1,7 +1,7 @@
 //! Lines and what they are read as.
 
-use crate::relay_sizes::text_of;
-use crate::told::words_of;
+use crate::tests::relay_sizes::text_of;
+use crate::tests::told::words_of;
 use hub_protocol::{Bad, parse};
 use hub_requests::Request;
 use std::alloc::Global;

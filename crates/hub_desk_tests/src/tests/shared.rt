@@ -1,6 +1,6 @@
 //! Several sessions over one hub.
-use crate::desks::{new_hub, session};
-use crate::rows::{Ask, Row, name_of, run};
+use crate::tests::desks::{new_hub, session};
+use crate::tests::rows::{name_of, run};
 use hub_record::{Kind, Limits};
 use hub_requests::Desk;
 use hub_shared::{Hub, HubError};
@@ -10,35 +10,35 @@ use std::sync::Wait;
 use std::test::Fail;
 
 /// A session whose subscription holds every letter of a full fifodir.
-static FILLS: [Row; 4] = [
-    (Ask::Dir("web", 2, 100), "ok"),
-    (Ask::Sub("web"), "ok 1"),
-    (Ask::Pub("web", "ab"), "ok 0"),
-    (Ask::Pub("web", "c"), "no Full"),
-];
+static FILLS: &str = "
+    dir web 2 100 -> ok
+    sub web -> ok 1
+    pub web ab -> ok 0
+    pub web c -> no full
+";
 
 /// Another session finds room after that one has ended.
-static FINDS_ROOM: [Row; 2] = [
-    (Ask::Pub("web", "c"), "ok 2"),
-    (Ask::Status("web"), "ok 3 0 open"),
-];
+static FINDS_ROOM: &str = "
+    pub web c -> ok 2
+    status web -> ok 3 0 open
+";
 
 /// The one that has ended serves on.
-static SERVES_ON: [Row; 3] = [
-    (Ask::Take(1, 5), "no Id"),
-    (Ask::Sub("web"), "ok 2"),
-    (Ask::Status("web"), "ok 3 0 open"),
-];
+static SERVES_ON: &str = "
+    take 1 5 -> no id
+    sub web -> ok 2
+    status web -> ok 3 0 open
+";
 
 #[test]
 fn a_session_that_ends_holds_no_one_up(rt: HostRuntime) {
     let hub = new_hub(&rt);
     let mut first = session(&rt, &hub);
     let mut second = session(&rt, &hub);
-    run(&rt, &mut first, &FILLS);
+    run(&rt, &mut first, FILLS);
     first.end(&rt);
-    run(&rt, &mut second, &FINDS_ROOM);
-    run(&rt, &mut first, &SERVES_ON);
+    run(&rt, &mut second, FINDS_ROOM);
+    run(&rt, &mut first, SERVES_ON);
     first.release(&rt);
     second.release(&rt);
 }
@@ -56,19 +56,19 @@ fn next_number<H: AllocGlobal + Abort + Wait>(rt: &H, hub: &Hub) -> Result<Optio
 }
 
 /// A session makes one publisher under a name, whatever it asks of it.
-static SPEAKS: [Row; 5] = [
-    (Ask::Dir("web", 64, 100), "ok"),
-    (Ask::Status("web"), "ok 0 0 open"),
-    (Ask::Pub("web", "a"), "ok 0"),
-    (Ask::Pub("web", "b"), "ok 1"),
-    (Ask::Close("web"), "ok"),
-];
+static SPEAKS: &str = "
+    dir web 64 100 -> ok
+    status web -> ok 0 0 open
+    pub web a -> ok 0
+    pub web b -> ok 1
+    close web -> ok
+";
 
 #[test]
 fn a_session_keeps_its_publisher(rt: HostRuntime) -> Result<(), Fail> {
     let hub = new_hub(&rt);
     let mut desk = session(&rt, &hub);
-    run(&rt, &mut desk, &SPEAKS);
+    run(&rt, &mut desk, SPEAKS);
     let number = next_number(&rt, &hub);
     desk.release(&rt);
     assert_eq!(rt; number?, Some(2));

@@ -1,6 +1,6 @@
 //! Sessions over Unix sockets.
-use crate::clients::Client;
-use crate::gates::Door;
+use crate::tests::clients::Client;
+use crate::tests::gates::Door;
 use hub_commands::serve_all;
 use hub_server::Report;
 use hub_shared::Hub;

@@ -1,7 +1,7 @@
 //! Sessions over memory.
 ghost use Rattle.std.specs.Prelude.{None};
 
-use crate::gates::{Listed, Telling};
+use crate::tests::gates::{Listed, Telling};
 use hub_commands::serve_all;
 use hub_fakes::Dripping;
 use hub_io::{FrontError, Sink, Source};

@@ -1,6 +1,6 @@
 //! A wait at two services, while another session publishes.
-use crate::clients::Client;
-use crate::sockets::{open, serve_door};
+use crate::tests::clients::Client;
+use crate::tests::sockets::{open, serve_door};
 use std::alloc::Global;
 use std::rt::Clock;
 use std::test::Fail;

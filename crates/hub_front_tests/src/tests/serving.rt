@@ -121,41 +121,34 @@ fn a_line_of_more_than_512_bytes(rt: HostRuntime) -> Result<(), Fail> {
     Ok(())
 }
 
-/// The read that fails, and what a session has come to by then. Read number 6 is that of the first LF, and number 15 that
-/// of the second.
-static READS: [(u64, Outcome); 6] = [
-    (1, (Err(FrontError::Read), 0, 0, "")),
-    (6, (Err(FrontError::Read), 0, 0, "")),
-    (7, (Err(FrontError::Read), 1, 1, "ok\n")),
-    (15, (Err(FrontError::Read), 1, 1, "ok\n")),
-    (16, (Err(FrontError::Read), 2, 2, "ok\nnone\n")),
-    (21, (Err(FrontError::Read), 2, 2, "ok\nnone\n")),
+/// The read and the write that fail, 0 for none, and what a session has come to by then. A read gives one byte where one
+/// fails, and a write takes two. Reads number 6, 15 and 21 are those of an LF, and 29 finds the end.
+static FAULTS: [([u64; 2], Outcome); 16] = [
+    ([1, 0], (Err(FrontError::Read), 0, 0, "")),
+    ([6, 0], (Err(FrontError::Read), 0, 0, "")),
+    ([7, 0], (Err(FrontError::Read), 1, 1, "ok\n")),
+    ([15, 0], (Err(FrontError::Read), 1, 1, "ok\n")),
+    ([16, 0], (Err(FrontError::Read), 2, 2, "ok\nnone\n")),
+    ([21, 0], (Err(FrontError::Read), 2, 2, "ok\nnone\n")),
+    ([22, 0], (Err(FrontError::Read), 3, 3, "ok\nnone\nok\n")),
+    ([29, 0], (Err(FrontError::Read), 3, 3, "ok\nnone\nok\n")),
+    ([0, 1], (Err(FrontError::Write), 1, 1, "")),
+    ([0, 2], (Err(FrontError::Write), 1, 2, "ok")),
+    ([0, 3], (Err(FrontError::Write), 2, 3, "ok\n")),
+    ([0, 4], (Err(FrontError::Write), 2, 4, "ok\nno")),
+    ([0, 5], (Err(FrontError::Write), 2, 5, "ok\nnone")),
+    ([0, 6], (Err(FrontError::Write), 3, 6, "ok\nnone\n")),
+    ([0, 7], (Err(FrontError::Write), 3, 7, "ok\nnone\nok")),
+    ([0, 0], (Ok(4), 4, 4, "ok\nnone\nok\nend\n")),
 ];
 
 #[test]
-fn a_reader_that_fails(rt: HostRuntime) {
-    for (fails_at, outcome) in &READS {
-        let reader = Dripping::new(b"sub w\nstatus w\nsub w", 1, *fails_at);
-        expect(&rt, reader, Narrow::new(64, 0), outcome, *fails_at);
-    }
-}
-
-/// The write that fails, where each takes two bytes, and what a session has come to by then.
-static WRITES: [(u64, Outcome); 7] = [
-    (1, (Err(FrontError::Write), 1, 1, "")),
-    (2, (Err(FrontError::Write), 1, 2, "ok")),
-    (3, (Err(FrontError::Write), 2, 3, "ok\n")),
-    (4, (Err(FrontError::Write), 2, 4, "ok\nno")),
-    (5, (Err(FrontError::Write), 2, 5, "ok\nnone")),
-    (6, (Err(FrontError::Write), 3, 6, "ok\nnone\n")),
-    (7, (Err(FrontError::Write), 3, 7, "ok\nnone\nok")),
-];
-
-#[test]
-fn a_writer_that_fails(rt: HostRuntime) {
-    for (fails_at, outcome) in &WRITES {
-        let reader = Dripping::new(b"sub w\nstatus w\nsub w\nclose w\n", 64, 0);
-        expect(&rt, reader, Narrow::new(2, *fails_at), outcome, *fails_at);
+fn a_read_or_a_write_that_fails(rt: HostRuntime) {
+    for (row, ([read, write], outcome)) in (0u64..).zip(&FAULTS) {
+        let given = if *read == 0 { 64 } else { 1 };
+        let taken = if *write == 0 { 64 } else { 2 };
+        let reader = Dripping::new(b"sub w\nstatus w\nsub w\nclose w", given, *read);
+        expect(&rt, reader, Narrow::new(taken, *write), outcome, row);
     }
 }
 

@@ -1,6 +1,6 @@
 //! Lines and replies of a megabyte, and replies about the size of the buffer.
 
-use crate::relays::run;
+use crate::tests::relays::run;
 use hub_client::RelayError;
 use hub_fakes::Dripping;
 use hub_io::Source;
@@ -19,7 +19,7 @@ fn run_whole<H: AllocGlobal + Wait, R: Source>(
 ) -> Relayed {
     let mut sent: Vec<u8> = Vec::new(rt.alloc());
     let mut written: Vec<u8> = Vec::new(rt.alloc());
-    let relayed = run(rt, rt.alloc(), &mut input, &mut written, replies, &mut sent);
+    let relayed = run(rt, &mut input, &mut written, replies, &mut sent);
     (relayed, sent, written)
 }
 

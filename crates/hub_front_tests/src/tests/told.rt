@@ -11,10 +11,10 @@ pub fn words_of(alloc: Global, request: &Request) -> Result<String, AllocError> 
             name,
             waiting,
             total,
-        } => {
-            let name = text(alloc, name)?;
-            format!(in alloc; "make {name}: {waiting} may wait, {total} in all")
-        }
+        } => format!(in alloc;
+            "make {}: {waiting} may wait, {total} in all",
+            text(alloc, name)?
+        ),
         Request::Svc {
             name,
             waiting,
@@ -26,10 +26,7 @@ pub fn words_of(alloc: Global, request: &Request) -> Result<String, AllocError> 
                 "make service {name}: {waiting} may wait, {total} in all, reports {notifies}"
             )
         }
-        Request::Sub { name } => {
-            let name = text(alloc, name)?;
-            format!(in alloc; "subscribe to {name}")
-        }
+        Request::Sub { name } => format!(in alloc; "subscribe to {}", text(alloc, name)?),
         Request::Pub { name, letters } => {
             let name = text(alloc, name)?;
             let mut message = String::new(alloc);
@@ -40,14 +37,8 @@ pub fn words_of(alloc: Global, request: &Request) -> Result<String, AllocError> 
         }
         Request::Take { id, max } => format!(in alloc; "take {max} of {id}"),
         Request::Cancel { id } => format!(in alloc; "cancel {id}"),
-        Request::Close { name } => {
-            let name = text(alloc, name)?;
-            format!(in alloc; "close {name}")
-        }
-        Request::Status { name } => {
-            let name = text(alloc, name)?;
-            format!(in alloc; "show {name}")
-        }
+        Request::Close { name } => format!(in alloc; "close {}", text(alloc, name)?),
+        Request::Status { name } => format!(in alloc; "show {}", text(alloc, name)?),
         Request::Listen {
             name,
             mode,

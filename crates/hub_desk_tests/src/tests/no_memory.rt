@@ -1,8 +1,7 @@
 //! The end of a desk, and what lends the parts of a request, take no memory. It is counted by `tests/no-memory`, which
 //! runs this program over a `malloc` that counts (`tests/count.c`): it counts between two marks.
-use crate::desks::{alone, new_local};
-use crate::rows::{Ask, Row, name_of, run};
-use hub_letters::Mode;
+use crate::tests::desks::{alone, new_local};
+use crate::tests::rows::{name_of, run};
 use hub_requests::{Desk, Name, Names, Numbers, PatternText};
 use std::alloc::{AllocError, AllocGlobal, Global};
 use std::process::Abort;
@@ -16,18 +15,18 @@ fn mark() {
 }
 
 /// A session with a publisher, two subscriptions and a listener.
-static HOLDS: [Row; 7] = [
-    (Ask::Dir("web", 64, 1000), "ok"),
-    (Ask::Svc("db", 64, 1000, true), "ok"),
-    (Ask::Sub("web"), "ok 1"),
-    (Ask::Sub("db"), "ok 2"),
-    (Ask::Listen("web", Mode::Repeat, "b"), "ok 3"),
-    (Ask::Pub("web", "aab"), "ok 0"),
-    (Ask::Poll(3), "hit aab"),
-];
+static HOLDS: &str = "
+    dir web 64 1000 -> ok
+    svc db 64 1000 1 -> ok
+    sub web -> ok 1
+    sub db -> ok 2
+    listen web repeat b -> ok 3
+    pub web aab -> ok 0
+    poll 3 -> hit aab
+";
 
 fn hold_and_end<H: AllocGlobal + Abort + Wait, D: Desk>(rt: &H, desk: &mut D) {
-    run(rt, desk, &HOLDS);
+    run(rt, desk, HOLDS);
     mark();
     desk.end(rt);
     mark();

@@ -1,9 +1,7 @@
 //! Each size that a request may have, with ample memory. A reply `no memory` is a failure here.
-use crate::desks::{alone, new_local};
-use crate::listeners::many_letters;
-use crate::rows::{Ask, Row, answer_to, request, run};
+use crate::tests::desks::{alone, new_local};
+use crate::tests::rows::{answer_to, many_letters, request, run};
 use hub_front::serve;
-use hub_letters::Mode;
 use hub_requests::{Desk, Name, Reply};
 use std::alloc::{AllocError, AllocGlobal, Global};
 use std::process::Abort;
@@ -11,14 +9,14 @@ use std::sync::Wait;
 use std::test::Fail;
 
 /// A fifodir with a subscription and a listener.
-static BEGUN: [Row; 3] = [
-    (Ask::Dir("web", 4096, 1_000_000_000_000), "ok"),
-    (Ask::Sub("web"), "ok 1"),
-    (Ask::Listen("web", Mode::Repeat, "b"), "ok 2"),
-];
+static BEGUN: &str = "
+    dir web 4096 1000000000000 -> ok
+    sub web -> ok 1
+    listen web repeat b -> ok 2
+";
 
 fn takes<H: AllocGlobal + Abort + Wait, D: Desk>(rt: &H, desk: &mut D, count: usize) -> bool {
-    let take = request(rt, rt.alloc(), Ask::Take(1, 256));
+    let take = request(rt, rt.alloc(), "take 1 256");
     match answer_to(rt, desk, &take) {
         Reply::Got(letters) => letters.items().len() == count,
         _ => false,
@@ -26,7 +24,7 @@ fn takes<H: AllocGlobal + Abort + Wait, D: Desk>(rt: &H, desk: &mut D, count: us
 }
 
 fn hears<H: AllocGlobal + Abort + Wait, D: Desk>(rt: &H, desk: &mut D, count: usize) -> bool {
-    let poll = request(rt, rt.alloc(), Ask::Poll(2));
+    let poll = request(rt, rt.alloc(), "poll 2");
     match answer_to(rt, desk, &poll) {
         Reply::Hit(letters) => letters.items().len() == count,
         _ => false,
@@ -35,8 +33,8 @@ fn hears<H: AllocGlobal + Abort + Wait, D: Desk>(rt: &H, desk: &mut D, count: us
 
 /// Whether a message of so many letters is taken, and a listener hears it with a letter more, at which it hits.
 fn carries<H: AllocGlobal + Abort + Wait, D: Desk>(rt: &H, desk: &mut D, count: usize) -> bool {
-    let message = many_letters(rt, rt.alloc(), count).expect(rt, "a message");
-    let last = request(rt, rt.alloc(), Ask::Pub("web", "b"));
+    let message = many_letters(rt, rt.alloc(), count);
+    let last = request(rt, rt.alloc(), "pub web b");
     let sent = answer_to(rt, desk, &message);
     let was_taken = takes(rt, desk, count);
     let hit = answer_to(rt, desk, &last);
@@ -48,7 +46,7 @@ fn carries<H: AllocGlobal + Abort + Wait, D: Desk>(rt: &H, desk: &mut D, count: 
 
 /// How many letters the first message has that isn't carried so.
 fn message_unlike<H: AllocGlobal + Abort + Wait, D: Desk>(rt: &H, desk: &mut D) -> Option<usize> {
-    run(rt, desk, &BEGUN);
+    run(rt, desk, BEGUN);
     for count in 1..257usize {
         if !carries(rt, desk, count) {
             return Some(count);

@@ -1,5 +1,5 @@
 //! The two desks, and a table over each of them.
-use crate::rows::{Row, run};
+use crate::tests::rows::{Step, go};
 use hub_local::LocalDesk;
 use hub_requests::Desk;
 use hub_shared::{Hub, SharedDesk};
@@ -48,10 +48,17 @@ pub fn alone<H: AllocGlobal + Abort>(rt: &H) -> Session {
     session(rt, &new_hub(rt))
 }
 
-/// Asks each row in turn of a local desk, and then of a session alone over a hub.
-pub fn run_anew<H: AllocGlobal + Abort + Wait>(rt: &H, rows: &[Row]) {
-    run(rt, &mut new_local(rt), rows);
+/// Takes the steps at a local desk, and then in a session alone over a hub.
+pub fn run_anew<H: AllocGlobal + Abort + Wait>(rt: &H, steps: &[Step]) {
+    go(rt, &mut new_local(rt), steps);
     let mut desk = alone(rt);
-    run(rt, &mut desk, rows);
+    go(rt, &mut desk, steps);
     desk.release(rt);
+}
+
+/// Takes the rows of each text as steps of their own.
+pub fn run_each<H: AllocGlobal + Abort + Wait>(rt: &H, texts: &[&'static str]) {
+    for rows in texts {
+        run_anew(rt, &[Step::Rows(*rows)]);
+    }
 }

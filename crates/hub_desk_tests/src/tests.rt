@@ -1,0 +1,9 @@
+mod desks;
+mod ended;
+mod listeners;
+mod no_memory;
+mod requests;
+mod rows;
+mod shared;
+mod sizes;
+mod waits;
