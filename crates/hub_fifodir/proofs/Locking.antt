@@ -23,13 +23,10 @@ module _ {B : Type 0} (book_of : B → Book) (stands_for : Rules → List Event 
   abbrev St : Type 0
   St = State (Option B) View
 
-  abbrev M : Type 0
-  M = Me (Option B) View
-
   abbrev R : St → Type 0
   R = Rule book_of stands_for sound rules
 
-  abbrev Goes : St → ℕ → M → Type 0
+  abbrev Goes : St → ℕ → Me (Option B) View → Type 0
   Goes s id me = (w : View) × (x : Act (Option B)) × Valid s.homes me.1 x × R (stepped s 1 1 id me.1 w x)
       × locked_as book_of stands_for sound (step 1 1 1 0 maybe.none) me (get_or s.words 1 0) (w, carried_after me.1 x)
 
@@ -67,7 +64,7 @@ module _ {B : Type 0} (book_of : B → Book) (stands_for : Rules → List Event 
       let u = its_seat book_of stands_for sound rules s r (a.writer_at a.mark) t.0 t.1 (numbered_live a.mark t.0.role t.2.0) in
       (number_given a.book a.log a.ticket_at a.writer_at (a.writer_at a.mark) a.mark t.0.sight.seen t.0.role t.2.0 u.in_role).1)
 
-  locks_at : (s : St) (r : R s) (id : ℕ) (me : M) (t : LockState B) → r.a.lock ≡ t → IsLive me.0.role → me.0.held ≡ None → me.1 ≡ [] → get_elem? s.views id ≡ maybe.some me.0 → Goes s id me
+  locks_at : (s : St) (r : R s) (id : ℕ) (me : Me (Option B) View) (t : LockState B) → r.a.lock ≡ t → IsLive me.0.role → me.0.held ≡ None → me.1 ≡ [] → get_elem? s.views id ≡ maybe.some me.0 → Goes s id me
   locks_at s r id me (free b) is live idle out at =
       let a = r.a in let v = me.0 in let seat = its_seat book_of stands_for sound rules s r id v at live in
       let w = view v.rules (sight a.log a.mark) v.role (Some (book_of b)) None in
@@ -127,5 +124,5 @@ module _ {B : Type 0} (book_of : B → Book) (stands_for : Rules → List Event 
         ((λ z. absurd (omega arith)), λ _. refl),
       )
 
-  pub locks : (slots id : ℕ) (me : M) → IsLive me.0.role → me.0.held ≡ None → me.1 ≡ [] → Allows R slots id me 1 (λ _. 1) (locked_as book_of stands_for sound (step slots 1 1 0 maybe.none) me)
+  pub locks : (slots id : ℕ) (me : Me (Option B) View) → IsLive me.0.role → me.0.held ≡ None → me.1 ≡ [] → Allows R slots id me 1 (λ _. 1) (locked_as book_of stands_for sound (step slots 1 1 0 maybe.none) me)
   locks slots id me live idle out s r _ at _ = locks_at s r id me r.a.lock refl live idle out at

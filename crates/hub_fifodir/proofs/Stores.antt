@@ -35,9 +35,6 @@ module _ {B : Type 0} (book_of : B → Book) (stands_for : Rules → List Event 
   abbrev St : Type 0
   St = State (Option B) View
 
-  abbrev M : Type 0
-  M = Me (Option B) View
-
   abbrev R : St → Type 0
   R = Rule book_of stands_for sound rules
 
@@ -48,7 +45,7 @@ module _ {B : Type 0} (book_of : B → Book) (stands_for : Rules → List Event 
   home_taken : (a : Account B) (id : ℕ) (views : List View) → a.lock ≡ held_by id → IsHome book_of stands_for sound rules a a.lock views → At views id (HasHeld a.book)
   home_taken a id views is h = subst (λ (t : LockState B). IsHome book_of stands_for sound rules a t views) is h
 
-  pub publishes : (slots id : ℕ) (me : M) (p : Writing) (message : List ℕ) (k : Book) (new : ℕ) → me.0.role ≡ Publisher p → me.0.held ≡ Some k → me.0.sight.closed ≡ 0
+  pub publishes : (slots id : ℕ) (me : Me (Option B) View) (p : Writing) (message : List ℕ) (k : Book) (new : ℕ) → me.0.role ≡ Publisher p → me.0.held ≡ Some k → me.0.sight.closed ≡ 0
       → new ≡ front_word (me.0.sight.seen ++ as_events p.number message) 0 → sound me.0.rules (me.0.sight.seen ++ as_events p.number message)
       → Allows R slots id me 0 (λ _. new) (λ _ m. (m.0 ≡ view_with_letters me.0 p message) × (m.1 ≡ me.1))
   publishes slots id me p message k new role held unclosed is ok s r _ at _ =
@@ -102,7 +99,7 @@ module _ {B : Type 0} (book_of : B → Book) (stands_for : Rules → List Event 
         (refl, refl),
       )
 
-  pub closes : (slots id : ℕ) (me : M) (p : Writing) (k : Book) (new : ℕ) → me.0.role ≡ Publisher p → me.0.held ≡ Some k → me.0.sight.closed ≡ 0
+  pub closes : (slots id : ℕ) (me : Me (Option B) View) (p : Writing) (k : Book) (new : ℕ) → me.0.role ≡ Publisher p → me.0.held ≡ Some k → me.0.sight.closed ≡ 0
       → new ≡ front_word me.0.sight.seen p.number
       → Allows R slots id me 0 (λ _. new) (λ _ m. (m.0 ≡ closing me.0 p) × (m.1 ≡ me.1))
   closes slots id me p k new role held unclosed is s r _ at _ =

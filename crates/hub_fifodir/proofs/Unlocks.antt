@@ -74,13 +74,10 @@ module _ {B : Type 0} (book_of : B → Book) (stands_for : Rules → List Event 
   abbrev St : Type 0
   St = State (Option B) View
 
-  abbrev M : Type 0
-  M = Me (Option B) View
-
   abbrev R : St → Type 0
   R = Rule book_of stands_for sound rules
 
-  pub unlocks : (slots id : ℕ) (me : M) (k : Book) (b : B) (r' : Role) (i0 n0 : ℕ) → me.0.held ≡ Some k → me.1 ≡ (0, Some b) ∷ []
+  pub unlocks : (slots id : ℕ) (me : Me (Option B) View) (k : Book) (b : B) (r' : Role) (i0 n0 : ℕ) → me.0.held ≡ Some k → me.1 ≡ (0, Some b) ∷ []
       → stands_for me.0.rules me.0.sight.seen me.0.sight.closed b → Changes me.0.sight.seen me.0.role r' k (book_of b) i0 n0
       → Allows R slots id me 1 (λ _. 0) (λ _ m. (m.0 ≡ resting me.0.rules me.0.sight r') × (m.1 ≡ []))
   unlocks slots id me k b r' i0 n0 held out fits c s r _ at _ =
