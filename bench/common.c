@@ -30,6 +30,13 @@ void die(const char *message)
     exit(1);
 }
 
+void begin_program(int count, int wanted, const char *usage)
+{
+    alarm(100);
+    if (count < wanted)
+        die(usage);
+}
+
 long number_of(const char *word)
 {
     char *end;

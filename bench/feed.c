@@ -70,9 +70,7 @@ static double microseconds(struct timeval time)
 int main(int count, char **words)
 {
     struct rusage used;
-    alarm(100);
-    if (count < 4)
-        die("usage: feed KIND COUNT PROGRAM ..");
+    begin_program(count, 4, "usage: feed KIND COUNT PROGRAM ..");
     long lines = number_of(words[2]);
     struct load load = load_of(words[1], "hub");
     int output = memory_file("replies");

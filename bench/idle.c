@@ -26,9 +26,7 @@ int main(int count, char **words)
 {
     char reply[LONGEST_REPLY], text[64];
     struct line service = { "svc db 64 1000 0\n", 17 };
-    alarm(100);
-    if (count < 4)
-        die("usage: idle TURNS PATH PROGRAM ..");
+    begin_program(count, 4, "usage: idle TURNS PATH PROGRAM ..");
     struct line wait = { text, (size_t)snprintf(text, sizeof text, "wait all up %ld db\n", number_of(words[1])) };
     int nothing = open("/dev/null", O_RDWR | O_CLOEXEC);
     pid_t child = start(words + 3, nothing, nothing);

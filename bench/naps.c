@@ -13,9 +13,7 @@
 int main(int count, char **words)
 {
     struct timespec used;
-    alarm(100);
-    if (count < 2)
-        die("usage: naps COUNT");
+    begin_program(count, 2, "usage: naps COUNT");
     long naps = number_of(words[1]);
     double begun = now();
     for (long i = 0; i < naps; i++)

@@ -28,6 +28,14 @@ const MEASURES: [(usize, u32); 2] = [(1, 1_000_000), (256, 20_000)];
 /// The numbers of listeners to measure with.
 const LISTENERS: [u64; 3] = [1, 4, 16];
 
+/// Bursts of a message, and how many listeners take each.
+#[derive(Clone, Copy)]
+struct Load<'a> {
+    listeners: u64,
+    message: &'a [Letter],
+    bursts: u32,
+}
+
 fn main(rt: HostRuntime) -> ExitCode {
     match run(&rt, rt.alloc(), rt.stdin(), &mut rt.stdout()) {
         Ok(()) => ExitCode::SUCCESS,
@@ -72,8 +80,13 @@ fn measure_record(rt: &impl Runtime, alloc: Global) -> Result<()> {
         let message = vec![in alloc; Letter::LEAST; burst]?;
         for listeners in LISTENERS {
             let sent = (burst as u64).saturating_mul(bursts as u64);
-            let record = through_record(rt, alloc, listeners, &message, bursts)?;
-            let vector = through_vector(rt, alloc, listeners, &message, bursts)?;
+            let load = Load {
+                listeners,
+                message: &message,
+                bursts,
+            };
+            let record = through_record(rt, alloc, load)?;
+            let vector = through_vector(rt, alloc, load)?;
             println!(rt;
                 "{listeners} listeners, bursts of {burst}: {} letters a second, through a vector {}",
                 rate(sent, record),
@@ -83,7 +96,12 @@ fn measure_record(rt: &impl Runtime, alloc: Global) -> Result<()> {
     }
     let message = vec![in alloc; Letter::LEAST; 256]?;
     for listeners in LISTENERS {
-        let took = publishing_alone(rt, alloc, listeners, &message, 2_000)?;
+        let load = Load {
+            listeners,
+            message: &message,
+            bursts: 2_000,
+        };
+        let took = publishing_alone(rt, alloc, load)?;
         println!(rt;
             "{listeners} listeners, publishing alone: {} letters a second",
             rate(16 * 256 * 2_000, took)
@@ -112,18 +130,12 @@ fn subscribe_all(alloc: Global, listeners: u64) -> Result<(Record, Vec<u64>)> {
 }
 
 /// The time to publish each burst and to take it with each listener.
-fn through_record(
-    rt: &impl Clock,
-    alloc: Global,
-    listeners: u64,
-    message: &[Letter],
-    bursts: u32,
-) -> Result<Duration> {
-    let (mut record, ids) = subscribe_all(alloc, listeners)?;
-    let mut out = vec![in alloc; Event::FILLER; message.len()]?;
+fn through_record(rt: &impl Clock, alloc: Global, load: Load<'_>) -> Result<Duration> {
+    let (mut record, ids) = subscribe_all(alloc, load.listeners)?;
+    let mut out = vec![in alloc; Event::FILLER; load.message.len()]?;
     let start = Instant::now(rt)?;
-    for _ in 0..bursts {
-        record.publish(1, message)?;
+    for _ in 0..load.bursts {
+        record.publish(1, load.message)?;
         for id in &ids {
             record.take_into(*id, &mut out)?;
         }
@@ -132,19 +144,13 @@ fn through_record(
 }
 
 /// The same with a vector and an index for each listener. Nothing is numbered, bounded or refused.
-fn through_vector(
-    rt: &impl Clock,
-    alloc: Global,
-    listeners: u64,
-    message: &[Letter],
-    bursts: u32,
-) -> Result<Duration> {
+fn through_vector(rt: &impl Clock, alloc: Global, load: Load<'_>) -> Result<Duration> {
     let mut events: Vec<Event> = Vec::with_capacity(alloc, WAITING)?;
-    let mut nexts = vec![in alloc; 0_usize; listeners as usize]?;
-    let mut out = vec![in alloc; Event::FILLER; message.len()]?;
+    let mut nexts = vec![in alloc; 0_usize; load.listeners as usize]?;
+    let mut out = vec![in alloc; Event::FILLER; load.message.len()]?;
     let start = Instant::now(rt)?;
-    for _ in 0..bursts {
-        for letter in message {
+    for _ in 0..load.bursts {
+        for letter in load.message {
             events.push(Event {
                 who: 1,
                 letter: *letter,
@@ -169,21 +175,16 @@ fn copy_events(events: &[Event], from: usize, out: &mut [Event]) -> usize {
     from + count
 }
 
-/// The time to fill the ring with 16 messages. The listeners then empty it, and that time doesn't count.
-fn publishing_alone(
-    rt: &impl Clock,
-    alloc: Global,
-    listeners: u64,
-    message: &[Letter],
-    rounds: u32,
-) -> Result<Duration> {
-    let (mut record, ids) = subscribe_all(alloc, listeners)?;
+/// The time to fill the ring with 16 messages, as often as the load has bursts. The listeners then empty it, and that time
+/// doesn't count.
+fn publishing_alone(rt: &impl Clock, alloc: Global, load: Load<'_>) -> Result<Duration> {
+    let (mut record, ids) = subscribe_all(alloc, load.listeners)?;
     let mut out = vec![in alloc; Event::FILLER; WAITING]?;
     let mut total = Duration::ZERO;
-    for _ in 0..rounds {
+    for _ in 0..load.bursts {
         let start = Instant::now(rt)?;
         for _ in 0..16 {
-            record.publish(1, message)?;
+            record.publish(1, load.message)?;
         }
         let took = start.elapsed(rt)?;
         total = total.checked_add(took).unwrap_or(total);

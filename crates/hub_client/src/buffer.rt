@@ -61,11 +61,13 @@ fn read_once<R: Source>(
     requires some { 1 ≤ length bytes.old }
     requires few { length bytes.old ≤ CHUNK }
     ensures ok { IfOk result (λ n. (n ≤ length bytes.new) × (left.new < left.old)
-        × Moves (R.remaining reader.old) (R.remaining reader.new) (R.reads reader.old) (R.reads reader.new)
+        × Moves (R.remaining reader.old) (R.remaining reader.new)
+        (R.reads reader.old) (R.reads reader.new)
         [] (take n bytes.new) left.old left.new (1 - n) []
         × (n ≡ 0 → IsAtEnd (R.remaining reader.new))) }
     ensures err { IfErr result (λ e.
-        Moves (R.remaining reader.old) (R.remaining reader.new) (R.reads reader.old) (R.reads reader.new)
+        Moves (R.remaining reader.old) (R.remaining reader.new)
+        (R.reads reader.old) (R.reads reader.new)
         [] [] left.old left.new (slack_at e) [] × FailsAs e [] left.new) }
     ensures told { Rises (R.faults reader.old) (R.faults reader.new) (read_faults result) }
 {
@@ -102,12 +104,14 @@ impl Buffer {
         left: &mut u64,
     ) -> Result<Passed, FrontError>
         ensures ok { IfOk result (λ end. (passed : List ℕ)
-            × Moves (R.remaining reader.old) (R.remaining reader.new) (R.reads reader.old) (R.reads reader.new)
-            (pending self.old) (pending self.new) left.old left.new (slack_of end) passed
+            × Moves (R.remaining reader.old) (R.remaining reader.new)
+            (R.reads reader.old) (R.reads reader.new) (pending self.old) (pending self.new)
+            left.old left.new (slack_of end) passed
             × EndsAs end passed (pending self.new) (R.remaining reader.new)
             × Appends (W.contents writer.old) (W.contents writer.new) passed) }
         ensures err { IfErr result (λ e. (passed rest : List ℕ)
-            × Moves (R.remaining reader.old) (R.remaining reader.new) (R.reads reader.old) (R.reads reader.new)
+            × Moves (R.remaining reader.old) (R.remaining reader.new)
+            (R.reads reader.old) (R.reads reader.new)
             (pending self.old) rest left.old left.new (slack_at e) passed
             × FailsAs e rest left.new × (has_lf passed ≡ false)
             × Appends (W.contents writer.old) (W.contents writer.new) passed) }
@@ -136,16 +140,20 @@ impl Buffer {
         writer: &mut W,
         left: &mut u64,
     ) -> Result<bool, FrontError>
-        ensures ok { IfOk result (λ whole. (passed : List ℕ) × Appends (W.contents writer.old) (W.contents writer.new) passed
-            × MatchBool whole
-            (Moves (R.remaining reader.old) (R.remaining reader.new) (R.reads reader.old) (R.reads reader.new)
-            (pending self.old) (pending self.new) left.old left.new 0 passed × IsLine passed)
-            (Moves (R.remaining reader.old) (R.remaining reader.new) (R.reads reader.old) (R.reads reader.new)
-            (pending self.old) (pending self.new) left.old left.new 1 passed × (has_lf passed ≡ false)
+        ensures ok { IfOk result
+            (λ whole. (passed : List ℕ) × Appends (W.contents writer.old) (W.contents writer.new)
+            passed × MatchBool whole
+            (Moves (R.remaining reader.old) (R.remaining reader.new)
+            (R.reads reader.old) (R.reads reader.new) (pending self.old) (pending self.new)
+            left.old left.new 0 passed × IsLine passed)
+            (Moves (R.remaining reader.old) (R.remaining reader.new)
+            (R.reads reader.old) (R.reads reader.new) (pending self.old) (pending self.new)
+            left.old left.new 1 passed × (has_lf passed ≡ false)
             × (writable (passed ++ pending self.new) ≡ passed) × (has_lf (pending self.new) ≡ false)
             × IsAtEnd (R.remaining reader.new))) }
         ensures err { IfErr result (λ e. (passed rest due : List ℕ)
-            × Moves (R.remaining reader.old) (R.remaining reader.new) (R.reads reader.old) (R.reads reader.new)
+            × Moves (R.remaining reader.old) (R.remaining reader.new)
+            (R.reads reader.old) (R.reads reader.new)
             (pending self.old) rest left.old left.new (slack_at e) passed × (has_lf passed ≡ false)
             × (writable (passed ++ rest) ≡ passed ++ due) × FailsInPieces e due rest left.new
             × Appends (W.contents writer.old) (W.contents writer.new) passed) }
@@ -167,14 +175,17 @@ impl Buffer {
     // Reads on until an LF is pending or the buffer is full. Returns whether that came before the stream's end.
     fn gather<R: Source>(&mut self, reader: &mut R, left: &mut u64) -> Result<bool, FrontError>
         ensures ok { IfOk result (λ ready. MatchBool ready
-            (Moves (R.remaining reader.old) (R.remaining reader.new) (R.reads reader.old) (R.reads reader.new)
-            (pending self.old) (pending self.new) left.old left.new 0 [] × IsReady (pending self.new))
-            (Moves (R.remaining reader.old) (R.remaining reader.new) (R.reads reader.old) (R.reads reader.new)
-            (pending self.old) (pending self.new) left.old left.new 1 [] × IsShort (pending self.new)
+            (Moves (R.remaining reader.old) (R.remaining reader.new)
+            (R.reads reader.old) (R.reads reader.new) (pending self.old) (pending self.new)
+            left.old left.new 0 [] × IsReady (pending self.new))
+            (Moves (R.remaining reader.old) (R.remaining reader.new)
+            (R.reads reader.old) (R.reads reader.new) (pending self.old) (pending self.new)
+            left.old left.new 1 [] × IsShort (pending self.new)
             × IsAtEnd (R.remaining reader.new))) }
         ensures err { IfErr result (λ e.
-            Moves (R.remaining reader.old) (R.remaining reader.new) (R.reads reader.old) (R.reads reader.new)
-            (pending self.old) (pending self.new) left.old left.new (slack_at e) [] × FailsAs e [] left.new
+            Moves (R.remaining reader.old) (R.remaining reader.new)
+            (R.reads reader.old) (R.reads reader.new) (pending self.old) (pending self.new)
+            left.old left.new (slack_at e) [] × FailsAs e [] left.new
             × IsShort (pending self.new)) }
         ensures told { Rises (R.faults reader.old) (R.faults reader.new) (read_faults result) }
     {
@@ -206,12 +217,15 @@ impl Buffer {
     fn read_on<R: Source>(&mut self, reader: &mut R, left: &mut u64) -> Result<Came, FrontError>
         requires room { self.old.end < CHUNK }
         ensures ok { IfOk result (λ came.
-            (moved : Moves (R.remaining reader.old) (R.remaining reader.new) (R.reads reader.old) (R.reads reader.new)
-            (pending self.old) (pending self.new) left.old left.new (slack_when came) [])
-            × ComesAs came moved.bytes × EndsWhen came (R.remaining reader.new) × (left.new < left.old)) }
+            (moved : Moves (R.remaining reader.old) (R.remaining reader.new)
+            (R.reads reader.old) (R.reads reader.new) (pending self.old) (pending self.new)
+            left.old left.new (slack_when came) [])
+            × ComesAs came moved.bytes × EndsWhen came (R.remaining reader.new)
+            × (left.new < left.old)) }
         ensures err { IfErr result (λ e.
-            Moves (R.remaining reader.old) (R.remaining reader.new) (R.reads reader.old) (R.reads reader.new)
-            (pending self.old) (pending self.new) left.old left.new (slack_at e) [] × FailsAs e [] left.new) }
+            Moves (R.remaining reader.old) (R.remaining reader.new)
+            (R.reads reader.old) (R.reads reader.new) (pending self.old) (pending self.new)
+            left.old left.new (slack_at e) [] × FailsAs e [] left.new) }
         ensures front { self.new.start ≡ self.old.start }
         ensures kept { OnErr result (pending self.new ≡ pending self.old) }
         ensures told { Rises (R.faults reader.old) (R.faults reader.new) (read_faults result) }
@@ -226,14 +240,17 @@ impl Buffer {
     // ended.
     fn fill<R: Source>(&mut self, reader: &mut R, left: &mut u64) -> Result<bool, FrontError>
         ensures ok { IfOk result (λ ready. MatchBool ready
-            (Moves (R.remaining reader.old) (R.remaining reader.new) (R.reads reader.old) (R.reads reader.new)
-            (pending self.old) (pending self.new) left.old left.new 0 []
+            (Moves (R.remaining reader.old) (R.remaining reader.new)
+            (R.reads reader.old) (R.reads reader.new) (pending self.old) (pending self.new)
+            left.old left.new 0 []
             × (1 ≤ length (pending self.new)) × (left.new < left.old + length (pending self.old)))
-            (Moves (R.remaining reader.old) (R.remaining reader.new) (R.reads reader.old) (R.reads reader.new)
+            (Moves (R.remaining reader.old) (R.remaining reader.new)
+            (R.reads reader.old) (R.reads reader.new)
             (pending self.old) [] left.old left.new 1 []
             × (pending self.new ≡ []) × IsAtEnd (R.remaining reader.new))) }
         ensures err { IfErr result (λ e.
-            Moves (R.remaining reader.old) (R.remaining reader.new) (R.reads reader.old) (R.reads reader.new)
+            Moves (R.remaining reader.old) (R.remaining reader.new)
+            (R.reads reader.old) (R.reads reader.new)
             (pending self.old) [] left.old left.new (slack_at e) [] × FailsAs e [] left.new) }
         ensures told { Rises (R.faults reader.old) (R.faults reader.new) (read_faults result) }
     {
@@ -252,8 +269,10 @@ impl Buffer {
             × (pending self.old ≡ piece ++ pending self.new)
             × MatchBool whole (IsLine piece) ((has_lf piece ≡ false) × (pending self.new ≡ []))
             × Appends (W.contents writer.old) (W.contents writer.new) piece) }
-        ensures err { OnErr result ((piece rest : List ℕ) × (pending self.old ≡ piece ++ rest) × (1 ≤ length rest)
-            × (has_lf piece ≡ false) × Appends (W.contents writer.old) (W.contents writer.new) piece) }
+        ensures err { OnErr result ((piece rest : List ℕ) × (pending self.old ≡ piece ++ rest)
+            × (1 ≤ length rest)
+            × (has_lf piece ≡ false)
+            × Appends (W.contents writer.old) (W.contents writer.new) piece) }
         ensures fault { IfErr result (λ e. e ≡ FrontError.Write) }
         ensures told { Rises (W.faults writer.old) (W.faults writer.new) (write_faults result) }
     {

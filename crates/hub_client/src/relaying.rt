@@ -22,12 +22,14 @@ fn send_line<R: Source, SW: Sink>(
     left: &mut u64,
 ) -> Result<Passed, RelayError>
     ensures ok { IfOk result (λ end. (passed : List ℕ)
-        × Moves (R.remaining input.old) (R.remaining input.new) (R.reads input.old) (R.reads input.new)
+        × Moves (R.remaining input.old) (R.remaining input.new)
+        (R.reads input.old) (R.reads input.new)
         (pending lines.old) (pending lines.new) left.old left.new (slack_of end) passed
         × EndsAs end passed (pending lines.new) (R.remaining input.new)
         × Appends (SW.contents sender.old) (SW.contents sender.new) (sent_of end passed)) }
     ensures err { IfErr result (λ e. (passed rest : List ℕ)
-        × Moves (R.remaining input.old) (R.remaining input.new) (R.reads input.old) (R.reads input.new)
+        × Moves (R.remaining input.old) (R.remaining input.new)
+        (R.reads input.old) (R.reads input.new)
         (pending lines.old) rest left.old left.new (slack_for e) passed
         × FailsToSend e passed rest left.new × (has_lf passed ≡ false)
         × Appends (SW.contents sender.old) (SW.contents sender.new) passed) }
@@ -52,11 +54,13 @@ fn receive_reply<SR: Source, W: Sink>(
     left: &mut u64,
 ) -> Result<(), RelayError>
     ensures ok { OnOk result ((passed : List ℕ)
-        × Moves (SR.remaining receiver.old) (SR.remaining receiver.new) (SR.reads receiver.old) (SR.reads receiver.new)
+        × Moves (SR.remaining receiver.old) (SR.remaining receiver.new)
+        (SR.reads receiver.old) (SR.reads receiver.new)
         (pending replies.old) (pending replies.new) left.old left.new 0 passed
         × IsLine passed × Appends (W.contents output.old) (W.contents output.new) passed) }
     ensures err { IfErr result (λ e. (passed rest due : List ℕ)
-        × Moves (SR.remaining receiver.old) (SR.remaining receiver.new) (SR.reads receiver.old) (SR.reads receiver.new)
+        × Moves (SR.remaining receiver.old) (SR.remaining receiver.new)
+        (SR.reads receiver.old) (SR.reads receiver.new)
         (pending replies.old) rest left.old left.new (slack_for e) passed × (has_lf passed ≡ false)
         × (writable (passed ++ rest) ≡ passed ++ due)
         × FailsToReceive e due rest (SR.remaining receiver.new) left.new
@@ -85,11 +89,15 @@ fn relay_lines<R: Source, W: Sink, SR: Source, SW: Sink>(
     requires lines { pending lines.old ≡ [] }
     requires replies { pending replies.old ≡ [] }
     ensures finished { IfOk result (Finished
-        (R.remaining input.old) (R.remaining input.new) (SW.contents sender.old) (SW.contents sender.new)
-        (SR.remaining receiver.old) (SR.remaining receiver.new) (W.contents output.old) (W.contents output.new)) }
+        (R.remaining input.old) (R.remaining input.new)
+        (SW.contents sender.old) (SW.contents sender.new)
+        (SR.remaining receiver.old) (SR.remaining receiver.new)
+        (W.contents output.old) (W.contents output.new)) }
     ensures stopped { IfErr result (Stopped
-        (R.remaining input.old) (R.remaining input.new) (SW.contents sender.old) (SW.contents sender.new)
-        (SR.remaining receiver.old) (SR.remaining receiver.new) (W.contents output.old) (W.contents output.new)) }
+        (R.remaining input.old) (R.remaining input.new)
+        (SW.contents sender.old) (SW.contents sender.new)
+        (SR.remaining receiver.old) (SR.remaining receiver.new)
+        (W.contents output.old) (W.contents output.new)) }
     ensures memory { result ≢ Err RelayError.Memory }
     ensures reads { ReadsWithin (R.reads input.old) (R.reads input.new)
         (SR.reads receiver.old) (SR.reads receiver.new) result }
@@ -131,17 +139,22 @@ pub fn relay<H: Wait, R: Source, W: Sink, SR: Source, SW: Sink>(
 ) -> Result<u64, RelayError>
     // The lines of the input are sent, and as many lines of the peer are written, however the readers cut their bytes.
     ensures finished { IfOk result (Finished
-        (R.remaining input.old) (R.remaining input.new) (SW.contents sender.old) (SW.contents sender.new)
-        (SR.remaining receiver.old) (SR.remaining receiver.new) (W.contents output.old) (W.contents output.new)) }
+        (R.remaining input.old) (R.remaining input.new)
+        (SW.contents sender.old) (SW.contents sender.new)
+        (SR.remaining receiver.old) (SR.remaining receiver.new)
+        (W.contents output.old) (W.contents output.new)) }
 
     // At an error, a prefix of the lines was sent, and whole replies were written. Of a reply whose LF is missing, only
     // the buffers that it filled were written: nothing if it is shorter than a buffer, at Ended, Receive and Turns alike.
     ensures stopped { IfErr result (Stopped
-        (R.remaining input.old) (R.remaining input.new) (SW.contents sender.old) (SW.contents sender.new)
-        (SR.remaining receiver.old) (SR.remaining receiver.new) (W.contents output.old) (W.contents output.new)) }
+        (R.remaining input.old) (R.remaining input.new)
+        (SW.contents sender.old) (SW.contents sender.new)
+        (SR.remaining receiver.old) (SR.remaining receiver.new)
+        (W.contents output.old) (W.contents output.new)) }
 
     // Memory is allocated before the first read.
-    ensures memory { result ≡ Err RelayError.Memory → (input.new ≡ input.old) × (output.new ≡ output.old)
+    ensures memory { result ≡ Err RelayError.Memory → (input.new ≡ input.old)
+        × (output.new ≡ output.old)
         × (receiver.new ≡ receiver.old) × (sender.new ≡ sender.old) }
 
     // It makes at most `MAX_READS` reads.

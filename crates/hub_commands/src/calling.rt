@@ -31,10 +31,12 @@ pub fn call<H: Net + Wait, R: Source, W: Sink>(
     output: &mut W,
 ) -> Result<u64, Fault>
     // Without a connection, nothing is read and nothing is written.
-    ensures connected { result ≡ Err fault.Connect → (input.new ≡ input.old) × (output.new ≡ output.old) }
+    ensures connected { result ≡ Err fault.Connect → (input.new ≡ input.old)
+        × (output.new ≡ output.old) }
 
     // Over a connection the lines are relayed, and the result is the relay's.
-    ensures relayed { result ≢ Err fault.Connect → (outcome : Result ℕ relay_error) × (result ≡ call_result outcome)
+    ensures relayed { result ≢ Err fault.Connect → (outcome : Result ℕ relay_error)
+        × (result ≡ call_result outcome)
         × IsRelayed (record { remaining = R.remaining; reads = R.reads; faults = R.faults })
         (record { contents = W.contents; faults = W.faults })
         input.old input.new output.old output.new outcome }

@@ -45,7 +45,8 @@ pub fn serve<H>(rt: &H, alloc: Global, socket: &str, sessions: u64) -> Result<Re
 where
     H: Files + Net + Clock + Threads + Wait + Copy + Send + 'static,
     // An open door was asked for this many connections. The report is that of `serve_all`, over one hub.
-    ensures report { IfOk result (λ report. (one : hub) × (pause : backoff H) × (opened closed : door)
+    ensures report { IfOk result (λ report. (one : hub) × (pause : backoff H)
+        × (opened closed : door)
         × IsSome opened.listener × IsReport (IsNewDesk one pause)
         ⟦<SharedDesk<Backoff<H>> as Desk>⟧.asks ⟦<SharedDesk<Backoff<H>> as Desk>⟧.ends
         (record {
@@ -57,14 +58,17 @@ where
           contents = ⟦<UnixStream as Write>⟧.contents;
           faults = ⟦<UnixStream as Sink>⟧.faults;
         })
-        ⟦<Door as Gate<UnixStream, UnixStream>>⟧.gives ⟦<Door as Gate<UnixStream, UnixStream>>⟧.closes
+        ⟦<Door as Gate<UnixStream, UnixStream>>⟧.gives
+        ⟦<Door as Gate<UnixStream, UnixStream>>⟧.closes
         sessions opened closed report.results.items report.gate_failed) }
 
     // Before the first session, it couldn't listen or memory ran out. An error of the sessions is that of `serve_all`,
     // and the door was closed.
-    ensures err { IfErr result (FailsToServe (λ error. (opened closed : door) × IsSome opened.listener
+    ensures err { IfErr result (FailsToServe (λ error. (opened closed : door)
+        × IsSome opened.listener
         × ThenCloses ⟦<Door as Gate<UnixStream, UnixStream>>⟧.closes
-        (λ last. StopsEarly ⟦<Door as Gate<UnixStream, UnixStream>>⟧.gives sessions opened last error) closed)) }
+        (λ last. StopsEarly ⟦<Door as Gate<UnixStream, UnixStream>>⟧.gives sessions opened last
+        error) closed)) }
 {
     let Ok(hub) = Arc::new(alloc, Hub::new(alloc)?) else {
         return Err(Fault::Memory);
@@ -83,7 +87,8 @@ fn tell_session<W: Write>(
     ended: Result<u64, FrontError>,
     out: &mut W,
 ) -> io::Result<()>
-    ensures { OnOk result (Appends (W.contents out.old) (W.contents out.new) (session_line number ended)) }
+    ensures { OnOk result (Appends (W.contents out.old) (W.contents out.new)
+        (session_line number ended)) }
 {
     match ended {
         Ok(_) => Ok(()),
@@ -97,7 +102,8 @@ fn tell_sessions<W: Write>(
     results: &[Result<u64, FrontError>],
     out: &mut W,
 ) -> io::Result<()>
-    ensures { OnOk result (Appends (W.contents out.old) (W.contents out.new) (session_lines 1 results.now)) }
+    ensures { OnOk result (Appends (W.contents out.old) (W.contents out.new)
+        (session_lines 1 results.now)) }
 {
     let mut told = Ok(());
     'sessions: for (at, ended) in results.iter().enumerate() {

@@ -7,34 +7,4 @@
 #![tactic(auto)]
 
 #[cfg(test)]
-mod busy;
-#[cfg(test)]
-mod fifodirs;
-#[cfg(test)]
-mod fixtures;
-#[cfg(test)]
-mod ids;
-#[cfg(test)]
-mod letters;
-#[cfg(test)]
-mod listeners;
-#[cfg(test)]
-mod no_memory;
-#[cfg(test)]
-mod passes;
-#[cfg(test)]
-mod pauses;
-#[cfg(test)]
-mod posts;
-#[cfg(test)]
-mod records;
-#[cfg(test)]
-mod sizes;
-#[cfg(test)]
-mod threads;
-#[cfg(test)]
-mod waits;
-#[cfg(test)]
-mod wants;
-#[cfg(test)]
-mod watches;
+mod tests;

@@ -15,7 +15,8 @@ pub fn refusals_stand_in_place<D: Desk>()
 
 /// If a desk has one answer to each request, the same lines have the same replies, unless memory runs out.
 pub fn same_lines_same_replies<D: Desk>()
-    ensures { IsFunction D.asks → (old new new' : D) (lines : List (List ℕ)) (replies replies' : List Reply)
+    ensures { IsFunction D.asks
+        → (old new new' : D) (lines : List (List ℕ)) (replies replies' : List Reply)
         → NoneIsMemory replies → NoneIsMemory replies'
         → Run D.asks old lines replies new → Run D.asks old lines replies' new'
         → (replies ≡ replies') × (new ≡ new') }

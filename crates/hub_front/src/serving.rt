@@ -26,7 +26,8 @@ fn serve_reads<H: Wait, D: Desk, R: Source, W: Sink>(
     requires count { session.old.count ≡ 0 }
     requires chunk { length chunk.old ≡ CHUNK }
     ensures under_way { OnOk result (IsUnderWay D.asks desk.old desk.new
-        (W.contents writer.old) (W.contents writer.new) (R.remaining reader.old) (R.remaining reader.new)
+        (W.contents writer.old) (W.contents writer.new)
+        (R.remaining reader.old) (R.remaining reader.new)
         session.new.line.items session.new.count 0) }
     ensures few { OnOk result (session.new.count ≤ MAX_READS * CHUNK) }
     ensures end { OnOk result (IsAtEnd (R.remaining reader.new)) }
@@ -61,7 +62,8 @@ fn serve_lines<H: Wait, D: Desk, R: Source, W: Sink>(
     ensures ok { IfOk result (λ n. (input : List ℕ)
         × Consumes (R.remaining reader.old) (R.remaining reader.new) input
         × IsAtEnd (R.remaining reader.new) × (n ≡ length (lines_of input))
-        × Served D.asks desk.old (lines_of input) (W.contents writer.old) (W.contents writer.new) desk.new) }
+        × Served D.asks desk.old (lines_of input)
+        (W.contents writer.old) (W.contents writer.new) desk.new) }
     ensures err { IfErr result (λ e. (input : List ℕ)
         × Consumes (R.remaining reader.old) (R.remaining reader.new) input
         × StopsAt D.asks desk.old input (W.contents writer.old) (W.contents writer.new)
@@ -89,9 +91,11 @@ pub fn serve<H: Wait, D: Desk, R: Source, W: Sink>(
 ) -> Result<u64, FrontError>
     // The texts of one reply for each line are written, however the reader cut its bytes.
     ensures finished { IfOk result (Finished D.asks D.ends desk.old desk.new
-        (W.contents writer.old) (W.contents writer.new) (R.remaining reader.old) (R.remaining reader.new)) }
+        (W.contents writer.old) (W.contents writer.new)
+        (R.remaining reader.old) (R.remaining reader.new)) }
     ensures stopped { IfErr result (Stopped D.asks D.ends desk.old desk.new
-        (W.contents writer.old) (W.contents writer.new) (R.remaining reader.old) (R.remaining reader.new)) }
+        (W.contents writer.old) (W.contents writer.new)
+        (R.remaining reader.old) (R.remaining reader.new)) }
 
     // Memory is allocated before the first read.
     ensures memory { result ≡ Err FrontError.Memory → (reader.new ≡ reader.old)

@@ -15,7 +15,8 @@ use hub_requests::Name;
 /// A name, and the rest after it. None if the first field isn't a name, or is the last.
 pub fn name_first(rest: &[u8]) -> Option<(&[u8], &[u8])>
     ensures { MatchOption result
-        ((name field : List ℕ) (more : List (List ℕ)) → IsName name → fields_of rest.now ≢ name ∷ field ∷ more)
+        ((name field : List ℕ) (more : List (List ℕ)) → IsName name
+        → fields_of rest.now ≢ name ∷ field ∷ more)
         (λ p. IsName p.0.now × (fields_of rest.now ≡ p.0.now ∷ fields_of p.1.now)) }
 {
     let (name, rest) = split_at_space(rest)?;
@@ -28,7 +29,8 @@ pub fn name_first(rest: &[u8]) -> Option<(&[u8], &[u8])>
 /// The number of a numeral, and the rest after it. None if the first field isn't a numeral, or is the last.
 pub fn numeral_first(rest: &[u8]) -> Option<(u64, &[u8])>
     ensures { MatchOption result
-        ((n : ℕ) (field : List ℕ) (more : List (List ℕ)) → IsNumeral n → fields_of rest.now ≢ decimal n ∷ field ∷ more)
+        ((n : ℕ) (field : List ℕ) (more : List (List ℕ)) → IsNumeral n
+        → fields_of rest.now ≢ decimal n ∷ field ∷ more)
         (λ p. IsNumeral p.0 × (fields_of rest.now ≡ decimal p.0 ∷ fields_of p.1.now)) }
 {
     let (number, rest) = split_at_space(rest)?;
@@ -48,7 +50,8 @@ pub fn mode_first(rest: &[u8]) -> Option<(Mode, &[u8])>
 /// A span, and the rest after it. None if the first field isn't a span, or is the last.
 pub fn span_first(rest: &[u8]) -> Option<(Span, &[u8])>
     ensures { MatchOption result
-        ((span : Span) (field : List ℕ) (more : List (List ℕ)) → fields_of rest.now ≢ text_of_span span ∷ field ∷ more)
+        ((span : Span) (field : List ℕ) (more : List (List ℕ))
+        → fields_of rest.now ≢ text_of_span span ∷ field ∷ more)
         (λ p. fields_of rest.now ≡ text_of_span p.0 ∷ fields_of p.1.now) }
 {
     let (span, rest) = split_at_space(rest)?;
@@ -58,7 +61,8 @@ pub fn span_first(rest: &[u8]) -> Option<(Span, &[u8])>
 /// A want, and the rest after it. None if the first field isn't a want, or is the last.
 pub fn want_first(rest: &[u8]) -> Option<(Want, &[u8])>
     ensures { MatchOption result
-        ((want : Want) (field : List ℕ) (more : List (List ℕ)) → fields_of rest.now ≢ text_of_want want ∷ field ∷ more)
+        ((want : Want) (field : List ℕ) (more : List (List ℕ))
+        → fields_of rest.now ≢ text_of_want want ∷ field ∷ more)
         (λ p. fields_of rest.now ≡ text_of_want p.0 ∷ fields_of p.1.now) }
 {
     let (want, rest) = split_at_space(rest)?;

@@ -59,7 +59,8 @@ pub fn ids_differ()
 
 /// An empty message changes nothing, and an open record accepts it.
 pub fn empty_message_changes_nothing()
-    ensures still { (w : World) (who : ℕ) (said : Said) → after_call w (Call.Publish who []) said ≡ w }
+    ensures still { (w : World) (who : ℕ) (said : Said)
+        → after_call w (Call.Publish who []) said ≡ w }
     ensures accepted { (w : World) (who : ℕ) (said : Said) → IsWorld w → w.closed ≡ false
         → SaidTo w (Call.Publish who []) said → said ≡ Said.Published (Ok (length w.events)) }
 {}

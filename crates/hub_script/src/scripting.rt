@@ -21,12 +21,14 @@ pub fn script<H: Wait, R: Source, W: Sink>(
     // A new desk answers each line, and the texts of the replies are written. If none is `no memory`, they are the
     // output of the input: a function of the input's bytes, and of which texts in it are patterns.
     ensures output { IfOk result (λ n. Serves
-        (W.contents writer.old) (W.contents writer.new) (R.remaining reader.old) (R.remaining reader.new) n) }
+        (W.contents writer.old) (W.contents writer.new)
+        (R.remaining reader.old) (R.remaining reader.new) n) }
 
     // After an error nothing is written but the texts of a new desk's replies to the lines that were read, of the
     // last one perhaps a part.
     ensures stopped { IfErr result (Stops
-        (W.contents writer.old) (W.contents writer.new) (R.remaining reader.old) (R.remaining reader.new)) }
+        (W.contents writer.old) (W.contents writer.new)
+        (R.remaining reader.old) (R.remaining reader.new)) }
 
     // Memory is allocated before the first read.
     ensures memory { result ≡ Err FrontError.Memory → (reader.new ≡ reader.old)

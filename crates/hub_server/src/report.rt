@@ -1,5 +1,6 @@
 //! The results of serving.
 ghost use Rattle.std.specs.Prelude.{◌≡◌, ◌↔◌, IsTrue, All, IsOk, false};
+ghost use Rattle.hub_server.specs.declared.report.ServeError.TheVariants.{Memory};
 
 use hub_io::FrontError;
 use std::alloc::AllocError;
@@ -34,17 +35,6 @@ pub enum ServeError {
     Memory,
 }
 
-impl From<AllocError> for ServeError {
-    ghost use Rattle.std.specs.Prelude.{◌≡◌};
-    ghost use Rattle.hub_server.specs.declared.report.ServeError.TheVariants.{Memory};
-
-    ghost from_gives = { λ _ error. error ≡ Memory };
-
-    fn from(_: AllocError) -> ServeError {
-        ServeError::Memory
-    }
-}
-
 impl fmt::Display for ServeError {
     ghost use Rattle.std.specs.Prelude.{Some};
     ghost use Rattle.hub_server.specs.Reports.{serve_text};
@@ -60,3 +50,11 @@ impl fmt::Display for ServeError {
 }
 
 impl Error for ServeError {}
+
+impl From<AllocError> for ServeError {
+    ghost from_gives = { λ _ error. error ≡ Memory };
+
+    fn from(_: AllocError) -> ServeError {
+        ServeError::Memory
+    }
+}

@@ -28,7 +28,8 @@ impl<T: Drop, P: Promise<T> + Drop> Model for Started<T, P> {
 
     ghost view = { λ started. started.promise.value };
 
-    ghost invariant = { λ started. IsKept P.kept_by started.promise.value started.thread started.result };
+    ghost invariant = { λ started. IsKept P.kept_by started.promise.value started.thread
+        started.result };
 }
 
 impl<T: Drop, P: Promise<T> + Drop> Started<T, P> {

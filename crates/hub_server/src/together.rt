@@ -139,7 +139,8 @@ where
     O: Desks + Send + Drop + 'static,
     requires { started.old.items ≡ [] }
     ensures ok { IfOk result (λ failed. ThenCloses G.closes
-        (λ last. IsAsked G.gives sessions gate.old (streams_of started.new.items) failed last) gate.new) }
+        (λ last. IsAsked G.gives sessions gate.old (streams_of started.new.items) failed last)
+        gate.new) }
     ensures over { OnOk result (AreOver O.opens desks.now started.new.items) }
     ensures err { IfErr result (λ error. ThenCloses G.closes
         (λ last. StopsEarly G.gives sessions gate.old last error) gate.new) }

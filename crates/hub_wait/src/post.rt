@@ -119,7 +119,8 @@ impl Post {
     /// A law: a wait's yes names a state that its fifodir had after the post subscribed. For all, each post does so, and
     /// for any, one.
     pub fn names_a_state()
-        ensures { (span : Span) (posts : List Post) → verdict span (watches_of posts) ≡ Some Verdict.Yes
+        ensures { (span : Span) (posts : List Post)
+            → verdict span (watches_of posts) ≡ Some Verdict.Yes
             → HadStates span posts }
     {}
 }

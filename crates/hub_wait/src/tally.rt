@@ -1,5 +1,7 @@
 //! The verdict over several services.
 ghost use Rattle.std.specs.Prelude.{◌≡◌, List, [], ◌∷◌, ◌++◌};
+ghost use Rattle.hub_wait.specs.Verdicts.{Tallied, tally_of, verdict};
+ghost use Rattle.hub_wait.specs.Watching.{Watching};
 
 use crate::watch::Watch;
 use hub_letters::Span;
@@ -25,8 +27,6 @@ pub struct Tally {
 }
 
 impl Model for Tally {
-    ghost use Rattle.hub_wait.specs.Verdicts.{Tallied};
-
     ghost Value = { Tallied };
 
     ghost view = { λ t. record { span = t.span; yes = t.yes; never = t.never } };
@@ -35,9 +35,6 @@ impl Model for Tally {
 }
 
 impl Tally {
-    ghost use Rattle.hub_wait.specs.Watching.{Watching};
-    ghost use Rattle.hub_wait.specs.Verdicts.{tally_of, verdict};
-
     /// A tally of no watches.
     #[tactic(auto, unfolding(crate::specs::Verdicts::tally_of))]
     pub fn new(span: Span) -> Tally

@@ -1,5 +1,6 @@
 use super::{Plan, early_status, read_words};
 use std::alloc::{AllocError, Global};
+use std::process::Abort;
 use std::test::Fail;
 
 fn words_of(alloc: Global, line: &str) -> Result<Vec<String>, AllocError> {
@@ -10,41 +11,64 @@ fn words_of(alloc: Global, line: &str) -> Result<Vec<String>, AllocError> {
     Ok(words)
 }
 
-#[test]
-fn early_statuses(rt: HostRuntime) -> Result<(), Fail> {
-    for (line, status) in [
-        ("ftrighub", Some(2)),
-        ("ftrighub --help", Some(0)),
-        ("ftrighub -h", Some(0)),
-        ("ftrighub --version", Some(0)),
-        ("ftrighub -V", Some(0)),
-        ("ftrighub --version now", Some(0)),
-        ("ftrighub script --version", Some(2)),
-        ("ftrighub script --help", Some(0)),
-        ("ftrighub script", None),
-        ("ftrighub script now", Some(2)),
-        ("ftrighub now", Some(2)),
-        ("ftrighub serve --help", Some(0)),
-        ("ftrighub serve", Some(2)),
-        ("ftrighub serve s", None),
-        ("ftrighub serve s t", Some(2)),
-        ("ftrighub serve s --sessions", Some(2)),
-        ("ftrighub serve s --sessions 0", Some(2)),
-        ("ftrighub serve s --sessions 1", None),
-        ("ftrighub serve s --sessions 64", None),
-        ("ftrighub serve s --sessions 65", Some(2)),
-        ("ftrighub serve s --sessions many", Some(2)),
-        ("ftrighub serve --sessions 2", Some(2)),
-        ("ftrighub call --help", Some(0)),
-        ("ftrighub call", Some(2)),
-        ("ftrighub call s", None),
-        ("ftrighub call s t", Some(2)),
-        ("ftrighub call s --sessions 2", Some(2)),
-    ] {
-        let words = words_of(rt.alloc(), line)?;
-        let found = early_status(rt.alloc(), words.as_slice())?;
+/// These ask for help or for the version.
+static HELP: &str = "
+    ftrighub --help
+    ftrighub -h
+    ftrighub --version
+    ftrighub -V
+    ftrighub --version now
+    ftrighub script --help
+    ftrighub serve --help
+    ftrighub call --help
+";
+
+/// These are refused.
+static WRONG: &str = "
+    ftrighub
+    ftrighub script --version
+    ftrighub script now
+    ftrighub now
+    ftrighub serve
+    ftrighub serve s t
+    ftrighub serve s --sessions
+    ftrighub serve s --sessions 0
+    ftrighub serve s --sessions 65
+    ftrighub serve s --sessions many
+    ftrighub serve --sessions 2
+    ftrighub call
+    ftrighub call s t
+    ftrighub call s --sessions 2
+";
+
+/// These are plans.
+static RUN: &str = "
+    ftrighub script
+    ftrighub serve s
+    ftrighub serve s --sessions 1
+    ftrighub serve s --sessions 64
+    ftrighub call s
+";
+
+fn expect_status(
+    rt: &impl Abort,
+    alloc: Global,
+    lines: &str,
+    status: Option<u8>,
+) -> Result<(), AllocError> {
+    for line in lines.trim().lines() {
+        let words = words_of(alloc, line.trim())?;
+        let found = early_status(alloc, words.as_slice())?;
         assert_eq!(rt; found, status, "at {line}");
     }
+    Ok(())
+}
+
+#[test]
+fn early_statuses(rt: HostRuntime) -> Result<(), Fail> {
+    expect_status(&rt, rt.alloc(), HELP, Some(0))?;
+    expect_status(&rt, rt.alloc(), WRONG, Some(2))?;
+    expect_status(&rt, rt.alloc(), RUN, None)?;
     Ok(())
 }
 

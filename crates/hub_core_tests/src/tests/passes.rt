@@ -21,6 +21,38 @@ pub(crate) fn open(alloc: Global, kind: Kind, limits: (u64, u64, u64)) -> Result
     Ok(Arc::new(alloc, Fifodir::new(alloc, kind, limits)?)?)
 }
 
+/// A pass beside the fifodir that made it.
+pub(crate) trait Held {
+    type Refusal: Copy;
+
+    /// Makes a pass.
+    fn made<R: Wait>(rt: &R, fifodir: Shared) -> Result<Self, Self::Refusal>;
+
+    /// The number that it was given.
+    fn given(&self) -> u64;
+
+    /// Gives it back.
+    fn end<R: Wait>(self, rt: &R);
+}
+
+/// Puts the pass into the list. If a growth is refused, it tries once more.
+pub(crate) fn keep<R: Wait, H: Held>(rt: &R, list: &mut Vec<H>, held: H) -> Result<(), AllocError> {
+    if let Err(refused) = list.push(held) {
+        if let Err(refused) = list.push(refused.value) {
+            refused.value.end(rt);
+            return Err(AllocError);
+        }
+    }
+    Ok(())
+}
+
+pub(crate) fn end_all<R: Wait, H: Held>(rt: &R, mut list: Vec<H>) {
+    while let Some(held) = list.pop() {
+        held.end(rt);
+    }
+    list.destroy_empty();
+}
+
 pub(crate) struct Sender {
     pub(crate) fifodir: Shared,
     pub(crate) me: Publisher,
@@ -69,26 +101,20 @@ pub(crate) fn new_sender<R: Abort + Wait>(rt: &R, fifodir: &Shared) -> Sender {
     Sender::of(rt, fifodir).expect(rt, "a publisher")
 }
 
-/// Puts the publisher into the list. If a growth is refused, it tries once more.
-pub(crate) fn keep_sender<R: Wait>(
-    rt: &R,
-    senders: &mut Vec<Sender>,
-    sender: Sender,
-) -> Result<(), AllocError> {
-    if let Err(refused) = senders.push(sender) {
-        if let Err(refused) = senders.push(refused.value) {
-            refused.value.leave(rt);
-            return Err(AllocError);
-        }
-    }
-    Ok(())
-}
+impl Held for Sender {
+    type Refusal = PassError;
 
-pub(crate) fn leave_all<R: Wait>(rt: &R, mut senders: Vec<Sender>) {
-    while let Some(sender) = senders.pop() {
-        sender.leave(rt);
+    fn made<R: Wait>(rt: &R, fifodir: Shared) -> Result<Sender, PassError> {
+        Sender::of(rt, fifodir)
     }
-    senders.destroy_empty();
+
+    fn given(&self) -> u64 {
+        self.me.number()
+    }
+
+    fn end<R: Wait>(self, rt: &R) {
+        self.leave(rt);
+    }
 }
 
 pub(crate) struct Reader {
@@ -132,24 +158,18 @@ pub(crate) fn new_reader<R: Abort + Wait>(rt: &R, fifodir: &Shared) -> Reader {
     Reader::of(rt, fifodir).expect(rt, "a ticket")
 }
 
-/// Puts the ticket into the list. If a growth is refused, it tries once more.
-pub(crate) fn keep_reader<R: Wait>(
-    rt: &R,
-    readers: &mut Vec<Reader>,
-    reader: Reader,
-) -> Result<(), AllocError> {
-    if let Err(refused) = readers.push(reader) {
-        if let Err(refused) = readers.push(refused.value) {
-            refused.value.cancel(rt);
-            return Err(AllocError);
-        }
-    }
-    Ok(())
-}
+impl Held for Reader {
+    type Refusal = SubError;
 
-pub(crate) fn cancel_all<R: Wait>(rt: &R, mut readers: Vec<Reader>) {
-    while let Some(reader) = readers.pop() {
-        reader.cancel(rt);
+    fn made<R: Wait>(rt: &R, fifodir: Shared) -> Result<Reader, SubError> {
+        Reader::of(rt, fifodir)
     }
-    readers.destroy_empty();
+
+    fn given(&self) -> u64 {
+        self.me.id()
+    }
+
+    fn end<R: Wait>(self, rt: &R) {
+        self.cancel(rt);
+    }
 }

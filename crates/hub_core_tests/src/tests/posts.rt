@@ -1,7 +1,7 @@
 //! Posts: how many there may be, how much one catches up with, and a wait at three of them.
-use crate::fixtures::{run_of, word};
-use crate::passes::{Shared, new_sender, open};
-use crate::waits::{Deed, Doing, open_post};
+use crate::tests::fixtures::{run_of, word};
+use crate::tests::passes::{Shared, new_sender, open};
+use crate::tests::waits::{Deed, Doing, open_post};
 use hub_letters::{Letter, Want};
 use hub_record::{Kind, SubError};
 use hub_wait::{Post, Span, Verdict, svwait};
@@ -152,13 +152,7 @@ fn last_starts<R: Abort + Wait>(rt: &R, alloc: Global, row: &Row) -> Result<bool
         second.send(rt, &before),
         supervisor.send(rt, &began),
     );
-    let mut pause = Doing {
-        supervisor,
-        deed: Deed::Send("u"),
-        letters,
-        at_call: 1,
-        calls: 0,
-    };
+    let mut pause = Doing::new(supervisor, Deed::Send("u"), letters, 1);
     let mut posts = [
         open_post(rt, one, Want::Up, true),
         open_post(rt, other, Want::Up, true),

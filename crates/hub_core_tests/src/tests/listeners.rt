@@ -1,7 +1,7 @@
 ghost use Rattle.std.specs.Prelude.{◌≡◌, IfOk};
 ghost use Rattle.hub_listen.specs.Listening.{new_listening};
 
-use crate::fixtures::{SIZES_TRIED, none_is_unlike, run_of, size_at, word};
+use crate::tests::fixtures::{SIZES_TRIED, none_is_unlike, run_of, size_at, word};
 use hub_letters::Letter;
 use hub_listen::{Each, Feed, FeedError, ListenError, Listener, Mode, feed_each};
 use regex::Regex;
@@ -23,6 +23,8 @@ type Piece = (&'static str, Feed, &'static str, &'static str);
 type Row = (&'static str, Mode, &'static [Piece]);
 
 static HEARD: [Row; 10] = [
+    ("b", Mode::Repeat, &[("abb", Feed::Hit(2), "", "ab")]),
+    ("$", Mode::Repeat, &[("xy", Feed::Hit(1), "", "x")]),
     (
         "ab",
         Mode::Repeat,
@@ -43,6 +45,11 @@ static HEARD: [Row; 10] = [
         ],
     ),
     (
+        "^b",
+        Mode::Repeat,
+        &[("ab", Feed::Quiet, "ab", ""), ("b", Feed::Quiet, "abb", "")],
+    ),
+    (
         "d",
         Mode::Once,
         &[
@@ -60,7 +67,14 @@ static HEARD: [Row; 10] = [
             ("", Feed::Quiet, "", "d"),
         ],
     ),
-    ("b", Mode::Repeat, &[("abb", Feed::Hit(2), "", "ab")]),
+    (
+        "^ab",
+        Mode::Repeat,
+        &[
+            ("ab", Feed::Hit(2), "", "ab"),
+            ("abc", Feed::Hit(2), "", "ab"),
+        ],
+    ),
     (
         "a*",
         Mode::Repeat,
@@ -70,7 +84,6 @@ static HEARD: [Row; 10] = [
             ("y", Feed::Hit(1), "", "y"),
         ],
     ),
-    ("$", Mode::Repeat, &[("xy", Feed::Hit(1), "", "x")]),
     (
         "b$",
         Mode::Repeat,
@@ -78,19 +91,6 @@ static HEARD: [Row; 10] = [
             ("abc", Feed::Hit(2), "", "ab"),
             ("c", Feed::Quiet, "c", "ab"),
             ("b", Feed::Hit(1), "", "cb"),
-        ],
-    ),
-    (
-        "^b",
-        Mode::Repeat,
-        &[("ab", Feed::Quiet, "ab", ""), ("b", Feed::Quiet, "abb", "")],
-    ),
-    (
-        "^ab",
-        Mode::Repeat,
-        &[
-            ("ab", Feed::Hit(2), "", "ab"),
-            ("abc", Feed::Hit(2), "", "ab"),
         ],
     ),
 ];

@@ -1,5 +1,5 @@
-use crate::fixtures::{none_is_unlike, word};
-use crate::passes::{Sender, Shared, new_sender, open};
+use crate::tests::fixtures::{none_is_unlike, word};
+use crate::tests::passes::{Sender, Shared, new_sender, open};
 use hub_letters::{Letter, Want};
 use hub_record::{Kind, PubError};
 use hub_wait::{Backoff, Go, Pause, Post, Span, Verdict, svlisten, svwait};
@@ -47,6 +47,17 @@ impl Pause for Doing {
 }
 
 impl Doing {
+    /// A pause that has counted no call.
+    pub(crate) fn new(supervisor: Sender, deed: Deed, letters: Vec<Letter>, at_call: u64) -> Doing {
+        Doing {
+            supervisor,
+            deed,
+            letters,
+            at_call,
+            calls: 0,
+        }
+    }
+
     /// How many calls it counted. Its supervisor leaves.
     pub(crate) fn end<R: Wait>(self, rt: &R) -> u64 {
         let Doing {
@@ -146,13 +157,7 @@ fn letters_of(alloc: Global, deed: Deed) -> Result<Vec<Letter>, Fail> {
 fn waits_so<R: Abort + Wait>(rt: &R, alloc: Global, row: &Row) -> Result<bool, Fail> {
     let letters = letters_of(alloc, row.deed)?;
     let (fifodir, supervisor) = start_service(rt, alloc)?;
-    let mut pause = Doing {
-        supervisor,
-        deed: row.deed,
-        letters,
-        at_call: row.at_call,
-        calls: 0,
-    };
+    let mut pause = Doing::new(supervisor, row.deed, letters, row.at_call);
     let mut posts = [open_post(rt, fifodir, Want::Ready, true)];
     let verdict = svwait(rt, &mut posts, Span::All, row.turns, &mut pause);
     let at = posts[0].watch().at();
@@ -169,12 +174,6 @@ fn first_unlike<R: Abort + Wait>(rt: &R, alloc: Global) -> Result<Option<&'stati
         }
     }
     Ok(None)
-}
-
-#[test]
-fn a_wait_goes_on_for_so_many_turns(rt: HostRuntime) -> Result<(), Fail> {
-    none_is_unlike(&rt, first_unlike(&rt, rt.alloc())?);
-    Ok(())
 }
 
 fn waits_for_no_service<R: Wait + Clock>(rt: &R, pause: &mut Backoff<R>) -> bool {
@@ -226,6 +225,12 @@ fn room_comes_with_a_wait<R: Abort + Wait + Clock + Copy>(
     let is_sent = supervisor.send(rt, &two) == Ok(4);
     supervisor.leave(rt);
     Ok(was_full && verdict == Verdict::Late && pause.turns == 32 && is_full && is_sent)
+}
+
+#[test]
+fn a_wait_goes_on_for_so_many_turns(rt: HostRuntime) -> Result<(), Fail> {
+    none_is_unlike(&rt, first_unlike(&rt, rt.alloc())?);
+    Ok(())
 }
 
 #[test]

@@ -1,8 +1,8 @@
 //! Calls that take no memory. Whether they take none is counted by `tests/no-memory`, which runs this program over a
 //! `malloc` that counts (`tests/count.c`): it counts between two marks.
-use crate::fixtures::word;
-use crate::passes::{Sender, Shared, new_sender, open, publisher, ticket};
-use crate::waits::{Deed, Doing, open_post};
+use crate::tests::fixtures::word;
+use crate::tests::passes::{Sender, Shared, new_sender, open, publisher, ticket};
+use crate::tests::waits::{Deed, Doing, open_post};
 use hub_fifodir::{Fifodir, Locked};
 use hub_letters::{Flags, Letter, Stage, Want};
 use hub_listen::{Feed, Listener, Mode};
@@ -206,13 +206,7 @@ fn posts_are_used<R: Abort + Wait>(
     more: &[Letter],
 ) -> bool {
     let _ = supervisor.send(rt, more);
-    let mut pause = Doing {
-        supervisor,
-        deed: Deed::Send("u"),
-        letters,
-        at_call: 1,
-        calls: 0,
-    };
+    let mut pause = Doing::new(supervisor, Deed::Send("u"), letters, 1);
     let mut posts = [open_post(rt, fifodir, Want::Up, true)];
     mark();
     let heard = svlisten(rt, &mut posts, Span::All, 0, &mut pause, |_posts| 7);

@@ -1,6 +1,6 @@
 //! Each size that a call may have, with ample memory. A refused growth is a failure here.
-use crate::fixtures::{SIZES_TRIED, run_of, size_at};
-use crate::passes::{publisher, ticket};
+use crate::tests::fixtures::{SIZES_TRIED, run_of, size_at};
+use crate::tests::passes::{publisher, ticket};
 use hub_fifodir::{Fifodir, Locked, PassError};
 use hub_letters::Letter;
 use hub_record::{
@@ -14,36 +14,28 @@ use std::test::Fail;
 /// The most events that may be pending.
 const MOST: usize = 4096;
 
-/// Whether a record of so many pending events takes a message of that size, and then no letter, and gives it back.
-fn record_holds(
+/// Whether a record of so many pending events takes a message of that size, and then no letter, and gives it back; and the
+/// same of a record behind a lock.
+fn records_hold(
     alloc: Global,
     limits: Limits,
     message: &[Letter],
     out: &mut [Event],
 ) -> Result<bool, AllocError> {
-    let room = out.len();
+    let whole = Ok(Taken::Got(out.len()));
     let mut record = Record::new(alloc, Kind::Plain, limits)?;
-    Ok(
-        record.subscribe() == Ok((1, 0))
-            && record.publish(1, message) == Ok(0)
-            && record.publish(1, &[Letter::LEAST]) == Err(PubError::Full)
-            && record.take_into(1, out) == Ok(Taken::Got(room)),
-    )
-}
-
-fn locked_holds(
-    alloc: Global,
-    limits: Limits,
-    message: &[Letter],
-    out: &mut [Event],
-) -> Result<bool, AllocError> {
-    let room = out.len();
     let mut locked = Locked::new(alloc, Kind::Plain, limits)?;
+    let given = (record.subscribe(), locked.subscribe());
+    let sent = (record.publish(1, message), locked.publish(1, message));
+    let one = [Letter::LEAST];
+    let more = (record.publish(1, &one), locked.publish(1, &one));
+    let taken = (record.take_into(1, out), locked.take_into(1, out));
+    let full = Err(PubError::Full);
     Ok(
-        locked.subscribe() == Ok((1, 0))
-            && locked.publish(1, message) == Ok(0)
-            && locked.publish(1, &[Letter::LEAST]) == Err(PubError::Full)
-            && locked.take_into(1, out) == Ok(Taken::Got(room)),
+        given == (Ok((1, 0)), Ok((1, 0)))
+            && sent == (Ok(0), Ok(0))
+            && more == (full, full)
+            && taken == (whole, whole),
     )
 }
 
@@ -54,7 +46,7 @@ fn fifodir_holds<R: Abort + Wait>(
     message: &[Letter],
     out: &mut [Event],
 ) -> Result<bool, AllocError> {
-    let room = out.len();
+    let whole = Taken::Got(out.len());
     let fifodir = Fifodir::new(alloc, Kind::Plain, limits)?;
     let mut sender = publisher(rt, &fifodir);
     let mut reader = ticket(rt, &fifodir);
@@ -63,7 +55,7 @@ fn fifodir_holds<R: Abort + Wait>(
     let taken = fifodir.take_into(rt, &mut reader, out);
     fifodir.leave(rt, sender);
     fifodir.cancel(rt, reader);
-    Ok(sent == Ok(0) && more == Err(PubError::Full) && taken == Taken::Got(room))
+    Ok(sent == Ok(0) && more == Err(PubError::Full) && taken == whole)
 }
 
 /// How many events may be pending in the first record or fifodir that holds another number of them.
@@ -81,8 +73,7 @@ fn room_unlike<R: Abort + Wait>(rt: &R, alloc: Global) -> Result<Option<usize>, 
         let Some((out, _)) = events.as_mut_slice().split_at_mut_checked(waiting) else {
             return Ok(Some(waiting));
         };
-        if !record_holds(alloc, limits, message, out)?
-            || !locked_holds(alloc, limits, message, out)?
+        if !records_hold(alloc, limits, message, out)?
             || !fifodir_holds(rt, alloc, limits, message, out)?
         {
             return Ok(Some(waiting));

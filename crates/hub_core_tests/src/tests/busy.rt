@@ -1,6 +1,6 @@
 //! Calls while another thread is at the lock: wake-ups aren't lost, and a meeting doesn't wait.
-use crate::fixtures::run_of;
-use crate::passes::{Sender, Shared, open, publisher};
+use crate::tests::fixtures::run_of;
+use crate::tests::passes::{Sender, Shared, open, publisher};
 use hub_fifodir::Fifodir;
 use hub_letters::Letter;
 use hub_record::Kind;

@@ -1,5 +1,5 @@
 //! Worked examples, whose values were found by hand.
-use crate::fixtures::{BLANK, are_events, none_is_unlike, word};
+use crate::tests::fixtures::{BLANK, are_events, none_is_unlike, word};
 use hub_letters::Stage;
 use hub_record::{
     Call, Closed, Event, Kind, Letters, Limits, NoId, PubError, Record, Said, SubError, Taken,

@@ -1,4 +1,4 @@
-use crate::fixtures::{none_is_unlike, word};
+use crate::tests::fixtures::{none_is_unlike, word};
 use hub_letters::{Flags, Want};
 use hub_record::Status;
 use hub_wait::{Span, Tally, Verdict, Watch};
@@ -31,41 +31,27 @@ type Piece = (u64, &'static str, u64, u64);
 
 /// A watch begins at a number and the flags of a code, and hears pieces; then what is wanted is met or not. It is never
 /// hopeless.
-struct Heard {
-    name: &'static str,
-    want: Want,
-    begins: (u64, u64),
-    pieces: &'static [Piece],
-    met: bool,
-}
+type Heard = (&'static str, Want, (u64, u64), &'static [Piece], bool);
 
 static HEARD: [Heard; 4] = [
-    Heard {
-        name: "nothing was heard since the status",
-        want: Want::Ready,
-        begins: (2, 5),
-        pieces: &[],
-        met: false,
-    },
-    Heard {
-        name: "letters that the status tells are passed over",
-        want: Want::Ready,
-        begins: (2, 5),
-        pieces: &[(0, "suU", 3, 7)],
-        met: true,
-    },
-    Heard {
-        name: "the mark is 2, and the letter after it was read by the status",
-        want: Want::Up,
-        begins: (3, 4),
-        pieces: &[(2, "d", 3, 4)],
-        met: false,
-    },
-    Heard {
-        name: "what s6-supervise was seen to send, in pieces that overlap",
-        want: Want::Finished,
-        begins: (0, 0),
-        pieces: &[
+    // Nothing was heard since the status.
+    ("no piece", Want::Ready, (2, 5), &[], false),
+    // Letters that the status tells are passed over.
+    (
+        "an old piece",
+        Want::Ready,
+        (2, 5),
+        &[(0, "suU", 3, 7)],
+        true,
+    ),
+    // The mark is 2, and the letter after it was read by the status.
+    ("one letter", Want::Up, (3, 4), &[(2, "d", 3, 4)], false),
+    // What s6-supervise was seen to send, in pieces that overlap.
+    (
+        "pieces that overlap",
+        Want::Finished,
+        (0, 0),
+        &[
             (0, "s", 1, 6),
             (0, "su", 2, 5),
             (2, "", 2, 5),
@@ -73,8 +59,8 @@ static HEARD: [Heard; 4] = [
             (2, "U", 4, 4),
             (3, "dODuU", 8, 7),
         ],
-        met: false,
-    },
+        false,
+    ),
 ];
 
 fn hears(alloc: Global, watch: &mut Watch, pieces: &[Piece]) -> io::Result<bool> {
@@ -89,14 +75,13 @@ fn hears(alloc: Global, watch: &mut Watch, pieces: &[Piece]) -> io::Result<bool>
 
 /// The name of the first row that isn't so.
 fn first_unlike(alloc: Global) -> io::Result<Option<&'static str>> {
-    for row in HEARD.iter() {
-        let (number, code) = row.begins;
-        let Some(mut watch) = watch_at(row.want, number, code) else {
-            return Ok(Some(row.name));
+    for (name, want, (number, code), pieces, met) in HEARD.iter() {
+        let Some(mut watch) = watch_at(*want, *number, *code) else {
+            return Ok(Some(*name));
         };
-        let hears = hears(alloc, &mut watch, row.pieces)?;
-        if !hears || watch.met() != row.met || watch.hopeless() || !ends(watch) {
-            return Ok(Some(row.name));
+        let hears = hears(alloc, &mut watch, pieces)?;
+        if !hears || watch.met() != *met || watch.hopeless() || !ends(watch) {
+            return Ok(Some(*name));
         }
     }
     Ok(None)

@@ -1,5 +1,5 @@
 //! The ids and numbers that two threads are given: each is given once, and why there are no more.
-use crate::passes::{Reader, Sender, Shared, open};
+use crate::tests::passes::{Held, Reader, Sender, Shared, open};
 use hub_fifodir::PassError;
 use hub_record::{Kind, SubError};
 use std::alloc::{AllocError, Global};
@@ -13,30 +13,14 @@ const GIVEN: u64 = 3000;
 
 type Given<E> = Result<(Vec<u64>, E), AllocError>;
 
-/// The ids of the tickets that are given until one is refused, and why it is.
-fn ids_given<R: Wait>(rt: &R, alloc: Global, fifodir: &Shared) -> Given<SubError> {
-    let mut ids = Vec::new(alloc);
-    for _ in rt.forever() {
-        match Reader::of(rt, Arc::try_clone(fifodir)?) {
-            Ok(reader) => {
-                let id = reader.me.id();
-                reader.cancel(rt);
-                ids.push(id)?;
-            }
-            Err(refusal) => return Ok((ids, refusal)),
-        }
-    }
-    unreachable!()
-}
-
-/// The same of publishers.
-fn numbers_given<R: Wait>(rt: &R, alloc: Global, fifodir: &Shared) -> Given<PassError> {
+/// The numbers of the passes that are given until one is refused, and why it is.
+fn given<R: Wait, H: Held>(rt: &R, alloc: Global, fifodir: &Shared) -> Given<H::Refusal> {
     let mut numbers = Vec::new(alloc);
     for _ in rt.forever() {
-        match Sender::of(rt, Arc::try_clone(fifodir)?) {
-            Ok(sender) => {
-                let number = sender.me.number();
-                sender.leave(rt);
+        match H::made(rt, Arc::try_clone(fifodir)?) {
+            Ok(held) => {
+                let number = held.given();
+                held.end(rt);
                 numbers.push(number)?;
             }
             Err(refusal) => return Ok((numbers, refusal)),
@@ -68,14 +52,14 @@ fn two_threads_get_all<R: Threads + Wait + Sync>(
 ) -> Result<bool, AllocError> {
     let (one, other) = thread::join_mut(
         rt,
-        &mut || -> Given<SubError> { ids_given(rt, alloc, fifodir) },
-        &mut || -> Given<SubError> { ids_given(rt, alloc, fifodir) },
+        &mut || -> Given<SubError> { given::<R, Reader>(rt, alloc, fifodir) },
+        &mut || -> Given<SubError> { given::<R, Reader>(rt, alloc, fifodir) },
     );
     let (one, other) = (one?, other?);
     let (first, second) = thread::join_mut(
         rt,
-        &mut || -> Given<PassError> { numbers_given(rt, alloc, fifodir) },
-        &mut || -> Given<PassError> { numbers_given(rt, alloc, fifodir) },
+        &mut || -> Given<PassError> { given::<R, Sender>(rt, alloc, fifodir) },
+        &mut || -> Given<PassError> { given::<R, Sender>(rt, alloc, fifodir) },
     );
     let (first, second) = (first?, second?);
     Ok(

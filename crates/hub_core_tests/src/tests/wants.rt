@@ -1,4 +1,4 @@
-use crate::fixtures::none_is_unlike;
+use crate::tests::fixtures::none_is_unlike;
 use hub_letters::{Flags, Want};
 
 /// A code of flags; whether up, ready with a report, ready without one, down and finished are met; whether up, ready,

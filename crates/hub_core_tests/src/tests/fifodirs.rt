@@ -1,7 +1,6 @@
-use crate::fixtures::{BLANK, are_events, none_is_unlike, word};
-use crate::passes::{
-    Reader, Sender, Shared, cancel_all, keep_reader, keep_sender, leave_all, new_reader,
-    new_sender, open, publisher, ticket,
+use crate::tests::fixtures::{BLANK, are_events, none_is_unlike, word};
+use crate::tests::passes::{
+    Reader, Sender, Shared, end_all, keep, new_reader, new_sender, open, publisher, ticket,
 };
 use hub_fifodir::together::{Unsent, send_both, send_on};
 use hub_fifodir::{Fifodir, PassError, word as front_word};
@@ -265,7 +264,7 @@ impl Scene {
         match Reader::of(rt, Arc::try_clone(&self.fifodir)?) {
             Ok(reader) => {
                 let given = (reader.me.id(), reader.me.mark());
-                keep_reader(rt, &mut self.readers, reader)?;
+                keep(rt, &mut self.readers, reader)?;
                 Ok(Ok(given))
             }
             Err(refusal) => Ok(Err(refusal)),
@@ -276,7 +275,7 @@ impl Scene {
         match Sender::of(rt, Arc::try_clone(&self.fifodir)?) {
             Ok(sender) => {
                 let number = sender.me.number();
-                keep_sender(rt, &mut self.senders, sender)?;
+                keep(rt, &mut self.senders, sender)?;
                 Ok(Ok(number))
             }
             Err(refusal) => Ok(Err(refusal)),
@@ -407,8 +406,8 @@ impl Scene {
             events: _,
             closed: _,
         } = self;
-        leave_all(rt, senders);
-        cancel_all(rt, readers);
+        end_all(rt, senders);
+        end_all(rt, readers);
     }
 }
 

@@ -1,4 +1,4 @@
-use crate::passes::{Reader, Sender, new_reader, new_sender, open};
+use crate::tests::passes::{Reader, Sender, new_reader, new_sender, open};
 use hub_letters::Letter;
 use hub_record::{Event, Kind, Taken};
 use std::alloc::{AllocError, Global};

@@ -1,0 +1,16 @@
+mod busy;
+mod fifodirs;
+mod fixtures;
+mod ids;
+mod letters;
+mod listeners;
+mod no_memory;
+mod passes;
+mod pauses;
+mod posts;
+mod records;
+mod sizes;
+mod threads;
+mod waits;
+mod wants;
+mod watches;
