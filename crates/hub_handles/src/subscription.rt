@@ -1,7 +1,7 @@
 //! A session's subscriptions.
-ghost use Rattle.std.specs.Prelude.{◌≡◌, ◌≤◌, length, vec_len, vec_capacity, Err, IfOk, IfErr, IfSome};
+ghost use Rattle.std.specs.Prelude.{◌≡◌, ◌≢◌, ◌≤◌, length, vec_len, vec_capacity, Err, IfOk, IfErr, IfNone, IfSome};
 ghost use Rattle.std.specs.Arc.{arc_value};
-ghost use Rattle.hub_fifodir.specs.Passes.{IsTicketOf, HasSoundSight, ticket_view};
+ghost use Rattle.hub_fifodir.specs.Passes.{IsTicketOf, HasSoundSight, ticket_next, ticket_seen, ticket_view};
 ghost use Rattle.hub_requests.specs.declared.bounds.TheConstants.{MOST_TAKEN};
 ghost use Rattle.hub_requests.specs.Brief.{IsShort};
 
@@ -84,6 +84,8 @@ impl Subscription {
     pub fn look(&mut self) -> Option<Reply>
         ensures looked { HasLooked self.old self.new }
         ensures idle { IfSome result (λ reply. TakesOne self.old (Err reply) self.new) }
+        ensures waits { IfNone result (ticket_next self.new.ticket
+            ≢ length (ticket_seen self.new.ticket)) }
         ensures short { IfSome result IsShort }
     {
         let status = self.dir.status(&mut self.ticket);
