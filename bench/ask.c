@@ -103,7 +103,7 @@ int main(int count, char **words)
     static const char usage[] = "usage: ask pipe KIND PARTS PROGRAM .. | ask socket KIND CLIENTS PARTS PATH PROGRAM ..";
     begin_program(count, 5, usage);
     signal(SIGPIPE, SIG_IGN);
-    if ( strcmp(words[1], "pipe") == 0) {
+    if (strcmp(words[1], "pipe") == 0) {
         ask_over_pipes(words[2], number_of(words[3]), words + 4);
     } else if (count > 6 && strcmp(words[1], "socket") == 0 && number_of(words[3]) <= MOST_CLIENTS) {
         ask_over_socket(words[2], (int)number_of(words[3]), number_of(words[4]), words[5], words + 6);

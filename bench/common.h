@@ -28,10 +28,10 @@ struct load load_of(const char *kind, const char *fifodir);
 /* Writes a message to standard error, kills what was started, and ends with status 1. */
 void die(const char *message) __attribute__((noreturn));
 
-/* Begins a program: it ends after 100 seconds at the latest, and dies with its usage where its command line has fewer words. */
+/* Begins a program: it ends after 100 seconds at the latest, and dies with its usage if its command line has fewer words. */
 void begin_program(int count, int wanted, const char *usage);
 
-/* The number that a word of the command line is; dies where it is none above 0. */
+/* The number that a word of the command line is; dies if it is none above 0. */
 long number_of(const char *word);
 
 /* Seconds of the monotonic clock. */
