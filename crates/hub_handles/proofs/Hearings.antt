@@ -163,7 +163,7 @@ pub stop_polls : (a b c : SessionListener) (reply : Reply) (fed : List ℕ) → 
     → length a.listener.gathered < MOST_GATHERED → Polls a reply c
 stop_polls a b c answer.Nothing fed p q stops few = (few, (fed ++ [], hears_on a b c fed [] Quiet p q), inl stops)
 stop_polls a b c answer.End fed p q stops few = (few, (fed ++ [], hears_on a b c fed [] Quiet p q), stops)
-stop_polls a b c (answer.No refusal) fed p q stops few = inr (stops, few, (fed ++ [], hears_on a b c fed [] Quiet p q))
+stop_polls a b c (answer.No refusal) fed p q stops few = inr (stops.0, few, (fed ++ [], hears_on a b c fed [] Quiet p q), stops.1)
 stop_polls a b c answer.Done fed p q stops few = absurd stops
 stop_polls a b c (answer.Number n) fed p q stops few = absurd stops
 stop_polls a b c (answer.State s) fed p q stops few = absurd stops

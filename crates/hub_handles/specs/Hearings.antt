@@ -51,11 +51,15 @@ IsIdle t = (ticket_next t ≡ length (ticket_seen t)) × (ticket_closed t ≡ 0)
 abbrev pub IsOver : Ticket → Type 0
 IsOver t = (ticket_next t ≡ length (ticket_seen t)) × (ticket_closed t ≢ 0)
 
+-- a letter is held, or an event waits
+abbrev pub HasMore : SessionListener → Type 0
+HasMore h = (h.held ≢ None) ⊎ (ticket_next h.subscription.ticket ≢ length (ticket_seen h.subscription.ticket))
+
 -- why no further letter is heard
 abbrev pub Stops : Reply → SessionListener → Type 0
 Stops answer.Nothing h = (h.held ≡ None) × IsIdle h.subscription.ticket
 Stops answer.End h = (h.held ≡ None) × IsOver h.subscription.ticket
-Stops (answer.No refusal) h = refusal ≡ no.Memory
+Stops (answer.No refusal) h = (refusal ≡ no.Memory) × HasMore h
 Stops _ h = ⊥
 
 -- the letter that is to be heard next, or why there is none
@@ -76,7 +80,7 @@ Polls old answer.Nothing new = (length old.listener.gathered < MOST_GATHERED) ×
 Polls old answer.End new = (length old.listener.gathered < MOST_GATHERED) × ((fed : List ℕ) × Hears old fed (Ok Quiet) new) × Stops answer.End new
 Polls old (answer.No refusal) new =
     ((refusal ≡ no.Overlong) × (MOST_GATHERED ≤ length old.listener.gathered) × (new ≡ old))
-    ⊎ ((refusal ≡ no.Memory) × (length old.listener.gathered < MOST_GATHERED) × ((fed : List ℕ) × Hears old fed (Ok Quiet) new))
+    ⊎ ((refusal ≡ no.Memory) × (length old.listener.gathered < MOST_GATHERED) × ((fed : List ℕ) × Hears old fed (Ok Quiet) new) × HasMore new)
 Polls old _ new = ⊥
 
 -- the one hit of mode Once is the last reply

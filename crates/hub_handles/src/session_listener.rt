@@ -1,5 +1,5 @@
 //! A session's listeners.
-ghost use Rattle.std.specs.Prelude.{◌≡◌, ◌≤◌, ◌<◌, [], Ok, length, vec_len, vec_capacity, IfOk, IfErr, IfSome};
+ghost use Rattle.std.specs.Prelude.{◌≡◌, ◌≤◌, ◌<◌, [], Ok, length, vec_len, vec_capacity, IfOk, IfErr, IfNone, IfSome};
 ghost use Rattle.hub_listen.specs.declared.feed.Feed.TheVariants.{Quiet};
 ghost use Rattle.hub_letters.specs.declared.mode.Mode.TheVariants.{Repeat};
 ghost use Rattle.hub_requests.specs.Brief.{IsShort};
@@ -24,7 +24,7 @@ pub struct SessionListener {
 }
 
 impl SessionListener {
-    ghost use Rattle.hub_handles.specs.Hearings.{BeginsHearing, Gives, Hears, HearsOne, Polls, Stops, ends_by, mode_of};
+    ghost use Rattle.hub_handles.specs.Hearings.{BeginsHearing, Gives, HasMore, Hears, HearsOne, Polls, Stops, ends_by, mode_of};
 
     pub fn new(subscription: Subscription, listener: Listener, mode: Mode) -> SessionListener
         requires { listener.mode ≡ Repeat }
@@ -77,6 +77,7 @@ impl SessionListener {
         requires { length self.old.listener.gathered < MOST_GATHERED }
         ensures quiet { Hears self.old [] (Ok Quiet) self.new }
         ensures stopped { IfSome result (λ reply. Stops reply self.new) }
+        ensures more { IfNone result (HasMore self.new) }
         ensures short { IfSome result IsShort }
     {
         if self.held.is_some() {

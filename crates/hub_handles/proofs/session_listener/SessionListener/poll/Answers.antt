@@ -7,7 +7,7 @@ use Rattle.hub_handles.proofs.session_listener.SessionListener.poll.Goals as goa
 pub returns-in_default-with_capacity-clause-polled : goal.returns-in_default-with_capacity-clause-polled
 returns-in_default-with_capacity-clause-polled g c =
     let few : length c.args.self.now.listener.gathered < MOST_GATHERED = (let l = ap length c.text.ensures.value in let t = c.if-text-ge-MOST_GATHERED.false in omega arith) in
-    inr (refl, few, ([], c.look.ensures.quiet))
+    inr (refl, few, ([], c.look.ensures.quiet), c.in_default.ensures.more)
 
 pub returns-in-Some-clause-polled : goal.returns-in-Some-clause-polled
 returns-in-Some-clause-polled g c =
