@@ -1,5 +1,5 @@
 -- The stream of each fault.
-use Rattle.std.specs.Prelude.{ℕ, List, codes, Result, Ok, Err}
+use Rattle.std.specs.Prelude.{ℕ, List, codes, Result, Err}
 use Rattle.hub_io.specs.declared.fault.FrontError.{FrontError}
 use Rattle.hub_io.specs.declared.fault.FrontError.TheVariants as passing
 use Rattle.hub_client.specs.declared.fault.RelayError.{RelayError}
@@ -16,52 +16,27 @@ sending passing.Memory = Memory
 abbrev pub receiving : FrontError → RelayError
 receiving passing.Read = Receive
 receiving passing.Write = Output
-receiving passing.Turns = Turns
-receiving passing.Memory = Memory
+receiving fault = sending fault
 
 -- the faults of the input's reader: a relay stops at the first
 abbrev pub input_faults : {T : Type 0} → Result T RelayError → ℕ
-input_faults (Ok x) = 0
 input_faults (Err Input) = 1
-input_faults (Err Output) = 0
-input_faults (Err Send) = 0
-input_faults (Err Receive) = 0
-input_faults (Err Ended) = 0
-input_faults (Err Turns) = 0
-input_faults (Err Memory) = 0
+input_faults result = 0
 
 -- the faults of the output's writer
 abbrev pub output_faults : {T : Type 0} → Result T RelayError → ℕ
-output_faults (Ok x) = 0
-output_faults (Err Input) = 0
 output_faults (Err Output) = 1
-output_faults (Err Send) = 0
-output_faults (Err Receive) = 0
-output_faults (Err Ended) = 0
-output_faults (Err Turns) = 0
-output_faults (Err Memory) = 0
+output_faults result = 0
 
 -- the faults of the writer to the peer
 abbrev pub send_faults : {T : Type 0} → Result T RelayError → ℕ
-send_faults (Ok x) = 0
-send_faults (Err Input) = 0
-send_faults (Err Output) = 0
 send_faults (Err Send) = 1
-send_faults (Err Receive) = 0
-send_faults (Err Ended) = 0
-send_faults (Err Turns) = 0
-send_faults (Err Memory) = 0
+send_faults result = 0
 
 -- the faults of the reader of the peer's stream
 abbrev pub receive_faults : {T : Type 0} → Result T RelayError → ℕ
-receive_faults (Ok x) = 0
-receive_faults (Err Input) = 0
-receive_faults (Err Output) = 0
-receive_faults (Err Send) = 0
 receive_faults (Err Receive) = 1
-receive_faults (Err Ended) = 0
-receive_faults (Err Turns) = 0
-receive_faults (Err Memory) = 0
+receive_faults result = 0
 
 -- the text of a fault
 abbrev pub relay_text : RelayError → List ℕ

@@ -53,10 +53,9 @@ slack_of Nothing = 1
 
 -- the reads that may have given no byte before a fault
 abbrev pub slack_at : FrontError → ℕ
-slack_at Read = 1
-slack_at Write = 1
 slack_at Turns = 0
 slack_at Memory = 0
+slack_at fault = 1
 
 -- what was passed on, up to the end of a line or of the stream, and what is pending afterwards
 abbrev pub EndsAs : Passed → (passed after : List ℕ) → (has : Option (List ℕ)) → Type 0

@@ -19,13 +19,9 @@ sent_of Nothing passed = passed
 
 -- the reads that may have given no byte before an error
 abbrev pub slack_for : RelayError → ℕ
-slack_for Input = 1
-slack_for Output = 1
-slack_for Send = 1
-slack_for Receive = 1
-slack_for Ended = 1
 slack_for Turns = 0
 slack_for Memory = 0
+slack_for error = 1
 
 -- how the sending of a line fails: passed was sent, and rest was read and not sent
 abbrev pub FailsToSend : RelayError → (passed rest : List ℕ) → (left' : ℕ) → Type 0

@@ -6,6 +6,7 @@ use Rattle.hub_commands.specs.declared.fault.Fault.{Fault}
 use Rattle.hub_commands.specs.declared.fault.Fault.TheVariants.{Listen, Accept, Connect, Memory, Script, Serve, Session, Relay}
 use Rattle.hub_io.specs.Faults.{fault_text}
 use Rattle.hub_io.specs.declared.fault.FrontError.{FrontError}
+use Rattle.hub_io.specs.declared.fault.FrontError.TheVariants as passing
 use Rattle.hub_server.specs.Reports.{serve_text}
 
 -- the text of a fault
@@ -13,7 +14,7 @@ abbrev pub text_of : Fault → List ℕ
 text_of Listen = codes "cannot listen"
 text_of Accept = codes "cannot accept"
 text_of Connect = codes "cannot connect"
-text_of Memory = codes "out of memory"
+text_of Memory = fault_text passing.Memory
 text_of (Script fault) = fault_text fault
 text_of (Serve fault) = serve_text fault
 text_of (Session number fault) = codes "session " ++ decimal number ++ codes ": " ++ fault_text fault

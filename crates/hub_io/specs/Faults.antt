@@ -1,5 +1,5 @@
 -- What is written at a fault, and the faults of an outcome.
-use Rattle.std.specs.Prelude.{ℕ, ◌<◌, List, length, take, codes, Option, Result, Ok, Err}
+use Rattle.std.specs.Prelude.{ℕ, ◌<◌, List, length, take, codes, Option, Result, Err}
 use Rattle.std.specs.Io.KnownBytes.{Appends}
 use Rattle.hub_io.specs.declared.fault.FrontError.{FrontError}
 use Rattle.hub_io.specs.declared.fault.FrontError.TheVariants as fault
@@ -13,19 +13,13 @@ pub record AppendsPart (held holds : Option (List ℕ)) (bytes : List ℕ) : Typ
 
 -- the reader's faults: it stops at the first
 abbrev pub read_faults : {T : Type 0} → Result T FrontError → ℕ
-read_faults (Ok x) = 0
 read_faults (Err Read) = 1
-read_faults (Err Write) = 0
-read_faults (Err Turns) = 0
-read_faults (Err fault.Memory) = 0
+read_faults result = 0
 
 -- the writer's faults: it stops at the first
 abbrev pub write_faults : {T : Type 0} → Result T FrontError → ℕ
-write_faults (Ok x) = 0
-write_faults (Err Read) = 0
 write_faults (Err Write) = 1
-write_faults (Err Turns) = 0
-write_faults (Err fault.Memory) = 0
+write_faults result = 0
 
 -- the text of a fault
 abbrev pub fault_text : FrontError → List ℕ

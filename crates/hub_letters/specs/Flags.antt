@@ -1,29 +1,18 @@
 -- The flags of a word. Each is decided by the last of the letters that bear on it.
-use Rattle.std.specs.Prelude.{ℕ, ◌+◌, ◌*◌, Bool, true, false, List, [], ◌∷◌, Option, Some, None, map}
+use Rattle.std.specs.Prelude.{ℕ, ◌+◌, ◌*◌, Bool, true, false, List, [], ◌∷◌, Option, Some, map}
 use Rattle.hub_letters.specs.declared.flags.Flags.{Flags}
 use Rattle.hub_letters.specs.Marks.{Mark, Began, Ran, Reported, Died, Finished, GaveUp, Exited, Other, mark, last_among, is_life, is_supervision, is_hope, is_began, is_gave_up}
 
 abbrev pub up_by : Option Mark → Bool
-up_by None = false
-up_by (Some Began) = false
 up_by (Some Ran) = true
 up_by (Some Reported) = true
-up_by (Some Died) = false
-up_by (Some Finished) = false
-up_by (Some GaveUp) = false
-up_by (Some Exited) = false
-up_by (Some Other) = false
+up_by m = false
 
 abbrev pub settled_by : Option Mark → Bool
-settled_by None = false
 settled_by (Some Began) = true
-settled_by (Some Ran) = false
 settled_by (Some Reported) = true
-settled_by (Some Died) = false
 settled_by (Some Finished) = true
-settled_by (Some GaveUp) = false
-settled_by (Some Exited) = false
-settled_by (Some Other) = false
+settled_by m = false
 
 -- the flags of a word, each by the last of the letters that bear on it
 abbrev pub flags_by : List Mark → Flags

@@ -1,7 +1,7 @@
 -- The lawful order of a service's letters.
 use Rattle.std.specs.Prelude.{ℕ, ◌≡◌, ◌<◌, ◌+◌, length, Bool, true, false, List, [], ◌∷◌, ◌++◌, Some, map, filter, take, slice_get}
 use Rattle.std.specs.List.{flat_map}
-use Rattle.hub_letters.specs.Marks.{Mark, Began, Ran, Reported, Died, Finished, GaveUp, Exited, Other, mark, last_among, is_supervision}
+use Rattle.hub_letters.specs.Marks.{Mark, Began, Ran, Reported, Died, Finished, GaveUp, Exited, mark, last_among, is_supervision}
 
 -- what a service does between two starts
 pub data Block : Type 0 where
@@ -26,14 +26,8 @@ abbrev pub segment_marks : Segment → List Mark
 segment_marks g = Began ∷ (take g.cut (flat_map block_marks g.blocks) ++ exit_marks g.exits)
 
 abbrev pub is_kept : Mark → Bool
-is_kept Began = true
-is_kept Ran = true
-is_kept Reported = true
-is_kept Died = true
-is_kept Finished = true
 is_kept GaveUp = false
-is_kept Exited = true
-is_kept Other = true
+is_kept m = true
 
 -- lawful: without its O's the marks are a row of segments, and before each O the last of s x is s
 pub record IsLawfulRow (ms : List Mark) : Type 0 where

@@ -29,56 +29,29 @@ last_among p (m ∷ ms) = later (last_among p ms) (p m) m
 
 -- one of s u U d D
 abbrev pub is_life : Mark → Bool
-is_life Began = true
-is_life Ran = true
-is_life Reported = true
-is_life Died = true
-is_life Finished = true
 is_life GaveUp = false
 is_life Exited = false
 is_life Other = false
+is_life m = true
 
 -- one of s x
 abbrev pub is_supervision : Mark → Bool
 is_supervision Began = true
-is_supervision Ran = false
-is_supervision Reported = false
-is_supervision Died = false
-is_supervision Finished = false
-is_supervision GaveUp = false
 is_supervision Exited = true
-is_supervision Other = false
+is_supervision m = false
 
 -- one of O s u
 abbrev pub is_hope : Mark → Bool
 is_hope Began = true
 is_hope Ran = true
-is_hope Reported = false
-is_hope Died = false
-is_hope Finished = false
 is_hope GaveUp = true
-is_hope Exited = false
-is_hope Other = false
+is_hope m = false
 
 -- whether the last mark is this one
 abbrev pub is_began : Option Mark → Bool
-is_began None = false
 is_began (Some Began) = true
-is_began (Some Ran) = false
-is_began (Some Reported) = false
-is_began (Some Died) = false
-is_began (Some Finished) = false
-is_began (Some GaveUp) = false
-is_began (Some Exited) = false
-is_began (Some Other) = false
+is_began m = false
 
 abbrev pub is_gave_up : Option Mark → Bool
-is_gave_up None = false
-is_gave_up (Some Began) = false
-is_gave_up (Some Ran) = false
-is_gave_up (Some Reported) = false
-is_gave_up (Some Died) = false
-is_gave_up (Some Finished) = false
 is_gave_up (Some GaveUp) = true
-is_gave_up (Some Exited) = false
-is_gave_up (Some Other) = false
+is_gave_up m = false

@@ -29,45 +29,24 @@ stage_of word = stage_by (map mark word)
 -- the stage after one more letter, or none if the letter is unlawful there
 abbrev pub next_by : Stage → Mark → Option Stage
 next_by Off Began = Some Idle
-next_by Off Ran = None
-next_by Off Reported = None
-next_by Off Died = None
-next_by Off Finished = None
-next_by Off GaveUp = None
-next_by Off Exited = None
-next_by Off Other = None
 next_by Idle Began = Some Idle
 next_by Idle Ran = Some Starting
-next_by Idle Reported = None
-next_by Idle Died = None
-next_by Idle Finished = None
 next_by Idle GaveUp = Some Idle
 next_by Idle Exited = Some Off
-next_by Idle Other = None
 next_by Starting Began = Some Idle
-next_by Starting Ran = None
 next_by Starting Reported = Some Ready
 next_by Starting Died = Some Ending
-next_by Starting Finished = None
 next_by Starting GaveUp = Some Starting
 next_by Starting Exited = Some Off
-next_by Starting Other = None
 next_by Ready Began = Some Idle
-next_by Ready Ran = None
-next_by Ready Reported = None
 next_by Ready Died = Some Ending
-next_by Ready Finished = None
 next_by Ready GaveUp = Some Ready
 next_by Ready Exited = Some Off
-next_by Ready Other = None
 next_by Ending Began = Some Idle
-next_by Ending Ran = None
-next_by Ending Reported = None
-next_by Ending Died = None
 next_by Ending Finished = Some Idle
 next_by Ending GaveUp = Some Ending
 next_by Ending Exited = Some Off
-next_by Ending Other = None
+next_by stage m = None
 
 abbrev pub next_in : Option Stage → Mark → Option Stage
 next_in None m = None

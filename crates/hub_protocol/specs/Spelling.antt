@@ -96,7 +96,6 @@ abbrev pub text_of_span : Span → List ℕ
 text_of_span span.All = codes "all"
 text_of_span span.Any = codes "any"
 
--- what is wanted of them
 abbrev pub text_of_want : Want → List ℕ
 text_of_want Up = codes "up"
 text_of_want Ready = codes "ready"
@@ -134,15 +133,9 @@ spelling (Wait span want turns names) = codes "wait" · text_of_span span · tex
 abbrev pub IsWithin : Form → Type 0
 IsWithin (Dir name waiting total) = AreLimits waiting total
 IsWithin (Svc name waiting total reports) = AreLimits waiting total × (reports ≤ 1)
-IsWithin (Sub name) = Unit {0}
-IsWithin (Pub name letters) = Unit {0}
 IsWithin (Take id max) = IsTake max
-IsWithin (Cancel id) = Unit {0}
-IsWithin (Close name) = Unit {0}
-IsWithin (Status name) = Unit {0}
-IsWithin (Listen name mode pattern) = Unit {0}
-IsWithin (Poll id) = Unit {0}
 IsWithin (Wait span want turns names) = turns ≤ 1000000
+IsWithin form = Unit {0}
 
 abbrev pub digit_of : Bool → ℕ
 digit_of false = 0

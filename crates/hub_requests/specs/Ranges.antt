@@ -24,12 +24,6 @@ pub record IsWait (turns : ℕ) (names : List (List ℕ)) : Type 0 where
 abbrev pub IsInRange : Request → Type 0
 IsInRange (Dir name waiting total) = AreLimits waiting total
 IsInRange (Svc name waiting total notifies) = AreLimits waiting total
-IsInRange (Sub name) = Unit {0}
-IsInRange (Pub name letters) = Unit {0}
 IsInRange (Take id max) = IsTake max
-IsInRange (Cancel id) = Unit {0}
-IsInRange (Close name) = Unit {0}
-IsInRange (Status name) = Unit {0}
-IsInRange (Listen name mode pattern) = Unit {0}
-IsInRange (Poll id) = Unit {0}
 IsInRange (Wait span want turns names) = IsWait turns names
+IsInRange request = Unit {0}
