@@ -1,11 +1,12 @@
 -- The requests about a current listener.
-use Rattle.std.proofs.Common.{◌≡◌, ◌⊎◌, ℕ, ◌+◌, ◌-◌, ◌<◌, ◌≤◌, Bool, true, false, ◌&&◌, if◌then◌else◌, List, ◌++◌, length, take, nat_eq, nat_lt, slice_get, Option, Some, None, option_to_list, refl, sym, ap, subst, ◌∙◌, inl, inr, true≢false}
+use Rattle.std.proofs.Common.{◌≡◌, ◌≢◌, ◌⊎◌, ℕ, ◌+◌, ◌-◌, ◌<◌, ◌≤◌, Bool, true, false, ◌&&◌, if◌then◌else◌, List, ◌++◌, length, take, nat_eq, nat_lt, slice_get, Option, Some, None, option_to_list, refl, sym, ap, subst, ◌∙◌, inl, inr, true≢false}
 use Rattle.std.proofs.lemmas.Bool.{cases_Bool, le-leb, lt-leb, le-ltb, lt-ltb}
 use Rattle.std.proofs.lemmas.Map.Steps.{set_value_same}
 use Rattle.std.specs.Map.{lookup, set_value}
 use Rattle.std.specs.Str.{bytes_eq}
 use Rattle.hub_letters.specs.declared.bounds.TheConstants.{MOST_GATHERED}
 use Rattle.hub_listen.specs.Each.{fitting}
+use Rattle.hub_listen.specs.Hit.{HasNoHit}
 use Rattle.hub_listen.specs.Listening.{Listening, is_spent, spent_by, after_hit, after_quiet}
 use Rattle.hub_letters.specs.declared.mode.Mode.{Mode}
 use Rattle.hub_letters.specs.declared.mode.Mode.TheVariants.{Once, Repeat}
@@ -132,8 +133,13 @@ module _ (old new : Local) (n : ℕ) where
             stands_then = subst (λ (q : LocalListener). StandsForDesk new (heard_on d n h q (taken_from g w h.id m))) (λ i. record { listener = at.listener_is i; mode = at.mode_is i; held = at.held_is i })
                 (stands_heard old new n h was hearing r kept put d st w (m - length (option_to_list g.held)) there at.stands (ap (λ (x : Listening). x.mode) at.listener_is ∙ goes_on ∙ unspent d st))
 
-          pub poll_nothing : ((w : World) (s : Subscription) → StandsFor r.kept w → subscription_in w h.id ≡ Some s → Hears g w h.id hear_answer.Nothing hearing kept) → AsksWith false old (Poll n) Nothing new
-          poll_nothing says = by_carrying old new true _ _ _ Nothing (λ (e : Nothing ≡ No no.Memory). cc) (λ d st.
+          -- all letters that there was room for were heard without a hit
+          poll_quiet : (reply : Reply) → (reply ≢ No no.Memory)
+              → ((w : World) (s : Subscription) → StandsFor r.kept w → subscription_in w h.id ≡ Some s → let letters = to_hear g w h.id in let m = fitting g.listener letters in
+              HasNoHit g.listener.pattern g.listener.gathered letters × ((if nat_lt (length g.listener.gathered + length letters) MOST_GATHERED && w.closed then End else Nothing) ≡ reply)
+              × IsAt g w h.id m (after_quiet g.listener (take m letters)) None hearing kept)
+              → AsksWith false old (Poll n) reply new
+          poll_quiet reply no_lack says = by_carrying old new true _ _ _ reply no_lack (λ d st.
               let t = world_heard old new n h was hearing r kept put d st in
               let w = t.0 in
               let f = found_heard old new n h was hearing r kept put d st w t.1 in
@@ -141,30 +147,19 @@ module _ (old new : Local) (n : ℕ) where
               let letters = to_hear g w h.id in
               let m = fitting g.listener letters in
               let after = heard_on d n h (heard_quietly g (take m letters)) (taken_from g w h.id m) in record {
-                answer = record { reply = Nothing; desk = after };
+                answer = record { reply = reply; desk = after };
                 unrefused = may_poll d st;
                 done_is = polled_is d st w t.1 ∙ ap (hear_answer d n h g w letters) ((no_length_is_no_hit g.listener.pattern g.listener.gathered letters).1 k.0)
-                    ∙ ap (λ (x : Reply). record { reply = x; desk = after }) (quiet_nothing (length g.listener.gathered + length letters) w.closed k.1);
+                    ∙ ap (λ (x : Reply). record { reply = x; desk = after }) k.1;
                 said = refl;
                 stands = stands_then d st w t.1 m (after_quiet g.listener (take m letters)) None k.2 refl;
               })
 
+          pub poll_nothing : ((w : World) (s : Subscription) → StandsFor r.kept w → subscription_in w h.id ≡ Some s → Hears g w h.id hear_answer.Nothing hearing kept) → AsksWith false old (Poll n) Nothing new
+          poll_nothing says = poll_quiet Nothing (λ e. cc) (λ w s st f. let k = says w s st f in (k.0, quiet_nothing _ w.closed k.1, k.2))
+
           pub poll_end : ((w : World) (s : Subscription) → StandsFor r.kept w → subscription_in w h.id ≡ Some s → Hears g w h.id hear_answer.End hearing kept) → AsksWith false old (Poll n) End new
-          poll_end says = by_carrying old new true _ _ _ End (λ (e : End ≡ No no.Memory). cc) (λ d st.
-              let t = world_heard old new n h was hearing r kept put d st in
-              let w = t.0 in
-              let f = found_heard old new n h was hearing r kept put d st w t.1 in
-              let k = says w f.0 t.2 f.1 in
-              let letters = to_hear g w h.id in
-              let m = fitting g.listener letters in
-              let after = heard_on d n h (heard_quietly g (take m letters)) (taken_from g w h.id m) in record {
-                answer = record { reply = End; desk = after };
-                unrefused = may_poll d st;
-                done_is = polled_is d st w t.1 ∙ ap (hear_answer d n h g w letters) ((no_length_is_no_hit g.listener.pattern g.listener.gathered letters).1 k.0)
-                    ∙ ap (λ (x : Reply). record { reply = x; desk = after }) (quiet_end (length g.listener.gathered + length letters) w.closed k.1 k.2);
-                said = refl;
-                stands = stands_then d st w t.1 m (after_quiet g.listener (take m letters)) None k.3 refl;
-              })
+          poll_end says = poll_quiet End (λ e. cc) (λ w s st f. let k = says w s st f in (k.0, quiet_end _ w.closed k.1 k.2, k.3))
 
           pub poll_stops : ((w : World) (s : Subscription) → StandsFor r.kept w → subscription_in w h.id ≡ Some s → Hears g w h.id hear_answer.Lacking hearing kept) → AsksWith false old (Poll n) (No no.Memory) new
           poll_stops says = by_lacking old new true _ _ _ _ refl refl (λ d st.
