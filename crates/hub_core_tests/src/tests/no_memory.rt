@@ -6,7 +6,9 @@ use crate::tests::waits::{Deed, Doing, open_post};
 use hub_fifodir::{Fifodir, Locked};
 use hub_letters::{Flags, Letter, Stage, Want};
 use hub_listen::{Feed, Listener, Mode};
-use hub_record::{Closed, Event, Kind, Letters, Limits, NoId, PubError, Record, Status, Taken};
+use hub_record::{
+    Closed, Event, Kind, Letters, Limits, NoId, PubError, Record, Status, SubError, Taken,
+};
 use hub_wait::{Span, Tally, Verdict, Watch, svlisten, svwait};
 use std::alloc::Global;
 use std::process::Abort;
@@ -45,6 +47,7 @@ fn a_record_is_used(alloc: Global) -> io::Result<bool> {
         return Ok(false);
     };
     let (su, x) = (word(alloc, "su")?, word(alloc, "x")?);
+    let long = word(alloc, "OOO")?;
     let mut record = Record::new(alloc, Kind::Service, limits)?;
     let subscribed = record.subscribe();
     let mut out = [Event::FILLER; 4];
@@ -55,6 +58,7 @@ fn a_record_is_used(alloc: Global) -> io::Result<bool> {
         record.publish(1, letters.items()),
         record.publish(1, &[Letter::LEAST]),
         record.publish(1, x.as_slice()),
+        record.publish(1, &long),
     );
     let seen = (
         record.end(),
@@ -88,6 +92,7 @@ fn a_record_is_used(alloc: Global) -> io::Result<bool> {
                     Err(PubError::Full),
                     Err(PubError::Unlawful(0)),
                     Err(PubError::Full),
+                    Err(PubError::Spent),
                 )
             && seen == (2, 0, Some(2), 5)
             && taken == (Ok(Taken::Got(2)), Ok(Taken::Nothing))
@@ -118,6 +123,7 @@ fn a_locked_is_used(alloc: Global) -> io::Result<bool> {
         locked.close(),
         locked.close(),
     );
+    let refused = (locked.publish(1, &ab), locked.subscribe());
     let status = (locked.status().closed, locked.front());
     mark();
     Ok(
@@ -125,6 +131,7 @@ fn a_locked_is_used(alloc: Global) -> io::Result<bool> {
             && sent == (Ok(0), Err(PubError::Spent))
             && taken == (Ok(Taken::Got(2)), Err(NoId))
             && ended == (Ok(()), Err(NoId), Ok(()), Err(Closed))
+            && refused == (Err(PubError::Closed), Err(SubError::Closed))
             && status == (true, 2),
     )
 }
@@ -158,6 +165,30 @@ fn passes_are_used<R: Abort + Wait>(rt: &R, fifodir: &Fifodir, ab: &[Letter]) ->
         && closed == (Ok(()), Err(Closed))
         && numbers == (1, 1, 0, 2)
         && kind == Kind::Plain
+}
+
+/// The calls of a publisher that are refused because its fifodir is closed, has given its total, or finds the letters
+/// unlawful.
+fn publishers_are_refused<R: Abort + Wait>(
+    rt: &R,
+    fifodir: &Fifodir,
+    su: &[Letter],
+    x: &[Letter],
+) -> bool {
+    let mut one = publisher(rt, fifodir);
+    mark();
+    let unlawful = fifodir.publish(rt, &mut one, x);
+    let sent = fifodir.publish(rt, &mut one, su);
+    let spent = fifodir.publish(rt, &mut one, x);
+    let closed = (
+        fifodir.close(rt, &mut one),
+        fifodir.close(rt, &mut one),
+        fifodir.publish(rt, &mut one, x),
+    );
+    fifodir.leave(rt, one);
+    mark();
+    (unlawful, sent, spent) == (Err(PubError::Unlawful(0)), Ok(0), Err(PubError::Spent))
+        && closed == (Ok(()), Err(Closed), Err(PubError::Closed))
 }
 
 /// The two calls of a listener that only show.
@@ -234,11 +265,14 @@ fn these_calls_take_no_memory(rt: HostRuntime) -> Result<(), Fail> {
     let service = open(rt.alloc(), Kind::Service, (64, 100, 10))?;
     let (s, u) = (word(rt.alloc(), "s")?, word(rt.alloc(), "u")?);
     let ab = word(rt.alloc(), "ab")?;
+    let short = open(rt.alloc(), Kind::Service, (2, 2, 10))?;
+    let (su, x) = (word(rt.alloc(), "su")?, word(rt.alloc(), "x")?);
     assert!(rt; memory_is_taken(rt.alloc())?);
     assert!(rt; letters_are_read());
     assert!(rt; a_record_is_used(rt.alloc())?);
     assert!(rt; a_locked_is_used(rt.alloc())?);
     assert!(rt; passes_are_used(&rt, &plain, &ab));
+    assert!(rt; publishers_are_refused(&rt, &short, &su, &x));
     assert!(rt; a_listener_is_shown(rt.alloc())?);
     assert!(rt; a_watch_is_judged());
     let supervisor = new_sender(&rt, &service);

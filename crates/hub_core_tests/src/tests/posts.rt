@@ -64,6 +64,19 @@ fn opens_1024<R: Abort + Wait>(rt: &R, alloc: Global) -> Result<bool, Fail> {
     Ok(first == full && second == full && closed == Ok(()) && third == (0, Err(SubError::Closed)))
 }
 
+/// Whether a post that is opened, catches up and is ended uses one id.
+fn uses_one_id<R: Abort + Wait>(rt: &R, alloc: Global) -> Result<bool, Fail> {
+    let fifodir = open(alloc, Kind::Service, (64, 1000, 2))?;
+    let shared = Arc::try_clone(&fifodir)?;
+    let mut post = open_post(rt, shared, Want::Up, true);
+    post.catch_up(rt);
+    post.end(rt);
+    let mut posts = Vec::new(alloc);
+    let left = open_all(rt, &fifodir, &mut posts);
+    end_all(rt, posts);
+    Ok(left == (1, Err(SubError::Spent)))
+}
+
 /// How many letters are pending when a post catches up: none, one, slices of 256 and their neighbours, and as many as may
 /// be.
 static PENDING: [usize; 15] = [
@@ -110,6 +123,7 @@ fn first_left_behind<R: Abort + Wait>(rt: &R, alloc: Global) -> Result<Option<us
 #[test]
 fn posts_are_opened_and_catch_up(rt: HostRuntime) -> Result<(), Fail> {
     assert!(rt; opens_1024(&rt, rt.alloc())?);
+    assert!(rt; uses_one_id(&rt, rt.alloc())?);
     assert_eq!(rt; first_left_behind(&rt, rt.alloc())?, None);
     Ok(())
 }
