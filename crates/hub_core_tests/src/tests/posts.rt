@@ -64,17 +64,21 @@ fn opens_1024<R: Abort + Wait>(rt: &R, alloc: Global) -> Result<bool, Fail> {
     Ok(first == full && second == full && closed == Ok(()) && third == (0, Err(SubError::Closed)))
 }
 
-/// Whether a post that is opened, catches up and is ended uses one id.
+/// Whether a post that is opened, catches up and is ended uses one id, and publishes and closes nothing.
 fn uses_one_id<R: Abort + Wait>(rt: &R, alloc: Global) -> Result<bool, Fail> {
-    let fifodir = open(alloc, Kind::Service, (64, 1000, 2))?;
+    let letters = word(alloc, "s")?;
+    let fifodir = open(alloc, Kind::Plain, (64, 1000, 2))?;
     let shared = Arc::try_clone(&fifodir)?;
+    let mut supervisor = new_sender(rt, &fifodir);
     let mut post = open_post(rt, shared, Want::Up, true);
     post.catch_up(rt);
     post.end(rt);
+    let sent = supervisor.send(rt, &letters);
+    supervisor.leave(rt);
     let mut posts = Vec::new(alloc);
     let left = open_all(rt, &fifodir, &mut posts);
     end_all(rt, posts);
-    Ok(left == (1, Err(SubError::Spent)))
+    Ok(sent == Ok(0) && left == (1, Err(SubError::Spent)))
 }
 
 /// How many letters are pending when a post catches up: none, one, slices of 256 and their neighbours, and as many as may
