@@ -1,5 +1,5 @@
 -- The turns of a relay.
-use Rattle.std.proofs.Common.{◌≡◌, ℕ, ◌+◌, ◌<◌, ◌≤◌, false, List, [], ◌∷◌, ◌++◌, length, take, Option, Result, Err, inl, inr, refl, sym, ap, ◌∙◌, subst, arith, append-nil, append_assoc, length-append}
+use Rattle.std.proofs.Common.{◌≡◌, ◌≢◌, ℕ, ◌+◌, ◌<◌, ◌≤◌, false, List, [], ◌∷◌, ◌++◌, length, take, Option, Result, Err, inl, inr, refl, sym, ap, ◌∙◌, subst, arith, append-nil, append_assoc, length-append}
 use Rattle.std.proofs.Math.Seq.{take-append_seam}
 use Rattle.std.specs.Io.KnownBytes.{Appends, Consumes, IsAtEnd}
 use Rattle.std.proofs.KnownBytes.{Consumes-nil, Consumes-trans, Appends-nil, Appends-trans}
@@ -286,6 +286,13 @@ send_turns r e passed rest left' is f turns = let it : e ≡ Turns = cc in (subs
 
 pub receive_turns : {T : Type 0} (r : Result T RelayError) (e : RelayError) (due rest : List ℕ) (has : Option (List ℕ)) (left' : ℕ) → r ≡ Err e → FailsToReceive e due rest has left' → r ≡ Err Turns → left' ≡ 0
 receive_turns r e due rest has left' is f turns = let it : e ≡ Turns = cc in (subst (λ x. FailsToReceive x due rest has left') it f).2
+
+-- a relay that has its buffers needs no more memory
+pub send_needs_none : {T : Type 0} (r : Result T RelayError) (e : RelayError) (passed rest : List ℕ) (left' : ℕ) → r ≡ Err e → FailsToSend e passed rest left' → r ≢ Err Memory
+send_needs_none r e passed rest left' is f memory = let it : e ≡ Memory = cc in subst (λ x. FailsToSend x passed rest left') it f
+
+pub receive_needs_none : {T : Type 0} (r : Result T RelayError) (e : RelayError) (due rest : List ℕ) (has : Option (List ℕ)) (left' : ℕ) → r ≡ Err e → FailsToReceive e due rest has left' → r ≢ Err Memory
+receive_needs_none r e due rest has left' is f memory = let it : e ≡ Memory = cc in subst (λ x. FailsToReceive x due rest has left') it f
 
 -- nothing was read or written
 pub stops_at_once : (has held has' held' : Option (List ℕ)) → Stopped has has held held has' has' held' held' Memory

@@ -1,5 +1,6 @@
 -- The stream of each fault.
 use Rattle.std.specs.Prelude.{ℕ, List, codes, Result, Err}
+use Rattle.hub_io.specs.Faults.{fault_text}
 use Rattle.hub_io.specs.declared.fault.FrontError.{FrontError}
 use Rattle.hub_io.specs.declared.fault.FrontError.TheVariants as passing
 use Rattle.hub_client.specs.declared.fault.RelayError.{RelayError}
@@ -40,10 +41,10 @@ receive_faults result = 0
 
 -- the text of a fault
 abbrev pub relay_text : RelayError → List ℕ
-relay_text Input = codes "read failed"
-relay_text Output = codes "write failed"
+relay_text Input = fault_text passing.Read
+relay_text Output = fault_text passing.Write
 relay_text Send = codes "send failed"
 relay_text Receive = codes "receive failed"
 relay_text Ended = codes "connection ended"
-relay_text Turns = codes "too many reads"
-relay_text Memory = codes "out of memory"
+relay_text Turns = fault_text passing.Turns
+relay_text Memory = fault_text passing.Memory

@@ -1,11 +1,9 @@
 //! Why a relay stopped.
 
-ghost use Rattle.std.specs.Prelude.{◌≡◌};
+ghost use Rattle.std.specs.Prelude.{◌≡◌, Some};
 ghost use Rattle.hub_client.specs.Faults.{sending, receiving};
-ghost use Rattle.hub_client.specs.declared.fault.RelayError.TheVariants.{Memory};
 
 use hub_io::FrontError;
-use std::alloc::AllocError;
 use std::error::Error;
 use std::fmt;
 
@@ -30,29 +28,20 @@ pub enum RelayError {
     Memory,
 }
 
-impl From<AllocError> for RelayError {
-    ghost from_gives = { λ _ fault. fault ≡ Memory };
-
-    fn from(_error: AllocError) -> RelayError {
-        RelayError::Memory
-    }
-}
-
 impl fmt::Display for RelayError {
-    ghost use Rattle.std.specs.Prelude.{Some};
     ghost use Rattle.hub_client.specs.Faults.{relay_text};
 
     ghost output = { λ fault. Some (relay_text fault) };
 
     fn fmt<W: fmt::Write>(&self, f: &mut fmt::Formatter<W>) -> fmt::Result {
         match self {
-            RelayError::Input => f.write_str("read failed"),
-            RelayError::Output => f.write_str("write failed"),
+            RelayError::Input => write!(f, "{}", FrontError::Read),
+            RelayError::Output => write!(f, "{}", FrontError::Write),
             RelayError::Send => f.write_str("send failed"),
             RelayError::Receive => f.write_str("receive failed"),
             RelayError::Ended => f.write_str("connection ended"),
-            RelayError::Turns => f.write_str("too many reads"),
-            RelayError::Memory => f.write_str("out of memory"),
+            RelayError::Turns => write!(f, "{}", FrontError::Turns),
+            RelayError::Memory => write!(f, "{}", FrontError::Memory),
         }
     }
 }

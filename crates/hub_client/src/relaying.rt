@@ -77,52 +77,6 @@ fn receive_reply<SR: Source, W: Sink>(
     }
 }
 
-// Sends the lines and writes the replies, one reply for each line.
-fn relay_lines<R: Source, W: Sink, SR: Source, SW: Sink>(
-    lines: &mut Buffer,
-    replies: &mut Buffer,
-    input: &mut R,
-    output: &mut W,
-    receiver: &mut SR,
-    sender: &mut SW,
-) -> Result<u64, RelayError>
-    requires lines { pending lines.old ≡ [] }
-    requires replies { pending replies.old ≡ [] }
-    ensures finished { IfOk result (Finished
-        (R.remaining input.old) (R.remaining input.new)
-        (SW.contents sender.old) (SW.contents sender.new)
-        (SR.remaining receiver.old) (SR.remaining receiver.new)
-        (W.contents output.old) (W.contents output.new)) }
-    ensures stopped { IfErr result (Stopped
-        (R.remaining input.old) (R.remaining input.new)
-        (SW.contents sender.old) (SW.contents sender.new)
-        (SR.remaining receiver.old) (SR.remaining receiver.new)
-        (W.contents output.old) (W.contents output.new)) }
-    ensures memory { result ≢ Err RelayError.Memory }
-    ensures reads { ReadsWithin (R.reads input.old) (R.reads input.new)
-        (SR.reads receiver.old) (SR.reads receiver.new) result }
-    ensures input_faults { Rises (R.faults input.old) (R.faults input.new) (input_faults result) }
-    ensures output_faults { Rises (W.faults output.old) (W.faults output.new)
-        (output_faults result) }
-    ensures send_faults { Rises (SW.faults sender.old) (SW.faults sender.new) (send_faults result) }
-    ensures receive_faults { Rises (SR.faults receiver.old) (SR.faults receiver.new)
-        (receive_faults result) }
-{
-    let mut left = MAX_READS;
-    let mut count = 0;
-    'turns: loop {
-        match send_line(lines, input, sender, &mut left)? {
-            Passed::Nothing => return Ok(count),
-            Passed::Line => receive_reply(replies, receiver, output, &mut left)?,
-            Passed::Part => {
-                receive_reply(replies, receiver, output, &mut left)?;
-                return Ok(count + 1);
-            }
-        }
-        count += 1;
-    }
-}
-
 /// Sends each line of the input to the peer, writes one reply line for each, and returns how many lines there were. A
 /// reply is read only after its line was sent whole, and the next line is sent only after the reply was written.
 ///
@@ -169,7 +123,20 @@ pub fn relay<H: Wait, R: Source, W: Sink, SR: Source, SW: Sink>(
     ensures receive_faults { Rises (SR.faults receiver.old) (SR.faults receiver.new)
         (receive_faults result) }
 {
-    let mut lines = Buffer::new(alloc)?;
-    let mut replies = Buffer::new(alloc)?;
-    relay_lines(&mut lines, &mut replies, input, output, receiver, sender)
+    let (Ok(mut lines), Ok(mut replies)) = (Buffer::new(alloc), Buffer::new(alloc)) else {
+        return Err(RelayError::Memory);
+    };
+    let mut left = MAX_READS;
+    let mut count = 0;
+    'turns: loop {
+        match send_line(&mut lines, input, sender, &mut left)? {
+            Passed::Nothing => return Ok(count),
+            Passed::Line => receive_reply(&mut replies, receiver, output, &mut left)?,
+            Passed::Part => {
+                receive_reply(&mut replies, receiver, output, &mut left)?;
+                return Ok(count + 1);
+            }
+        }
+        count += 1;
+    }
 }

@@ -1,5 +1,5 @@
 //! The faults that end the program.
-ghost use Rattle.std.specs.Prelude.{◌≡◌, OnOk};
+ghost use Rattle.std.specs.Prelude.{◌≡◌, OnOk, Some};
 ghost use Rattle.std.specs.Io.KnownBytes.{Appends};
 ghost use Rattle.hub_commands.specs.Faults.{line_of};
 ghost use Rattle.hub_commands.specs.declared.fault.Fault.TheVariants as fault;
@@ -34,7 +34,6 @@ pub enum Fault {
 }
 
 impl fmt::Display for Fault {
-    ghost use Rattle.std.specs.Prelude.{Some};
     ghost use Rattle.hub_commands.specs.Faults.{text_of};
 
     ghost output = { λ it. Some (text_of it) };
@@ -44,7 +43,7 @@ impl fmt::Display for Fault {
             Fault::Listen => f.write_str("cannot listen"),
             Fault::Accept => f.write_str("cannot accept"),
             Fault::Connect => f.write_str("cannot connect"),
-            Fault::Memory => f.write_str("out of memory"),
+            Fault::Memory => write!(f, "{}", FrontError::Memory),
             Fault::Script(fault) => write!(f, "{fault}"),
             Fault::Serve(fault) => write!(f, "{fault}"),
             Fault::Session { number, fault } => write!(f, "session {number}: {fault}"),

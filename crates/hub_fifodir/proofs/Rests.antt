@@ -12,7 +12,7 @@ use Rattle.hub_fifodir.specs.declared.views.Role.TheVariants.{Visitor}
 use Rattle.hub_fifodir.specs.declared.locked.Locked.{Locked}
 use Rattle.hub_fifodir.specs.Locks.{StandsForWorld, is_current, KeepsPublishers, KeepsRecord, HasLeft}
 use Rattle.hub_fifodir.specs.Rule.{IsLive, IsGiven, IsBounded, cursor_of, book_of, IsBehind}
-use Rattle.hub_fifodir.specs.Steps.{M, Changes, Gives, IsFresh, view_at_rest, writer, gone_writer}
+use Rattle.hub_fifodir.specs.Steps.{M, Changes, Gives, IsFresh, view_at_rest, writer, as_gone}
 use Rattle.hub_fifodir.proofs.Subscriptions.{cursor_given}
 
 pub none_between : (n most : ℕ) → most < n → n ≤ most → ⊥
@@ -104,7 +104,7 @@ rests_as_publisher m b b' n role held low fresh next joined count behind keeps =
 -- ---- a publisher leaves
 
 pub rests_left : (m : M) (b b' : Locked) (n : ℕ) (mine : List ℕ) → m.0.role ≡ writer n mine → m.0.held ≡ Some (book_of b) → IsBounded (book_of b) → IsBehind m.0.rules m.0.sight.seen m.0.sight.closed b
-    → HasLeft b n b' → KeepsRecord b b' → Gives m b' (view_at_rest m.0 (gone_writer m.0.role))
+    → HasLeft b n b' → KeepsRecord b b' → Gives m b' (view_at_rest m.0 (as_gone m.0.role))
 rests_left m b b' n mine role held low behind left keeps =
     let k : Book = book_of b in
     let is_current' = still_stands b b' behind.world keeps behind.for in
@@ -112,15 +112,15 @@ rests_left m b b' n mine role held low behind left keeps =
     let ids : b'.kept.given ≡ b.kept.given = is_current'.for.given ∙ sym behind.for.for.given in
     let numbers : b'.given ≡ b.given = left.1 in
     let book_ids : (book_of b').ids ≡ k.ids = ids in
-    subst (λ (r : Role). Gives m b' (view_at_rest m.0 (gone_writer r))) (sym role) (
+    subst (λ (r : Role). Gives m b' (view_at_rest m.0 (as_gone r))) (sym role) (
       k,
-      gone_writer (writer n mine),
+      as_gone (writer n mine),
       suc k.ids,
       n,
       held,
       refl,
       record { world = behind.world; for = is_current'; events = behind.events; closed = behind.closed; kind = behind.kind; limits = behind.limits },
-      subst (λ (r : Role). Changes m.0.sight.seen r (gone_writer (writer n mine)) k (book_of b') (suc k.ids) n) (sym role) record {
+      subst (λ (r : Role). Changes m.0.sight.seen r (as_gone (writer n mine)) k (book_of b') (suc k.ids) n) (sym role) record {
         ids_up = omega arith;
         numbers_up = omega arith;
         cursors = λ i e. ap (λ c. cursor_of c i) cursors;

@@ -1,8 +1,7 @@
 -- The laws of the rule.
 use Rattle.std.proofs.Common.{◌≡◌, ℕ, ◌+◌, ◌-◌, ◌<◌, ◌≤◌, List, [], ◌∷◌, ◌++◌, length, take, drop, Bool, true, false, not, nat_eq, Option, Some, sym, refl, ap, ◌∙◌, subst, inl, inr, ⊎_elim, arith}
-use Rattle.std.proofs.lemmas.Bool.{cases_Bool, cases_lt}
+use Rattle.std.proofs.lemmas.Bool.{cases_lt}
 use Rattle.std.proofs.lemmas.List.{take-append-drop, take-append-le}
-use Rattle.std.specs.Map.{lookup}
 use mathlib.Core.Option as maybe
 use mathlib.Core.Path.{Path}
 use lib.Seq.{drop-drop}
@@ -12,14 +11,15 @@ use Rattle.hub_letters.specs.Flags.{flags_of}
 use Rattle.hub_fifodir.specs.Word.{packed_word}
 use Rattle.std.proofs.Common.{get_or}
 use Rattle.std.proofs.lemmas.Bool.{ne_eqb}
-use Rattle.hub_record.specs.World.{letters, World, least, base}
+use Rattle.hub_record.specs.World.{letters, World, base}
+use Rattle.hub_record.proofs.Least.{least_bound_at}
 use Rattle.hub_fifodir.specs.declared.views.Rules.{Rules}
 use Rattle.hub_fifodir.specs.declared.views.Book.{Book}
 use Rattle.hub_fifodir.specs.declared.views.View.{View}
 use Rattle.hub_fifodir.specs.declared.views.Taking.{Taking}
 use Rattle.hub_fifodir.specs.declared.views.Writing.{Writing}
 use Rattle.hub_fifodir.specs.declared.views.Role.{Role}
-use Rattle.hub_fifodir.specs.declared.views.Role.TheVariants.{Visitor, Note, Ticket, Publisher, Spent}
+use Rattle.hub_fifodir.specs.declared.views.Role.TheVariants.{Ticket, Publisher}
 use Rattle.hub_fifodir.specs.declared.locked.Locked.{Locked}
 use Rattle.hub_fifodir.specs.Events.{StartsWith, slice}
 use Rattle.hub_fifodir.specs.Locks.{is_current}
@@ -101,17 +101,11 @@ tickets_have_cursors rules s b j t r homes h stays =
 -- the ticket of a seat that has an id
 id_of : (i : ℕ) (role : Role) → HasId i role → (t : Taking) × (role ≡ Ticket t) × (t.id ≡ i)
 id_of i (Ticket t) h = (t, refl, h)
-id_of i Visitor h = absurd h
-id_of i Note h = absurd h
-id_of i (Publisher p) h = absurd h
-id_of i Spent h = absurd h
+id_of i role h = absurd h
 
 number_of : (n : ℕ) (role : Role) → IsNumbered n role → (p : Writing) × (role ≡ Publisher p) × (p.number ≡ n)
 number_of n (Publisher p) h = (p, refl, h)
-number_of n Visitor h = absurd h
-number_of n Note h = absurd h
-number_of n (Ticket t) h = absurd h
-number_of n Spent h = absurd h
+number_of n role h = absurd h
 
 cursor_shows : (gone : Bool) (next found : ℕ) → cursor_if gone next ≡ Some found → (next ≡ found) × (gone ≡ false)
 cursor_shows true next found e = cc
@@ -138,18 +132,10 @@ standing_have_publishers rules s b n r homes at =
     stays true e = cc
     stays false e = refl
 
--- the least of the cursors is at most each of them
-least_below : (d : ℕ) (test : ℕ → Bool) (cs : List (ℕ × ℕ)) (v : ℕ) → lookup test cs ≡ Some v → least d cs ≤ v
-least_below d test [] v e = cc
-least_below d test (c ∷ cs) v e = elim (cases_Bool (test c.0)) [
-  | inl t ↦ (let k = simp t at e in let is : c.1 ≡ v = cc in omega arith)
-  | inr t ↦ (let ih = least_below d test cs v (simp t at e) in omega arith)
-]
-
 pub base_is_behind : BaseIsBehind
 base_is_behind rules s b w j t r homes is_current h stays =
     let at = tickets_have_cursors rules s b j t r homes h stays in
-    least_below (length w.events) (nat_eq t.id) (Rattle.hub_record.specs.World.standing w) t.next (ap (λ c. cursor_of c t.id) (sym is_current.for.cursors) ∙ at)
+    least_bound_at (length w.events) (nat_eq t.id) (Rattle.hub_record.specs.World.standing w) t.next (ap (λ c. cursor_of c t.id) (sym is_current.for.cursors) ∙ at)
 
 -- ---- a ticket's events
 

@@ -17,7 +17,7 @@ use Rattle.hub_fifodir.specs.declared.locked.Locked.{Locked}
 use Rattle.hub_fifodir.specs.Events.{slice}
 use Rattle.hub_fifodir.specs.Locks.{StandsForWorld, is_current, KeepsPublishers}
 use Rattle.hub_fifodir.specs.Rule.{IsSane, IsGiven, IsBounded, cursor_of, cursor_if, book_of, IsBehind, IsSound}
-use Rattle.hub_fifodir.specs.Steps.{M, Locks, Changes, Gives, IsInBook, IsTaker, view_at_rest, taker, new_taker, taker_after, taking_of, got_of, gone_taker}
+use Rattle.hub_fifodir.specs.Steps.{M, Locks, Changes, Gives, IsInBook, IsTaker, view_at_rest, taker, new_taker, taker_after, taking_of, got_of, as_gone}
 use Rattle.hub_fifodir.proofs.Logs.{slice_none, slice_join}
 use Rattle.hub_fifodir.proofs.Subscriptions.{found_changed, found_stopped, found_else, found_new, found_old, found_stands, length-changed, next_of, cursor_found, subscription_of}
 use Rattle.hub_fifodir.proofs.Publishing.{open_when, closed_when}
@@ -270,7 +270,7 @@ module _ (m0 m1 : M) (id mark next : ℕ) (b : Locked) (w : IsTaker m0 id mark n
     stands_on : StandsForWorld b' (with_changed h.behind.world id as_cancelled)
     stands_on = subst (λ (o : Option Subscription). StandsForWorld b' (after_cancel_for h.behind.world id o)) subscribed.1 after
 
-    pub rests_cancelled : Gives m1 b' (view_at_rest m1.0 (gone_taker m1.0.role))
+    pub rests_cancelled : Gives m1 b' (view_at_rest m1.0 (as_gone m1.0.role))
     rests_cancelled = let none = found_stopped 1 h.behind.world.subscriptions id subscribed.0 subscribed.1 in
-        subst (λ (r : Role). Gives m1 b' (view_at_rest m1.0 (gone_taker r))) (sym role_is)
+        subst (λ (r : Role). Gives m1 b' (view_at_rest m1.0 (as_gone r))) (sym role_is)
         (gives b' as_cancelled stands_on others next (got_of m0.0.role) true sane_is (cursor_now b' as_cancelled stands_on others None none))

@@ -204,12 +204,11 @@ new_taker b seen = taker b.kept.given (length seen) (length seen) []
 abbrev pub taker_after : List Event → Taking → ℕ → Role
 taker_after seen t n = taker t.id t.mark (t.next + n) (t.got ++ slice t.next (t.next + n) seen)
 
--- a ticket that was cancelled, and a publisher that left
-abbrev pub gone_taker : Role → Role
-gone_taker r = Ticket record { id = (taking_of r).id; mark = (taking_of r).mark; next = (taking_of r).next; got = got_of r; gone = true }
-
-abbrev pub gone_writer : Role → Role
-gone_writer r = Publisher record { number = (writing_of r).number; mine = mine_of r; gone = true }
+-- a ticket that was cancelled, or a publisher that left
+abbrev pub as_gone : Role → Role
+as_gone (Ticket t) = Ticket (record t { gone = true })
+as_gone (Publisher p) = Publisher (record p { gone = true })
+as_gone r = r
 
 -- ---- notes
 

@@ -117,7 +117,7 @@ impl Fifodir {
         let board = self.board();
         let mut held = self.lock(rt, &mut seat);
         held.locked.leave(number);
-        steps::rest_left(board, &mut seat, held);
+        steps::rest_gone(board, &mut seat, held);
     }
 }
 

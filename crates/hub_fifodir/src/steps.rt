@@ -3,7 +3,7 @@ ghost use Rattle.std.specs.Prelude.{◌≡◌, ◌∷◌, [], None};
 ghost use Rattle.hub_fifodir.specs.Rule.{visitor};
 ghost use Rattle.hub_fifodir.specs.Steps.{IsIdle, Holding, Gives, Front, WritesMessage, WritesMark, Looks, Grows};
 ghost use Rattle.hub_fifodir.specs.Steps.{view_with_letters, closing, writing_of, taking_of, view_at_rest};
-ghost use Rattle.hub_fifodir.specs.Steps.{writer, new_taker, taker_after, gone_taker, gone_writer};
+ghost use Rattle.hub_fifodir.specs.Steps.{writer, new_taker, taker_after, as_gone};
 ghost use Rattle.hub_fifodir.specs.Notes.{IsSized, IsNote, note_sight};
 
 use crate::fifodir::Fifodir;
@@ -137,26 +137,14 @@ pub(crate) fn rest_moved(board: &Board, seat: &mut Seat, held: Held<'_>, taken: 
     give_back::<Brand>(board, seat, held, taken);
 }
 
-// Releases the lock; the seat is a ticket that is cancelled.
-pub(crate) fn rest_cancelled(board: &Board, seat: &mut Seat, held: Held<'_>)
+// Releases the lock; the seat is a ticket that is cancelled, or a publisher that left.
+pub(crate) fn rest_gone(board: &Board, seat: &mut Seat, held: Held<'_>)
     requires table { (seat.old.table_id ≡ board.now.table_id) × IsSized board.now.table_id }
     requires held { seat.old.me.1 ≡ (0, None) ∷ [] }
     requires gives { Gives seat.old.me held.locked
-        (view_at_rest seat.old.me.0 (gone_taker seat.old.me.0.role)) }
+        (view_at_rest seat.old.me.0 (as_gone seat.old.me.0.role)) }
     ensures table { (seat.new.table_id ≡ seat.old.table_id) × (seat.new.id ≡ seat.old.id) }
-    ensures view { seat.new.me ≡ (view_at_rest seat.old.me.0 (gone_taker seat.old.me.0.role), []) }
-{
-    give_back::<Brand>(board, seat, held, 0);
-}
-
-// Releases the lock; the seat is a publisher that left.
-pub(crate) fn rest_left(board: &Board, seat: &mut Seat, held: Held<'_>)
-    requires table { (seat.old.table_id ≡ board.now.table_id) × IsSized board.now.table_id }
-    requires held { seat.old.me.1 ≡ (0, None) ∷ [] }
-    requires gives { Gives seat.old.me held.locked
-        (view_at_rest seat.old.me.0 (gone_writer seat.old.me.0.role)) }
-    ensures table { (seat.new.table_id ≡ seat.old.table_id) × (seat.new.id ≡ seat.old.id) }
-    ensures view { seat.new.me ≡ (view_at_rest seat.old.me.0 (gone_writer seat.old.me.0.role), []) }
+    ensures view { seat.new.me ≡ (view_at_rest seat.old.me.0 (as_gone seat.old.me.0.role), []) }
 {
     give_back::<Brand>(board, seat, held, 0);
 }

@@ -117,7 +117,7 @@ impl Fifodir {
         let board = self.board();
         let mut held = self.lock(rt, &mut seat);
         held.locked.cancel(id).unwrap();
-        steps::rest_cancelled(board, &mut seat, held);
+        steps::rest_gone(board, &mut seat, held);
     }
 }
 

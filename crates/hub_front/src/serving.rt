@@ -101,10 +101,8 @@ pub fn serve<H: Wait, D: Desk, R: Source, W: Sink>(
     ensures memory { result ≡ Err FrontError.Memory → (reader.new ≡ reader.old)
         × (writer.new ≡ writer.old) }
 
-    // It makes at most `MAX_READS` reads.
+    // It makes at most `MAX_READS` reads. An error is reported if its fault was counted, and only then.
     ensures reads { ReadsWithin (R.reads reader.old) (R.reads reader.new) result }
-
-    // An error is reported if its fault was counted, and only then.
     ensures read_faults { Rises (R.faults reader.old) (R.faults reader.new) (read_faults result) }
     ensures write_faults { Rises (W.faults writer.old) (W.faults writer.new) (write_faults result) }
 {

@@ -2,7 +2,6 @@
 ghost use Rattle.std.specs.Prelude.{◌≡◌, ◌+◌, ◌<◌, ◌≤◌, ◌^◌, List, [], ◌∷◌, length, OnOk, OnErr, IfOk, IfErr, vec_len, vec_capacity};
 ghost use Rattle.std.specs.Io.KnownBytes.{Appends};
 ghost use Rattle.hub_requests.specs.declared.bounds.TheConstants.{LONGEST_REPLY};
-ghost use Rattle.hub_requests.specs.Brief.{IsShort};
 ghost use Rattle.hub_io.specs.Lines.{last_line};
 ghost use Rattle.hub_io.specs.Telling.{Rises};
 ghost use Rattle.hub_io.specs.Faults.{AppendsPart, write_faults};
@@ -147,6 +146,7 @@ impl Session {
         ensures told { Rises (W.faults writer.old) (W.faults writer.new) (write_faults result) }
     {
         let reply = reply_to(rt, self.alloc, desk, &self.line);
+        reply.is_short();
         self.text.clear();
         write_reply(&reply, &mut self.text).unwrap();
         write_whole(writer, &self.text)?;
@@ -158,8 +158,7 @@ impl Session {
 
 // The reply to a line: the desk's if it spells a request, and else the refusal of the first rule that it breaks.
 fn reply_to<H: Wait, D: Desk>(rt: &H, alloc: Global, desk: &mut D, line: &[u8]) -> Reply
-    ensures step { AnswersLine D.asks desk.old line.now result desk.new }
-    ensures short { IsShort result }
+    ensures { AnswersLine D.asks desk.old line.now result desk.new }
 {
     match parse(alloc, line) {
         Ok(request) => desk.ask(rt, &request),

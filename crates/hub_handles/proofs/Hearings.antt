@@ -1,5 +1,5 @@
 -- Letters that come to a listener, and how polls follow from what it hears.
-use Rattle.std.proofs.Common.{◌≡◌, ◌≤◌, ◌<◌, ◌+◌, ℕ, Bool, true, false, List, [], ◌∷◌, ◌++◌, length, Option, Some, None, is_some, IfSome, Result, Ok, Err, refl, sym, ap, subst, ◌∙◌, inl, inr, append-nil, append_assoc, length-append}
+use Rattle.std.proofs.Common.{◌≡◌, ◌≤◌, ◌<◌, ◌+◌, ℕ, Bool, true, false, List, [], ◌∷◌, ◌++◌, length, nat_eq, Option, Some, None, is_some, IfSome, Result, Ok, Err, refl, sym, ap, subst, ◌∙◌, inl, inr, append-nil, append_assoc, length-append}
 use Rattle.std.specs.Prelude.{if◌then◌else◌}
 use Rattle.hub_letters.specs.declared.bounds.TheConstants.{MOST_GATHERED}
 use Rattle.hub_requests.specs.declared.reply.Reply.{Reply}
@@ -16,10 +16,12 @@ use Rattle.hub_letters.specs.declared.mode.Mode.TheVariants.{Repeat}
 use Rattle.hub_listen.proofs.Cuts.{cuts_anywhere}
 use Rattle.hub_listen.proofs.Singly.{nothing_is_quiet}
 use Rattle.hub_record.specs.World.{letters}
+use Rattle.hub_handles.specs.declared.handles.Handles.{Handles}
 use Rattle.hub_handles.specs.declared.session_listener.SessionListener.{SessionListener}
 use Rattle.hub_handles.specs.declared.subscription.Subscription.{Subscription}
 use Rattle.hub_handles.specs.Taking.{HasLooked, IsSameTicket, TakesOne}
-use Rattle.hub_handles.specs.Hearings.{held_letters, Comes, Hears, Stops, Gives, HearsOne, Polls}
+use Rattle.hub_handles.specs.Handles.{PollsAt, listener_of}
+use Rattle.hub_handles.specs.Hearings.{ends_by, held_letters, Comes, Hears, Stops, Gives, HearsOne, Polls}
 
 same_ticket : (s : Subscription) → IsSameTicket s s
 same_ticket s = record { named = refl; dir = refl; id = refl; mark = refl; seen = grows_self (ticket_sight s.ticket) }
@@ -182,3 +184,10 @@ gone_if h o false e gone = absurd (let k : ⊥ = cc in k)
 pub stays_if : (h : SessionListener) (o : Option SessionListener) (ends : Bool) → ends ≡ false → o ≡ Some h → o ≡ (if ends then None else Some h)
 stays_if h o true e stays = absurd (let k : ⊥ = cc in k)
 stays_if h o false e stays = stays
+
+-- the listener under a number was polled, and was then put back or ended
+pub polls_here : (old new : Handles) (id : ℕ) (before after : SessionListener) (reply : Reply) → Some before ≡ listener_of old id → Polls before reply after
+    → listener_of new id ≡ (if ends_by after.mode reply then None else Some after) → ((other : ℕ) → nat_eq id other ≡ false → listener_of new other ≡ listener_of old other)
+    → new.subscriptions.entries ≡ old.subscriptions.entries → new.given ≡ old.given → PollsAt old id reply new
+polls_here old new id before after reply held polls kept others subscriptions given =
+    inl (record { before = before; after = after; held = sym held; polls = polls; kept = kept; others = others; subscriptions = subscriptions; given = given })

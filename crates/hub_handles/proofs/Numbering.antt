@@ -1,5 +1,5 @@
 -- A handle under the next number.
-use Rattle.std.proofs.Common.{◌≡◌, ℕ, ◌+◌, ◌<◌, List, Option, None, Some, false, nat_eq, refl, sym, subst, arith}
+use Rattle.std.proofs.Common.{◌≡◌, ℕ, ◌+◌, List, Option, None, Some, false, nat_eq, refl, sym, subst, arith}
 use Rattle.hub_requests.specs.declared.reply.Refusal.{Refusal}
 use Rattle.hub_requests.proofs.NextHandle.{room_for_handle}
 use Rattle.hub_fifodir.specs.declared.fifodir.Fifodir.{Fifodir}

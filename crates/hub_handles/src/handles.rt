@@ -6,7 +6,6 @@ ghost use Rattle.hub_letters.specs.declared.mode.Mode.TheVariants.{Repeat};
 ghost use Rattle.hub_listen.specs.Listening.{new_listening};
 ghost use Rattle.hub_requests.specs.Ranges.{IsTake};
 ghost use Rattle.hub_requests.specs.declared.reply.Refusal.TheVariants as no;
-ghost use Rattle.hub_requests.specs.Brief.{IsBrief, IsShort};
 
 use crate::room::Room;
 use crate::session_listener::SessionListener;
@@ -55,7 +54,6 @@ impl Handles {
     fn has_room(&self) -> Result<(), Refusal>
         ensures ok { OnOk result (refusal_of self.now ≡ None) }
         ensures err { IfErr result (λ refusal. refusal_of self.now ≡ Some refusal) }
-        ensures brief { IfErr result IsBrief }
     {
         let current = self.subscriptions.len() + self.listeners.len();
         match refusal_of_handle(current, self.given) {
@@ -66,8 +64,7 @@ impl Handles {
 
     /// Begins a subscription to the fifodir that has this name, under the next number.
     pub fn subscribe<H: Wait>(&mut self, rt: &H, name: &Name, dir: Arc<Fifodir, Global>) -> Reply
-        ensures step { Subscribes name.now (arc_value dir) self.old result self.new }
-        ensures short { IsShort result }
+        ensures { Subscribes name.now (arc_value dir) self.old result self.new }
     {
         match self.add_subscription(rt, name, dir) {
             Ok(number) => Reply::Number(number),
@@ -85,7 +82,6 @@ impl Handles {
             name.now (arc_value dir) number self.new) }
         ensures err { OnErr result (IsStill self.old self.new) }
         ensures in_place { IfErr result (IsRefusedSub self.old) }
-        ensures brief { IfErr result IsBrief }
     {
         self.has_room()?;
         if self.subscriptions.reserve(1).is_err() {
@@ -108,9 +104,8 @@ impl Handles {
         mode: Mode,
         pattern: &PatternText,
     ) -> Reply
-        ensures step { Listens name.now (arc_value dir) mode pattern.now
+        ensures { Listens name.now (arc_value dir) mode pattern.now
             self.old result self.new }
-        ensures short { IsShort result }
     {
         match self.add_listener(rt, name, dir, mode, pattern) {
             Ok(number) => Reply::Number(number),
@@ -130,7 +125,6 @@ impl Handles {
             name.now (arc_value dir) mode pattern.now number self.new) }
         ensures err { OnErr result (IsStill self.old self.new) }
         ensures in_place { IfErr result (IsRefusedListener self.old) }
-        ensures brief { IfErr result IsBrief }
     {
         self.has_room()?;
         let listener = listener_for(self.alloc, pattern)?;
@@ -149,8 +143,7 @@ impl Handles {
     /// Takes at most `max` events that wait for a subscription.
     pub fn take<H: Wait>(&mut self, rt: &H, id: u64, max: u64) -> Reply
         requires { IsTake max }
-        ensures step { TakesAt self.old id max result self.new }
-        ensures short { IsShort result }
+        ensures { TakesAt self.old id max result self.new }
     {
         let Some(subscription) = self.subscriptions.get_mut(&id) else {
             return Reply::No(Refusal::Id);
@@ -163,8 +156,7 @@ impl Handles {
 
     /// Looks for the next hit of a listener. After its hit in mode `Once` it is ended.
     pub fn poll<H: Wait>(&mut self, rt: &H, id: u64) -> Reply
-        ensures step { PollsAt self.old id result self.new }
-        ensures short { IsShort result }
+        ensures { PollsAt self.old id result self.new }
     {
         let Some(hearing) = self.listeners.get_mut(&id) else {
             return Reply::No(Refusal::Id);
@@ -191,8 +183,7 @@ impl Handles {
 
     /// Ends a subscription or a listener.
     pub fn cancel<H: Wait>(&mut self, rt: &H, id: u64) -> Reply
-        ensures step { Cancels self.old id result self.new }
-        ensures short { IsShort result }
+        ensures { Cancels self.old id result self.new }
     {
         if let Some(subscription) = self.subscriptions.swap_remove(&id) {
             subscription.cancel(rt);
@@ -235,7 +226,6 @@ impl Handles {
 fn listener_for(alloc: Global, pattern: &PatternText) -> Result<Listener, Refusal>
     ensures ok { IfOk result (λ listener. listener ≡ new_listening pattern.now Repeat) }
     ensures err { IfErr result (λ refusal. (refusal ≡ no.Pattern) ⊎ (refusal ≡ no.Memory)) }
-    ensures brief { IfErr result IsBrief }
 {
     Listener::new(alloc, pattern.items(), Mode::Repeat).map_err(|error| match error {
         ListenError::Pattern => Refusal::Pattern,

@@ -2,13 +2,11 @@
 ghost use Rattle.std.specs.Prelude.{◌≡◌, ◌≤◌, ◌<◌, [], Ok, length, vec_len, vec_capacity, IfOk, IfErr, IfNone, IfSome};
 ghost use Rattle.hub_listen.specs.declared.feed.Feed.TheVariants.{Quiet};
 ghost use Rattle.hub_letters.specs.declared.mode.Mode.TheVariants.{Repeat};
-ghost use Rattle.hub_requests.specs.Brief.{IsShort};
 
 use crate::subscription::Subscription;
 use hub_letters::{Letter, MOST_GATHERED};
 use hub_listen::{Feed, FeedError, Listener, Mode};
-use hub_record::Letters;
-use hub_requests::{Refusal, Reply};
+use hub_requests::{Excerpt, Refusal, Reply};
 use std::alloc::Global;
 use std::sync::Wait;
 
@@ -50,8 +48,7 @@ impl SessionListener {
 
     /// Hears letter after letter, up to the next hit or as far as it gathers.
     pub fn poll<H: Wait>(&mut self, rt: &H, alloc: Global) -> Reply
-        ensures polled { Polls self.old result self.new }
-        ensures short { IsShort result }
+        ensures { Polls self.old result self.new }
     {
         if self.listener.text().len() >= MOST_GATHERED {
             return Reply::No(Refusal::Overlong);
@@ -78,7 +75,6 @@ impl SessionListener {
         ensures quiet { Hears self.old [] (Ok Quiet) self.new }
         ensures stopped { IfSome result (λ reply. Stops reply self.new) }
         ensures more { IfNone result (HasMore self.new) }
-        ensures short { IfSome result IsShort }
     {
         if self.held.is_some() {
             return None;
@@ -92,7 +88,6 @@ impl SessionListener {
         ensures heard { IfOk result (λ hit. HearsOne self.old hit self.new) }
         ensures stopped { IfErr result (λ reply. Hears self.old [] (Ok Quiet) self.new
             × Stops reply self.new) }
-        ensures short { IfErr result IsShort }
     {
         let letter = self.next_letter(rt)?;
         match self.listener.feed(&[letter]) {
@@ -110,7 +105,6 @@ impl SessionListener {
     fn next_letter<H: Wait>(&mut self, rt: &H) -> Result<Letter, Reply>
         ensures gives { Gives self.old result self.new }
         ensures listener { self.new.listener ≡ self.old.listener }
-        ensures short { IfErr result IsShort }
     {
         match self.held.take() {
             Some(letter) => Ok(letter),
@@ -131,7 +125,8 @@ impl SessionListener {
 }
 
 /// The letters again, in a list that has room for them.
-fn copied(letters: &[Letter], mut room: Vec<Letter>) -> Letters
+fn copied(letters: &[Letter], mut room: Vec<Letter>) -> Excerpt
+    requires few { length letters.now ≤ MOST_GATHERED }
     requires empty { vec_len room ≡ 0 }
     requires fits { length letters.now ≤ vec_capacity room }
     ensures { result ≡ letters.now }
@@ -139,5 +134,5 @@ fn copied(letters: &[Letter], mut room: Vec<Letter>) -> Letters
     for letter in letters {
         room.push_reserved(*letter);
     }
-    Letters::of(room)
+    Excerpt::of(room)
 }

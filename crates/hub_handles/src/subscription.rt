@@ -1,9 +1,8 @@
 //! A session's subscriptions.
-ghost use Rattle.std.specs.Prelude.{◌≡◌, ◌≢◌, ◌≤◌, length, vec_len, vec_capacity, Err, IfOk, IfErr, IfNone, IfSome};
+ghost use Rattle.std.specs.Prelude.{◌≡◌, ◌≢◌, ◌≤◌, length, vec_len, vec_capacity, Err, IfOk, IfNone, IfSome};
 ghost use Rattle.std.specs.Arc.{arc_value};
 ghost use Rattle.hub_fifodir.specs.Passes.{IsTicketOf, HasSoundSight, ticket_next, ticket_seen, ticket_view};
 ghost use Rattle.hub_requests.specs.declared.bounds.TheConstants.{MOST_TAKEN};
-ghost use Rattle.hub_requests.specs.Brief.{IsShort};
 
 use crate::room::Room;
 use hub_fifodir::{Fifodir, Ticket};
@@ -53,8 +52,7 @@ impl Subscription {
         requires few { max ≤ MOST_TAKEN }
         requires empty { vec_len letters ≡ 0 }
         requires fits { max ≤ vec_capacity letters }
-        ensures step { TakesFrom max self.old result self.new }
-        ensures short { IsShort result }
+        ensures { TakesFrom max self.old result self.new }
     {
         self.take_through(rt, max, &mut room.events, letters)
     }
@@ -70,8 +68,7 @@ impl Subscription {
         requires places { max ≤ length events.old }
         requires empty { vec_len letters ≡ 0 }
         requires fits { max ≤ vec_capacity letters }
-        ensures step { TakesFrom max self.old result self.new }
-        ensures short { IsShort result }
+        ensures { TakesFrom max self.old result self.new }
     {
         match self.dir.take_into(rt, &mut self.ticket, &mut events[..max]) {
             Taken::Got(count) => Reply::Got(letters_of(&events[..count], letters)),
@@ -86,7 +83,6 @@ impl Subscription {
         ensures idle { IfSome result (λ reply. TakesOne self.old (Err reply) self.new) }
         ensures waits { IfNone result (ticket_next self.new.ticket
             ≢ length (ticket_seen self.new.ticket)) }
-        ensures short { IfSome result IsShort }
     {
         let status = self.dir.status(&mut self.ticket);
         if status.number != self.ticket.next() {
@@ -100,8 +96,7 @@ impl Subscription {
 
     /// Takes the next letter, or tells what to answer where there is none.
     pub fn take_letter<H: Wait>(&mut self, rt: &H) -> Result<Letter, Reply>
-        ensures step { TakesOne self.old result self.new }
-        ensures short { IfErr result IsShort }
+        ensures { TakesOne self.old result self.new }
     {
         let mut event = [Event::FILLER];
         match self.dir.take_into(rt, &mut self.ticket, &mut event) {

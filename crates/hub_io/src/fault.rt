@@ -1,6 +1,6 @@
 //! Why a session stopped.
 
-ghost use Rattle.std.specs.Prelude.{◌≡◌};
+ghost use Rattle.std.specs.Prelude.{◌≡◌, Some};
 ghost use Rattle.hub_io.specs.declared.fault.FrontError.TheVariants.{Memory};
 
 use std::alloc::AllocError;
@@ -29,7 +29,6 @@ impl From<AllocError> for FrontError {
 }
 
 impl fmt::Display for FrontError {
-    ghost use Rattle.std.specs.Prelude.{Some};
     ghost use Rattle.hub_io.specs.Faults.{fault_text};
 
     ghost output = { λ fault. Some (fault_text fault) };

@@ -1,7 +1,7 @@
 -- Lists that grow until they have every state in which a search is.
-use Rattle.std.proofs.Common.{◌≡◌, ◌≢◌, ℕ, ◌+◌, ◌<◌, ◌≤◌, ◌↔◌, List, [], length, Some, slice_get, slice_index, refl, sym, ap, ◌∙◌, subst, inl, inr, ⊎_elim, arith}
+use Rattle.std.proofs.Common.{◌≡◌, ◌≢◌, ℕ, ◌+◌, ◌-◌, ◌<◌, ◌≤◌, ◌↔◌, List, [], length, Some, slice_get, slice_index, refl, sym, ap, ◌∙◌, subst, inl, inr, ⊎_elim, arith}
 use Rattle.std.proofs.lemmas.Bool.{cases_lt}
-use Rattle.std.proofs.lemmas.Option.{same_Some}
+use Rattle.std.proofs.lemmas.Option.{same_Some, slice_get-get_or}
 use Rattle.regex_nfa.specs.Run.{state_of}
 use Rattle.regex_nfa.specs.States.{next_on}
 use Rattle.regex_nfa.specs.Paths.{EmptyEdge}
@@ -120,3 +120,11 @@ module _ (nfa : Nfa) (text : List ℕ) (i : ℕ) where
         → AreAlive nfa text j states
     AreAlive-next b states here read =
         AreAlive-read b reached states here closed.reached (Has-reached seeds reached (λ q e. (same q).1 ((alive q).1 e)) closed) read
+
+-- the states that are alive behind the last byte of a text
+pub AreAlive-last : (nfa : Nfa) (text start seeds reached states : List ℕ) → 1 ≤ length text → AreAlive nfa text (length text - 1) start
+    → ((q : ℕ) → Has seeds q ↔ Has start q) → ClosesBelow nfa text (length text - 1) seeds reached (length reached)
+    → AreRead nfa (slice_index text (length text - 1)) reached states → AreAlive nfa text (length text) states
+AreAlive-last nfa text start seeds reached states some alive same closed read =
+    AreAlive-next nfa text (length text - 1) start seeds reached alive same closed _ states
+    (slice_get-get_or text (length text - 1) 0 (omega arith)) read (length text) (omega arith)

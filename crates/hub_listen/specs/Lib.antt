@@ -7,4 +7,3 @@ pub mod Alive
 pub mod Listening
 pub mod Inside
 pub mod Pieces
-pub mod Each

@@ -1,5 +1,5 @@
 -- What a listener holds, and what a piece of letters does to it.
-use Rattle.std.specs.Prelude.{◌≡◌, ℕ, ◌+◌, ◌≤◌, ◌<◌, Bool, true, false, List, [], ◌∷◌, ◌++◌, length, take, Result, Ok, Err}
+use Rattle.std.specs.Prelude.{◌≡◌, ℕ, ◌+◌, ◌-◌, ◌≤◌, ◌<◌, Bool, true, false, List, [], ◌∷◌, ◌++◌, length, take, min, Result, Ok, Err}
 use Rattle.hub_letters.specs.declared.bounds.TheConstants.{MOST_GATHERED}
 use Rattle.hub_listen.specs.Hit.{IsHit, HasNoHit}
 use Rattle.hub_letters.specs.declared.mode.Mode.{Mode}
@@ -37,6 +37,10 @@ after_hit l piece k = record l { gathered = []; hit = l.gathered ++ take k piece
 -- after a piece without a hit
 abbrev pub after_quiet : Listening → List ℕ → Listening
 after_quiet l piece = record l { gathered = l.gathered ++ piece }
+
+-- how many of the letters fit
+abbrev pub fitting : Listening → List ℕ → ℕ
+fitting l letters = min (length letters) (MOST_GATHERED - length l.gathered)
 
 -- The piece took the listener from `old` to `new`, with this answer. Instead of any answer but Spent, it may report
 -- that memory ran out.

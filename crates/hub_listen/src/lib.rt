@@ -19,7 +19,6 @@
 
 mod alive;
 mod compile;
-mod each;
 mod feed;
 pub mod laws;
 mod listener;
@@ -28,7 +27,6 @@ mod search;
 mod states;
 
 pub use compile::MOST_BYTES;
-pub use each::{Each, feed_each};
 pub use feed::{Feed, FeedError};
 pub use hub_letters::Mode;
 pub use listener::{ListenError, Listener};

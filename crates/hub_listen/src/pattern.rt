@@ -6,42 +6,10 @@ ghost use Rattle.hub_listen.specs.Searches.{SearchesFor};
 
 use crate::compile::{MOST_BYTES, compile};
 use crate::listener::ListenError;
+use regex::Error;
 use regex_nfa::Nfa;
-use regex_syntax::{Config, ErrorKind, Parsed};
+use regex_syntax::{Config, Parsed};
 use std::alloc::Global;
-
-impl From<regex_syntax::Error> for ListenError {
-    ghost use Rattle.std.specs.Prelude.{◌≡◌, ◌≢◌};
-    ghost use Rattle.regex_syntax.specs.declared.error.ErrorKind.TheVariants.{OutOfMemory};
-    ghost use Rattle.hub_listen.specs.declared.listener.ListenError.TheVariants.{Pattern as no_pattern, Memory};
-
-    ghost from_gives = { λ refused error.
-        (refused.kind ≡ OutOfMemory → error ≡ Memory)
-        × (refused.kind ≢ OutOfMemory → error ≡ no_pattern) };
-
-    fn from(refused: regex_syntax::Error) -> ListenError {
-        match refused.kind {
-            ErrorKind::OutOfMemory => ListenError::Memory,
-            _ => ListenError::Pattern,
-        }
-    }
-}
-
-impl From<regex_compile::Error> for ListenError {
-    ghost use Rattle.std.specs.Prelude.{◌≡◌, ◌≢◌};
-    ghost use Rattle.regex_compile.specs.declared.error.Error.TheVariants.{OutOfMemory};
-    ghost use Rattle.hub_listen.specs.declared.listener.ListenError.TheVariants.{Pattern as no_pattern, Memory};
-
-    ghost from_gives = { λ refused error.
-        (refused ≡ OutOfMemory → error ≡ Memory) × (refused ≢ OutOfMemory → error ≡ no_pattern) };
-
-    fn from(refused: regex_compile::Error) -> ListenError {
-        match refused {
-            regex_compile::Error::OutOfMemory => ListenError::Memory,
-            _ => ListenError::Pattern,
-        }
-    }
-}
 
 /// The text of a pattern, and the NFA that searches for it.
 #[derive(Drop)]
@@ -59,12 +27,20 @@ impl Pattern {
         ensures small { OnOk result (IsSmall text.now) }
     {
         drop(compile(alloc, text)?);
-        let Parsed { hir, names } = regex_syntax::parse(alloc, text, &Config::default())?;
-        let Ok(groups) = u32::try_from(names.len()) else {
-            return Err(ListenError::Pattern);
-        };
-        let nfa = regex_compile::compile(alloc, &hir, groups, MOST_BYTES)?;
+        let nfa = nfa_of(alloc, text)?;
         let text = String::from_str(alloc, text)?;
         Ok(Pattern { text, nfa })
     }
+}
+
+/// The NFA that searches for the pattern of a text.
+fn nfa_of(alloc: Global, text: &str) -> Result<Nfa, Error>
+    ensures searches { IfOk result (λ nfa. ∥ SearchesFor nfa text.now ∥₁) }
+    ensures read { OnOk result (IsPattern text.now) }
+{
+    let Parsed { hir, names } = regex_syntax::parse(alloc, text, &Config::default())?;
+    let Ok(groups) = u32::try_from(names.len()) else {
+        return Err(Error::CompiledTooBig);
+    };
+    Ok(regex_compile::compile(alloc, &hir, groups, MOST_BYTES)?)
 }

@@ -9,7 +9,7 @@ use Rattle.hub_local.specs.Desks.{Desk, Answer, refusal_answer, world_of, with_w
 use Rattle.hub_local.specs.Standing.{Local, AreKept, StandsForDesk, StandsForSome, IsAnswer, IsLacking, CarriesOut, Unchanged}
 use Rattle.hub_local.specs.declared.local_desk.LocalFifodir.{LocalFifodir}
 use Rattle.hub_requests.specs.declared.reply.Reply.{Reply}
-use Rattle.hub_requests.specs.declared.reply.Reply.TheVariants.{Done, Number, State, Got, Hit, Nothing, End, Yes, Never, Late, No}
+use Rattle.hub_requests.specs.declared.reply.Reply.TheVariants.{No}
 use Rattle.hub_requests.specs.declared.reply.Refusal.{Refusal}
 use Rattle.hub_requests.specs.declared.reply.Refusal.TheVariants as no
 use Rattle.hub_local.proofs.KeptFifodirs.{some_kept, none_kept, kept_set, kept_still}
@@ -57,36 +57,12 @@ still_lacking new d own unrefused stands = record { unrefused = unrefused; desk 
 -- ---- a desk that has answered stands for some desk
 
 pub is_memory : (refusal : Refusal) → (refusal ≡ no.Memory) ⊎ (refusal ≢ no.Memory)
-is_memory no.Long = inr (λ e. cc)
-is_memory no.Text = inr (λ e. cc)
-is_memory no.Word = inr (λ e. cc)
-is_memory no.Form = inr (λ e. cc)
-is_memory no.Range = inr (λ e. cc)
-is_memory no.Name = inr (λ e. cc)
-is_memory no.Exists = inr (λ e. cc)
-is_memory no.Kind = inr (λ e. cc)
-is_memory no.Id = inr (λ e. cc)
-is_memory no.Many = inr (λ e. cc)
-is_memory no.Spent = inr (λ e. cc)
-is_memory no.Closed = inr (λ e. cc)
-is_memory (no.Unlawful i) = inr (λ e. cc)
-is_memory no.Full = inr (λ e. cc)
-is_memory no.Pattern = inr (λ e. cc)
-is_memory no.Overlong = inr (λ e. cc)
 is_memory no.Memory = inl refl
+is_memory _ = inr (λ e. cc)
 
 is_lack : (reply : Reply) → (reply ≡ No no.Memory) ⊎ (reply ≢ No no.Memory)
-is_lack Done = inr (λ e. cc)
-is_lack (Number n) = inr (λ e. cc)
-is_lack (State s) = inr (λ e. cc)
-is_lack (Got letters) = inr (λ e. cc)
-is_lack (Hit letters) = inr (λ e. cc)
-is_lack Nothing = inr (λ e. cc)
-is_lack End = inr (λ e. cc)
-is_lack (Yes numbers) = inr (λ e. cc)
-is_lack Never = inr (λ e. cc)
-is_lack Late = inr (λ e. cc)
 is_lack (No refusal) = elim (is_memory refusal) [ inl e ↦ inl (ap (λ (r : Refusal). No r) e) | inr ne ↦ inr (λ e. ne (let k : refusal ≡ no.Memory = cc in k)) ]
+is_lack _ = inr (λ e. cc)
 
 pub stands_on : (before old new : Local) (needs : Bool) (own : Desk → Option Refusal) (done : Desk → Answer) (left : Desk → Desk → Type 0) (reply : Reply) → before ≡ old
     → CarriesOut old needs own done left reply new → StandsForSome before → StandsForSome new

@@ -1,5 +1,5 @@
 -- The requests that begin a subscription or a listener: one more handle.
-use Rattle.std.proofs.Common.{◌≡◌, ℕ, ◌+◌, ◌<◌, Bool, true, false, List, [], ◌∷◌, ◌++◌, length, nat_eq, Option, Some, None, is_some, Result, Ok, Err, refl, sym, ap, subst, ◌∙◌, inl, inr, length-append, true≢false, arith}
+use Rattle.std.proofs.Common.{◌≡◌, ℕ, ◌+◌, Bool, true, false, List, [], ◌∷◌, ◌++◌, length, nat_eq, Option, Some, None, is_some, Result, Ok, Err, refl, sym, ap, subst, ◌∙◌, inl, inr, length-append, true≢false, arith}
 use Rattle.std.proofs.lemmas.Slice.Eq.{bytes_eq-Decides}
 use Rattle.std.specs.Map.{lookup, set_value}
 use Rattle.std.specs.Str.{bytes_eq}
@@ -10,7 +10,6 @@ use Rattle.hub_record.specs.declared.SubError.{SubError}
 use Rattle.hub_record.specs.declared.SubError.TheVariants as sub
 use Rattle.hub_record.specs.Kept.{Kept, StandsFor}
 use Rattle.hub_record.specs.World.{World, new_subscription, SubscribeReply, after_subscribe}
-use Rattle.hub_requests.specs.declared.bounds.TheConstants.{MOST_NUMBERS}
 use Rattle.hub_local.specs.Beginning.{Begins}
 use Rattle.hub_local.specs.DeskAnswers.{in_world, refusal_to_hold, refusal_to_listen, subscribe_answer}
 use Rattle.hub_local.specs.Desks.{Fifodir, Desk, Handle, standing, world_of, with_world, subscription_of, AreHeld, AreApart, GoesOn, AllGoOn, refusal_answer}
@@ -18,7 +17,6 @@ use Rattle.hub_local.specs.Opening.{is_there}
 use Rattle.hub_local.specs.Replies.{subscribe_reply}
 use Rattle.hub_requests.specs.Refusals.{refusal_of_sub}
 use Rattle.hub_requests.specs.Room.{refusal_of_handle}
-use Rattle.hub_requests.proofs.NextHandle.{room_for_handle}
 use Rattle.hub_local.specs.Standing.{Local, AreKept, StandsForDesk, CarriesOut, AsksWith, Unchanged}
 use Rattle.hub_local.specs.declared.local_desk.LocalListener.{LocalListener}
 use Rattle.hub_local.specs.declared.local_desk.Holding.{Holding}
@@ -68,12 +66,6 @@ named_there local name d st may = is_some-world_of name local.fifodirs d.fifodir
 
 pub none_there : (name : List ℕ) (es : List (List ℕ × LocalFifodir)) → is_there es name ≡ true → None ≡ lookup (bytes_eq name) es → ⊥
 none_there name es there none = true≢false (sym there ∙ ap is_some (sym none))
-
-pub numbers_left : (local : Local) (name : List ℕ) (d : Desk) → StandsForDesk local d → refusal_to_hold d name ≡ None → local.given < MOST_NUMBERS
-numbers_left local name d st may =
-    let t = unrefused_world d name may in
-    let e = t.1 in
-    let left = room_for_handle (length (standing d)) (length d.handles) (simp e at may) in let l = left.1 in let g = st.given in omega arith
 
 -- with another expression for the desk
 pub unrefused_at : {before old : Local} (name : List ℕ) → before ≡ old → ((d : Desk) → StandsForDesk old d → refusal_to_hold d name ≡ None) → (d : Desk) → StandsForDesk before d → refusal_to_hold d name ≡ None

@@ -1,27 +1,26 @@
 -- The requests about a current listener.
-use Rattle.std.proofs.Common.{◌≡◌, ◌≢◌, ◌⊎◌, ℕ, ◌+◌, ◌-◌, ◌<◌, ◌≤◌, Bool, true, false, ◌&&◌, if◌then◌else◌, List, ◌++◌, length, take, nat_eq, nat_lt, slice_get, Option, Some, None, option_to_list, refl, sym, ap, subst, ◌∙◌, inl, inr, true≢false}
+use Rattle.std.proofs.Common.{◌≡◌, ◌≢◌, ◌⊎◌, ℕ, ◌+◌, ◌-◌, ◌<◌, ◌≤◌, Bool, true, false, ◌&&◌, if◌then◌else◌, List, length, take, nat_eq, nat_lt, slice_get, Option, Some, None, option_to_list, refl, sym, ap, subst, ◌∙◌, inl, inr, true≢false}
 use Rattle.std.proofs.lemmas.Bool.{cases_Bool, le-leb, lt-leb, le-ltb, lt-ltb}
 use Rattle.std.proofs.lemmas.Map.Steps.{set_value_same}
 use Rattle.std.specs.Map.{lookup, set_value}
 use Rattle.std.specs.Str.{bytes_eq}
 use Rattle.hub_letters.specs.declared.bounds.TheConstants.{MOST_GATHERED}
-use Rattle.hub_listen.specs.Each.{fitting}
 use Rattle.hub_listen.specs.Hit.{HasNoHit}
-use Rattle.hub_listen.specs.Listening.{Listening, is_spent, spent_by, after_hit, after_quiet}
+use Rattle.hub_listen.specs.Listening.{Listening, is_spent, spent_by, after_hit, after_quiet, fitting}
 use Rattle.hub_letters.specs.declared.mode.Mode.{Mode}
 use Rattle.hub_letters.specs.declared.mode.Mode.TheVariants.{Once, Repeat}
 use Rattle.hub_listen.proofs.Lengths.{length_is_hit, no_length_is_no_hit}
 use Rattle.hub_record.specs.Kept.{Kept, StandsFor}
 use Rattle.hub_record.specs.World.{World, Subscription, subscription_in, after_take}
 use Rattle.hub_local.specs.DeskAnswers.{in_world, for_holding, for_hearing, refusal_to_poll, cancel_answer, request_answer, answer_by, refusal_to_cancel}
-use Rattle.hub_local.specs.Desks.{Desk, standing, holding_at, world_of, with_world, without_handle, AreHeld, AreApart, GoesOn, AllGoOn}
+use Rattle.hub_local.specs.Desks.{Desk, Answer, standing, holding_at, world_of, with_world, without_handle, AreHeld, AreApart, GoesOn, AllGoOn}
 use Rattle.hub_local.specs.Hearings.{IsAt, Hears}
 use Rattle.hub_local.specs.Polls.{to_hear, taken_from, heard_to_hit, heard_quietly, heard_on, ended_by, hear_answer, poll_answer}
 use Rattle.hub_local.specs.Standing.{Local, StandsForDesk, StandsForSome, AsksWith}
 use Rattle.hub_local.specs.declared.local_desk.LocalListener.{LocalListener}
 use Rattle.hub_local.specs.declared.local_desk.Holding.{Holding}
 use Rattle.hub_local.specs.declared.local_desk.LocalFifodir.{LocalFifodir}
-use Rattle.hub_local.specs.declared.local_desk.listeners.Heard.TheVariants as hear_answer
+use Rattle.hub_local.specs.declared.local_desk.listeners.Heard.TheVariants as heard
 use Rattle.hub_requests.specs.declared.request.Request.TheVariants.{Cancel, Poll}
 use Rattle.hub_requests.specs.declared.reply.Reply.{Reply}
 use Rattle.hub_requests.specs.declared.reply.Reply.TheVariants.{Hit, Nothing, End, No}
@@ -119,125 +118,166 @@ module _ (old new : Local) (n : ℕ) where
         pub poll_lacks : new ≡ old → AsksWith false old (Poll n) (No no.Memory) new
         poll_lacks same = by_lacking old new true _ _ _ _ refl refl (λ d st. record { unrefused = may_poll d st; desk = d; is_left = inl refl; stands = stands_same old new d same st })
 
-        -- ---- what is heard
-        polled_is : (d : Desk) → StandsForDesk old d → (w : World) → world_of d.fifodirs h.name ≡ Some w → request_answer d (Poll n) ≡ poll_answer d n h g w
-        polled_is d st w there =
-            ap (for_holding d (λ (k : Holding). for_hearing d (λ (q : LocalListener). in_world d (poll_answer d n k q) (world_of d.fifodirs k.name)) k.hearing)) (there_held d st)
-            ∙ ap (for_hearing d (λ (q : LocalListener). in_world d (poll_answer d n h q) (world_of d.fifodirs h.name))) hears
-            ∙ ap (in_world d (poll_answer d n h g)) there
+-- ---- what a look has heard
 
-        module _ (hearing : LocalListener) (r : LocalFifodir) (kept : Kept) (put : Rehears old new n h hearing r kept) where
-          -- the desk after that
-          module _ (d : Desk) (st : StandsForDesk old d) (w : World) (there : world_of d.fifodirs h.name ≡ Some w) (m : ℕ) (l : Listening) (o : Option ℕ) (at : IsAt g w h.id m l o hearing kept) (goes_on : l.mode ≡ g.listener.mode) where
-            stands_then : StandsForDesk new (heard_on d n h (record { listener = l; mode = g.mode; held = o }) (taken_from g w h.id m))
-            stands_then = subst (λ (q : LocalListener). StandsForDesk new (heard_on d n h q (taken_from g w h.id m))) (λ i. record { listener = at.listener_is i; mode = at.mode_is i; held = at.held_is i })
-                (stands_heard old new n h was hearing r kept put d st w (m - length (option_to_list g.held)) there at.stands (ap (λ (x : Listening). x.mode) at.listener_is ∙ goes_on ∙ unspent d st))
+-- the listener under the number had room for more letters, and has looked at those that were pending
+pub record HasLooked (old new : Local) (n : ℕ) (h : Holding) (g hearing : LocalListener) (r : LocalFifodir) (kept : Kept) : Type 0 where
+  pub held_is : Some h ≡ lookup (nat_eq n) old.holdings
+  pub hears : h.hearing ≡ Some g
+  pub room : length g.listener.gathered < MOST_GATHERED
+  pub put : Rehears old new n h hearing r kept
 
-          -- all letters that there was room for were heard without a hit
-          poll_quiet : (reply : Reply) → (reply ≢ No no.Memory)
-              → ((w : World) (s : Subscription) → StandsFor r.kept w → subscription_in w h.id ≡ Some s → let letters = to_hear g w h.id in let m = fitting g.listener letters in
-              HasNoHit g.listener.pattern g.listener.gathered letters × ((if nat_lt (length g.listener.gathered + length letters) MOST_GATHERED && w.closed then End else Nothing) ≡ reply)
-              × IsAt g w h.id m (after_quiet g.listener (take m letters)) None hearing kept)
-              → AsksWith false old (Poll n) reply new
-          poll_quiet reply no_lack says = by_carrying old new true _ _ _ reply no_lack (λ d st.
-              let t = world_heard old new n h was hearing r kept put d st in
-              let w = t.0 in
-              let f = found_heard old new n h was hearing r kept put d st w t.1 in
-              let k = says w f.0 t.2 f.1 in
-              let letters = to_hear g w h.id in
-              let m = fitting g.listener letters in
-              let after = heard_on d n h (heard_quietly g (take m letters)) (taken_from g w h.id m) in record {
-                answer = record { reply = reply; desk = after };
-                unrefused = may_poll d st;
-                done_is = polled_is d st w t.1 ∙ ap (hear_answer d n h g w letters) ((no_length_is_no_hit g.listener.pattern g.listener.gathered letters).1 k.0)
-                    ∙ ap (λ (x : Reply). record { reply = x; desk = after }) k.1;
-                said = refl;
-                stands = stands_then d st w t.1 m (after_quiet g.listener (take m letters)) None k.2 refl;
-              })
+-- this holds of each world that the record stands for and in which a subscription with this id is current
+abbrev pub OfWorlds : Kept → ℕ → (World → Type 0) → Type 0
+OfWorlds kept id P = (w : World) (s : Subscription) → StandsFor kept w → subscription_in w id ≡ Some s → P w
 
-          pub poll_nothing : ((w : World) (s : Subscription) → StandsFor r.kept w → subscription_in w h.id ≡ Some s → Hears g w h.id hear_answer.Nothing hearing kept) → AsksWith false old (Poll n) Nothing new
-          poll_nothing says = poll_quiet Nothing (λ e. cc) (λ w s st f. let k = says w s st f in (k.0, quiet_nothing _ w.closed k.1, k.2))
+-- and of the one under the name
+record HeardIn (d : Desk) (name : List ℕ) (P : World → Type 0) : Type 0 where
+  pub world : World
+  pub there : world_of d.fifodirs name ≡ Some world
+  pub is : P world
 
-          pub poll_end : ((w : World) (s : Subscription) → StandsFor r.kept w → subscription_in w h.id ≡ Some s → Hears g w h.id hear_answer.End hearing kept) → AsksWith false old (Poll n) End new
-          poll_end says = poll_quiet End (λ e. cc) (λ w s st f. let k = says w s st f in (k.0, quiet_end _ w.closed k.1 k.2, k.3))
+-- all letters that there was room for were heard without a hit
+abbrev HearsQuietly : LocalListener → ℕ → Reply → LocalListener → Kept → World → Type 0
+HearsQuietly g id reply new kept w =
+    let letters = to_hear g w id in
+    let m = fitting g.listener letters in
+    HasNoHit g.listener.pattern g.listener.gathered letters × ((if nat_lt (length g.listener.gathered + length letters) MOST_GATHERED && w.closed then End else Nothing) ≡ reply)
+    × IsAt g w id m (after_quiet g.listener (take m letters)) None new kept
 
-          pub poll_stops : ((w : World) (s : Subscription) → StandsFor r.kept w → subscription_in w h.id ≡ Some s → Hears g w h.id hear_answer.Lacking hearing kept) → AsksWith false old (Poll n) (No no.Memory) new
-          poll_stops says = by_lacking old new true _ _ _ _ refl refl (λ d st.
-              let t = world_heard old new n h was hearing r kept put d st in
-              let w = t.0 in
-              let f = found_heard old new n h was hearing r kept put d st w t.1 in
-              let k = says w f.0 t.2 f.1 in
-              let letters = to_hear g w h.id in record {
-                unrefused = may_poll d st;
-                desk = heard_on d n h (record g { listener = after_quiet g.listener (take k.0 letters); held = slice_get letters k.0 }) (taken_from g w h.id (k.0 + 1));
-                is_left = inr (record {
-                  holding = h;
-                  hearing = g;
-                  world = w;
-                  count = k.0;
-                  held_is = there_held d st;
-                  hears = hears;
-                  there = t.1;
-                  stopped = record { inside = k.1; none = k.2; desk = refl };
-                });
-                stands = stands_then d st w t.1 (k.0 + 1) (after_quiet g.listener (take k.0 letters)) (slice_get letters k.0) k.3 refl;
-              })
+-- the answer of a desk that has heard a hit
+abbrev hit_answer : ℕ → Holding → Desk → Mode → List ℕ → Answer
+hit_answer n h d mode hit = record { reply = Hit hit; desk = ended_by mode d n h }
 
-          module _ (says : (w : World) (s : Subscription) → StandsFor r.kept w → subscription_in w h.id ≡ Some s → Hears g w h.id hear_answer.Hit hearing kept) where
-            pub hit_stands : (d : Desk) → StandsForDesk old d → StandsForSome new
-            hit_stands d st =
-                let t = world_heard old new n h was hearing r kept put d st in
-                let w = t.0 in
-                let f = found_heard old new n h was hearing r kept put d st w t.1 in
-                let k = says w f.0 t.2 f.1 in record {
-                  desk = heard_on d n h (heard_to_hit g (to_hear g w h.id) k.0) (taken_from g w h.id k.0);
-                  stands = stands_then d st w t.1 k.0 (after_hit g.listener (to_hear g w h.id) k.0) None k.2 refl;
-                }
+-- the desk `after` has heard the hit that the listener shows, and still has its subscription
+record HeardHit (new : Local) (d : Desk) (n : ℕ) (h : Holding) (hearing : LocalListener) : Type 0 where
+  pub after : Desk
+  pub model : LocalListener
+  pub answer_is : request_answer d (Poll n) ≡ hit_answer n h after hearing.mode hearing.listener.hit
+  pub stands : StandsForDesk new after
+  pub held_is : holding_at after n ≡ Some (record h { hearing = Some model })
 
-            module _ (letters : List ℕ) (shows : letters ≡ hearing.listener.hit) where
-              pub poll_hit : hearing.mode ≡ Repeat → AsksWith false old (Poll n) (Hit letters) new
-              poll_hit goes_on = by_carrying old new true _ _ _ (Hit letters) (λ e. cc) (λ d st.
-                  let t = world_heard old new n h was hearing r kept put d st in
-                  let w = t.0 in
-                  let f = found_heard old new n h was hearing r kept put d st w t.1 in
-                  let k = says w f.0 t.2 f.1 in
-                  let heard_all = to_hear g w h.id in
-                  let said_then = Hit (g.listener.gathered ++ take k.0 heard_all) in
-                  let after = heard_on d n h (heard_to_hit g heard_all k.0) (taken_from g w h.id k.0) in record {
-                    answer = record { reply = said_then; desk = after };
-                    unrefused = may_poll d st;
-                    done_is = polled_is d st w t.1 ∙ ap (hear_answer d n h g w heard_all) ((length_is_hit g.listener.pattern g.listener.gathered heard_all k.0).1 k.1)
-                        ∙ ap (λ (x : Mode). record { reply = said_then; desk = ended_by x after n h }) (sym k.2.mode_is ∙ goes_on);
-                    said = ap (λ (x : List ℕ). Hit x) (shows ∙ ap (λ (l : Listening). l.hit) k.2.listener_is);
-                    stands = stands_then d st w t.1 k.0 (after_hit g.listener heard_all k.0) None k.2 refl;
-                  })
+module _ (old new : Local) (n : ℕ) (h : Holding) (g hearing : LocalListener) (r : LocalFifodir) (kept : Kept) (look : HasLooked old new n h g hearing r kept) where
+  held_there : (d : Desk) → StandsForDesk old d → holding_at d n ≡ Some h
+  held_there = there_held old new n h look.held_is
 
-              -- and its subscription is cancelled
-              pub poll_hit_once : hearing.mode ≡ Once → (over : Local) (reply : Reply) → AsksWith false new (Cancel n) reply over → AsksWith false old (Poll n) (Hit letters) over
-              poll_hit_once ends over reply cancels = by_carrying old over true _ _ _ (Hit letters) (λ e. cc) (λ d st.
-                  let t = world_heard old new n h was hearing r kept put d st in
-                  let w = t.0 in
-                  let f = found_heard old new n h was hearing r kept put d st w t.1 in
-                  let k = says w f.0 t.2 f.1 in
-                  let heard_all = to_hear g w h.id in
-                  let said_then = Hit (g.listener.gathered ++ take k.0 heard_all) in
-                  let model = heard_to_hit g heard_all k.0 in
-                  let other : Holding = record h { hearing = Some model } in
-                  let after = heard_on d n h model (taken_from g w h.id k.0) in
-                  let stands = stands_then d st w t.1 k.0 (after_hit g.listener heard_all k.0) None k.2 refl in
-                  let e : holding_at after n ≡ Some other = ap (lookup (nat_eq n)) (standing-with 1 d.handles n h other (there_held d st)) ∙ lookup_set (standing d) n h other (there_held d st) in
-                  let a = cancels.answered (λ x. true≢false (sym (cancels.grew x))) after stands in record {
-                    answer = record { reply = said_then; desk = without_handle after n h };
-                    unrefused = may_poll d st;
-                    done_is = polled_is d st w t.1 ∙ ap (hear_answer d n h g w heard_all) ((length_is_hit g.listener.pattern g.listener.gathered heard_all k.0).1 k.1)
-                        ∙ ap (λ (x : Mode). record { reply = said_then; desk = ended_by x after n h }) (sym k.2.mode_is ∙ ends);
-                    said = ap (λ (x : List ℕ). Hit x) (shows ∙ ap (λ (l : Listening). l.hit) k.2.listener_is);
-                    stands = subst (StandsForDesk over) (ap (λ (o : Option Holding). (answer_by after (refusal_to_cancel o) (for_holding after (cancel_answer after n) o)).desk) e) a.stands;
-                  })
+  allowed : (d : Desk) → StandsForDesk old d → refusal_to_poll (holding_at d n) ≡ None
+  allowed = may_poll old new n h look.held_is g look.hears look.room
 
-              -- with another expression for the desk
-              pub poll_ended : hearing.mode ≡ Once → (over final : Local) (reply : Reply) → AsksWith false new (Cancel n) reply over → final ≡ over → AsksWith false old (Poll n) (Hit letters) final
-              poll_ended ends over final reply cancels same = subst (λ (z : Local). AsksWith false old (Poll n) (Hit letters) z) (sym same) (poll_hit_once ends over reply cancels)
+  polled_is : (d : Desk) → StandsForDesk old d → (w : World) → world_of d.fifodirs h.name ≡ Some w → request_answer d (Poll n) ≡ poll_answer d n h g w
+  polled_is d st w there =
+      ap (for_holding d (λ (k : Holding). for_hearing d (λ (q : LocalListener). in_world d (poll_answer d n k q) (world_of d.fifodirs k.name)) k.hearing)) (held_there d st)
+      ∙ ap (for_hearing d (λ (q : LocalListener). in_world d (poll_answer d n h q) (world_of d.fifodirs h.name))) look.hears
+      ∙ ap (in_world d (poll_answer d n h g)) there
 
-              pub poll_goes_on : hearing.mode ≡ Repeat → (final : Local) → final ≡ new → AsksWith false old (Poll n) (Hit letters) final
-              poll_goes_on goes_on final same = subst (λ (z : Local). AsksWith false old (Poll n) (Hit letters) z) (sym same) (poll_hit goes_on)
+  -- the desk after that
+  module _ (d : Desk) (st : StandsForDesk old d) (w : World) (there : world_of d.fifodirs h.name ≡ Some w) (m : ℕ) (l : Listening) (o : Option ℕ) (at : IsAt g w h.id m l o hearing kept) (goes_on : l.mode ≡ g.listener.mode) where
+    stands_then : StandsForDesk new (heard_on d n h (record { listener = l; mode = g.mode; held = o }) (taken_from g w h.id m))
+    stands_then = subst (λ (q : LocalListener). StandsForDesk new (heard_on d n h q (taken_from g w h.id m))) (λ i. record { listener = at.listener_is i; mode = at.mode_is i; held = at.held_is i })
+        (stands_heard old new n h look.held_is hearing r kept look.put d st w (m - length (option_to_list g.held)) there at.stands (ap (λ (x : Listening). x.mode) at.listener_is ∙ goes_on ∙ unspent old new n h look.held_is g look.hears d st))
+
+  -- the world that was heard, with what is known of it
+  heard_in : (P : World → Type 0) → OfWorlds r.kept h.id P → (d : Desk) → StandsForDesk old d → HeardIn d h.name P
+  heard_in P says d st =
+      let t = world_heard old new n h look.held_is hearing r kept look.put d st in
+      let f = found_heard old new n h look.held_is hearing r kept look.put d st t.0 t.1 in
+      record { world = t.0; there = t.1; is = says t.0 f.0 t.2 f.1 }
+
+  poll_quiet : (reply : Reply) → (reply ≢ No no.Memory) → OfWorlds r.kept h.id (HearsQuietly g h.id reply hearing kept) → AsksWith false old (Poll n) reply new
+  poll_quiet reply no_lack says = by_carrying old new true _ _ _ reply no_lack (λ d st.
+      let f = heard_in (HearsQuietly g h.id reply hearing kept) says d st in
+      let w = f.world in
+      let letters = to_hear g w h.id in
+      let m = fitting g.listener letters in
+      let after = heard_on d n h (heard_quietly g (take m letters)) (taken_from g w h.id m) in record {
+        answer = record { reply = reply; desk = after };
+        unrefused = allowed d st;
+        done_is = polled_is d st w f.there ∙ ap (hear_answer d n h g w letters) ((no_length_is_no_hit g.listener.pattern g.listener.gathered letters).1 f.is.0)
+            ∙ ap (λ (x : Reply). record { reply = x; desk = after }) f.is.1;
+        said = refl;
+        stands = stands_then d st w f.there m (after_quiet g.listener (take m letters)) None f.is.2 refl;
+      })
+
+  pub poll_nothing : OfWorlds r.kept h.id (λ w. Hears g w h.id heard.Nothing hearing kept) → AsksWith false old (Poll n) Nothing new
+  poll_nothing says = poll_quiet Nothing (λ e. cc) (λ w s st f. let k = says w s st f in (k.0, quiet_nothing _ w.closed k.1, k.2))
+
+  pub poll_end : OfWorlds r.kept h.id (λ w. Hears g w h.id heard.End hearing kept) → AsksWith false old (Poll n) End new
+  poll_end says = poll_quiet End (λ e. cc) (λ w s st f. let k = says w s st f in (k.0, quiet_end _ w.closed k.1 k.2, k.3))
+
+  pub poll_stops : OfWorlds r.kept h.id (λ w. Hears g w h.id heard.Lacking hearing kept) → AsksWith false old (Poll n) (No no.Memory) new
+  poll_stops says = by_lacking old new true _ _ _ _ refl refl (λ d st.
+      let f = heard_in (λ w. Hears g w h.id heard.Lacking hearing kept) says d st in
+      let w = f.world in
+      let k = f.is in
+      let letters = to_hear g w h.id in record {
+        unrefused = allowed d st;
+        desk = heard_on d n h (record g { listener = after_quiet g.listener (take k.0 letters); held = slice_get letters k.0 }) (taken_from g w h.id (k.0 + 1));
+        is_left = inr (record {
+          holding = h;
+          hearing = g;
+          world = w;
+          count = k.0;
+          held_is = held_there d st;
+          hears = look.hears;
+          there = f.there;
+          stopped = record { inside = k.1; none = k.2; desk = refl };
+        });
+        stands = stands_then d st w f.there (k.0 + 1) (after_quiet g.listener (take k.0 letters)) (slice_get letters k.0) k.3 refl;
+      })
+
+  module _ (says : OfWorlds r.kept h.id (λ w. Hears g w h.id heard.Hit hearing kept)) where
+    heard_hit : (d : Desk) → StandsForDesk old d → HeardHit new d n h hearing
+    heard_hit d st =
+        let f = heard_in (λ w. Hears g w h.id heard.Hit hearing kept) says d st in
+        let w = f.world in
+        let k = f.is in
+        let letters = to_hear g w h.id in
+        let model = heard_to_hit g letters k.0 in
+        let other : Holding = record h { hearing = Some model } in
+        let after = heard_on d n h model (taken_from g w h.id k.0) in record {
+          after = after;
+          model = model;
+          answer_is = polled_is d st w f.there ∙ ap (hear_answer d n h g w letters) ((length_is_hit g.listener.pattern g.listener.gathered letters k.0).1 k.1)
+              ∙ sym (λ i. hit_answer n h after (k.2.mode_is i) (k.2.listener_is i).hit);
+          stands = stands_then d st w f.there k.0 (after_hit g.listener letters k.0) None k.2 refl;
+          held_is = ap (lookup (nat_eq n)) (standing-with 1 d.handles n h other (held_there d st)) ∙ lookup_set (standing d) n h other (held_there d st);
+        }
+
+    pub hit_stands : (d : Desk) → StandsForDesk old d → StandsForSome new
+    hit_stands d st = let a = heard_hit d st in record { desk = a.after; stands = a.stands }
+
+    module _ (letters : List ℕ) (shows : letters ≡ hearing.listener.hit) where
+      hit_done : (mode : Mode) → hearing.mode ≡ mode → (d : Desk) → (st : StandsForDesk old d)
+          → request_answer d (Poll n) ≡ hit_answer n h (heard_hit d st).after mode letters
+      hit_done mode is d st =
+          let a = heard_hit d st in
+          let said : hearing.listener.hit ≡ letters = sym shows in a.answer_is ∙ (λ i. hit_answer n h a.after (is i) (said i))
+
+      pub poll_hit : hearing.mode ≡ Repeat → AsksWith false old (Poll n) (Hit letters) new
+      poll_hit goes_on = by_carrying old new true _ _ _ (Hit letters) (λ e. cc) (λ d st.
+          let a = heard_hit d st in record {
+            answer = record { reply = Hit letters; desk = a.after };
+            unrefused = allowed d st;
+            done_is = hit_done Repeat goes_on d st;
+            said = refl;
+            stands = a.stands;
+          })
+
+      -- and its subscription is cancelled
+      pub poll_hit_once : hearing.mode ≡ Once → (over : Local) (reply : Reply) → AsksWith false new (Cancel n) reply over → AsksWith false old (Poll n) (Hit letters) over
+      poll_hit_once ends over reply cancels = by_carrying old over true _ _ _ (Hit letters) (λ e. cc) (λ d st.
+          let a = heard_hit d st in
+          let ended = cancels.answered (λ x. true≢false (sym (cancels.grew x))) a.after a.stands in record {
+            answer = record { reply = Hit letters; desk = without_handle a.after n h };
+            unrefused = allowed d st;
+            done_is = hit_done Once ends d st;
+            said = refl;
+            stands = subst (StandsForDesk over) (ap (λ (o : Option Holding). (answer_by a.after (refusal_to_cancel o) (for_holding a.after (cancel_answer a.after n) o)).desk) a.held_is) ended.stands;
+          })
+
+      -- with another expression for the desk
+      pub poll_ended : hearing.mode ≡ Once → (over final : Local) (reply : Reply) → AsksWith false new (Cancel n) reply over → final ≡ over → AsksWith false old (Poll n) (Hit letters) final
+      poll_ended ends over final reply cancels same = subst (λ (z : Local). AsksWith false old (Poll n) (Hit letters) z) (sym same) (poll_hit_once ends over reply cancels)
+
+      pub poll_goes_on : hearing.mode ≡ Repeat → (final : Local) → final ≡ new → AsksWith false old (Poll n) (Hit letters) final
+      poll_goes_on goes_on final same = subst (λ (z : Local). AsksWith false old (Poll n) (Hit letters) z) (sym same) (poll_hit goes_on)

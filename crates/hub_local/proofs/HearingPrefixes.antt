@@ -3,9 +3,8 @@ use Rattle.std.proofs.Common.{◌≡◌, ℕ, zero, suc, ◌+◌, ◌-◌, ◌<�
 use Rattle.std.proofs.lemmas.List.{length-drop, length-take-le, take-append-drop}
 use Rattle.std.proofs.Math.Seq.{take-length}
 use Rattle.hub_letters.specs.declared.bounds.TheConstants.{MOST_GATHERED}
-use Rattle.hub_listen.specs.Each.{fitting}
 use Rattle.hub_listen.specs.Hit.{HasNoHit}
-use Rattle.hub_listen.specs.Listening.{Listening, Feeds, is_spent, after_quiet}
+use Rattle.hub_listen.specs.Listening.{Listening, Feeds, is_spent, after_quiet, fitting}
 use Rattle.hub_listen.specs.declared.feed.Feed.TheVariants as fed
 use Rattle.hub_listen.proofs.Prefixes.{HasNoHit-append}
 use Rattle.hub_listen.proofs.Singly.{nothing_is_quiet, one_more, one_more_hit}

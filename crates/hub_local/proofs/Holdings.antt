@@ -28,6 +28,21 @@ none_above from (h ∷ rest) n l =
     let ih = none_above (from + 1) rest n (omega arith) in
     elim (cases_Bool h.current) [ inl st ↦ simp (st, no) ih | inr st ↦ simp st ih ]
 
+-- if the first number is found, it is current
+pub current_first : (from : ℕ) (x : Handle) (rest : List Handle) (n : ℕ) (h : Holding) → nat_eq n from ≡ true → lookup (nat_eq n) (standing_from from (x ∷ rest)) ≡ Some h → x.current ≡ true
+current_first from x rest n h t e =
+    elim (cases_Bool x.current) [
+      | inl st ↦ st
+      | inr st ↦ (let is : n ≡ from = eqb-true n from t in
+          let none = none_below (from + 1) rest n (omega arith) in
+          let k = simp st at e in absurd (let no : ⊥ = cc in no))
+    ]
+
+-- and another number is found behind it
+pub found_behind : (from : ℕ) (x : Handle) (rest : List Handle) (n : ℕ) (h : Holding) → nat_eq n from ≡ false → lookup (nat_eq n) (standing_from from (x ∷ rest)) ≡ Some h
+    → lookup (nat_eq n) (standing_from (from + 1) rest) ≡ Some h
+found_behind from x rest n h t e = elim (cases_Bool x.current) [ inl st ↦ (let k = simp (st, t) at e in k) | inr st ↦ (let k = simp st at e in k) ]
+
 pub standing-push : (from : ℕ) (hs : List Handle) (h : Handle) (n : ℕ) → h.current ≡ true → n ≡ from + length hs → standing_from from (hs ++ h ∷ []) ≡ standing_from from hs ++ (n, h.holding) ∷ []
 standing-push from [] h n st is = let same : from ≡ n = omega arith in simp st (ap (λ (z : ℕ). (z, h.holding) ∷ []) same)
 standing-push from (x ∷ rest) h n st is =
@@ -39,16 +54,9 @@ pub standing-without : (from : ℕ) (hs : List Handle) (n : ℕ) (h : Holding) �
 standing-without from [] n h e = refl
 standing-without from (x ∷ rest) n h e =
     elim (cases_Bool (nat_eq n from)) [
-      | inl t ↦ (let is : n ≡ from = eqb-true n from t in
-          let none = none_below (from + 1) rest n (omega arith) in
-          elim (cases_Bool x.current) [
-            | inl st ↦ simp (t, st)
-            | inr st ↦ (let k = simp st at e in absurd (let no : ⊥ = cc in no))
-          ])
-      | inr t ↦ elim (cases_Bool x.current) [
-        | inl st ↦ (let k = simp (st, t) at e in simp (t, st) (ap (λ (z : List (ℕ × Holding)). (from, x.holding) ∷ z) (standing-without (from + 1) rest n h k)))
-        | inr st ↦ (let k = simp st at e in simp (t, st) (standing-without (from + 1) rest n h k))
-      ]
+      | inl t ↦ (let st = current_first from x rest n h t e in simp (t, st))
+      | inr t ↦ (let ih = standing-without (from + 1) rest n h (found_behind from x rest n h t e) in
+          elim (cases_Bool x.current) [ inl st ↦ simp (t, st) (ap (λ (z : List (ℕ × Holding)). (from, x.holding) ∷ z) ih) | inr st ↦ simp (t, st) ih ])
     ]
 
 pub length-without : (from : ℕ) (hs : List Handle) (n : ℕ) → length (without_from from hs n) ≡ length hs

@@ -9,7 +9,6 @@ pub mod HearingLetters
 pub mod HearingPrefixes
 pub mod AskingHolds
 pub mod AskingSubscriptions
-mod ShortRefusals
 pub mod Posts
 pub mod AskingServices
 mod UsedIds

@@ -1,26 +1,19 @@
 -- Another holding under a number, for the same subscription.
-use Rattle.std.proofs.Common.{◌≡◌, ℕ, ◌+◌, List, [], ◌∷◌, length, nat_eq, Some, is_some, true, refl, sym, ap, subst, ◌∙◌, inl, inr, suc, arith}
-use Rattle.std.proofs.lemmas.Bool.{cases_Bool, eqb-true}
+use Rattle.std.proofs.Common.{◌≡◌, ℕ, ◌+◌, List, [], ◌∷◌, length, nat_eq, Some, is_some, true, refl, sym, ap, subst, ◌∙◌, inl, inr, suc}
+use Rattle.std.proofs.lemmas.Bool.{cases_Bool}
 use Rattle.std.specs.Map.{lookup, set_value}
 use Rattle.hub_local.specs.Desks.{Fifodir, Handle, standing_from, with_holding_from, subscription_of, AreHeld, IsApart, AreApart, GoesOn, AllGoOn}
 use Rattle.hub_local.specs.declared.local_desk.Holding.{Holding}
-use Rattle.hub_local.proofs.Holdings.{none_below}
+use Rattle.hub_local.proofs.Holdings.{current_first, found_behind}
 
 pub standing-with : (from : ℕ) (hs : List Handle) (n : ℕ) (h new : Holding) → lookup (nat_eq n) (standing_from from hs) ≡ Some h
     → standing_from from (with_holding_from from hs n new) ≡ set_value (nat_eq n) (standing_from from hs) new
 standing-with from [] n h new e = refl
 standing-with from (x ∷ rest) n h new e =
     elim (cases_Bool (nat_eq n from)) [
-      | inl t ↦ (let is : n ≡ from = eqb-true n from t in
-          let none = none_below (from + 1) rest n (omega arith) in
-          elim (cases_Bool x.current) [
-            | inl st ↦ simp (t, st)
-            | inr st ↦ (let k = simp st at e in absurd (let no : ⊥ = cc in no))
-          ])
-      | inr t ↦ elim (cases_Bool x.current) [
-        | inl st ↦ (let k = simp (st, t) at e in simp (t, st) (ap (λ (z : List (ℕ × Holding)). (from, x.holding) ∷ z) (standing-with (from + 1) rest n h new k)))
-        | inr st ↦ (let k = simp st at e in simp (t, st) (standing-with (from + 1) rest n h new k))
-      ]
+      | inl t ↦ (let st = current_first from x rest n h t e in simp (t, st))
+      | inr t ↦ (let ih = standing-with (from + 1) rest n h new (found_behind from x rest n h t e) in
+          elim (cases_Bool x.current) [ inl st ↦ simp (t, st) (ap (λ (z : List (ℕ × Holding)). (from, x.holding) ∷ z) ih) | inr st ↦ simp (t, st) ih ])
     ]
 
 pub length-with : (from : ℕ) (hs : List Handle) (n : ℕ) (new : Holding) → length (with_holding_from from hs n new) ≡ length hs

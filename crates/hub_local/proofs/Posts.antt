@@ -1,11 +1,10 @@
 -- The posts of a wait.
-use Rattle.std.proofs.Common.{◌≡◌, ℕ, ◌+◌, ◌*◌, ◌^◌, ◌<◌, ◌≤◌, false, List, [], ◌∷◌, ◌++◌, length, drop, take, get_or, map, Option, Some, None, Ok, Err, refl, sym, ap, subst, ◌∙◌, inl, inr, length-append, arith}
+use Rattle.std.proofs.Common.{◌≡◌, ℕ, ◌+◌, ◌<◌, ◌≤◌, false, List, [], ◌∷◌, ◌++◌, length, drop, take, get_or, map, Some, None, Ok, Err, refl, sym, ap, subst, ◌∙◌, inl, inr}
 use Rattle.std.proofs.lemmas.Bool.{cases_Bool}
 use Rattle.std.proofs.lemmas.List.{drop_all, map-append, take_more}
 use Rattle.std.proofs.lemmas.List.Folds.{fold_stuck}
 use Rattle.std.proofs.lemmas.List.Sums.{fold_more}
-use Rattle.std.specs.Prelude.{unwrap_or, IfSome}
-use Rattle.std.proofs.lemmas.Fmt.{length-decimal-le}
+use Rattle.std.specs.Prelude.{unwrap_or}
 use Rattle.std.specs.Map.{lookup, set_value}
 use Rattle.std.specs.Str.{bytes_eq}
 use Rattle.hub_letters.specs.declared.want.Want.{Want}
@@ -22,7 +21,6 @@ use Rattle.hub_local.specs.Opening.{OpensPost, OpensAll}
 use Rattle.hub_local.specs.Replies.{subscribe_reply}
 use Rattle.hub_requests.specs.Refusals.{refusal_of_sub}
 use Rattle.hub_local.specs.Standing.{AreKept}
-use Rattle.hub_requests.specs.Texts.{number_or_dash, numbers_text}
 use Rattle.hub_local.specs.Waits.{status_of, watch_over, Opening, so_far, opening_refused, opened_by, opened_in, with_post, opening_of, without_posts}
 use Rattle.hub_local.specs.declared.local_desk.LocalFifodir.{LocalFifodir}
 use Rattle.hub_local.specs.declared.local_desk.waits.LocalPost.{LocalPost}
@@ -118,16 +116,3 @@ map_more f xs i x below is = ap (map f) (take_more xs i x below) ∙ map-append 
 pub tallied_more : (span : Span) (posts : List LocalPost) (i : ℕ) (post : LocalPost) (tally : Tallied) → i < length posts → post ≡ get_or posts i post
     → tally ≡ tally_of span (map (λ p. p.watch) (take i posts) ++ post.watch ∷ []) → tally ≡ tally_of span (map (λ p. p.watch) (take (i + 1) posts))
 tallied_more span posts i post tally below is e = e ∙ ap (tally_of span) (sym (map_more (λ (p : LocalPost). p.watch) posts i post below is))
-
--- a number of 64 bits has at most 20 digits, and a space before it
-short_shown : (number : Option ℕ) → IfSome number (λ n. n < 2 ^ 64) → length (number_or_dash number) ≤ 20
-short_shown None h = omega arith
-short_shown (Some n) h = length-decimal-le 20 n (omega arith) (omega arith) h
-
-pub numbers_text-push : (numbers : List (Option ℕ)) (number : Option ℕ) (n : ℕ) → length (numbers_text numbers) ≤ 21 * n → IfSome number (λ k. k < 2 ^ 64)
-    → length (numbers_text (numbers ++ number ∷ [])) ≤ 21 * (n + 1)
-numbers_text-push numbers number n h small = let s = short_shown number small in let e = by numbers in omega arith
-  where
-    by : (ns : List (Option ℕ)) → length (numbers_text (ns ++ number ∷ [])) ≡ length (numbers_text ns) + (length (number_or_dash number) + 1)
-    by [] = simp (length-append) (omega arith)
-    by (x ∷ ns) = let ih = by ns in simp (length-append) (omega arith)

@@ -1,11 +1,12 @@
 -- Takes of the letters behind a cursor, one at a time.
-use Rattle.std.proofs.Common.{◌≡◌, ℕ, zero, suc, ◌+◌, ◌-◌, ◌<◌, ◌≤◌, true, false, List, [], ◌∷◌, ◌++◌, length, take, drop, get_or, min, nat_eq, nat_lt, Option, Some, is_some, Ok, refl, sym, ap, subst, ◌∙◌, inl, inr, true≢false, append_assoc, append-nil, ⊎_elim, arith}
+use Rattle.std.proofs.Common.{◌≡◌, ◌≢◌, if◌then◌else◌, ℕ, zero, suc, ◌+◌, ◌-◌, ◌<◌, ◌≤◌, true, false, List, [], ◌∷◌, ◌++◌, length, take, drop, get_or, min, nat_eq, nat_lt, Option, Some, is_some, Ok, refl, sym, ap, subst, ◌∙◌, inl, inr, true≢false, append_assoc, append-nil, ⊎_elim, arith}
 use Rattle.std.proofs.lemmas.Bool.{cases_Bool, cases_lt, ltb-true, ltb-false}
 use Rattle.std.proofs.lemmas.List.{length-drop, length-map, drop-drop, drop-map}
 use Rattle.hub_record.specs.Kept.{Kept, StandsFor}
 use Rattle.hub_record.specs.World.{World, Subscription, letters, subscription_in, found_from, changed_from, with_changed, count_to_take, events_to_take, moved_on, reply_for, take_reply, take_events, moved_for, after_take, after_take_for}
 use Rattle.hub_record.specs.declared.Event.{Event}
-use Rattle.hub_record.specs.declared.Taken.TheVariants as count_to_take
+use Rattle.hub_record.specs.declared.Taken.{Taken}
+use Rattle.hub_record.specs.declared.Taken.TheVariants as taken
 use Rattle.hub_local.specs.Polls.{waiting_for}
 use Rattle.hub_local.specs.Hearings.{behind}
 
@@ -170,9 +171,9 @@ module _ (w : World) (id : ℕ) (s : Subscription) (is : subscription_in w id �
 
   -- ---- one take
 
-  pub got_one : (count : ℕ) → Ok (count_to_take.Got count) ≡ take_reply w id 1 → s.next < length w.events
+  pub got_one : (count : ℕ) → Ok (taken.Got count) ≡ take_reply w id 1 → s.next < length w.events
   got_one count e =
-      let k : Ok (count_to_take.Got count) ≡ reply_for w 1 (Some s) = e ∙ ap (reply_for w 1) is in
+      let k : Ok (taken.Got count) ≡ reply_for w 1 (Some s) = e ∙ ap (reply_for w 1) is in
       elim (cases_Bool (nat_lt s.next (length w.events))) [
         | inl a ↦ ltb-true s.next (length w.events) a
         | inr a ↦ elim (cases_Bool w.closed) [
@@ -181,27 +182,31 @@ module _ (w : World) (id : ℕ) (s : Subscription) (is : subscription_in w id �
         ]
       ]
 
-  pub got_none : Ok count_to_take.Nothing ≡ take_reply w id 1 → (length w.events ≤ s.next) × (w.closed ≡ false)
-  got_none e =
-      let k : Ok count_to_take.Nothing ≡ reply_for w 1 (Some s) = e ∙ ap (reply_for w 1) is in
+  -- if nothing is got, the reply says whether more may come
+  none_got : (said : Taken) → ((count : ℕ) → said ≢ taken.Got count) → Ok said ≡ take_reply w id 1
+      → (length w.events ≤ s.next) × (said ≡ (if w.closed then taken.End else taken.Nothing))
+  none_got said none e =
+      let k : Ok said ≡ reply_for w 1 (Some s) = e ∙ ap (reply_for w 1) is in
       elim (cases_Bool (nat_lt s.next (length w.events))) [
-        | inl a ↦ (let j = simp a at k in absurd (let no : ⊥ = cc in no))
-        | inr a ↦ elim (cases_Bool w.closed) [
-          | inl c ↦ (let j = simp (a, c) at k in absurd (let no : ⊥ = cc in no))
-          | inr c ↦ (ltb-false s.next (length w.events) a, c)
-        ]
+        | inl a ↦ (let j = simp a at k in absurd (none (count_to_take w s 1) cc))
+        | inr a ↦ (
+          ltb-false s.next (length w.events) a,
+          elim (cases_Bool w.closed) [
+            | inl c ↦ (let j = simp (a, c) at k in simp c cc)
+            | inr c ↦ (let j = simp (a, c) at k in simp c cc)
+          ],
+        )
       ]
 
-  pub got_end : Ok count_to_take.End ≡ take_reply w id 1 → (length w.events ≤ s.next) × (w.closed ≡ true)
+  pub got_none : Ok taken.Nothing ≡ take_reply w id 1 → (length w.events ≤ s.next) × (w.closed ≡ false)
+  got_none e =
+      let k = none_got taken.Nothing (λ count same. cc) e in
+      (k.0, elim (cases_Bool w.closed) [ inl c ↦ (let j = simp c at k.1 in absurd (let no : ⊥ = cc in no)) | inr c ↦ c ])
+
+  pub got_end : Ok taken.End ≡ take_reply w id 1 → (length w.events ≤ s.next) × (w.closed ≡ true)
   got_end e =
-      let k : Ok count_to_take.End ≡ reply_for w 1 (Some s) = e ∙ ap (reply_for w 1) is in
-      elim (cases_Bool (nat_lt s.next (length w.events))) [
-        | inl a ↦ (let j = simp a at k in absurd (let no : ⊥ = cc in no))
-        | inr a ↦ elim (cases_Bool w.closed) [
-          | inl c ↦ (ltb-false s.next (length w.events) a, c)
-          | inr c ↦ (let j = simp (a, c) at k in absurd (let no : ⊥ = cc in no))
-        ]
-      ]
+      let k = none_got taken.End (λ count same. cc) e in
+      (k.0, elim (cases_Bool w.closed) [ inl c ↦ c | inr c ↦ (let j = simp c at k.1 in absurd (let no : ⊥ = cc in no)) ])
 
   -- none is pending
   module _ (none : length w.events ≤ s.next) (kept : Kept) (stands : StandsFor kept (after_take w id 1)) where

@@ -131,6 +131,14 @@ no_posts names name (Some w) = record {
   owed = λ id above h. (let below = found_below 1 w.subscriptions id h in absurd (let no : ⊥ = omega arith in no));
 }
 
+-- other posts that have the same ids there
+same_owed : (names others : List (List ℕ)) (posts other_posts : List LocalPost) (name : List ℕ) → ((id : ℕ) → IsOwed names posts name id → IsOwed others other_posts name id)
+    → ((id : ℕ) → IsOwed others other_posts name id → IsOwed names posts name id) → (o p : Option World) → HasPostsThere names posts name o p → HasPostsThere others other_posts name o p
+same_owed names others posts other_posts name to from None None h = tt
+same_owed names others posts other_posts name to from (Some old) (Some new) h =
+    record { more = h.more; same = h.same; above = λ id k. h.above id (from id k); owed = λ id above f. to id (h.owed id above f) }
+same_owed names others posts other_posts name to from _ _ h = absurd h
+
 -- if none is left
 all_given_back : (names : List (List ℕ)) (posts : List LocalPost) (name : List ℕ) (o p : Option World) → ((id : ℕ) → IsOwed names posts name id → ⊥) → HasPostsThere names posts name o p → HasUsedIdsThere o p
 all_given_back names posts name None None none h = tt
@@ -164,27 +172,14 @@ module _ (name : List ℕ) (rest : List (List ℕ)) (post : LocalPost) (posts : 
       later : (id : ℕ) → length w.subscriptions < id → (id ≡ length w.subscriptions + 1 → ⊥) → length (w.subscriptions ++ new_subscription w ∷ []) < id
       later id above ne = let one = length-append w.subscriptions (new_subscription w ∷ []) in omega arith
 
+  owed_elsewhere : (name ≡ q → ⊥) → (id : ℕ) → IsOwed (name ∷ rest) (post ∷ posts) q id → IsOwed rest posts q id
+  owed_elsewhere other id k = elim k [ inl e ↦ absurd (other e.0) | inr l ↦ l ]
+
   opened_elsewhere : (o p : Option World) → (name ≡ q → ⊥) → HasPostsThere rest posts q o p → HasPostsThere (name ∷ rest) (post ∷ posts) q o p
-  opened_elsewhere None None other h = tt
-  opened_elsewhere None (Some v) other h = absurd h
-  opened_elsewhere (Some w) None other h = absurd h
-  opened_elsewhere (Some w) (Some v) other h = record {
-    more = h.more;
-    same = h.same;
-    above = λ id k. elim k [ inl e ↦ absurd (other e.0) | inr l ↦ h.above id l ];
-    owed = λ id above f. inr (h.owed id above f);
-  }
+  opened_elsewhere o p other = same_owed rest (name ∷ rest) posts (post ∷ posts) q (λ id l. inr l) (owed_elsewhere other) o p
 
   back_elsewhere : (o p : Option World) → (name ≡ q → ⊥) → HasPostsThere (name ∷ rest) (post ∷ posts) q o p → HasPostsThere rest posts q o p
-  back_elsewhere None None other h = tt
-  back_elsewhere None (Some v) other h = absurd h
-  back_elsewhere (Some w) None other h = absurd h
-  back_elsewhere (Some w) (Some v) other h = record {
-    more = h.more;
-    same = h.same;
-    above = λ id l. h.above id (inr l);
-    owed = λ id above f. elim (h.owed id above f) [ inl e ↦ absurd (other e.0) | inr l ↦ l ];
-  }
+  back_elsewhere o p other = same_owed (name ∷ rest) rest (post ∷ posts) posts q (owed_elsewhere other) (λ id l. inr l) o p
 
   back_nowhere : (o : Option World) → HasPostsThere (name ∷ rest) (post ∷ posts) q o None → HasPostsThere rest posts q o None
   back_nowhere None h = tt

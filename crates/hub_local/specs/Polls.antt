@@ -2,9 +2,8 @@
 -- no room.
 use Rattle.std.specs.Prelude.{ℕ, ◌≡◌, ◌⊎◌, ◌+◌, ◌-◌, ◌<◌, ◌&&◌, if◌then◌else◌, List, [], ◌++◌, length, take, drop, nat_lt, slice_get, option_to_list, Option, Some, None}
 use Rattle.hub_letters.specs.declared.bounds.TheConstants.{MOST_GATHERED}
-use Rattle.hub_listen.specs.Each.{fitting}
 use Rattle.hub_listen.specs.Hit.{HasNoHit, hit_length}
-use Rattle.hub_listen.specs.Listening.{after_hit, after_quiet}
+use Rattle.hub_listen.specs.Listening.{after_hit, after_quiet, fitting}
 use Rattle.hub_letters.specs.declared.mode.Mode.{Mode}
 use Rattle.hub_letters.specs.declared.mode.Mode.TheVariants.{Once, Repeat}
 use Rattle.hub_record.specs.World.{World, Subscription, letters, subscription_in, after_take}

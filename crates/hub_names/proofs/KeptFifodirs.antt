@@ -1,11 +1,10 @@
 -- What stays and what comes in the fifodirs that a session keeps.
-use Rattle.std.proofs.Common.{◌≡◌, ℕ, List, Option, None, Some, true, false, Result, Ok, Err, IfOk, IfErr, IfNone, IfSome, refl, sym, subst, ap, ◌∙◌, inl, inr, ⊎_elim, lit≤}
+use Rattle.std.proofs.Common.{◌≡◌, ℕ, List, Option, None, Some, true, false, Result, Ok, Err, IfOk, IfErr, IfNone, IfSome, refl, sym, subst, ap, ◌∙◌, inl, inr, ⊎_elim}
 use Rattle.std.proofs.lemmas.Bool.{cases_Bool}
 use Rattle.std.proofs.lemmas.Slice.Eq.{bytes_eq-Decides}
 use Rattle.std.specs.Arc.{arc_value}
 use Rattle.std.specs.Map.{lookup}
 use Rattle.std.specs.Str.{bytes_eq}
-use Rattle.hub_requests.specs.Brief.{IsBrief}
 use Rattle.hub_requests.specs.declared.reply.Refusal.{Refusal}
 use Rattle.hub_requests.specs.declared.reply.Refusal.TheVariants as no
 use Rattle.hub_requests.specs.declared.reply.Reply.{Reply}
@@ -83,10 +82,6 @@ kept_copy fs name j (Err refusal) at dir notifies = tt
 pub lacking_copy : (fs : Fifodirs) (name : List ℕ) (copy : Result Made Refusal) → IfErr copy (λ refusal. refusal ≡ no.Memory) → IfErr copy (IsMissing fs name)
 lacking_copy fs name (Ok made) e = tt
 lacking_copy fs name (Err refusal) e = inr e
-
-pub brief_copy : (copy : Result Made Refusal) → IfErr copy (λ refusal. refusal ≡ no.Memory) → IfErr copy IsBrief
-brief_copy (Ok made) e = tt
-brief_copy (Err refusal) e = subst IsBrief (sym e) (lit≤ tt)
 
 -- ---- all are kept
 

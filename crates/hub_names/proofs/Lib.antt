@@ -1,3 +1,2 @@
-pub mod ShortRefusals
 pub mod Speakers
 pub mod KeptFifodirs

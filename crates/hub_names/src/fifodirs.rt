@@ -1,6 +1,5 @@
 //! The fifodirs that a session found, by name.
 ghost use Rattle.std.specs.Prelude.{◌≡◌, None, IfErr, IfNone, IfSome, OnOk, IfOk};
-ghost use Rattle.hub_requests.specs.Brief.{IsBrief, IsShort};
 ghost use Rattle.hub_names.specs.Says.{says, says_status};
 ghost use Rattle.hub_names.specs.declared.hub.Hub.{Hub};
 
@@ -67,7 +66,6 @@ impl Fifodirs {
         ensures ok { IfOk result (λ found. IsKeptAs self.new name.now found) }
         ensures kept { KeepsAll hub.now self.old self.new }
         ensures missing { IfErr result (IsMissing self.new name.now) }
-        ensures brief { IfErr result IsBrief }
     {
         if let Some(joined) = self.by_name.get(name) {
             return joined.copy();
@@ -81,8 +79,7 @@ impl Fifodirs {
 
     /// Answers by the session's publisher at the fifodir of this name.
     pub fn speak<H: Wait>(&mut self, rt: &H, hub: &Hub, name: &Name, speech: Speech<'_>) -> Reply
-        ensures step { AsksByName hub.now (says speech.entry) self.old name.now result self.new }
-        ensures short { IsShort result }
+        ensures { AsksByName hub.now (says speech.entry) self.old name.now result self.new }
     {
         if let Some(joined) = self.by_name.get_mut(name) {
             return joined.speak(rt, speech);
@@ -102,7 +99,6 @@ impl Fifodirs {
         ensures step { IfSome result (λ reply. (hub : Hub)
             → AsksByName hub says_status self.old name.now reply self.new) }
         ensures none { IfNone result (IsSilent self.old name.now × IsAsBefore self.old self.new) }
-        ensures short { IfSome result IsShort }
     {
         let Some(joined) = self.by_name.get_mut(name) else {
             return None;

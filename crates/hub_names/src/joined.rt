@@ -3,7 +3,6 @@ ghost use Rattle.std.specs.Prelude.{◌≡◌, None, Some, IfErr, IfOk, IfNone, 
 ghost use Rattle.std.specs.Arc.{arc_value};
 ghost use Rattle.hub_fifodir.specs.Passes.{IsPublisherOf, HasSoundSight, publisher_view};
 ghost use Rattle.hub_fifodir.specs.declared.publisher.Publisher.{Publisher};
-ghost use Rattle.hub_requests.specs.Brief.{IsShort};
 ghost use Rattle.hub_names.specs.Refusals.{refusal_of_pass};
 ghost use Rattle.hub_names.specs.Says.{says, says_status};
 
@@ -78,8 +77,7 @@ impl Joined {
 
     /// Answers by the publisher that it keeps, or by a new one, which it keeps from then on.
     pub fn speak<H: Wait>(&mut self, rt: &H, speech: Speech<'_>) -> Reply
-        ensures step { AsksAsPublisher (says speech.entry) self.old result self.new }
-        ensures short { IsShort result }
+        ensures { AsksAsPublisher (says speech.entry) self.old result self.new }
     {
         let mut publisher = match self.speaker(rt) {
             Ok(publisher) => publisher,
@@ -95,7 +93,6 @@ impl Joined {
         ensures step { IfSome result (λ reply. AsksAsPublisher says_status
             self.old reply self.new) }
         ensures none { IfNone result ((publisher_of self.old ≡ None) × (self.new ≡ self.old)) }
-        ensures short { IfSome result IsShort }
     {
         let Some(mut publisher) = self.publisher.take() else {
             return None;

@@ -2,7 +2,6 @@
 ghost use Rattle.std.specs.Prelude.{◌≡◌};
 ghost use Rattle.hub_fifodir.specs.Passes.{IsPublisherOf, HasSoundSight, publisher_number, publisher_sight, publisher_view};
 ghost use Rattle.hub_fifodir.specs.Steps.{Grows};
-ghost use Rattle.hub_requests.specs.Brief.{IsShort};
 ghost use Rattle.hub_names.specs.Says.{says_status};
 
 use hub_fifodir::{Fifodir, Publisher};
@@ -32,7 +31,6 @@ impl Speech<'_> {
         ensures same { publisher_number publisher.new ≡ publisher_number publisher.old }
         ensures seen { Grows (publisher_sight publisher.old) (publisher_sight publisher.new) }
         ensures said { says self.entry publisher.old result publisher.new }
-        ensures short { IsShort result }
     {
         match self {
             Speech::Publish(letters) => match dir.publish(rt, publisher, letters.items()) {
@@ -56,7 +54,6 @@ pub(crate) fn status_reply(dir: &Fifodir, publisher: &mut Publisher) -> Reply
     ensures same { publisher_number publisher.new ≡ publisher_number publisher.old }
     ensures seen { Grows (publisher_sight publisher.old) (publisher_sight publisher.new) }
     ensures said { says_status publisher.old result publisher.new }
-    ensures short { IsShort result }
 {
     Reply::State(dir.status(publisher))
 }

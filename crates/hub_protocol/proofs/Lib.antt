@@ -5,4 +5,3 @@ pub mod SameWords
 pub mod FieldLists
 pub mod FormRequests
 pub mod OneReading
-pub mod Numbers

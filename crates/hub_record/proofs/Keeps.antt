@@ -8,23 +8,36 @@ use Rattle.std.proofs.lemmas.Map.{keys-set_value}
 use Rattle.std.proofs.lemmas.Map.Steps.{set_value_same}
 use Rattle.std.specs.Option.{IfSome, is_some}
 use Rattle.std.specs.Map.{lookup, set_value, remove_entry, keys_of, values_of}
+use Rattle.indexmap.specs.IndexMap.{IndexMap, insert_entry}
+use Rattle.indexmap.proofs.CallerLemmas.{insert_entry-new}
 use Rattle.circular_buffer.specs.Buffer.{Buffer, buffer}
 use Rattle.hub_record.specs.declared.limits.TheConstants.{MOST_EVENTS}
 use Rattle.hub_record.specs.declared.Event.{Event}
 use Rattle.hub_record.specs.World.{least, as_events}
-use Rattle.hub_record.specs.Backlog.{Held, IsKept, Takes, TakesBy, RemovesBy, next_of, lowest, standing_at, with_new_id, with_cursors}
-use Rattle.hub_record.proofs.Least.{least-push, least_bound, least_grown}
+use Rattle.hub_record.specs.Backlog.{Held, IsKept, Takes, TakesBy, RemovesBy, next_of, standing_at, with_new_id, with_cursors}
+use Rattle.hub_record.proofs.Least.{least-push, least_bound, least_bound_at, least_grown}
 
 -- an id above those given has no cursor
-pub lookup_unknown : (given id : ℕ) (cs : List (ℕ × ℕ)) → given < id → All (λ id. id ≤ given) (keys_of cs) → lookup (nat_eq id) cs ≡ None
+lookup_unknown : (given id : ℕ) (cs : List (ℕ × ℕ)) → given < id → All (λ id. id ≤ given) (keys_of cs) → lookup (nat_eq id) cs ≡ None
 lookup_unknown given id [] l h = refl
 lookup_unknown given id (c ∷ cs) l h =
     let here = All-head (λ id. id ≤ given) c.0 (keys_of cs) h in
     let no : nat_eq id c.0 ≡ false = ne_eqb id c.0 (λ e. omega arith) in
     simp no (lookup_unknown given id cs l (All-tail (λ id. id ≤ given) c.0 (keys_of cs) h))
 
-pub lookup_bound : (end v : ℕ) (test : ℕ → Bool) (cs : List (ℕ × ℕ)) → All (λ n. n ≤ end) (values_of cs) → lookup test cs ≡ Some v → v ≤ end
+-- its cursor comes last
+pub new_id_last : {S : Type 0} (number standing end given v : ℕ) (cursors : IndexMap ℕ ℕ S) (after : List (ℕ × ℕ)) → IsKept number standing end given cursors.entries
+    → after ≡ insert_entry nat_eq cursors.entries (given + 1) v → v ≡ end → after ≡ cursors.entries ++ (given + 1, end) ∷ []
+new_id_last number standing end given v cursors after k is at =
+    is ∙ insert_entry-new nat_eq cursors _ _ (lookup_unknown given (given + 1) cursors.entries (omega arith) k.known) ∙ ap (λ n. cursors.entries ++ (given + 1, n) ∷ []) at
+
+lookup_bound : (end v : ℕ) (test : ℕ → Bool) (cs : List (ℕ × ℕ)) → All (λ n. n ≤ end) (values_of cs) → lookup test cs ≡ Some v → v ≤ end
 lookup_bound end v test cs h e = subst (λ o. IfSome o (λ n. n ≤ end)) e (IfSome-lookup_from_All (λ n. n ≤ end) test cs h)
+
+-- a cursor is at the base or above it, and no further than the end
+pub cursor_between : (number standing end given v : ℕ) (test : ℕ → Bool) (cs : List (ℕ × ℕ)) → IsKept number standing end given cs → lookup test cs ≡ Some v → (number ≤ v) × (v ≤ end)
+cursor_between number standing end given v test cs k e =
+    let low = k.lowest in let above = least_bound_at end test cs v e in (omega arith, lookup_bound end v test cs k.behind e)
 
 pub kept_stand : (number standing more end given : ℕ) (cs after : List (ℕ × ℕ)) → IsKept number standing end given cs → after ≡ cs ++ (given + 1, end) ∷ [] → more ≡ standing_at number (cs ++ (given + 1, end) ∷ []) → IsKept number more end (given + 1) after
 kept_stand number standing more end given cs after k is m = record {
@@ -91,10 +104,8 @@ uncut_held number room given items cs cs' entries is same =
     (λ i. record { room = room; end = number + length items; events = drop (sym none i) items; given = given; cursors = is i })
 
 -- a new id has its cursor
-pub stood : (inside now : Held) (cursors : List (ℕ × ℕ)) → inside ≡ now → cursors ≡ inside.cursors ++ (inside.given + 1, now.end) ∷ [] → record inside { given = inside.given + 1; cursors = cursors } ≡ with_new_id now
-stood inside now cursors is at =
-    ap (λ cs. record inside { given = inside.given + 1; cursors = cs }) (at ∙ ap (λ (h : Held). inside.cursors ++ (inside.given + 1, h.end) ∷ []) (sym is))
-    ∙ ap with_new_id is
+pub stood : (inside now : Held) (cursors : List (ℕ × ℕ)) → inside ≡ now → cursors ≡ inside.cursors ++ (inside.given + 1, inside.end) ∷ [] → record inside { given = inside.given + 1; cursors = cursors } ≡ with_new_id now
+stood inside now cursors is at = ap (λ cs. record inside { given = inside.given + 1; cursors = cs }) at ∙ ap with_new_id is
 
 pub length_stamped : (who : ℕ) (message : List ℕ) → length (as_events who message) ≡ length message
 length_stamped who [] = refl
@@ -106,15 +117,17 @@ pub takes_nothing : (before now : Held) (id next : ℕ) (cursors : List (ℕ × 
 takes_nothing before now id next cursors slice is found at set =
     (ap (λ (h : Held). next_of h id) (sym is) ∙ found ∙ ap Some at, ap (λ cs. record before { cursors = cs }) (set ∙ set_value_same (nat_eq id) before.cursors next found) ∙ is, refl)
 
-pub takes_some : (before now after : Held) (id next n base : ℕ) (slice filled : List Event) → before ≡ now → lookup (nat_eq id) before.cursors ≡ Some next → next < before.end → base ≡ lowest before → base ≤ next → before.end ≡ base + length before.events → n ≡ min (length slice) (length before.events - (next - base)) → filled ≡ take n (drop (next - base) before.events) ++ drop n slice → after ≡ with_cursors before (set_value (nat_eq id) before.cursors (next + n)) → Takes now after id n slice filled
-takes_some before now after id next n base slice filled is found waits low above end count copied moved =
+pub takes_some : (before now after : Held) (id next n base standing given : ℕ) (slice filled : List Event) → before ≡ now → lookup (nat_eq id) before.cursors ≡ Some next → IsKept base standing before.end given before.cursors → (next ≡ now.end → ⊥) → before.end ≡ base + length before.events → n ≡ min (length slice) (length before.events - (next - base)) → filled ≡ take n (drop (next - base) before.events) ++ drop n slice → after ≡ with_cursors before (set_value (nat_eq id) before.cursors (next + n)) → Takes now after id n slice filled
+takes_some before now after id next n base standing given slice filled is found k apart end count copied moved =
+    let at = cursor_between base standing before.end given next (nat_eq id) before.cursors k found in
+    let same = ap (λ (h : Held). h.end) is in
     subst (λ h. Takes h after id n slice filled) is (record {
       next = next;
       stood = found;
-      waited = waits;
+      waited = omega arith;
       count = omega arith;
       moved = moved;
-      copied = copied ∙ ap (λ b. take n (drop (next - b) before.events) ++ drop n slice) low;
+      copied = copied ∙ ap (λ b. take n (drop (next - b) before.events) ++ drop n slice) k.lowest;
     })
 
 pub removes : (before now after : Held) (id next : ℕ) → before ≡ now → lookup (nat_eq id) before.cursors ≡ Some next → after ≡ with_cursors before (remove_entry (nat_eq id) before.cursors) → RemovesBy now after id (Ok tt)

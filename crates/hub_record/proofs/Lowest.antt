@@ -32,47 +32,49 @@ count_here n k rest is = sum_by-cons (λ m. cond (m == k) 1 0) n rest ∙ ap (λ
 pub count_other : (n k : ℕ) (rest : List ℕ) → (n ≡ k → ⊥) → count_by (λ m. m == k) (n ∷ rest) ≡ count_by (λ m. m == k) rest
 count_other n k rest not = sum_by-cons (λ m. cond (m == k) 1 0) n rest ∙ ap (λ b. cond b 1 0 + count_by (λ m. m == k) rest) (ne_eqb n k not) ∙ omega arith
 
-pub so_far_lower : (least standing n : ℕ) (before rest : List ℕ) (lowest all size : ℕ) → before ≡ n ∷ rest → n < least → IsSoFar least standing before lowest all size → IsSoFar n 1 rest lowest all size
-so_far_lower least standing n before rest lowest all size cut lt s' =
-    let s : IsSoFar least standing (n ∷ rest) lowest all size = subst (λ z. IsSoFar least standing z lowest all size) cut s' in
-    let is : min least n ≡ n = omega arith in
-    let leads = ap (λ m. fold (λ m n. min m n) m rest) (sym is) ∙ s.leads in
-    let bound = fold_min_bound n rest in
-    let small = s.small in
-    let counted : count_by (λ m. m == lowest) (n ∷ rest) ≡ all = s.above (omega arith) in
-    record {
-      leads = leads;
-      here = λ e. sym (count_here n lowest rest e) ∙ counted;
-      above = λ l. sym (count_other n lowest rest (λ e. omega arith)) ∙ counted;
-      small = omega arith;
-    }
+-- the next cursor is n
+module _ (least standing n : ℕ) (before rest : List ℕ) (lowest all size : ℕ) (cut : before ≡ n ∷ rest) (so_far : IsSoFar least standing before lowest all size) where
+  with_next : IsSoFar least standing (n ∷ rest) lowest all size
+  with_next = subst (λ z. IsSoFar least standing z lowest all size) cut so_far
 
-pub so_far_same : (least standing n : ℕ) (before rest : List ℕ) (lowest all size : ℕ) → before ≡ n ∷ rest → n ≡ least → IsSoFar least standing before lowest all size → IsSoFar least (standing + 1) rest lowest all size
-so_far_same least standing n before rest lowest all size cut same s' =
-    let s : IsSoFar least standing (n ∷ rest) lowest all size = subst (λ z. IsSoFar least standing z lowest all size) cut s' in
-    let is : min least n ≡ least = omega arith in
-    let small = s.small in
-    record {
-      leads = ap (λ m. fold (λ m n. min m n) m rest) (sym is) ∙ s.leads;
-      here = λ e. (let h = s.here e in let k = count_here n lowest rest (same ∙ e) in omega arith);
-      above = λ l. sym (count_other n lowest rest (λ e. omega arith)) ∙ s.above l;
-      small = omega arith;
-    }
+  pub so_far_lower : n < least → IsSoFar n 1 rest lowest all size
+  so_far_lower lt =
+      let is : min least n ≡ n = omega arith in
+      let leads = ap (λ m. fold (λ m n. min m n) m rest) (sym is) ∙ with_next.leads in
+      let bound = fold_min_bound n rest in
+      let small = with_next.small in
+      let counted : count_by (λ m. m == lowest) (n ∷ rest) ≡ all = with_next.above (omega arith) in
+      record {
+        leads = leads;
+        here = λ e. sym (count_here n lowest rest e) ∙ counted;
+        above = λ l. sym (count_other n lowest rest (λ e. omega arith)) ∙ counted;
+        small = omega arith;
+      }
 
-pub so_far_higher : (least standing n : ℕ) (before rest : List ℕ) (lowest all size : ℕ) → before ≡ n ∷ rest → least < n → IsSoFar least standing before lowest all size → IsSoFar least standing rest lowest all size
-so_far_higher least standing n before rest lowest all size cut gt s' =
-    let s : IsSoFar least standing (n ∷ rest) lowest all size = subst (λ z. IsSoFar least standing z lowest all size) cut s' in
-    let is : min least n ≡ least = omega arith in
-    let leads = ap (λ m. fold (λ m n. min m n) m rest) (sym is) ∙ s.leads in
-    let bound = fold_min_bound least rest in
-    let small = s.small in
-    let other = count_other n lowest rest (λ e. omega arith) in
-    record {
-      leads = leads;
-      here = λ e. (let h = s.here e in omega arith);
-      above = λ l. sym other ∙ s.above l;
-      small = omega arith;
-    }
+  pub so_far_same : n ≡ least → IsSoFar least (standing + 1) rest lowest all size
+  so_far_same same =
+      let is : min least n ≡ least = omega arith in
+      let small = with_next.small in
+      record {
+        leads = ap (λ m. fold (λ m n. min m n) m rest) (sym is) ∙ with_next.leads;
+        here = λ e. (let h = with_next.here e in let k = count_here n lowest rest (same ∙ e) in omega arith);
+        above = λ l. sym (count_other n lowest rest (λ e. omega arith)) ∙ with_next.above l;
+        small = omega arith;
+      }
+
+  pub so_far_higher : least < n → IsSoFar least standing rest lowest all size
+  so_far_higher gt =
+      let is : min least n ≡ least = omega arith in
+      let leads = ap (λ m. fold (λ m n. min m n) m rest) (sym is) ∙ with_next.leads in
+      let bound = fold_min_bound least rest in
+      let small = with_next.small in
+      let other = count_other n lowest rest (λ e. omega arith) in
+      record {
+        leads = leads;
+        here = λ e. (let h = with_next.here e in omega arith);
+        above = λ l. sym other ∙ with_next.above l;
+        small = omega arith;
+      }
 
 pub so_far_first : (d : ℕ) (cs : List (ℕ × ℕ)) (rest : List ℕ) → rest ≡ values_of cs → IsSoFar d 0 rest (least d cs) (standing_at (least d cs) cs) (length cs)
 so_far_first d cs rest is =

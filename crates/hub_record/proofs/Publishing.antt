@@ -13,7 +13,7 @@ use Rattle.hub_record.specs.Kept.{Kept, StandsFor, stage_in}
 use Rattle.hub_record.proofs.Cursors.{standing-push, within_standing, within_more, within-push}
 use Rattle.hub_record.proofs.Least.{least_bound, least-push, least_grown}
 use Rattle.hub_record.proofs.Keeps.{length_stamped}
-use Rattle.hub_record.proofs.StandsForWorlds.{held_of, with_held}
+use Rattle.hub_record.proofs.StandsForWorlds.{held_of, with_held, stands_with}
 
 -- ---- subscribe
 
@@ -26,24 +26,16 @@ subscribe_stands r h w room s few is =
     let long = length-append w.subscriptions (new_subscription w ∷ []) in
     let e = standing-push 1 w.subscriptions (new_subscription w) (r.given + 1) refl (omega arith) in
     let b = ap (least (length w.events)) e ∙ least-push (length w.events) (r.given + 1) (standing w) in
-    record {
-      world = record {
-        within = s.world.within;
-        loaded = omega arith;
-        given = omega arith;
-        lawful = s.world.lawful;
-        each = within-push (length w.events) w.subscriptions (new_subscription w) (record { began = omega arith; ended = omega arith }) s.world.each;
-      };
-      kind = s.kind;
-      limits = s.limits;
-      closed = s.closed;
-      stage = s.stage;
-      flags = s.flags;
-      end = ap (λ (h : Held). h.end) is ∙ s.end;
-      events = ap (λ (h : Held). h.events) is ∙ s.events ∙ ap (λ n. drop n w.events) (sym b);
-      given = ap (λ (h : Held). h.given) is ∙ omega arith;
-      cursors = ap (λ (h : Held). h.cursors) is ∙ (λ i. s.cursors i ++ (r.given + 1, s.end i) ∷ []) ∙ sym e;
-    }
+    let world : IsWorld (record w { subscriptions = w.subscriptions ++ new_subscription w ∷ [] }) = record {
+      within = s.world.within;
+      loaded = omega arith;
+      given = omega arith;
+      lawful = s.world.lawful;
+      each = within-push (length w.events) w.subscriptions (new_subscription w) (record { began = omega arith; ended = omega arith }) s.world.each;
+    } in
+    stands_with r h w (w.subscriptions ++ new_subscription w ∷ []) s world (ap (λ (h : Held). h.end) is)
+    (ap (λ (h : Held). h.events) is ∙ s.events ∙ ap (λ n. drop n w.events) (sym b)) (ap (λ (h : Held). h.given) is ∙ omega arith)
+    (ap (λ (h : Held). h.cursors) is ∙ (λ i. s.cursors i ++ (r.given + 1, s.end i) ∷ []) ∙ sym e)
 
 -- ---- publish
 

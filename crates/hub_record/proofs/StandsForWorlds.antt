@@ -70,21 +70,29 @@ kept_none r w s none = s.events ∙ ap (λ cs. drop (least (length w.events) cs)
 
 -- ---- subscriptions that change, with their cursors
 
+-- what is held has changed with the subscriptions
+pub stands_with : (r : Kept) (h : Held) (w : World) (subs : List Subscription) → StandsFor r w → IsWorld (record w { subscriptions = subs })
+    → h.end ≡ r.end → h.events ≡ drop (least (length w.events) (standing_from 1 subs)) w.events → h.given ≡ length subs → h.cursors ≡ standing_from 1 subs
+    → StandsFor (with_held r h) (record w { subscriptions = subs })
+stands_with r h w subs s i end events given cursors = record {
+  world = i;
+  kind = s.kind;
+  limits = s.limits;
+  closed = s.closed;
+  stage = s.stage;
+  flags = s.flags;
+  end = end ∙ s.end;
+  events = events;
+  given = given;
+  cursors = cursors;
+}
+
 pub recut_stands : (r : Kept) (h : Held) (w : World) (subs : List Subscription) (cs : List (ℕ × ℕ)) (room : ℕ) → StandsFor r w → IsWorld (record w { subscriptions = subs }) → length subs ≡ length w.subscriptions → cs ≡ standing_from 1 subs → base w ≤ least (length w.events) (standing_from 1 subs) → h ≡ with_cursors (held_of r room) cs → StandsFor (with_held r h) (record w { subscriptions = subs })
 recut_stands r h w subs cs room s i long is l e =
     let now : least r.end cs ≡ least (length w.events) (standing_from 1 subs) = (λ j. least (s.end j) (is j)) in
-    record {
-      world = i;
-      kind = s.kind;
-      limits = s.limits;
-      closed = s.closed;
-      stage = s.stage;
-      flags = s.flags;
-      end = ap (λ (h : Held). h.end) e ∙ s.end;
-      events = ap (λ (h : Held). h.events) e ∙ (λ j. drop (now j - base_is r w s j) (s.events j)) ∙ later w (least (length w.events) (standing_from 1 subs)) l;
-      given = ap (λ (h : Held). h.given) e ∙ s.given ∙ sym long;
-      cursors = ap (λ (h : Held). h.cursors) e ∙ is;
-    }
+    stands_with r h w subs s i (ap (λ (h : Held). h.end) e)
+    (ap (λ (h : Held). h.events) e ∙ (λ j. drop (now j - base_is r w s j) (s.events j)) ∙ later w (least (length w.events) (standing_from 1 subs)) l)
+    (ap (λ (h : Held). h.given) e ∙ s.given ∙ sym long) (ap (λ (h : Held). h.cursors) e ∙ is)
 
 -- nothing changed
 pub still : (r : Kept) (h : Held) (w : World) (room : ℕ) → h ≡ held_of r room → StandsFor r w → StandsFor (with_held r h) w

@@ -1,3 +1,2 @@
-pub mod ShortReplies
 pub mod NextHandle
-pub mod BriefRefusals
+pub mod NumbersText

@@ -3,4 +3,3 @@ pub mod Ranges
 pub mod Texts
 pub mod Refusals
 pub mod Room
-pub mod Brief

@@ -1,5 +1,4 @@
 //! The trait of a desk.
-ghost use Rattle.hub_requests.specs.Brief.{IsShort};
 ghost use Rattle.hub_requests.specs.Ranges.{IsInRange};
 ghost use Rattle.hub_requests.specs.declared.reply.Reply.{Reply};
 ghost use Rattle.hub_requests.specs.declared.request.Request.{Request};
@@ -17,12 +16,10 @@ pub trait Desk {
     /// `ends old new`: the end of a desk in the state `old` may leave it in the state `new`.
     ghost ends: { Self → Self → Type 0 };
 
-    /// Answers a request whose numbers are in their ranges. The text of the reply is no longer than
-    /// `LONGEST_REPLY`.
+    /// Answers a request whose numbers are in their ranges.
     fn ask<H: Wait>(&mut self, rt: &H, request: &Request) -> Reply
         requires { IsInRange request.now }
-        ensures step { asks self.old request.now result self.new }
-        ensures short { IsShort result };
+        ensures { asks self.old request.now result self.new };
 
     /// Releases all that the session holds. The fifodirs stay. The desk has no handles afterwards, and can be used
     /// again.

@@ -26,4 +26,4 @@ pub use name::Name;
 pub use reply::{Refusal, Reply};
 pub use request::Request;
 pub use room::{limits, refusal_of_handle};
-pub use texts::{Names, Numbers, PatternText};
+pub use texts::{Excerpt, Names, Numbers, PatternText};

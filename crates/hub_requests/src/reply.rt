@@ -1,7 +1,7 @@
 //! The answers to clients.
 
-use crate::texts::Numbers;
-use hub_record::{Letters, PubError, Status, SubError};
+use crate::texts::{Excerpt, Numbers, number_is_short};
+use hub_record::{PubError, Status, SubError};
 
 /// The answer to one line.
 #[derive(Drop)]
@@ -13,9 +13,9 @@ pub enum Reply {
     /// The status of a fifodir.
     State(Status),
     /// The letters of the events that were taken.
-    Got(Letters),
+    Got(Excerpt),
     /// The letters of a listener's hit.
-    Hit(Letters),
+    Hit(Excerpt),
     /// No event is pending, or none that completes a hit.
     Nothing,
     /// No event is pending, and none will be: the fifodir is closed.
@@ -68,6 +68,32 @@ pub enum Refusal {
     Overlong,
     /// Memory ran out.
     Memory,
+}
+
+impl Reply {
+    ghost use Rattle.std.specs.Prelude.{◌≤◌, length};
+    ghost use Rattle.hub_requests.specs.Texts.{text_of};
+    ghost use Rattle.hub_requests.specs.declared.bounds.TheConstants.{LONGEST_REPLY};
+
+    /// A law: the text of a reply has at most `LONGEST_REPLY` bytes.
+    pub fn is_short(&self)
+        ensures { length (text_of self.now) ≤ LONGEST_REPLY }
+    {
+        match self {
+            Reply::Number(number) => number_is_short(*number),
+            Reply::State(status) => {
+                number_is_short(status.number);
+                number_is_short(status.flags.code());
+            }
+            Reply::Got(letters) | Reply::Hit(letters) => {
+                letters.items();
+            }
+            Reply::Yes(numbers) => numbers.are_short(),
+            Reply::No(Refusal::Unlawful(place)) => number_is_short(*place),
+            Reply::Done | Reply::Nothing | Reply::End | Reply::Never | Reply::Late | Reply::No(_) =>
+                {}
+        }
+    }
 }
 
 impl From<SubError> for Refusal {

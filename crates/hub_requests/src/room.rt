@@ -1,7 +1,6 @@
 //! What every desk allows: the limits of a fifodir that a client asks for, and how many handles a session may have.
-ghost use Rattle.std.specs.Prelude.{◌≡◌, Some, IfSome};
+ghost use Rattle.std.specs.Prelude.{◌≡◌, Some};
 ghost use Rattle.hub_record.specs.LimitsOf.{limits_of};
-ghost use Rattle.hub_requests.specs.Brief.{IsBrief};
 ghost use Rattle.hub_requests.specs.Ranges.{AreLimits};
 ghost use Rattle.hub_requests.specs.Room.{refusal_of_handle};
 
@@ -19,8 +18,7 @@ pub fn limits(waiting: u64, total: u64) -> Limits
 
 /// Why a session gets no further handle. None if it can get one.
 pub fn refusal_of_handle(current: usize, given: u64) -> Option<Refusal>
-    ensures refusal { result ≡ refusal_of_handle current given }
-    ensures brief { IfSome result IsBrief }
+    ensures { result ≡ refusal_of_handle current given }
 {
     if current >= MOST_HANDLES {
         return Some(Refusal::Many);

@@ -1,6 +1,6 @@
 -- The replies of a run over a local desk are the model's answers, with the refusals in the places of their lines.
-use Rattle.std.proofs.Common.{◌≡◌, ◌≢◌, ℕ, suc, Bool, rules, List, [], ◌∷◌, length, Option, Result, Ok, Err, refl, sym, ap, subst, ◌∙◌}
-use Rattle.std.specs.Prelude.{All, IfOk, IfErr, flat_map}
+use Rattle.std.proofs.Common.{◌≡◌, ◌≢◌, ℕ, suc, Bool, rules, List, [], ◌∷◌, length, Option, Result, Err, refl, sym, ap, subst, ◌∙◌}
+use Rattle.std.specs.Prelude.{All, flat_map}
 use Rattle.std.proofs.KnownBytes.{Appends-nil, Consumes-nil}
 use Rattle.std.proofs.lemmas.List.Elements.{All-head, All-tail}
 use Rattle.std.specs.List.{AllZip}
@@ -122,13 +122,3 @@ pub one_output : (patterns : List Bool) (input a b : List ℕ) → IsOutput patt
 one_output patterns input a b oa ob =
     let reads = same_reads (lines_of input) oa.answered.reads ob.answered.reads oa.answered.readings ob.answered.readings oa.answered.enough ob.answered.enough in
     oa.texts ∙ ap (flat_map text_of) (oa.answered.placed ∙ ap (λ rs. in_place rs (answers new_desk patterns (requests_of rs))) reads ∙ sym ob.answered.placed) ∙ sym ob.texts
-
--- what follows from each value follows if there is one
-pub if_ok_then : {A X : Type 0} (r : Result A X) (P Q : A → Type 0) → ((a : A) → P a → Q a) → IfOk r P → IfOk r Q
-if_ok_then (Ok a) P Q then h = then a h
-if_ok_then (Err x) P Q then h = h
-
--- what follows from each error follows if there is one
-pub if_err_then : {A X : Type 0} (r : Result A X) (P Q : X → Type 0) → ((x : X) → P x → Q x) → IfErr r P → IfErr r Q
-if_err_then (Ok a) P Q then h = h
-if_err_then (Err x) P Q then h = then x h

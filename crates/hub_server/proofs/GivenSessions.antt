@@ -1,9 +1,10 @@
 -- What a gate was asked for.
-use Rattle.std.proofs.Common.{◌≡◌, ℕ, ◌+◌, List, [], ◌∷◌, ◌++◌, length, refl, sym, ap, subst, ◌∙◌, arith, Bool, true, false, ◌≤◌, ◌<◌, inl, inr, ◌⊎◌}
+use Rattle.std.proofs.Common.{◌≡◌, ℕ, ◌+◌, List, [], ◌∷◌, ◌++◌, length, refl, sym, ap, subst, ◌∙◌, arith, Bool, true, false, ◌≤◌, ◌<◌, inl, inr}
+use Rattle.std.proofs.lemmas.List.{length_push}
 use Rattle.hub_server.specs.declared.gate.Next.TheVariants as next
 use Rattle.hub_server.specs.declared.promise.Session.{Session}
-use Rattle.hub_server.specs.declared.report.ServeError.TheVariants.{Spawn, Memory}
-use Rattle.hub_server.specs.Gates.{Giving, Gave, Ends, IsAsked, StopsEarly}
+use Rattle.hub_server.specs.declared.report.ServeError.TheVariants.{Spawn}
+use Rattle.hub_server.specs.Gates.{Giving, Gave, IsAsked, StopsEarly}
 use Rattle.hub_server.specs.Promised.{AreOver, streams_of}
 use Rattle.std.proofs.lemmas.List.Elements.{All-push}
 
@@ -13,10 +14,6 @@ pub gave_one_more : {G R W : Type 0} (gives : Giving G R W) (old : G) (given : L
 gave_one_more gives old [] gate new session gave one = (new, subst (λ g. gives g (next.Session session.0 session.1) new) gave one, refl)
 gave_one_more gives old (first ∷ given) gate new session gave one =
     (gave.0, gave.1, gave_one_more gives gave.0 given gate new session gave.2 one)
-
-length-snoc : {A : Type 0} (xs : List A) (x : A) → length (xs ++ x ∷ []) ≡ length xs + 1
-length-snoc [] x = refl
-length-snoc (y ∷ xs) x = let rest = length-snoc xs x in omega arith
 
 streams_of-snoc : {R W O : Type 0} (sessions : List (Session R W O)) (session : Session R W O)
     → streams_of (sessions ++ session ∷ []) ≡ streams_of sessions ++ (session.reader.value, session.writer.value) ∷ []
@@ -34,7 +31,7 @@ gave_another {R = R} {W = W} gives old gate new sessions sessions' session reade
     let gives_it : gives gate (next.Session streams.0 streams.1) new =
     subst (λ r. gives gate (next.Session r streams.1) new) (sym same_reader) (subst (λ w. gives gate (next.Session reader w) new) (sym same_writer) one) in (
       subst (λ given. Gave gives old given new) (sym more) (gave_one_more gives old (streams_of sessions) gate new streams gave gives_it),
-      ap length more ∙ length-snoc (streams_of sessions) streams,
+      ap length more ∙ length_push (streams_of sessions) streams,
     )
 
 -- the thread of the last session couldn't be started
@@ -44,33 +41,16 @@ asked_for_one_more gives most old gate new given reader writer room gave one = r
   given = given ++ (reader, writer) ∷ [];
   gate = new;
   gave = gave_one_more gives old given gate new (reader, writer) gave one;
-  few = let longer = length-snoc given (reader, writer) in omega arith;
+  few = let longer = length_push given (reader, writer) in omega arith;
   ends = inl refl;
-  spawn = λ spawn. ((let longer = length-snoc given (reader, writer) in omega arith), refl);
+  spawn = λ spawn. ((let longer = length_push given (reader, writer) in omega arith), refl);
 }
-
-how_it_ended : {G R W : Type 0} (gives : Giving G R W) (most count : ℕ) (gate : G) (failed : Bool) (new : G)
-    → Ends gives most count gate failed new → (new ≡ gate) ⊎ (gives gate next.Failed new ⊎ gives gate next.Over new)
-how_it_ended gives most count gate true new ends = inr (inl ends.1)
-how_it_ended gives most count gate false new ends = elim ends [ inl full ↦ inl full.1 | inr over ↦ inr (inr over.1) ]
 
 -- no more were given than are wanted
 pub given_few : {G R W : Type 0} (gives : Giving G R W) (most : ℕ) (old : G) (given : List (R × W)) (failed : Bool) (new : G)
     → IsAsked gives most old given failed new → length given ≤ most
 given_few gives most old given true new asked = let short = asked.ends.0 in omega arith
 given_few gives most old given false new asked = elim asked.ends [ inl full ↦ (let all = full.0 in omega arith) | inr over ↦ (let short = over.0 in omega arith) ]
-
--- what the sessions ended with couldn't be kept
-pub asked_in_vain : {G R W : Type 0} (gives : Giving G R W) (most : ℕ) (old : G) (given : List (R × W)) (failed : Bool) (new : G)
-    → IsAsked gives most old given failed new → StopsEarly gives most old new Memory
-asked_in_vain gives most old given failed new asked = record {
-  given = given;
-  gate = asked.gate;
-  gave = asked.gave;
-  few = given_few gives most old given failed new asked;
-  ends = how_it_ended gives most (length given) asked.gate failed new asked.ends;
-  spawn = λ spawn. absurd (cc spawn);
-}
 
 -- one more whose desk is from a share of these
 pub over_one_more : {R W O D : Type 0} (opens : O → D → Type 0) (desks : O) (sessions sessions' : List (Session R W O)) (session : Session R W O)

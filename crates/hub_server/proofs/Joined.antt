@@ -1,6 +1,6 @@
 -- What joined threads returned.
-use Rattle.std.proofs.Common.{◌≡◌, ℕ, List, [], ◌∷◌, ◌++◌, Result, Ok, Err, subst}
-use Rattle.std.specs.Prelude.{All, IfOk}
+use Rattle.std.proofs.Common.{ℕ, List, [], ◌∷◌, ◌++◌, Result}
+use Rattle.std.specs.Prelude.{All}
 use Rattle.std.specs.List.{AllZip}
 use Rattle.std.proofs.lemmas.List.Elements.{All-head, All-tail}
 use Rattle.hub_front.specs.Serving.{Asking}
@@ -43,20 +43,15 @@ result_by begins begins' asks ends r w reader writer result widens it = record {
 
 -- the results of sessions whose desks are from shares of these
 pub results_in_order : {O D R W : Type 0} (opens : O → D → Type 0) (asks : Asking D) (ends : D → D → Type 0) (r : Reading R) (w : Writing W)
-    (desks : O) (sessions joined : List (Session R W O)) (results : List (Result ℕ FrontError)) → joined ≡ sessions → AreOver opens desks sessions
-    → AllZip (λ session result. IsResult (opens session.desks.value) asks ends r w session.reader.value session.writer.value result) joined results
+    (desks : O) (sessions : List (Session R W O)) (results : List (Result ℕ FrontError)) → AreOver opens desks sessions
+    → AllZip (λ session result. IsResult (opens session.desks.value) asks ends r w session.reader.value session.writer.value result) sessions results
     → AreResults (opens desks) asks ends r w (streams_of sessions) results
-results_in_order {D = D} opens asks ends r w desks sessions joined results same over each =
+results_in_order {D = D} opens asks ends r w desks sessions results over each =
     kept_in_order (λ session result. IsResult (opens session.desks.value) asks ends r w session.reader.value session.writer.value result)
     (λ streams result. IsResult (opens desks) asks ends r w streams.0 streams.1 result)
     (λ session. (desk : D) → opens session.desks.value desk → opens desks desk)
     (λ session result widens kept. result_by (opens session.desks.value) (opens desks) asks ends r w session.reader.value session.writer.value result widens kept)
-    sessions results over
-    (subst (λ all. AllZip (λ session result. IsResult (opens session.desks.value) asks ends r w session.reader.value session.writer.value result) all results) same each)
-
-pub IfOk-weaker : {X E : Type 0} (P Q : X → Type 0) → ((x : X) → P x → Q x) → (result : Result X E) → IfOk result P → IfOk result Q
-IfOk-weaker P Q weaker (Ok x) holds = weaker x holds
-IfOk-weaker P Q weaker (Err e) holds = tt
+    sessions results over each
 
 -- one more at the end of each
 pub AllZip-push : {X Y : Type 0} (R : X → Y → Type 0) (xs : List X) (ys : List Y) (x : X) (y : Y) → AllZip R xs ys → R x y → AllZip R (xs ++ x ∷ []) (ys ++ y ∷ [])

@@ -2,7 +2,9 @@
 use Rattle.std.specs.Prelude.{ℕ, Bool, List, codes, Result}
 use Rattle.std.specs.List.{AllZip}
 use Rattle.hub_front.specs.Serving.{Asking}
+use Rattle.hub_io.specs.Faults.{fault_text}
 use Rattle.hub_io.specs.declared.fault.FrontError.{FrontError}
+use Rattle.hub_io.specs.declared.fault.FrontError.TheVariants as passing
 use Rattle.hub_server.specs.declared.report.ServeError.{ServeError}
 use Rattle.hub_server.specs.declared.report.ServeError.TheVariants.{Spawn, Memory}
 use Rattle.hub_server.specs.Gates.{Giving, Closing, IsAsked, ThenCloses}
@@ -23,4 +25,4 @@ pub record IsReport {D R W G : Type 0} (begins : D → Type 0) (asks : Asking D)
 -- the text of an error
 abbrev pub serve_text : ServeError → List ℕ
 serve_text Spawn = codes "cannot start a session"
-serve_text Memory = codes "out of memory"
+serve_text Memory = fault_text passing.Memory

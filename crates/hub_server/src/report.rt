@@ -1,5 +1,5 @@
 //! The results of serving.
-ghost use Rattle.std.specs.Prelude.{◌≡◌, ◌↔◌, IsTrue, All, IsOk, false};
+ghost use Rattle.std.specs.Prelude.{◌≡◌, ◌↔◌, IsTrue, All, IsOk, Some, false};
 ghost use Rattle.hub_server.specs.declared.report.ServeError.TheVariants.{Memory};
 
 use hub_io::FrontError;
@@ -36,7 +36,6 @@ pub enum ServeError {
 }
 
 impl fmt::Display for ServeError {
-    ghost use Rattle.std.specs.Prelude.{Some};
     ghost use Rattle.hub_server.specs.Reports.{serve_text};
 
     ghost output = { λ fault. Some (serve_text fault) };
@@ -44,7 +43,7 @@ impl fmt::Display for ServeError {
     fn fmt<W: fmt::Write>(&self, f: &mut fmt::Formatter<W>) -> fmt::Result {
         match self {
             ServeError::Spawn => f.write_str("cannot start a session"),
-            ServeError::Memory => f.write_str("out of memory"),
+            ServeError::Memory => write!(f, "{}", FrontError::Memory),
         }
     }
 }

@@ -92,26 +92,17 @@ pub(crate) fn join_over<H: Threads, T: Drop, P: Promise<T> + Drop>(
     }
 }
 
-/// Waits until all threads have ended.
-pub(crate) fn join_all<H: Threads, T: Drop, P: Promise<T> + Drop>(
-    rt: &H,
-    started: &mut Vec<Started<T, P>>,
-)
-    ensures { started.new.items ≡ started.old.items }
-{
-    'threads: for thread in started.iter_mut() {
-        thread.join(rt);
-    }
-}
-
-/// What the threads returned, in order. Waits until all have ended.
+/// What the threads returned, in order. Waits until all have ended, also if there is no memory for the results.
 pub(crate) fn results_of<H: Threads, T: Drop, P: Promise<T> + Drop>(
     rt: &H,
     alloc: Global,
-    started: Vec<Started<T, P>>,
+    mut started: Vec<Started<T, P>>,
 ) -> Result<Vec<T>, AllocError>
     ensures { IfOk result (λ results. AllZip P.kept_by started.items results.items) }
 {
+    'joins: for thread in started.iter_mut() {
+        thread.join(rt);
+    }
     let mut results = Vec::with_capacity(alloc, started.len())?;
     'threads: for thread in started {
         results.push(thread.end(rt))?;

@@ -2,16 +2,16 @@
 ghost use Rattle.std.specs.Prelude.{◌≡◌, ◌≤◌, [], IfSome, IfOk, IfErr, OnOk, vec_len};
 ghost use Rattle.hub_server.specs.Gates.{IsAsked, StopsEarly, ThenCloses};
 ghost use Rattle.hub_server.specs.Promised.{AreOver, streams_of};
-ghost use Rattle.hub_server.specs.Reports.{AreResults, IsReport};
+ghost use Rattle.hub_server.specs.Reports.{IsReport};
 ghost use Rattle.hub_server.specs.Sessions.{IsResult};
 
 use crate::desks::Desks;
 use crate::gate::{Gate, Next};
 use crate::promise::Session;
 use crate::report::{Report, ServeError};
-use crate::started::{Started, join_all, join_over, results_of};
+use crate::started::{Started, join_over, results_of};
 use hub_io::{FrontError, Sink, Source};
-use std::alloc::{AllocError, Global};
+use std::alloc::Global;
 use std::snapshot::Snapshot;
 use std::sync::atomic::{AtomicBool, Ordering};
 use std::sync::{Arc, Wait};
@@ -122,55 +122,6 @@ where
     Ok(false)
 }
 
-// Does what `start_all` does, and then closes the gate at once. It waits for no session before that.
-fn start_and_close<H, R, W, G, O>(
-    rt: &H,
-    alloc: Global,
-    desks: &O,
-    gate: &mut G,
-    sessions: u64,
-    started: &mut Vec<Running<R, W, O>>,
-) -> Result<bool, ServeError>
-where
-    H: Threads + Wait + Copy + Send + 'static,
-    R: Source + Send + Drop + 'static,
-    W: Sink + Send + Drop + 'static,
-    G: Gate<R, W>,
-    O: Desks + Send + Drop + 'static,
-    requires { started.old.items ≡ [] }
-    ensures ok { IfOk result (λ failed. ThenCloses G.closes
-        (λ last. IsAsked G.gives sessions gate.old (streams_of started.new.items) failed last)
-        gate.new) }
-    ensures over { OnOk result (AreOver O.opens desks.now started.new.items) }
-    ensures err { IfErr result (λ error. ThenCloses G.closes
-        (λ last. StopsEarly G.gives sessions gate.old last error) gate.new) }
-{
-    let asked = start_all(rt, alloc, desks, gate, sessions, started);
-    gate.close();
-    asked
-}
-
-// Waits until each session has ended, and returns the results in order.
-fn end_all<H, R, W, O>(
-    rt: &H,
-    alloc: Global,
-    mut started: Vec<Running<R, W, O>>,
-) -> Result<Vec<Result<u64, FrontError>>, AllocError>
-where
-    H: Threads,
-    R: Source + Drop,
-    W: Sink + Drop,
-    O: Desks,
-    ensures { (desks : O) → AreOver O.opens desks started.items → IfOk result (λ results. AreResults
-        (O.opens desks) O.asks O.ends
-        (record { remaining = R.remaining; reads = R.reads; faults = R.faults })
-        (record { contents = W.contents; faults = W.faults })
-        (streams_of started.items) results.items) }
-{
-    join_all(rt, &mut started);
-    results_of(rt, alloc, started)
-}
-
 /// Asks the gate for at most this many sessions, and serves each on a thread of its own, by a desk of its own. All run
 /// at the same time, and all have ended when it returns. At an error their results are lost.
 pub fn serve_each<H, R, W, G, O>(
@@ -199,8 +150,10 @@ where
         (λ last. StopsEarly G.gives sessions gate.old last error) gate.new) }
 {
     let mut started = Vec::new(alloc);
-    let asked = start_and_close(rt, alloc, desks, gate, sessions, &mut started);
-    let results = end_all(rt, alloc, started);
+    let asked = start_all(rt, alloc, desks, gate, sessions, &mut started);
+    // The gate is closed at once: no session is waited for before that.
+    gate.close();
+    let results = results_of(rt, alloc, started);
     let gate_failed = asked?;
     Ok(Report {
         results: results?,

@@ -4,7 +4,6 @@ use Rattle.std.specs.Map.{lookup}
 use Rattle.std.specs.Str.{bytes_eq}
 use Rattle.hub_fifodir.specs.declared.publisher.Publisher.{Publisher}
 use Rattle.hub_names.specs.declared.hub.Hub.{Hub}
-use Rattle.hub_names.specs.declared.joined.Joined.{Joined}
 use Rattle.std.specs.Arc.{arc_value}
 use Rattle.hub_requests.specs.declared.reply.Reply.{Reply}
 use Rattle.hub_fifodir.specs.declared.fifodir.Fifodir.{Fifodir}
@@ -12,7 +11,7 @@ use Rattle.hub_letters.specs.declared.mode.Mode.{Mode}
 use Rattle.hub_names.specs.declared.hub.Made.{Made}
 use Rattle.hub_names.specs.declared.fifodirs.Fifodirs.{Fifodirs}
 use Rattle.hub_handles.specs.declared.handles.Handles.{Handles}
-use Rattle.hub_names.specs.Fifodirs.{AsksByName, IsAsBefore, IsFound, IsKeptAs, joined_at}
+use Rattle.hub_names.specs.Fifodirs.{AsksByName, IsAsBefore, IsKeptAs, joined_at}
 use Rattle.hub_handles.specs.Handles.{Subscribes, Listens}
 use Rattle.hub_shared.specs.Desks.{SubscribesTo, ListensTo}
 

@@ -1,5 +1,5 @@
 -- A session's handles stay at the fifodirs of their names, whatever it is asked.
-use Rattle.std.proofs.Common.{◌≡◌, ◌⊎◌, ℕ, List, [], Bool, true, false, Option, None, Some, nat_eq, refl, sym, ap, subst, ◌∙◌, inl, inr}
+use Rattle.std.proofs.Common.{◌≡◌, ℕ, List, Bool, true, false, Option, None, Some, nat_eq, refl, sym, ap, subst, ◌∙◌, inl, inr}
 use Rattle.std.specs.Prelude.{if◌then◌else◌}
 use Rattle.std.proofs.lemmas.Bool.{cases_Bool, eqb-true}
 use Rattle.std.proofs.lemmas.Slice.Eq.{bytes_eq-Decides}
@@ -16,13 +16,13 @@ use Rattle.hub_fifodir.specs.declared.publisher.Publisher.{Publisher}
 use Rattle.hub_names.specs.declared.hub.Hub.{Hub}
 use Rattle.hub_names.specs.declared.fifodirs.Fifodirs.{Fifodirs}
 use Rattle.hub_names.specs.declared.joined.Joined.{Joined}
-use Rattle.hub_names.specs.Fifodirs.{AsksByName, IsAsBefore, KeepsAll, KeepsNone, joined_at}
+use Rattle.hub_names.specs.Fifodirs.{AsksByName, KeepsAll, KeepsNone, joined_at}
 use Rattle.hub_names.specs.Hubs.{IsFoundIn}
 use Rattle.hub_names.specs.Speaking.{AsksAsPublisher, fifodir_of}
 use Rattle.hub_handles.specs.declared.handles.Handles.{Handles}
 use Rattle.hub_handles.specs.declared.session_listener.SessionListener.{SessionListener}
 use Rattle.hub_handles.specs.declared.subscription.Subscription.{Subscription}
-use Rattle.hub_handles.specs.Handles.{AddsSubscription, AddsListener, Cancels, HoldsNone, IsStill, Listens, PollsAt, Subscribes, TakesAt, listener_of, subscription_of}
+use Rattle.hub_handles.specs.Handles.{Cancels, HoldsNone, IsStill, PollsAt, TakesAt, listener_of, subscription_of}
 use Rattle.hub_handles.specs.Hearings.{Polls, ends_by}
 use Rattle.hub_handles.specs.Taking.{IsSameTicket, name_of}
 use Rattle.hub_shared.specs.Desks.{CarriesOut, ListensTo, SubscribesTo}

@@ -1,6 +1,5 @@
 -- What the passes of a session have seen is sound.
-use Rattle.std.proofs.Common.{◌≡◌, Some, subst}
-use Rattle.hub_record.specs.declared.Event.{Event}
+use Rattle.std.proofs.Common.{subst}
 use Rattle.hub_fifodir.specs.declared.views.Rules.{Rules}
 use Rattle.hub_fifodir.specs.Rule.{IsSound}
 use Rattle.hub_names.specs.declared.fifodirs.Fifodirs.{Fifodirs}

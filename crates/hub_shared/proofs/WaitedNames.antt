@@ -1,6 +1,7 @@
 -- The names of a wait as its session finds them, and the posts that it opens.
-use Rattle.std.proofs.Common.{◌≡◌, ℕ, List, [], ◌∷◌, ◌++◌, Bool, true, false, refl, sym, ap, ◌∙◌, subst, inl, inr, ⊎_elim, arith}
+use Rattle.std.proofs.Common.{◌≡◌, ℕ, ◌+◌, ◌<◌, List, [], ◌∷◌, ◌++◌, length, take, get_or, Bool, true, false, refl, sym, ap, ◌∙◌, subst, inl, inr, ⊎_elim, arith}
 use Rattle.std.proofs.lemmas.Grind.{common_steps}
+use Rattle.std.proofs.lemmas.List.{take_more}
 use Rattle.std.proofs.lemmas.List.Elements.{All-push, All-weaker}
 use Rattle.std.proofs.lemmas.List.Quantifiers.{Any-push}
 use Rattle.std.specs.Arc.{arc_value}
@@ -46,18 +47,18 @@ pub of_kind_found : (fs : Fifodirs) (name : List ℕ) (found : Made) (dir : Fifo
 of_kind_found fs name found dir kind at is of = record { joined = at.joined; kept_is = at.kept_is; of_kind = sym (of ∙ ap kind_of (is ∙ at.dir)) }
 
 -- one name more, of a plain fifodir
-pub seen_plain : (fs : Fifodirs) (names : List (List ℕ)) (name : List ℕ) (plain : Bool) → AreSeen fs names plain → IsOfKind fs Plain name → AreSeen fs (names ++ name ∷ []) true
-seen_plain fs names name true (known, some) f =
+plain_more : (fs : Fifodirs) (names : List (List ℕ)) (name : List ℕ) (plain : Bool) → AreSeen fs names plain → IsOfKind fs Plain name → AreSeen fs (names ++ name ∷ []) true
+plain_more fs names name true (known, some) f =
     (All-push (IsKnown fs) names name known (known_of_kind fs Plain name f), Any-push (IsOfKind fs Plain) names name f)
-seen_plain fs names name false each f =
+plain_more fs names name false each f =
     let known = All-weaker (IsOfKind fs Service) (IsKnown fs) (known_of_kind fs Service) names each in
     (All-push (IsKnown fs) names name known (known_of_kind fs Plain name f), Any-push (IsOfKind fs Plain) names name f)
 
 -- one name more, of a service
-pub seen_service : (fs : Fifodirs) (names : List (List ℕ)) (name : List ℕ) (plain : Bool) → AreSeen fs names plain → IsOfKind fs Service name → AreSeen fs (names ++ name ∷ []) plain
-seen_service fs names name true (known, some) f =
+service_more : (fs : Fifodirs) (names : List (List ℕ)) (name : List ℕ) (plain : Bool) → AreSeen fs names plain → IsOfKind fs Service name → AreSeen fs (names ++ name ∷ []) plain
+service_more fs names name true (known, some) f =
     (All-push (IsKnown fs) names name known (known_of_kind fs Service name f), Any-then (IsOfKind fs Plain) names name some)
-seen_service fs names name false each f = All-push (IsOfKind fs Service) names name each f
+service_more fs names name false each f = All-push (IsOfKind fs Service) names name each f
 
 -- where each is a service's, only a post may still be refused
 pub refused_by_post : (fs : Fifodirs) (names : List (List ℕ)) (refusal : Refusal) → AreSeen fs names false → IsPostRefused refusal → IsWaitRefused fs names refusal
@@ -94,7 +95,26 @@ post_found fs want name found post at opened = record {
 }
 
 -- one post more
-pub posts_more : (hub : Hub) (old new : Fifodirs) (want : Want) (names : List (List ℕ)) (posts : List Post) (name : List ℕ) (post : Post)
+posts_more : (hub : Hub) (old new : Fifodirs) (want : Want) (names : List (List ℕ)) (posts : List Post) (name : List ℕ) (post : Post)
     → KeepsAll hub old new → ArePosts old want names posts → IsPostAt new want name post → ArePosts new want (names ++ name ∷ []) (posts ++ post ∷ [])
 posts_more hub old new want names posts name post keeps each p =
     AllZip-push (IsPostAt new want) names posts name post (AllZip-weaker (IsPostAt old want) (IsPostAt new want) (post_still hub old new keeps want) names posts each) p
+
+-- ---- the next name, which was found just now
+
+module _ (hub : Hub) (old new : Fifodirs) (keeps : KeepsAll hub old new) (names : List (List ℕ)) (i : ℕ) (name : List ℕ) (inside : i < length names) (is : name ≡ get_or names i name) where
+  with_next : take i names ++ name ∷ [] ≡ take (i + 1) names
+  with_next = ap (λ (n : List ℕ). take i names ++ n ∷ []) is ∙ sym (take_more names i name inside)
+
+  pub seen_plain : (plain : Bool) → AreSeen old (take i names) plain → IsOfKind new Plain name → AreSeen new (take (i + 1) names) true
+  seen_plain plain seen f = subst (λ (ns : List (List ℕ)). AreSeen new ns true) with_next
+      (plain_more new (take i names) name plain (seen_still hub old new keeps (take i names) plain seen) f)
+
+  pub seen_service : (plain : Bool) → AreSeen old (take i names) plain → IsOfKind new Service name → AreSeen new (take (i + 1) names) plain
+  seen_service plain seen f = subst (λ (ns : List (List ℕ)). AreSeen new ns plain) with_next
+      (service_more new (take i names) name plain (seen_still hub old new keeps (take i names) plain seen) f)
+
+  pub post_opened : (want : Want) (posts : List Post) (post : Post) → ArePosts old want (take i names) posts → IsPostAt new want name post
+      → ArePosts new want (take (i + 1) names) (posts ++ post ∷ [])
+  post_opened want posts post each p = subst (λ (ns : List (List ℕ)). ArePosts new want ns (posts ++ post ∷ [])) with_next
+      (posts_more hub old new want (take i names) posts name post keeps each p)

@@ -1,7 +1,6 @@
 //! The desk of one session among several.
 ghost use Rattle.std.specs.Prelude.{IfOk};
 ghost use Rattle.std.specs.Arc.{arc_value};
-ghost use Rattle.hub_requests.specs.Brief.{IsShort};
 
 use hub_handles::Handles;
 use hub_names::{Fifodirs, Hub, HubError, Speech};
@@ -82,8 +81,7 @@ impl<P: Pause + Copy> SharedDesk<P> {
         notifies: bool,
         limits: Limits,
     ) -> Reply
-        ensures made { IsMadeReply result }
-        ensures short { IsShort result }
+        ensures { IsMadeReply result }
     {
         match self.hub.make_named(rt, name, kind, limits, notifies) {
             Ok(()) => Reply::Done,

@@ -3,7 +3,7 @@ ghost use Rattle.hub_listen.specs.Listening.{new_listening};
 
 use crate::tests::fixtures::{SIZES_TRIED, none_is_unlike, run_of, size_at, word};
 use hub_letters::Letter;
-use hub_listen::{Each, Feed, FeedError, ListenError, Listener, Mode, feed_each};
+use hub_listen::{Feed, FeedError, ListenError, Listener, Mode};
 use regex::Regex;
 use std::alloc::{AllocError, Global};
 use std::io;
@@ -39,7 +39,8 @@ static HEARD: [Row; 10] = [
         "u.*U",
         Mode::Repeat,
         &[
-            ("su", Feed::Quiet, "su", ""),
+            ("s", Feed::Quiet, "s", ""),
+            ("u", Feed::Quiet, "su", ""),
             ("U", Feed::Hit(1), "", "suU"),
             ("U", Feed::Quiet, "U", "suU"),
         ],
@@ -179,24 +180,6 @@ fn are_heard_so(alloc: Global, runs: &[Run]) -> Result<bool, AllocError> {
     }
 }
 
-/// What a listener answers that hears letters one at a time; none if there is no listener.
-fn each(alloc: Global, pattern: &str, letters: &[Letter]) -> Option<Each> {
-    match listener_for(alloc, pattern, Mode::Repeat) {
-        Ok(mut listener) => Some(feed_each(&mut listener, letters)),
-        Err(_) => None,
-    }
-}
-
-/// Whether a hit among letters that come one at a time is at its letter, and letters without a hit run through.
-fn are_heard_one_at_a_time(alloc: Global) -> io::Result<bool> {
-    let hit = word(alloc, "suUU")?;
-    let ran = word(alloc, "aaaaaaaaa")?;
-    Ok(
-        each(alloc, "u.*U", hit.as_slice()) == Some(Each::Hit(3))
-            && each(alloc, "b", ran.as_slice()) == Some(Each::Ran(9)),
-    )
-}
-
 /// Whether a piece before its hit, and the same with its hit, are heard so, and leave nothing.
 fn hears_and_hits(
     listener: &mut Listener,
@@ -254,19 +237,6 @@ fn letters_one_at_a_time(alloc: Global) -> Result<usize, AllocError> {
     Ok(heard)
 }
 
-/// How many letters the first list has that doesn't run through one at a time; none if each does.
-fn list_that_stops(alloc: Global) -> Result<Option<usize>, AllocError> {
-    let letters = run_of(alloc, b'a', 4096)?;
-    for place in 0..SIZES_TRIED {
-        let count = size_at(place);
-        match letters.get(..count) {
-            Some(list) if each(alloc, "b", list) == Some(Each::Ran(count)) => {}
-            _ => return Ok(Some(count)),
-        }
-    }
-    Ok(None)
-}
-
 /// What a new listener for the pattern answers; none if there is no listener, or it answers nothing.
 fn hit_of(alloc: Global, pattern: &str, letters: &[Letter]) -> Option<Feed> {
     match listener_for(alloc, pattern, Mode::Once) {
@@ -293,7 +263,6 @@ fn patterns_before_one_unlike(alloc: Global) -> Result<usize, AllocError> {
 fn pieces_and_patterns_of_each_size(rt: HostRuntime) -> Result<(), Fail> {
     assert_eq!(rt; piece_unlike(rt.alloc())?, None);
     assert_eq!(rt; letters_one_at_a_time(rt.alloc())?, 4096);
-    assert_eq!(rt; list_that_stops(rt.alloc())?, None);
     assert_eq!(rt; patterns_before_one_unlike(rt.alloc())?, 201);
     Ok(())
 }
@@ -306,10 +275,6 @@ fn hits_and_what_they_leave(rt: HostRuntime) -> Result<(), Fail> {
         "a hit at the last letter for which there is room"
     );
     assert!(rt; are_heard_so(rt.alloc(), &FILLS)?, "a full listener");
-    assert!(rt;
-        are_heard_one_at_a_time(rt.alloc())?,
-        "letters one at a time"
-    );
     Ok(())
 }
 

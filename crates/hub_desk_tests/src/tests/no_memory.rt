@@ -2,7 +2,8 @@
 //! runs this program over a `malloc` that counts (`tests/count.c`): it counts between two marks.
 use crate::tests::desks::{alone, new_local};
 use crate::tests::rows::{name_of, run};
-use hub_requests::{Desk, Name, Names, Numbers, PatternText};
+use hub_letters::Letter;
+use hub_requests::{Desk, Excerpt, Name, Names, Numbers, PatternText};
 use std::alloc::{AllocError, AllocGlobal, Global};
 use std::process::Abort;
 use std::sync::Wait;
@@ -37,18 +38,24 @@ fn parts_are_lent(alloc: Global, name: Name) -> Result<bool, AllocError> {
     let text = String::from_str(alloc, "ab")?;
     let mut list = Vec::with_capacity(alloc, 1)?;
     list.push_reserved(name);
+    let list_of_letters = vec![in alloc; Letter::LEAST; 2]?;
     let list_of_numbers = Vec::from_array(alloc, [Some(7u64), None])?;
     mark();
     let pattern = PatternText::of(text);
     let names = Names::of(list);
     let numbers = Numbers::of(list_of_numbers);
-    let lent = (pattern.items().len(), numbers.items().len());
+    let letters = Excerpt::of(list_of_letters);
+    let lent = (
+        pattern.items().len(),
+        numbers.items().len(),
+        letters.items().len(),
+    );
     let bytes = match names.items().first() {
         Some(name) => name.bytes().len(),
         None => 0,
     };
     mark();
-    Ok(lent == (2, 2) && bytes == 3)
+    Ok(lent == (2, 2, 2) && bytes == 3)
 }
 
 #[test]

@@ -1,26 +1,28 @@
 //! The text of each reply.
 
-use hub_letters::{Flags, Letter};
+use hub_letters::{Flags, Letter, MOST_GATHERED};
 use hub_protocol::write_reply;
-use hub_record::{Letters, Status};
-use hub_requests::{Numbers, Refusal, Reply};
+use hub_record::Status;
+use hub_requests::{Excerpt, MOST_SERVICES, Numbers, Refusal, Reply};
 use std::alloc::{AllocError, Global};
 use std::process::Abort;
 use std::test::Fail;
 
-fn letters_of(rt: &impl Abort, alloc: Global, text: &[u8]) -> Result<Letters, AllocError> {
+fn letters_of(rt: &impl Abort, alloc: Global, text: &[u8]) -> Result<Excerpt, AllocError> {
     let mut letters = Vec::new(alloc);
     for byte in text {
         letters.push(Letter::of(*byte).expect(rt, "a letter"))?;
     }
-    Ok(Letters::of(letters))
+    assert!(rt; letters.len() <= MOST_GATHERED);
+    Ok(Excerpt::of(letters))
 }
 
-fn numbers_of(alloc: Global, list: &[Option<u64>]) -> Result<Numbers, AllocError> {
+fn numbers_of(rt: &impl Abort, alloc: Global, list: &[Option<u64>]) -> Result<Numbers, AllocError> {
     let mut numbers = Vec::new(alloc);
     for number in list {
         numbers.push(*number)?;
     }
+    assert!(rt; numbers.len() <= MOST_SERVICES);
     Ok(Numbers::of(numbers))
 }
 
@@ -28,8 +30,8 @@ fn numbers_of(alloc: Global, list: &[Option<u64>]) -> Result<Numbers, AllocError
 fn each_reply_has_its_text(rt: HostRuntime) -> Result<(), Fail> {
     let letters = letters_of(&rt, rt.alloc(), b"sU")?;
     let hit = letters_of(&rt, rt.alloc(), b"suU")?;
-    let one = numbers_of(rt.alloc(), &[Some(2)])?;
-    let two = numbers_of(rt.alloc(), &[None, Some(2)])?;
+    let one = numbers_of(&rt, rt.alloc(), &[Some(2)])?;
+    let two = numbers_of(&rt, rt.alloc(), &[None, Some(2)])?;
     let up = Flags {
         up: true,
         settled: false,

@@ -3,7 +3,6 @@ ghost use Rattle.std.specs.Prelude.{Some, false, true};
 ghost use Rattle.hub_local.specs.DeskAnswers.{make_answer, refusal_to_make};
 ghost use Rattle.hub_local.specs.Standing.{CarriesOut, AsksWith, Unchanged};
 ghost use Rattle.hub_requests.specs.declared.request.Request.TheVariants.{Pub, Close, Status as Show};
-ghost use Rattle.hub_requests.specs.Brief.{IsShort};
 
 use crate::local_desk::{LocalDesk, LocalFifodir};
 use hub_record::{Closed, Kind, Letters, Limits, Record, Status};
@@ -20,10 +19,9 @@ impl LocalDesk {
         reports: Option<bool>,
         limits: Limits,
     ) -> Reply
-        ensures step { CarriesOut self.old true (λ desk. refusal_to_make desk name.now)
+        ensures { CarriesOut self.old true (λ desk. refusal_to_make desk name.now)
             (λ desk. make_answer desk name.now kind reports
             (Some limits)) Unchanged result self.new }
-        ensures short { IsShort result }
     {
         if self.fifodirs.contains_key(name) {
             return Reply::No(Refusal::Exists);
@@ -44,8 +42,7 @@ impl LocalDesk {
     }
 
     pub(super) fn publish(&mut self, name: &Name, letters: &Letters) -> Reply
-        ensures step { AsksWith false self.old (Pub name.now letters.now) result self.new }
-        ensures short { IsShort result }
+        ensures { AsksWith false self.old (Pub name.now letters.now) result self.new }
     {
         let Some(fifodir) = self.fifodirs.get_mut(name) else {
             return Reply::No(Refusal::Name);
@@ -57,8 +54,7 @@ impl LocalDesk {
     }
 
     pub(super) fn close(&mut self, name: &Name) -> Reply
-        ensures step { AsksWith false self.old (Close name.now) result self.new }
-        ensures short { IsShort result }
+        ensures { AsksWith false self.old (Close name.now) result self.new }
     {
         let Some(fifodir) = self.fifodirs.get_mut(name) else {
             return Reply::No(Refusal::Name);
@@ -70,8 +66,7 @@ impl LocalDesk {
     }
 
     pub(super) fn status(&self, name: &Name) -> Reply
-        ensures step { AsksWith false self.now (Show name.now) result self.now }
-        ensures short { IsShort result }
+        ensures { AsksWith false self.now (Show name.now) result self.now }
     {
         let Some(fifodir) = self.fifodirs.get(name) else {
             return Reply::No(Refusal::Name);

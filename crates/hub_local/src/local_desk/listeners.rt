@@ -6,13 +6,12 @@ ghost use Rattle.hub_record.specs.World.{World, Subscription, subscription_in};
 ghost use Rattle.hub_local.specs.Hearings.{Hears, HearsOne, TakesOne};
 ghost use Rattle.hub_local.specs.Standing.{AsksDesk, AsksWith, HasSubscription};
 ghost use Rattle.hub_requests.specs.declared.request.Request.TheVariants.{Listen, Poll};
-ghost use Rattle.hub_requests.specs.Brief.{IsShort};
 
 use crate::local_desk::{LocalDesk, LocalListener};
 use hub_letters::{Letter, MOST_GATHERED};
 use hub_listen::{Feed, FeedError, ListenError, Listener, Mode};
-use hub_record::{Event, Letters, Record, Taken};
-use hub_requests::{Name, PatternText, Refusal, Reply};
+use hub_record::{Event, Record, Taken};
+use hub_requests::{Excerpt, Name, PatternText, Refusal, Reply};
 
 /// What a listener's look at its letters came to.
 enum Heard {
@@ -27,8 +26,7 @@ enum Heard {
 
 impl LocalDesk {
     pub(super) fn listen(&mut self, name: &Name, mode: Mode, pattern: &PatternText) -> Reply
-        ensures step { AsksDesk self.old (Listen name.now mode pattern.now) result self.new }
-        ensures short { IsShort result }
+        ensures { AsksDesk self.old (Listen name.now mode pattern.now) result self.new }
     {
         if let Some(refusal) = self.refusal_to_hold(name) {
             return Reply::No(refusal);
@@ -48,8 +46,7 @@ impl LocalDesk {
     }
 
     pub(super) fn poll(&mut self, id: u64) -> Reply
-        ensures step { AsksWith false self.old (Poll id) result self.new }
-        ensures short { IsShort result }
+        ensures { AsksWith false self.old (Poll id) result self.new }
     {
         let Some(holding) = self.holdings.get_mut(&id) else {
             return Reply::No(Refusal::Id);
@@ -78,7 +75,7 @@ impl LocalDesk {
                     }
                     Mode::Repeat => {}
                 }
-                Reply::Hit(Letters::of(letters))
+                Reply::Hit(Excerpt::of(letters))
             }
         }
     }

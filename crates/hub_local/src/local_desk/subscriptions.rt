@@ -1,5 +1,5 @@
 //! The requests about a subscription: begin one, take from it, and end it.
-ghost use Rattle.std.specs.Prelude.{◌≡◌, ◌≤◌, ◌<◌, List, length, None, Some, false, true, nat_eq, IfOk, IfErr, IfSome, OnOk, OnErr};
+ghost use Rattle.std.specs.Prelude.{◌≡◌, ◌≤◌, ◌<◌, List, length, None, Some, false, true, nat_eq, IfOk, OnOk, OnErr};
 ghost use Rattle.indexmap.specs.IndexMap.{values, spare, insert_entry};
 ghost use Rattle.hub_record.specs.Kept.{StandsFor};
 ghost use Rattle.hub_record.specs.World.{World, letters, take_reply, take_events, after_take};
@@ -13,7 +13,6 @@ ghost use Rattle.hub_local.specs.Replies.{subscribe_reply};
 ghost use Rattle.hub_local.specs.Standing.{AreKept, CarriesOut, AsksWith, HasSubscription, StandsForDesk, Unchanged};
 ghost use Rattle.hub_requests.specs.declared.reply.Reply.TheVariants.{No};
 ghost use Rattle.hub_requests.specs.declared.request.Request.TheVariants.{Sub, Take, Cancel};
-ghost use Rattle.hub_requests.specs.Brief.{IsShort};
 
 use crate::local_desk::{Holding, LocalDesk, LocalFifodir, LocalListener};
 use hub_letters::Letter;
@@ -24,8 +23,7 @@ use std::alloc::{AllocError, Global};
 
 impl LocalDesk {
     pub(super) fn subscribe(&mut self, name: &Name) -> Reply
-        ensures step { AsksWith false self.old (Sub name.now) result self.new }
-        ensures short { IsShort result }
+        ensures { AsksWith false self.old (Sub name.now) result self.new }
     {
         match self.refusal_to_hold(name) {
             Some(refusal) => Reply::No(refusal),
@@ -35,9 +33,8 @@ impl LocalDesk {
 
     /// Why there can be no further handle for a subscription to the fifodir of this name. None if there can.
     pub(super) fn refusal_to_hold(&self, name: &Name) -> Option<Refusal>
-        ensures own { (desk : Desk) → StandsForDesk self.now desk
+        ensures { (desk : Desk) → StandsForDesk self.now desk
             → result ≡ refusal_to_hold desk name.now }
-        ensures short { IfSome result (λ refusal. IsShort (No refusal)) }
     {
         if !self.fifodirs.contains_key(name) {
             return Some(Refusal::Name);
@@ -50,11 +47,10 @@ impl LocalDesk {
         requires unrefused { (desk : Desk) → StandsForDesk self.old desk
             → refusal_to_hold desk name.now ≡ None }
         requires goes_on { GoesOn hearing }
-        ensures step { CarriesOut self.old true (λ desk. refusal_to_hold desk name.now)
+        ensures { CarriesOut self.old true (λ desk. refusal_to_hold desk name.now)
             (λ desk. in_world desk
             (λ w. subscribe_answer desk name.now hearing w (subscribe_reply w))
             (world_of desk.fifodirs name.now)) Unchanged result self.new }
-        ensures short { IsShort result }
     {
         match begin(&mut self.fifodirs, &mut self.holdings, name) {
             Ok((name, id)) => {
@@ -69,8 +65,7 @@ impl LocalDesk {
 
     pub(super) fn take(&mut self, id: u64, max: u64) -> Reply
         requires { IsTake max }
-        ensures step { AsksWith false self.old (Take id max) result self.new }
-        ensures short { IsShort result }
+        ensures { AsksWith false self.old (Take id max) result self.new }
     {
         let Some(holding) = self.holdings.get(&id) else {
             return Reply::No(Refusal::Id);
@@ -88,8 +83,7 @@ impl LocalDesk {
     }
 
     pub(super) fn cancel(&mut self, id: u64) -> Reply
-        ensures step { AsksWith false self.old (Cancel id) result self.new }
-        ensures short { IsShort result }
+        ensures { AsksWith false self.old (Cancel id) result self.new }
     {
         let Some(holding) = self.holdings.shift_remove(&id) else {
             return Reply::No(Refusal::Id);
@@ -112,7 +106,6 @@ fn begin(
     ensures name { IfOk result (λ begun. begun.0 ≡ name.now) }
     ensures room { OnOk result (0 < spare holdings.new) }
     ensures same { holdings.new.entries ≡ holdings.old.entries }
-    ensures short { IfErr result (λ refusal. IsShort (No refusal)) }
 {
     let Ok(key) = name.copy() else {
         return Err(Refusal::Memory);
@@ -170,7 +163,6 @@ fn take_waiting(alloc: Global, kept: &mut Record, id: u64, most: usize) -> Resul
         (take_reply w id most)) }
     ensures after { (w : World) → StandsFor kept.old w
         → OnOk result (StandsFor kept.new (after_take w id most)) }
-    ensures short { IfOk result IsShort }
     ensures err { OnErr result (kept.new ≡ kept.old) }
 {
     let Some(waiting) = kept.waiting(id) else {
@@ -194,7 +186,6 @@ fn take_letters(
         (letters (take_events w id (length room.old))) (take_reply w id (length room.old))) }
     ensures after { (w : World) → StandsFor kept.old w
         → OnOk result (StandsFor kept.new (after_take w id (length room.old))) }
-    ensures short { IfOk result IsShort }
     ensures err { OnErr result (kept.new ≡ kept.old) }
 {
     let letters = Vec::with_capacity(alloc, room.len())?;

@@ -1,12 +1,11 @@
 //! The request about several services at once: whether they are as wanted.
-ghost use Rattle.std.specs.Prelude.{◌≡◌, ◌≤◌, ◌<◌, ◌^◌, List, length, IfErr, IfSome, true, vec_len, vec_capacity};
+ghost use Rattle.std.specs.Prelude.{◌≡◌, ◌≤◌, List, length, true, vec_len, vec_capacity};
 ghost use Rattle.std.specs.List.{list_all};
 ghost use Rattle.hub_requests.specs.declared.bounds.TheConstants.{MOST_SERVICES};
 ghost use Rattle.hub_local.specs.DeskAnswers.{refusal_to_wait};
 ghost use Rattle.hub_local.specs.Desks.{Fifodir};
 ghost use Rattle.hub_local.specs.Standing.{AreKept, CarriesOut};
 ghost use Rattle.hub_requests.specs.declared.reply.Reply.TheVariants.{No};
-ghost use Rattle.hub_requests.specs.Brief.{IsShort};
 ghost use Rattle.hub_local.specs.Waits.{without_subscription, without_posts, number_of, verdict_shown, wait_answer, LeftByWait};
 ghost use Rattle.hub_local.specs.Opening.{is_there, is_service, refusal_among, OpensPost, OpensAll};
 
@@ -29,10 +28,9 @@ impl LocalDesk {
     /// Answers at once, since nothing can change during a wait of the only session.
     pub(super) fn wait(&mut self, span: Span, want: Want, names: &Names) -> Reply
         requires { length names.now ≤ MOST_SERVICES }
-        ensures step { CarriesOut self.old true (λ desk. refusal_to_wait desk names.now)
+        ensures { CarriesOut self.old true (λ desk. refusal_to_wait desk names.now)
             (λ desk. wait_answer desk span want names.now)
             (λ desk left. LeftByWait desk want names.now left) result self.new }
-        ensures short { IsShort result }
     {
         let names = names.items();
         if let Some(refusal) = refusal_by_names(&self.fifodirs, names) {
@@ -93,9 +91,8 @@ fn open(
     name: &Name,
     want: Want,
 ) -> Result<LocalPost, Refusal>
-    ensures opens { (model : List Fifodir) → AreKept fifodirs.old.entries model
+    ensures { (model : List Fifodir) → AreKept fifodirs.old.entries model
         → OpensPost want name.now model result fifodirs.new.entries }
-    ensures short { IfErr result (λ refusal. IsShort (No refusal)) }
 {
     let Some(fifodir) = fifodirs.get_mut(name) else {
         return Err(Refusal::Name);
@@ -126,7 +123,6 @@ fn open_all(
     ensures opens { (model : List Fifodir) → AreKept fifodirs.old.entries model
         → OpensAll want names.now model result fifodirs.new.entries posts.new.items }
     ensures few { vec_len posts.new ≤ length names.now }
-    ensures short { IfErr result (λ refusal. IsShort (No refusal)) }
 {
     for name in names {
         let post = open(fifodirs, name, want)?;
@@ -158,8 +154,7 @@ fn give_back(fifodirs: &mut IndexMap<Name, LocalFifodir>, names: &[Name], posts:
 
 /// The number of events that the post knows, if it is met.
 fn number_of(post: &LocalPost) -> Option<u64>
-    ensures number { result ≡ number_of post.now }
-    ensures small { IfSome result (λ number. number < 2 ^ 64) }
+    ensures { result ≡ number_of post.now }
 {
     if post.watch.met() {
         Some(post.watch.at())
@@ -173,8 +168,7 @@ fn verdict_shown(span: Span, posts: &[LocalPost], mut numbers: Vec<Option<u64>>)
     requires empty { vec_len numbers ≡ 0 }
     requires fits { length posts.now ≤ vec_capacity numbers }
     requires few { length posts.now ≤ MOST_SERVICES }
-    ensures reply { result ≡ verdict_shown span posts.now }
-    ensures short { IsShort result }
+    ensures { result ≡ verdict_shown span posts.now }
 {
     let mut tally = Tally::new(span);
     for post in posts {

@@ -1,9 +1,6 @@
 //! A session's waits: the posts of one, and what it is answered.
 ghost use Rattle.std.specs.Prelude.{◌≡◌, ◌≤◌, ◌+◌, length, map, vec_len, vec_capacity, IfOk, IfErr, OnOk, false};
 ghost use Rattle.hub_requests.specs.declared.bounds.TheConstants.{MOST_SERVICES};
-ghost use Rattle.hub_requests.specs.Texts.{number_or_dash};
-ghost use Rattle.hub_requests.specs.declared.reply.Reply.TheVariants.{Yes};
-ghost use Rattle.hub_requests.specs.Brief.{IsBrief, IsShort};
 ghost use Rattle.hub_names.specs.Fifodirs.{KeepsAll};
 ghost use Rattle.hub_shared.specs.Waits.{ArePosts, AreSeen, IsPostRefused, IsUnseen, number_met};
 
@@ -44,7 +41,6 @@ impl Posts {
             (posts_of opened)) }
         ensures refused { IfErr result (IsWaitRefused fifodirs.new names.now) }
         ensures kept { KeepsAll hub.now fifodirs.old fifodirs.new }
-        ensures brief { IfErr result IsBrief }
     {
         if has_plain(rt, fifodirs, hub, names)? {
             return Err(Refusal::Kind);
@@ -72,8 +68,7 @@ impl Posts {
         turns: u64,
         mut pause: P,
     ) -> Reply
-        ensures settled { Settles span (posts_of self) result }
-        ensures short { IsShort result }
+        ensures { Settles span (posts_of self) result }
     {
         let Posts { mut posts, numbers } = self;
         let reply = match svwait(rt, &mut posts, span, turns, &mut pause) {
@@ -96,7 +91,6 @@ fn has_plain<H: Wait>(
     ensures seen { IfOk result (AreSeen fifodirs.new names.now) }
     ensures missing { IfErr result (IsUnseen fifodirs.new names.now) }
     ensures kept { KeepsAll hub.now fifodirs.old fifodirs.new }
-    ensures brief { IfErr result IsBrief }
 {
     let mut plain = false;
     for name in names {
@@ -123,7 +117,6 @@ fn open_each<H: Wait>(
     requires services { AreSeen fifodirs.old names.now false }
     ensures kept { KeepsAll hub.now fifodirs.old fifodirs.new }
     ensures refused { IfErr result IsPostRefused }
-    ensures brief { IfErr result IsBrief }
     ensures opened { OnOk result (ArePosts fifodirs.new want names.now posts.new.items) }
     ensures few { vec_len posts.new ≤ length names.now }
 {
@@ -140,8 +133,7 @@ fn numbers_met(posts: &[Post], mut room: Vec<Option<u64>>) -> Numbers
     requires empty { vec_len room ≡ 0 }
     requires fits { length posts.now ≤ vec_capacity room }
     requires few { length posts.now ≤ MOST_SERVICES }
-    ensures met { result ≡ map number_met posts.now }
-    ensures short { IsShort (Yes result) }
+    ensures { result ≡ map number_met posts.now }
 {
     for post in posts {
         room.push_reserved(number_met(post));
@@ -151,8 +143,7 @@ fn numbers_met(posts: &[Post], mut room: Vec<Option<u64>>) -> Numbers
 
 /// The number of events at which its service is as wanted.
 fn number_met(post: &Post) -> Option<u64>
-    ensures met { result ≡ number_met post.now }
-    ensures short { length (number_or_dash result) ≤ 20 }
+    ensures { result ≡ number_met post.now }
 {
     let watch = post.watch();
     if watch.met() { Some(watch.at()) } else { None }

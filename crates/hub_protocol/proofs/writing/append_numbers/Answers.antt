@@ -1,7 +1,7 @@
 use Rattle.std.proofs.Common.{◌≡◌, ◌++◌, ◌+◌, ◌∷◌, ◌≤◌, ℕ, List, length, take, get_or, None, vec_len, vec_capacity, refl, ap, sym, ◌∙◌, append_assoc, length-append, rules, arith}
 use Rattle.std.proofs.lemmas.List.{take-take, take_at}
 use Rattle.hub_requests.specs.Texts.{number_or_dash, numbers_text}
-use Rattle.hub_protocol.proofs.Numbers.{numbers_text-more, length-numbers_text-take}
+use Rattle.hub_requests.proofs.NumbersText.{numbers_text-more, length-numbers_text-take}
 use Rattle.hub_protocol.proofs.writing.append_numbers.Goals as goal
 
 -- what came first still does after more was appended to it

@@ -7,7 +7,7 @@ pub loop-next-init : goal.loop-next-init
 loop-next-init c = so_far_first c.args.end _ _ (c.into_iter-next-iterator.ensures.into_iter_gives ∙ c.values-next-items.ensures.rest)
 
 pub loop-next-preserved-then-next-lowest : goal.loop-next-preserved-then-next-lowest
-loop-next-preserved-then-next-lowest c = so_far_lower _ _ _ _ _ _ _ _ c.in-Some.ensures.steps c.if-next-lowest.true c.loop-next.invariant
+loop-next-preserved-then-next-lowest c = so_far_lower _ _ _ _ _ _ _ _ c.in-Some.ensures.steps c.loop-next.invariant c.if-next-lowest.true
 
 pub overflow_add-lowest : goal.overflow_add-lowest
 overflow_add-lowest c =
@@ -19,12 +19,12 @@ overflow_add-lowest c =
     omega arith
 
 pub loop-next-preserved-then-next-lowest-2 : goal.loop-next-preserved-then-next-lowest-2
-loop-next-preserved-then-next-lowest-2 c = so_far_same _ _ _ _ _ _ _ _ c.in-Some.ensures.steps c.if-next-lowest-2.true c.loop-next.invariant
+loop-next-preserved-then-next-lowest-2 c = so_far_same _ _ _ _ _ _ _ _ c.in-Some.ensures.steps c.loop-next.invariant c.if-next-lowest-2.true
 
 pub loop-next-preserved : goal.loop-next-preserved
 loop-next-preserved c =
     let apart = c.if-next-lowest-2.false in
-    so_far_higher _ _ _ _ _ _ _ _ c.in-Some.ensures.steps (omega arith) c.loop-next.invariant
+    so_far_higher _ _ _ _ _ _ _ _ c.in-Some.ensures.steps c.loop-next.invariant (omega arith)
 
 pub returns : goal.returns
 returns c =

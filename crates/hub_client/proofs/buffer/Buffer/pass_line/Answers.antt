@@ -1,4 +1,4 @@
-use Rattle.std.proofs.Common.{◌≡◌, Err, rules}
+use Rattle.std.proofs.Common.{rules}
 use Rattle.hub_io.specs.declared.fault.FrontError.TheVariants.{Write}
 use Rattle.hub_io.proofs.Told.{Grows-none, Rises-trans}
 use Rattle.hub_io.proofs.Outcomes.{IfErr-known}
@@ -12,9 +12,8 @@ pieces-init g c = record { on_its_way = begins _ _ _ _ _; no_read_fault = Grows-
 pub returns-in_err-fill-clause-err : goal.returns-in_err-fill-clause-err
 returns-in_err-fill-clause-err g c =
     let e = c.in_err-fill.field-0.0 in
-    let is : c.from_residual.result ≡ Err e = search rules in
     let failed = c.in_err-fill.ensures.err in
-    IfErr-known _ c.from_residual.result e is (fails c.pieces.invariant.on_its_way e failed.0 failed.1)
+    IfErr-known _ c.from_residual.result e (search rules) (fails c.pieces.invariant.on_its_way e failed.0 failed.1)
 
 pub returns-then-not-branch-clause-ok : goal.returns-then-not-branch-clause-ok
 returns-then-not-branch-clause-ok g c =
@@ -24,16 +23,14 @@ returns-then-not-branch-clause-ok g c =
 pub returns-in_err-pass_piece-clause-err : goal.returns-in_err-pass_piece-clause-err
 returns-in_err-pass_piece-clause-err g c =
     let ready = on_true _ _ c.in_ok-fill.field-0 (search rules) c.in_ok-fill.ensures.ok in
-    let is : c.from_residual-in_err-pass_piece.result ≡ Err Write = search rules in
     let (piece, rest, e, some, cut, a) = c.in_err-pass_piece.ensures.err in
-    IfErr-known _ c.from_residual-in_err-pass_piece.result Write is (breaks c.pieces.invariant.on_its_way _ ready.0 piece rest e some cut a)
+    IfErr-known _ c.from_residual-in_err-pass_piece.result Write (search rules) (breaks c.pieces.invariant.on_its_way _ ready.0 piece rest e some cut a)
 
 pub returns-then-branch-clause-ok : goal.returns-then-branch-clause-ok
 returns-then-branch-clause-ok g c =
     let ready = on_true _ _ c.in_ok-fill.field-0 (search rules) c.in_ok-fill.ensures.ok in
     let (piece, e, what, a) = c.in_ok-pass_piece.ensures.ok in
-    let line = on_true _ _ c.in_ok-pass_piece.field-0 (search rules) what in
-    arrives c.pieces.invariant.on_its_way _ piece (pending c.pass_piece.new.self) ready.0 e line a
+    arrives c.pieces.invariant.on_its_way _ piece (pending c.pass_piece.new.self) ready.0 e (on_true _ _ c.in_ok-pass_piece.field-0 (search rules) what) a
 
 pub pieces-preserved : goal.pieces-preserved
 pieces-preserved g c =

@@ -10,10 +10,10 @@ pub returns-in_err-write_whole-clause-err : goal.returns-in_err-write_whole-clau
 returns-in_err-write_whole-clause-err g c =
     let line : c.deref.result.now ≡ c.args.self.now.line.items = search rules in
     let shown : c.deref-2.result.now ≡ text_of c.reply_to-reply.result = search rules in
-    OnErr-known _ (breaks_at_once c.reply_to-reply.result (answers_same line c.reply_to-reply.ensures.step) (subst (AppendsPart _ _) shown c.in_err-write_whole.ensures.err))
+    OnErr-known _ (breaks_at_once c.reply_to-reply.result (answers_same line c.reply_to-reply.ensures) (subst (AppendsPart _ _) shown c.in_err-write_whole.ensures.err))
 
 pub returns-clause-ok : goal.returns-clause-ok
 returns-clause-ok g c =
     let line : c.deref.result.now ≡ c.args.self.now.line.items = search rules in
     let shown : c.deref-2.result.now ≡ text_of c.reply_to-reply.result = search rules in
-    served_one c.reply_to-reply.result (answers_same line c.reply_to-reply.ensures.step) (subst (Appends _ _) shown c.in_ok-write_whole.ensures.ok)
+    served_one c.reply_to-reply.result (answers_same line c.reply_to-reply.ensures) (subst (Appends _ _) shown c.in_ok-write_whole.ensures.ok)

@@ -6,4 +6,4 @@ pub returns-in-None-clause-gives : goal.returns-in-None-clause-gives
 returns-in-None-clause-gives g c =
     let was : c.args.self.now.held ≡ None = cc in
     let is : c.take.new.self ≡ None = cc in
-    gives_taken c.args.self.now _ c.take_letter.result was is refl c.take_letter.ensures.step
+    gives_taken c.args.self.now _ c.take_letter.result was is refl c.take_letter.ensures

@@ -4,23 +4,23 @@ use Rattle.hub_handles.specs.Hearings.{HearsOne}
 use Rattle.hub_handles.proofs.Hearings.{hears_none, hears_quietly, gathers_one, hit_polls, stop_polls}
 use Rattle.hub_handles.proofs.session_listener.SessionListener.poll.Goals as goal
 
-pub returns-in_default-with_capacity-clause-polled : goal.returns-in_default-with_capacity-clause-polled
-returns-in_default-with_capacity-clause-polled g c =
+pub returns-in_default-with_capacity : goal.returns-in_default-with_capacity
+returns-in_default-with_capacity g c =
     let few : length c.args.self.now.listener.gathered < MOST_GATHERED = (let l = ap length c.text.ensures.value in let t = c.if-text-ge-MOST_GATHERED.false in omega arith) in
     inr (refl, few, ([], c.look.ensures.quiet), c.in_default.ensures.more)
 
-pub returns-in-Some-clause-polled : goal.returns-in-Some-clause-polled
-returns-in-Some-clause-polled g c =
+pub returns-in-Some : goal.returns-in-Some
+returns-in-Some g c =
     let few : length c.args.self.now.listener.gathered < MOST_GATHERED = (let l = ap length c.text.ensures.value in let t = c.if-text-ge-MOST_GATHERED.false in omega arith) in
     stop_polls c.args.self.now c.args.self.now c.look.new.self c.in-Some.reply [] (hears_none c.args.self.now c.args.self.now.repeats c.text.ensures.short) c.in-Some.ensures.quiet c.in-Some.ensures.stopped few
 
-pub returns-in-Ok-true-clause-polled : goal.returns-in-Ok-true-clause-polled
-returns-in-Ok-true-clause-polled g c =
+pub returns-in-Ok-true : goal.returns-in-Ok-true
+returns-in-Ok-true g c =
     let heard = subst (λ (hit : Bool). HearsOne c.loop.self hit c.hear.new.self) c.in-Ok-true.field-0-test c.in-Ok-true.ensures.heard in
     hit_polls c.args.self.now c.loop.self c.hear.new.self c.loop.invariant.0.0 c.copied.result c.loop.invariant.0.1 heard (c.copied.ensures ∙ c.hit.ensures.value)
 
-pub returns-in-Err-clause-polled : goal.returns-in-Err-clause-polled
-returns-in-Err-clause-polled g c =
+pub returns-in-Err : goal.returns-in-Err
+returns-in-Err g c =
     let few : length c.args.self.now.listener.gathered < MOST_GATHERED = (let l = ap length c.text.ensures.value in let t = c.if-text-ge-MOST_GATHERED.false in omega arith) in
     let stopped = c.in-Err.ensures.stopped in
     stop_polls c.args.self.now c.loop.self c.hear.new.self c.in-Err.reply c.loop.invariant.0.0 c.loop.invariant.0.1 stopped.0 stopped.1 few

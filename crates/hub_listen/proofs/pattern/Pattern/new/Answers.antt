@@ -1,18 +1,9 @@
-use Rattle.std.proofs.Common.{◌∙◌, sym, subst}
+use Rattle.std.proofs.Common.{List, ℕ, sym, subst}
 use Rattle.hub_listen.specs.Searches.{SearchesFor}
-use Rattle.hub_listen.proofs.Patterns.{reads-finds, reads-pattern}
-use Rattle.hub_listen.proofs.Found.{find_str-finds_by}
 use Rattle.hub_listen.proofs.pattern.Pattern.new.Goals as goal
 
 pub invariant_of-result : goal.invariant_of-result
-invariant_of-result c = record {
-  searches = ∣ subst (SearchesFor c.in_ok-nfa.nfa) (sym c.in_ok-text.ensures.ok)
-      (λ text ascii. sym (reads-finds _ _ _ _ c.in_ok-hir.ensures.ok c.default.ensures text ascii)
-      ∙ find_str-finds_by c.in_ok-nfa.nfa _ c.in_ok-nfa.ensures.matches text ascii) ∣₁;
-}
-
-pub returns-clause-read : goal.returns-clause-read
-returns-clause-read c = reads-pattern _ _ _ _ c.in_ok-hir.ensures.ok c.default.ensures
+invariant_of-result c = record { searches = subst (λ (t : List ℕ). ∥ SearchesFor c.in_ok-nfa.nfa t ∥₁) (sym c.in_ok-text.ensures.ok) c.in_ok-nfa.ensures.searches }
 
 pub returns-clause-small : goal.returns-clause-small
 returns-clause-small c = record {

@@ -1,11 +1,10 @@
-use Rattle.std.proofs.Common.{◌≡◌, ◌++◌, ◌∷◌, [], ℕ, ◌+◌, List, refl, ap, ◌∙◌, arith, nat_eq}
+use Rattle.std.proofs.Common.{◌≡◌, ◌++◌, ◌∷◌, [], ℕ, ◌+◌, List, refl, ap, ◌∙◌, nat_eq}
 use Rattle.std.specs.Map.{lookup}
 use Rattle.indexmap.proofs.CallerLemmas.{insert_entry-new}
 use Rattle.hub_local.specs.Standing.{Local}
 use Rattle.hub_local.specs.declared.local_desk.Holding.{Holding}
 use Rattle.hub_local.proofs.Asking.{answers_from, stands_on}
-use Rattle.hub_local.proofs.AskingHolds.{hold_done, hold_refused, fresh_number, named_there, numbers_left, unrefused_at}
-use Rattle.hub_requests.proofs.ShortReplies.{short_number}
+use Rattle.hub_local.proofs.AskingHolds.{hold_done, hold_refused, fresh_number, named_there, unrefused_at}
 use Rattle.hub_local.proofs.local_desk.LocalDesk.hold.Goals as goal
 use Rattle.hub_local.proofs.local_desk.LocalDesk.hold.Goals.{in-Some-1, in-None-1}
 
@@ -14,8 +13,8 @@ begin-requires c =
     let may = unrefused_at c.args.name.now c.self.view_is c.requires.unrefused in
     record { there = named_there _ c.args.name.now c.self.invariant.desk c.self.invariant.stands (may c.self.invariant.desk c.self.invariant.stands) }
 
-pub returns-in-Ok-clause-step : goal.returns-in-Ok-clause-step
-returns-in-Ok-clause-step c =
+pub returns-in-Ok : goal.returns-in-Ok
+returns-in-Ok c =
     let h : Holding = record { name = c.in-Ok.name; id = c.in-Ok.id; hearing = c.args.hearing } in
     let n = c.self.inside.given + 1 in
     answers_from c.self.view_is (hold_done _ _ c.args.name.now c.args.hearing (unrefused_at c.args.name.now c.self.view_is c.requires.unrefused)
@@ -27,13 +26,7 @@ returns-in-Ok-clause-step c =
     refl)
 
 pub invariant_of-self : goal.invariant_of-self
-invariant_of-self c = stands_on _ c.args.self.now _ _ _ _ _ _ c.self.view_is (returns-in-Ok-clause-step c) c.self.invariant
-
-pub returns-in-Ok-clause-short : goal.returns-in-Ok-clause-short
-returns-in-Ok-clause-short c =
-    let may = unrefused_at c.args.name.now c.self.view_is c.requires.unrefused in
-    let l = numbers_left _ c.args.name.now c.self.invariant.desk c.self.invariant.stands (may c.self.invariant.desk c.self.invariant.stands) in
-    short_number _ (omega arith)
+invariant_of-self c = stands_on _ c.args.self.now _ _ _ _ _ _ c.self.view_is (returns-in-Ok c) c.self.invariant
 
 pub invariant_of-self-in-Err : goal.invariant_of-self-in-Err
 invariant_of-self-in-Err c = stands_on _ c.args.self.now _ _ _ _ _ _ c.self.view_is
@@ -45,8 +38,8 @@ invariant_of-self-in-Err-2 c = stands_on _ c.args.self.now _ _ _ _ _ _ c.self.vi
     (answers_from c.self.view_is (hold_refused _ _ c.args.name.now c.args.hearing (unrefused_at c.args.name.now c.self.view_is c.requires.unrefused)
     c.in-Err.refusal c.in-Err.ensures.begins c.in-Err.ensures.same refl _ refl)) c.self.invariant
 
-pub returns-in-Err-clause-step : goal.returns-in-Err-clause-step
-returns-in-Err-clause-step c =
+pub returns-in-Err : goal.returns-in-Err
+returns-in-Err c =
     let after : Local = record { fifodirs = c.begin.new.fifodirs.entries; holdings = c.begin.new.holdings.entries; given = c.self.inside.given } in
     let ends = λ (now : Local) (is : now ≡ after).
     hold_refused _ after c.args.name.now c.args.hearing (unrefused_at c.args.name.now c.self.view_is c.requires.unrefused)

@@ -5,10 +5,10 @@ use Rattle.hub_letters.specs.declared.mode.Mode.TheVariants.{Repeat}
 use Rattle.hub_local.proofs.AskingHolds.{listen_held}
 use Rattle.hub_local.proofs.local_desk.LocalDesk.listen.Goals as goal
 
-pub returns-in-Ok-clause-step : goal.returns-in-Ok-clause-step
-returns-in-Ok-clause-step c =
+pub returns-in-Ok : goal.returns-in-Ok
+returns-in-Ok c =
     let new : c.in-Ok.listener ≡ new_listening c.args.pattern.now Repeat = c.in-Ok.ensures.ok ∙ ap (λ (p : List ℕ). new_listening p Repeat) c.items.ensures in record {
       read = true;
       is_read = λ yes real. subst IsPattern c.items.ensures c.in-Ok.ensures.read;
-      answers = listen_held c.args.self.now _ c.args.name.now c.args.pattern.now c.args.mode c.in-Ok.listener c.hold.result c.in_default.ensures.own new c.hold.ensures.step;
+      answers = listen_held c.args.self.now _ c.args.name.now c.args.pattern.now c.args.mode c.in-Ok.listener c.hold.result c.in_default.ensures new c.hold.ensures;
     }

@@ -6,23 +6,23 @@ use Rattle.hub_local.proofs.Asking.{answers_from, answers_here, none_of, same_pa
 use Rattle.hub_local.proofs.AskingFifodirs.{make_exists, make_many, make_lacks, make_done}
 use Rattle.hub_local.proofs.local_desk.LocalDesk.make.Goals as goal
 
-pub returns-then-contains_key-clause-step : goal.returns-then-contains_key-clause-step
-returns-then-contains_key-clause-step c = answers_here c.self.view_is (make_exists _ c.args.name.now _ _ _ (sym c.contains_key.ensures ∙ c.if-contains_key.true))
+pub returns-then-contains_key : goal.returns-then-contains_key
+returns-then-contains_key c = answers_here c.self.view_is (make_exists _ c.args.name.now _ _ _ (sym c.contains_key.ensures ∙ c.if-contains_key.true))
 
-pub returns-then-len-ge-MOST_NAMES-clause-step : goal.returns-then-len-ge-MOST_NAMES-clause-step
-returns-then-len-ge-MOST_NAMES-clause-step c =
+pub returns-then-len-ge-MOST_NAMES : goal.returns-then-len-ge-MOST_NAMES
+returns-then-len-ge-MOST_NAMES c =
     answers_here c.self.view_is (make_many _ c.args.name.now _ _ _ (sym c.contains_key.ensures ∙ c.if-contains_key.false) (let n = c.len.ensures.len in let m = c.if-len-ge-MOST_NAMES.true in omega arith))
 
-pub returns-in_default-clause-step : goal.returns-in_default-clause-step
-returns-in_default-clause-step c =
+pub returns-in_default : goal.returns-in_default
+returns-in_default c =
     answers_here c.self.view_is (make_lacks _ c.args.name.now _ _ _ (sym c.contains_key.ensures ∙ c.if-contains_key.false) (let n = c.len.ensures.len in let m = c.if-len-ge-MOST_NAMES.false in omega arith) _ refl)
 
-pub returns-in_default-new-clause-step : goal.returns-in_default-new-clause-step
-returns-in_default-new-clause-step c =
+pub returns-in_default-new : goal.returns-in_default-new
+returns-in_default-new c =
     answers_here c.self.view_is (make_lacks _ c.args.name.now _ _ _ (sym c.contains_key.ensures ∙ c.if-contains_key.false) (let n = c.len.ensures.len in let m = c.if-len-ge-MOST_NAMES.false in omega arith) _ refl)
 
-pub returns-in-Ok-insert-clause-step : goal.returns-in-Ok-insert-clause-step
-returns-in-Ok-insert-clause-step c =
+pub returns-in-Ok-insert : goal.returns-in-Ok-insert
+returns-in-Ok-insert c =
     let absent = sym c.contains_key.ensures ∙ c.if-contains_key.false in
     let named = c.in-Ok.ensures in
     answers_from c.self.view_is (make_done _ c.args.name.now _ _ _ absent (let n = c.len.ensures.len in let m = c.if-len-ge-MOST_NAMES.false in omega arith) _ c.in-Ok-new.kept c.in-Ok-new.ensures
@@ -30,9 +30,9 @@ returns-in-Ok-insert-clause-step c =
     ∙ insert_entry-new bytes_eq c.self.inside.fifodirs c.in-Ok.key _ (none_of _ (ap (λ (k : List ℕ). is_some (lookup (bytes_eq k) c.self.inside.fifodirs.entries)) named ∙ absent))
     ∙ ap (λ (k : List ℕ). c.self.inside.fifodirs.entries ++ (k, record { kept = c.in-Ok-new.kept; reports = c.args.reports }) ∷ []) named) refl refl)
 
-pub returns-clause-step : goal.returns-clause-step
-returns-clause-step c =
+pub returns : goal.returns
+returns c =
     answers_from c.self.view_is (make_lacks _ c.args.name.now _ _ _ (sym c.contains_key.ensures ∙ c.if-contains_key.false) (let n = c.len.ensures.len in let m = c.if-len-ge-MOST_NAMES.false in omega arith) _ (same_parts _ _ c.in-Err.ensures.err refl refl))
 
 pub invariant_of-self : goal.invariant_of-self
-invariant_of-self c = stands_on _ c.args.self.now _ _ _ _ _ _ c.self.view_is (returns-in-Ok-insert-clause-step c) c.self.invariant
+invariant_of-self c = stands_on _ c.args.self.now _ _ _ _ _ _ c.self.view_is (returns-in-Ok-insert c) c.self.invariant

@@ -1,24 +1,20 @@
-use Rattle.std.proofs.Common.{false, refl, ap, sym, subst, ◌∙◌, List, ℕ, Result, Ok, Err, arith}
+use Rattle.std.proofs.Common.{false, refl, ap, subst, ◌∙◌, List, ℕ, Result, Ok, Err}
 use Rattle.hub_record.specs.World.{World, PublishReply, after_publish}
 use Rattle.hub_record.specs.Kept.{StandsFor}
 use Rattle.hub_record.specs.declared.PubError.{PubError}
 use Rattle.hub_requests.specs.declared.reply.Reply.TheVariants.{No}
 use Rattle.hub_requests.specs.declared.reply.Refusal.{Refusal}
-use Rattle.hub_requests.proofs.ShortReplies.{short_number}
-use Rattle.hub_requests.specs.Brief.{IsShort}
-use Rattle.hub_local.proofs.ShortRefusals.{short_refused}
-use Rattle.hub_local.proofs.KeptFifodirs.{some_kept}
 use Rattle.hub_local.proofs.Asking.{same_parts, replaces, no_name, stands_on}
 use Rattle.hub_local.proofs.AskingFifodirs.{publish_done, publish_refused}
 use Rattle.hub_local.proofs.local_desk.LocalDesk.publish.Goals as goal
 use Rattle.hub_local.proofs.local_desk.LocalDesk.publish.Goals.{in-Ok, in-Err}
 
-pub returns-in_default-clause-step : goal.returns-in_default-clause-step
-returns-in_default-clause-step c =
+pub returns-in_default : goal.returns-in_default
+returns-in_default c =
     no_name _ c.args.self.now _ false c.args.name.now _ _ c.self.view_is (same_parts _ _ (ap (λ m. m.entries) c.get_mut.follows.holds-at-none) refl refl) c.in_default.ensures.value
 
-pub returns-clause-step : goal.returns-clause-step
-returns-clause-step c =
+pub returns : goal.returns
+returns c =
     let put = replaces _ c.args.self.now _ c.args.name.now c.in-Some.fifodir.now c.publish.new.self c.self.view_is c.in-Some.ensures.value (c.get_mut.follows.holds _).0 refl refl in
     let said = λ (r : Result ℕ PubError) (h : (w : World) → StandsFor c.in-Some.fifodir.now.kept w → PublishReply w c.items.result.now r).
     subst (λ (m : List ℕ). (w : World) → StandsFor c.in-Some.fifodir.now.kept w → PublishReply w m r) c.items.ensures h in
@@ -31,14 +27,4 @@ returns-clause-step c =
     ]
 
 pub invariant_of-self-2 : goal.invariant_of-self-2
-invariant_of-self-2 c = stands_on _ c.args.self.now _ _ _ _ _ _ c.self.view_is (returns-clause-step c) c.self.invariant
-
-pub returns-clause-short : goal.returns-clause-short
-returns-clause-short c = elim c.match-publish.branch [
-  | in-Ok w ↦ subst IsShort (sym w.result-is) (short_number w.in-Ok.first (omega arith))
-  | in-Err w ↦ (
-      let t = some_kept c.args.name.now _ _ c.in-Some.fifodir.now c.self.invariant.stands.fifodirs (sym c.in-Some.ensures.value) in
-      let fits = c.items.type_inv in
-      subst IsShort (sym (w.result-is ∙ ap (λ (r : Refusal). No r) w.from.ensures))
-      (short_refused t.0 c.items.result.now w.in-Err.error (w.in-Err.ensures.reply t.0 t.2) (omega arith)))
-]
+invariant_of-self-2 c = stands_on _ c.args.self.now _ _ _ _ _ _ c.self.view_is (returns c) c.self.invariant

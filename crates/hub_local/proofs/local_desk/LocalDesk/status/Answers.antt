@@ -4,16 +4,12 @@ use Rattle.std.specs.Str.{bytes_eq}
 use Rattle.hub_local.specs.Standing.{Local}
 use Rattle.hub_local.proofs.Asking.{no_name}
 use Rattle.hub_local.proofs.AskingFifodirs.{status_shown}
-use Rattle.hub_requests.proofs.ShortReplies.{short_state}
 use Rattle.hub_local.proofs.local_desk.LocalDesk.status.Goals as goal
 
-pub returns-in_default-clause-step : goal.returns-in_default-clause-step
-returns-in_default-clause-step c = no_name _ c.args.self.now _ false c.args.name.now _ _ c.self.view_is (sym c.self.view_is) c.in_default.ensures.value
+pub returns-in_default : goal.returns-in_default
+returns-in_default c = no_name _ c.args.self.now _ false c.args.name.now _ _ c.self.view_is (sym c.self.view_is) c.in_default.ensures.value
 
-pub returns-clause-step : goal.returns-clause-step
-returns-clause-step c =
+pub returns : goal.returns
+returns c =
     status_shown c.args.self.now c.args.name.now c.in-Some.fifodir.now _
     (c.in-Some.ensures.value ∙ ap (λ (z : Local). lookup (bytes_eq c.args.name.now) z.fifodirs) c.self.view_is) c.end.ensures c.flags.ensures c.closed.ensures
-
-pub returns-clause-short : goal.returns-clause-short
-returns-clause-short c = short_state _ c.end.type_inv

@@ -11,8 +11,8 @@ pub take_waiting-requires-clause-current : goal.take_waiting-requires-clause-cur
 take_waiting-requires-clause-current c =
     has_subscription _ c.self.invariant.desk c.self.invariant.stands c.args.id c.in-Some.holding.now c.in-Some.ensures.value c.in-Some-get_mut.fifodir.now c.in-Some-get_mut.ensures.value
 
-pub returns-clause-step : goal.returns-clause-step
-returns-clause-step c =
+pub returns : goal.returns
+returns c =
     let has = has_subscription _ c.self.invariant.desk c.self.invariant.stands c.args.id c.in-Some.holding.now c.in-Some.ensures.value c.in-Some-get_mut.fifodir.now c.in-Some-get_mut.ensures.value in
     answers_from c.self.view_is (elim c.match-take_waiting.branch [
       | in-Ok w ↦ take_done _ _ c.args.id c.args.max c.in-Some.holding.now c.in-Some.ensures.value (sym c.is_some.ensures ∙ c.if-is_some.false) c.in-Some-get_mut.fifodir.now c.take_waiting.new.kept
@@ -22,4 +22,4 @@ returns-clause-step c =
     ])
 
 pub invariant_of-self : goal.invariant_of-self
-invariant_of-self c = stands_on _ c.args.self.now _ _ _ _ _ _ c.self.view_is (returns-clause-step c) c.self.invariant
+invariant_of-self c = stands_on _ c.args.self.now _ _ _ _ _ _ c.self.view_is (returns c) c.self.invariant

@@ -1,6 +1,5 @@
-use Rattle.std.proofs.Common.{◌≡◌, ◌≤◌, ◌*◌, length, map, take, vec_len, vec_capacity}
+use Rattle.std.proofs.Common.{◌≡◌, ◌≤◌, length, map, take, vec_len, vec_capacity}
 use Rattle.hub_wait.specs.Verdicts.{tally_of}
-use Rattle.hub_requests.specs.Texts.{numbers_text}
 use Rattle.hub_local.specs.Waits.{number_of}
 use Rattle.hub_local.proofs.local_desk.waits.verdict_shown.Given as goal
 
@@ -10,5 +9,4 @@ invariant-loop-post l = record {
   shown : l.numbers.items ≡ map number_of (take l.post-index l.posts);
   count : vec_len l.numbers ≡ l.post-index;
   room : length l.posts ≤ vec_capacity l.numbers;
-  short : length (numbers_text l.numbers.items) ≤ 21 * l.post-index;
 }

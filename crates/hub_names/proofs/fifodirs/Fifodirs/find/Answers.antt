@@ -1,5 +1,5 @@
 use Rattle.std.proofs.Common.{sym}
-use Rattle.hub_names.proofs.KeptFifodirs.{kept_copy, lacking_copy, brief_copy}
+use Rattle.hub_names.proofs.KeptFifodirs.{kept_copy, lacking_copy}
 use Rattle.hub_names.proofs.fifodirs.Fifodirs.find.Goals as goal
 
 pub returns-in-Some-clause-ok : goal.returns-in-Some-clause-ok
@@ -8,14 +8,8 @@ returns-in-Some-clause-ok g c = kept_copy c.args.self.now c.args.name.now c.in-S
 pub returns-in-Some-clause-missing : goal.returns-in-Some-clause-missing
 returns-in-Some-clause-missing g c = lacking_copy c.args.self.now c.args.name.now c.copy.result c.copy.ensures.err
 
-pub returns-in-Some-clause-brief : goal.returns-in-Some-clause-brief
-returns-in-Some-clause-brief g c = brief_copy c.copy.result c.copy.ensures.err
-
 pub returns-clause-ok : goal.returns-clause-ok
 returns-clause-ok g c = kept_copy c.join.new.self c.args.name.now c.in-Some-get.joined.now c.copy-2.result (sym c.in-Some-get.ensures.value) c.copy-2.ensures.dir c.copy-2.ensures.notifies
 
 pub returns-clause-missing : goal.returns-clause-missing
 returns-clause-missing g c = lacking_copy c.join.new.self c.args.name.now c.copy-2.result c.copy-2.ensures.err
-
-pub returns-clause-brief : goal.returns-clause-brief
-returns-clause-brief g c = brief_copy c.copy-2.result c.copy-2.ensures.err

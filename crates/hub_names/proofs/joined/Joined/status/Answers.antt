@@ -1,4 +1,4 @@
-use Rattle.std.proofs.Common.{◌≡◌, Option, Some, refl, sym, subst}
+use Rattle.std.proofs.Common.{◌≡◌, Option, Some, refl, subst}
 use Rattle.std.specs.Arc.{arc_value}
 use Rattle.hub_fifodir.specs.declared.publisher.Publisher.{Publisher}
 use Rattle.hub_names.specs.Speaking.{IsSpeaker}

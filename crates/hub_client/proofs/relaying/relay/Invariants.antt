@@ -3,7 +3,7 @@ use Rattle.hub_io.specs.declared.reading.TheConstants.{CHUNK}
 use Rattle.hub_io.specs.Telling.{Rises}
 use Rattle.hub_client.specs.Pending.{pending}
 use Rattle.hub_client.specs.UnderWay.{IsUnderWay}
-use Rattle.hub_client.proofs.relaying.relay_lines.Given as goal
+use Rattle.hub_client.proofs.relaying.relay.Given as goal
 
 -- as many replies were written as lines were sent, and there was no fault
 abbrev pub invariant-turns : goal.invariant-turns

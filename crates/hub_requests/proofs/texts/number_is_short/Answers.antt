@@ -1,0 +1,6 @@
+use Rattle.std.proofs.Common.{arith}
+use Rattle.std.proofs.lemmas.Fmt.{length-decimal-le}
+use Rattle.hub_requests.proofs.texts.number_is_short.Goals as goal
+
+pub returns : goal.returns
+returns c = length-decimal-le 20 c.args.number (omega arith) (omega arith) c.ranges.number.fits
