@@ -1,9 +1,11 @@
 -- What a contract sees of the events that are kept, and of the cursors into them.
-use Rattle.std.specs.Prelude.{ℕ, ◌≡◌, ◌⊎◌, ◌==◌, ◌+◌, ◌-◌, ◌<◌, ◌≤◌, List, [], ◌∷◌, ◌++◌, Option, Some, None, Result, Ok, Err, take, drop, length, min, nat_eq, count_by, All, IsSome}
+use Rattle.std.specs.Prelude.{ℕ, ◌≡◌, ◌⊎◌, ◌==◌, ◌+◌, ◌-◌, ◌<◌, ◌≤◌, List, [], ◌∷◌, ◌++◌, Option, Some, None, Result, Ok, Err, take, drop, set, get_or, length, min, nat_eq, nat_lt, count_by, All, IsSome}
+use Rattle.std.specs.List.{position_or_len}
 use Rattle.std.specs.Map.{lookup, set_value, remove_entry, keys_of, values_of}
 use Rattle.hub_record.specs.declared.Event.{Event}
 use Rattle.hub_record.specs.declared.NoId.{NoId}
-use Rattle.hub_record.specs.declared.limits.TheConstants.{MOST_EVENTS}
+use Rattle.circular_buffer.specs.Buffer.{Buffer}
+use Rattle.hub_record.specs.declared.limits.TheConstants.{MOST_EVENTS, MOST_PASSES}
 use Rattle.hub_record.specs.World.{least}
 
 -- the events from the least cursor on, and the cursors of the current ids in the order of the ids
@@ -74,9 +76,23 @@ RemovesBy before after id (Err no_id) = (next_of before id ≡ None) × (after �
 abbrev pub standing_at : ℕ → List (ℕ × ℕ) → ℕ
 standing_at number cursors = count_by (λ n. n == number) (values_of cursors)
 
-pub record IsKept (number standing end given : ℕ) (cursors : List (ℕ × ℕ)) : Type 0 where
-  pub lowest : number ≡ least end cursors
-  pub counted : standing ≡ standing_at number cursors
+-- the counts are, event by event from the base on, how many cursors are at it; the last is for the end
+pub record IsKept (room base : ℕ) (counts : Buffer ℕ) (end given : ℕ) (cursors : List (ℕ × ℕ)) : Type 0 where
+  pub lowest : base ≡ least end cursors
+  pub counted : (k : ℕ) → get_or counts.items k 0 ≡ standing_at (base + k) cursors
+  pub to_end : base + length counts.items ≡ end + 1
+  pub fits : counts.capacity ≡ room + 1
   pub behind : All (λ n. n ≤ end) (values_of cursors)
   pub known : All (λ id. id ≤ given) (keys_of cursors)
+  pub few : length cursors ≤ MOST_PASSES
   pub small : end ≤ MOST_EVENTS
+
+abbrev pub with_one_more : List ℕ → ℕ → List ℕ
+with_one_more counts place = set counts place (get_or counts place 0 + 1)
+
+abbrev pub with_one_less : List ℕ → ℕ → List ℕ
+with_one_less counts place = set counts place (get_or counts place 0 - 1)
+
+-- the first place at which there is a cursor, or the number of places
+abbrev pub first_place : List ℕ → ℕ
+first_place counts = position_or_len (λ n. nat_lt 0 n) counts

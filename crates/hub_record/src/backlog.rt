@@ -1,11 +1,12 @@
 //! The pending events, and the cursors into them.
-ghost use Rattle.std.specs.Prelude.{◌≡◌, ◌≤◌, ◌<◌, ◌↔◌, ◌+◌, ◌-◌, length, IfOk, OnErr, IsTrue, option_map, drop};
+ghost use Rattle.std.specs.Prelude.{◌≡◌, ◌≤◌, ◌<◌, ◌↔◌, ◌+◌, ◌-◌, length, min, IfOk, OnErr, IsTrue, option_map, drop};
 ghost use Rattle.circular_buffer.specs.Buffer.{buffer};
 ghost use Rattle.hub_record.specs.declared.limits.TheConstants.{MOST_EVENTS, MOST_IDS, MOST_PASSES};
-ghost use Rattle.hub_record.specs.World.{least, as_events};
-ghost use Rattle.hub_record.specs.Backlog.{Held, nothing_held, lowest, next_of, standing_at};
+ghost use Rattle.hub_record.specs.World.{as_events};
+ghost use Rattle.hub_record.specs.Backlog.{Held, nothing_held, lowest, next_of, first_place};
 ghost use Rattle.hub_record.specs.Backlog.{with_new_id, with_events, with_cursors, HasRoomFor, TakesBy, RemovesBy};
 
+use crate::counts::{first_place, lengthen, one_less, one_more};
 use crate::ring::{copy_out, cut, push_in};
 use crate::{Event, NoId};
 use circular_buffer::HeapCircularBuffer;
@@ -14,19 +15,15 @@ use indexmap::IndexMap;
 use std::alloc::{AllocError, Global};
 use std::marker::Model;
 
-/// The number of the first event that is kept, and how many cursors are at it.
-#[derive(Clone, Copy)]
-struct Base {
-    number: u64,
-    standing: u64,
-}
-
-/// The events from the least cursor on. A call looks at one cursor only, unless the last cursor at the base moves on.
+/// The events from the least cursor on. A push or a take looks at no cursor but its own.
 #[derive(Drop)]
 pub struct Backlog {
-    /// The events from the base's number on.
+    /// The events from the base on.
     ring: HeapCircularBuffer<Event>,
-    base: Base,
+    /// How many cursors are at each of these events, and last how many are at the end.
+    counts: HeapCircularBuffer<u64>,
+    /// The number of the first event that is kept, which is the least cursor.
+    base: u64,
     /// How many ids were given so far.
     given: u64,
     /// The number of the event that each current id takes next, in the order of the ids.
@@ -41,14 +38,14 @@ impl Model for Backlog {
 
     ghost view = { λ b. record {
       room = b.ring.capacity;
-      end = b.base.number + length b.ring.items;
+      end = b.base + length b.ring.items;
       events = b.ring.items;
       given = b.given;
       cursors = b.cursors.entries;
     } };
 
-    ghost invariant = { λ b. IsKept b.base.number b.base.standing
-        (b.base.number + length b.ring.items) b.given b.cursors.entries };
+    ghost invariant = { λ b. IsKept b.ring.capacity b.base b.counts
+        (b.base + length b.ring.items) b.given b.cursors.entries };
 }
 
 impl Backlog {
@@ -56,12 +53,13 @@ impl Backlog {
     pub fn new(alloc: Global, room: usize) -> Result<Backlog, AllocError>
         ensures { IfOk result (λ b. b ≡ nothing_held room) }
     {
+        let ring = HeapCircularBuffer::with_capacity(alloc, room)?;
+        let mut counts = HeapCircularBuffer::with_capacity(alloc, ring.capacity() + 1)?;
+        lengthen(&mut counts, 1);
         Ok(Backlog {
-            ring: HeapCircularBuffer::with_capacity(alloc, room)?,
-            base: Base {
-                number: 0,
-                standing: 0,
-            },
+            ring,
+            counts,
+            base: 0,
             given: 0,
             cursors: IndexMap::new(alloc),
         })
@@ -72,14 +70,14 @@ impl Backlog {
         ensures end { result ≡ self.now.end }
         ensures small { result ≤ MOST_EVENTS }
     {
-        self.base.number + self.ring.len() as u64
+        self.base + self.ring.len() as u64
     }
 
     /// The least cursor, or `end()` if there is none.
     pub fn base(&self) -> u64
         ensures { result ≡ lowest self.now }
     {
-        self.base.number
+        self.base
     }
 
     /// How many ids were given so far.
@@ -130,9 +128,7 @@ impl Backlog {
             return Err(AllocError);
         };
         self.given = id;
-        if end == self.base.number {
-            self.base.standing += 1;
-        }
+        one_more(&mut self.counts, self.ring.len());
         Ok((id, end))
     }
 
@@ -143,10 +139,11 @@ impl Backlog {
         ensures { self.new ≡ with_events self.old (as_events who letters.now) }
     {
         if self.cursors.is_empty() {
-            self.base.number += letters.len() as u64;
+            self.base += letters.len() as u64;
             return;
         }
         push_in(&mut self.ring, who, letters);
+        lengthen(&mut self.counts, letters.len());
     }
 
     /// Moves what is pending behind a cursor into the slice, as far as it fits. None if nothing is pending.
@@ -161,15 +158,12 @@ impl Backlog {
         if from == end {
             return Ok(None);
         }
-        if out.is_empty() {
-            return Ok(Some(0));
-        }
-        let count = copy_out(&self.ring, (from - self.base.number) as usize, out);
+        let place = (from - self.base) as usize;
+        let count = copy_out(&self.ring, place, out);
         *next = from + count as u64;
-        if from > self.base.number {
-            return Ok(Some(count));
-        }
-        self.base = base_left(self.base, &mut self.ring, &self.cursors);
+        one_less(&mut self.counts, place);
+        one_more(&mut self.counts, place + count);
+        self.base += release(&mut self.ring, &mut self.counts) as u64;
         Ok(Some(count))
     }
 
@@ -180,54 +174,20 @@ impl Backlog {
         let Some(next) = self.cursors.shift_remove(&id) else {
             return Err(NoId);
         };
-        if next > self.base.number {
-            return Ok(());
-        }
-        self.base = base_left(self.base, &mut self.ring, &self.cursors);
+        one_less(&mut self.counts, (next - self.base) as usize);
+        self.base += release(&mut self.ring, &mut self.counts) as u64;
         Ok(())
     }
 }
 
-/// The base after a cursor has left it. If it was the last one there, the ring is cut at the least of the others.
-fn base_left(base: Base, ring: &mut HeapCircularBuffer<Event>, cursors: &IndexMap<u64, u64>) -> Base
-    requires counted { base.standing ≡ standing_at base.number cursors.now.entries + 1 }
-    requires least { base.number ≤ least (base.number + length ring.old.items) cursors.now.entries }
-    requires small { base.number + length ring.old.items ≤ MOST_EVENTS }
-    ensures number { result.number ≡ least (base.number + length ring.old.items)
-        cursors.now.entries }
-    ensures standing { result.standing ≡ standing_at result.number cursors.now.entries }
-    ensures cut { ring.new ≡ buffer (drop (result.number - base.number) ring.old.items)
-        ring.old.capacity }
+/// Releases the events before the first cursor, with their counts. Returns how many there were.
+fn release(ring: &mut HeapCircularBuffer<Event>, counts: &mut HeapCircularBuffer<u64>) -> usize
+    ensures count { result ≡ min (first_place counts.old.items) (length ring.old.items) }
+    ensures events { ring.new ≡ buffer (drop result ring.old.items) ring.old.capacity }
+    ensures counts { counts.new ≡ buffer (drop result counts.old.items) counts.old.capacity }
 {
-    if base.standing > 1 {
-        return Base {
-            number: base.number,
-            standing: base.standing - 1,
-        };
-    }
-    let lowest = lowest_of(base.number + ring.len() as u64, cursors);
-    cut(ring, (lowest.number - base.number) as usize);
-    lowest
-}
-
-/// The least cursor and how many cursors are at that number, or the end and zero.
-fn lowest_of(end: u64, cursors: &IndexMap<u64, u64>) -> Base
-    ensures number { result.number ≡ least end cursors.now.entries }
-    ensures standing { result.standing ≡ standing_at result.number cursors.now.entries }
-{
-    let mut lowest = Base {
-        number: end,
-        standing: 0,
-    };
-    for next in cursors.values() {
-        if *next < lowest.number {
-            lowest = Base {
-                number: *next,
-                standing: 1,
-            };
-        } else if *next == lowest.number {
-            lowest.standing += 1;
-        }
-    }
-    lowest
+    let count = first_place(counts).min(ring.len());
+    cut(ring, count);
+    cut(counts, count);
+    count
 }

@@ -21,6 +21,7 @@
 #![tactic(auto)]
 
 mod backlog;
+mod counts;
 pub mod laws;
 mod letters;
 mod limits;

@@ -1,0 +1,41 @@
+-- How many cursors are at a number, after a change of one cursor.
+use Rattle.std.proofs.Common.{ℕ, ◌≡◌, ◌==◌, ◌+◌, ◌<◌, ◌≤◌, Bool, cond, List, [], ◌∷◌, ◌++◌, Some, length, count_by, ap, ◌∙◌, arith}
+use Rattle.std.proofs.lemmas.Bool.{eq-eqb, ne_eqb}
+use Rattle.std.proofs.lemmas.List.{map-append}
+use Rattle.std.proofs.lemmas.List.Sums.{sum_by-cons, sum_by_push, count_by-le-length}
+use Rattle.std.proofs.lemmas.Map.Entries.{length-values_of, sum_by-set_value, sum_by-remove_entry}
+use Rattle.std.specs.Option.{option_map, unwrap_or}
+use Rattle.std.specs.Map.{lookup, set_value, remove_entry, values_of}
+use Rattle.hub_record.specs.Backlog.{standing_at}
+
+-- what a cursor at v counts at the number n
+abbrev pub one_at : ℕ → ℕ → ℕ
+one_at n v = cond (v == n) 1 0
+
+pub one : (n v : ℕ) → v ≡ n → one_at n v ≡ 1
+one n v is = ap (λ b. cond b 1 0) (eq-eqb v n is)
+
+pub none : (n v : ℕ) → (v ≡ n → ⊥) → one_at n v ≡ 0
+none n v not = ap (λ b. cond b 1 0) (ne_eqb v n not)
+
+pub standing_at-cons : (n : ℕ) (c : ℕ × ℕ) (cs : List (ℕ × ℕ)) → standing_at n (c ∷ cs) ≡ one_at n c.1 + standing_at n cs
+standing_at-cons n c cs = sum_by-cons (one_at n) c.1 (values_of cs)
+
+pub standing_at-push : (n id v : ℕ) (cs : List (ℕ × ℕ)) → standing_at n (cs ++ (id, v) ∷ []) ≡ standing_at n cs + one_at n v
+standing_at-push n id v cs = ap (count_by (λ v. v == n)) (map-append (λ (c : ℕ × ℕ). c.1) cs ((id, v) ∷ [])) ∙ sum_by_push (one_at n) (values_of cs) v
+
+pub standing_at-set_value : (n : ℕ) (test : ℕ → Bool) (cs : List (ℕ × ℕ)) (v w : ℕ) → lookup test cs ≡ Some v → standing_at n (set_value test cs w) + one_at n v ≡ standing_at n cs + one_at n w
+standing_at-set_value n test cs v w e = sum_by-set_value (one_at n) test cs v w e
+
+pub standing_at-remove_entry : (n : ℕ) (test : ℕ → Bool) (cs : List (ℕ × ℕ)) (v : ℕ) → lookup test cs ≡ Some v → standing_at n (remove_entry test cs) + one_at n v ≡ standing_at n cs
+standing_at-remove_entry n test cs v e =
+    let s = sum_by-remove_entry (one_at n) test cs in
+    let k = ap (λ o. unwrap_or (option_map (one_at n) o) 0) e in
+    omega arith
+
+-- at a cursor there is one at least
+pub standing_at-some : (test : ℕ → Bool) (cs : List (ℕ × ℕ)) (v n : ℕ) → lookup test cs ≡ Some v → v ≡ n → 0 < standing_at n cs
+standing_at-some test cs v n e at = let s = standing_at-remove_entry n test cs v e in let o = one n v at in omega arith
+
+pub standing_at-le-length : (n : ℕ) (cs : List (ℕ × ℕ)) → standing_at n cs ≤ length cs
+standing_at-le-length n cs = let k = count_by-le-length (λ v. v == n) (values_of cs) in let l = length-values_of cs in omega arith

@@ -1,0 +1,49 @@
+//! The counts of a record: how many cursors are at each number from the base to the end.
+ghost use Rattle.std.specs.Prelude.{◌≡◌, ◌≤◌, ◌<◌, ◌+◌, ◌++◌, length, get_or, replicate};
+ghost use Rattle.circular_buffer.specs.Buffer.{buffer};
+ghost use Rattle.hub_record.specs.declared.limits.TheConstants.{MOST_PASSES};
+ghost use Rattle.hub_record.specs.Backlog.{first_place, with_one_more, with_one_less};
+
+use circular_buffer::HeapCircularBuffer;
+
+/// Adds this many places, at which there is no cursor.
+pub fn lengthen(counts: &mut HeapCircularBuffer<u64>, more: usize)
+    requires { length counts.old.items + more ≤ counts.old.capacity }
+    ensures { counts.new ≡ buffer (counts.old.items ++ replicate more 0) counts.old.capacity }
+{
+    for _ in 0..more {
+        counts.push_back(0);
+    }
+}
+
+/// Counts one cursor more at a place.
+pub fn one_more(counts: &mut HeapCircularBuffer<u64>, place: usize)
+    requires place { place < length counts.old.items }
+    requires few { get_or counts.old.items place 0 ≤ MOST_PASSES }
+    ensures { counts.new ≡ buffer (with_one_more counts.old.items place) counts.old.capacity }
+{
+    if let Some(count) = counts.get_mut(place) {
+        *count += 1;
+    }
+}
+
+/// Counts one cursor less at a place.
+pub fn one_less(counts: &mut HeapCircularBuffer<u64>, place: usize)
+    requires place { place < length counts.old.items }
+    requires some { 0 < get_or counts.old.items place 0 }
+    ensures { counts.new ≡ buffer (with_one_less counts.old.items place) counts.old.capacity }
+{
+    if let Some(count) = counts.get_mut(place) {
+        *count -= 1;
+    }
+}
+
+/// The first place at which there is a cursor, or the number of places.
+pub fn first_place(counts: &HeapCircularBuffer<u64>) -> usize
+    ensures { result ≡ first_place counts.now.items }
+{
+    counts
+        .iter()
+        .position(|count| *count > 0)
+        .unwrap_or(counts.len())
+}
