@@ -128,7 +128,8 @@ impl Backlog {
             return Err(AllocError);
         };
         self.given = id;
-        one_more(&mut self.counts, self.ring.len());
+        let last = self.ring.len();
+        one_more(&mut self.counts, last);
         Ok((id, end))
     }
 
