@@ -1,6 +1,6 @@
 // crates.txt: YOURS: hub_protocol hub_requests
 use hub_protocol::{parse, write_reply};
-use hub_requests::{Desk, Refusal, Reply};
+use hub_requests::{Desk, Reply};
 use std::alloc::{AllocError, Global};
 use std::sync::Wait;
 
@@ -14,7 +14,7 @@ pub fn answer_line<H: Wait, D: Desk>(
 ) -> Result<(), AllocError> {
     let reply = match parse(alloc, line) {
         Ok(request) => desk.ask(rt, &request),
-        Err(bad) => Reply::No(Refusal::from(bad)),
+        Err(refusal) => Reply::No(refusal),
     };
     write_reply(&reply, out)
 }

@@ -5,11 +5,9 @@ use Rattle.std.proofs.lemmas.List.Elements.{All-head, All-tail}
 use Rattle.hub_requests.specs.declared.request.Request.{Request}
 use Rattle.hub_requests.specs.declared.reply.Reply.{Reply}
 use Rattle.hub_requests.specs.declared.reply.Reply.TheVariants.{No}
+use Rattle.hub_requests.specs.declared.reply.Refusal.{Refusal}
 use Rattle.hub_requests.specs.declared.reply.Refusal.TheVariants.{Memory}
 use Rattle.hub_requests.specs.Texts.{text_of}
-use Rattle.hub_protocol.specs.declared.parsing.Bad.{Bad}
-use Rattle.hub_protocol.specs.declared.parsing.Bad.TheVariants as bad
-use Rattle.hub_protocol.specs.Refusing.{refusal_of}
 use Rattle.hub_front.specs.Serving.{Asking, AnswersLine, AnswersRead, Run, Finished}
 use Rattle.hub_io.specs.Lines.{lines_of}
 use Rattle.hub_front.specs.Places.{NoneIsMemory, IsFunction}
@@ -28,11 +26,11 @@ alike_of_function asks function old old' new new' request reply reply' same give
     function old' new new' request reply reply' given given' (subst (λ d. asks d request reply new) same asked) asked'
 
 -- a line whose reply isn't `no memory` was read whole
-read_whole : {D : Type 0} (asks : Asking D) (old new : D) (read : Result Request Bad) (reply : Reply) → AnswersRead asks old read reply new → reply ≢ No Memory → read ≢ Err bad.Memory
+read_whole : {D : Type 0} (asks : Asking D) (old new : D) (read : Result Request Refusal) (reply : Reply) → AnswersRead asks old read reply new → reply ≢ No Memory → read ≢ Err Memory
 read_whole asks old new (Ok request) reply answered given = λ e. cc
-read_whole asks old new (Err why) reply answered given = λ e. given (answered.0 ∙ (let same : why ≡ bad.Memory = cc in ap (λ w. No (refusal_of w)) same))
+read_whole asks old new (Err why) reply answered given = λ e. given (answered.0 ∙ (let same : why ≡ Memory = cc in ap No same))
 
-same_answer : {D : Type 0} (asks : Asking D) (alike : D → D → Type 0) → StayAlike asks alike → (old old' new new' : D) (read : Result Request Bad) (reply reply' : Reply)
+same_answer : {D : Type 0} (asks : Asking D) (alike : D → D → Type 0) → StayAlike asks alike → (old old' new new' : D) (read : Result Request Refusal) (reply reply' : Reply)
     → alike old old' → reply ≢ No Memory → reply' ≢ No Memory → AnswersRead asks old read reply new → AnswersRead asks old' read reply' new' → (reply ≡ reply') × alike new new'
 same_answer asks alike stay old old' new new' (Ok request) reply reply' a given given' answered answered' = stay old old' new new' request reply reply' a given given' answered answered'
 same_answer asks alike stay old old' new new' (Err why) reply reply' a given given' answered answered' =

@@ -5,8 +5,8 @@ use Rattle.std.proofs.lemmas.List.{take-append-le, map-append, take_all, length-
 use Rattle.std.proofs.lemmas.Bool.{lt-ltb, le-ltb}
 use Rattle.hub_requests.specs.declared.reply.Reply.{Reply}
 use Rattle.hub_requests.specs.declared.request.Request.{Request}
-use Rattle.hub_protocol.specs.declared.parsing.Bad.{Bad}
-use Rattle.hub_protocol.specs.declared.parsing.Bad.TheVariants.{Long, Text, Word, Form, Range, Memory}
+use Rattle.hub_requests.specs.declared.reply.Refusal.{Refusal}
+use Rattle.hub_requests.specs.declared.reply.Refusal.TheVariants.{Long, Text, Word, Form, Range, Memory}
 use Rattle.hub_protocol.specs.Reading.{IsReading}
 use Rattle.hub_io.specs.Lines.{onto_first, complete_of, rest_of, last_line, lines_of}
 use Rattle.hub_front.specs.Pieces.{keep, complete_pieces, piece_left, pieces_of}
@@ -90,7 +90,7 @@ pieces-whole bs =
 -- ---- a line is read as its first 513 bytes are
 
 -- more than 512 bytes are too long, whatever they are
-cut_is_long : (line : List ℕ) (read : Result Request Bad) → 513 ≤ length line → IsReading (cut line) read → 512 < length line × (read ≡ Err Long)
+cut_is_long : (line : List ℕ) (read : Result Request Refusal) → 513 ≤ length line → IsReading (cut line) read → 512 < length line × (read ≡ Err Long)
 cut_is_long line (Err Long) h r = (omega arith, refl)
 cut_is_long line (Ok request) h r = let size : length (cut line) ≡ 513 = length-take-le 513 line h in absurd (omega (arith, r.text.short))
 cut_is_long line (Err Text) h r = let size : length (cut line) ≡ 513 = length-take-le 513 line h in absurd (omega (arith, r.0))
@@ -98,8 +98,9 @@ cut_is_long line (Err Word) h r = let size : length (cut line) ≡ 513 = length-
 cut_is_long line (Err Form) h r = let size : length (cut line) ≡ 513 = length-take-le 513 line h in absurd (omega (arith, r.0.short))
 cut_is_long line (Err Range) h r = let size : length (cut line) ≡ 513 = length-take-le 513 line h in absurd (omega (arith, r.0.short))
 cut_is_long line (Err Memory) h r = let size : length (cut line) ≡ 513 = length-take-le 513 line h in absurd (omega (arith, r.1.text.short))
+cut_is_long line (Err other) h r = absurd r
 
-reading_of_cut : (line : List ℕ) (read : Result Request Bad) → IsReading (cut line) read → IsReading line read
+reading_of_cut : (line : List ℕ) (read : Result Request Refusal) → IsReading (cut line) read → IsReading line read
 reading_of_cut line read r = elim (short_or_long (length line) 513) [
   | inl h ↦ subst (λ l. IsReading l read) (take_all 513 line (omega arith)) r
   | inr h ↦ let long : (512 < length line) × (read ≡ Err Long) = cut_is_long line read h r in subst (λ x. IsReading line x) (sym long.1) long.0

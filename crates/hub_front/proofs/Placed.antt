@@ -4,19 +4,17 @@ use Rattle.std.proofs.lemmas.List.Elements.{All-nil, All-cons, All-head, All-tai
 use Rattle.hub_requests.specs.declared.request.Request.{Request}
 use Rattle.hub_requests.specs.declared.reply.Reply.{Reply}
 use Rattle.hub_requests.specs.declared.reply.Reply.TheVariants.{No}
+use Rattle.hub_requests.specs.declared.reply.Refusal.{Refusal}
 use Rattle.hub_requests.specs.declared.reply.Refusal.TheVariants.{Memory}
-use Rattle.hub_protocol.specs.declared.parsing.Bad.{Bad}
-use Rattle.hub_protocol.specs.declared.parsing.Bad.TheVariants as bad
 use Rattle.hub_protocol.specs.Reading.{IsReading}
-use Rattle.hub_protocol.specs.Refusing.{refusal_of}
 use Rattle.hub_front.specs.Serving.{Asking, AnswersRead, Run}
 use Rattle.hub_front.specs.Places.{AreInPlace}
 
 abbrev IsGiven : Reply → Type 0
 IsGiven reply = reply ≢ No Memory
 
-abbrev IsRead : Result Request Bad → Type 0
-IsRead read = read ≢ Err bad.Memory
+abbrev IsRead : Result Request Refusal → Type 0
+IsRead read = read ≢ Err Memory
 
 -- no line
 in_place_none : {D : Type 0} {asks : Asking D} {old new : D} → new ≡ old → AreInPlace asks old [] [] new
@@ -44,20 +42,20 @@ in_place_request {mid = mid} line request reply {replies} reading answered p = r
 }
 
 -- one more line before them, which is refused
-in_place_refusal : {D : Type 0} {asks : Asking D} {old new : D} (line : List ℕ) {lines : List (List ℕ)} (why : Bad) {replies : List Reply}
-    → IsReading line (Err why) → AreInPlace asks old lines replies new → AreInPlace asks old (line ∷ lines) (No (refusal_of why) ∷ replies) new
+in_place_refusal : {D : Type 0} {asks : Asking D} {old new : D} (line : List ℕ) {lines : List (List ℕ)} (why : Refusal) {replies : List Reply}
+    → IsReading line (Err why) → AreInPlace asks old lines replies new → AreInPlace asks old (line ∷ lines) (No why ∷ replies) new
 in_place_refusal line why {replies} reading p = record {
   reads = Err why ∷ p.reads;
   readings = (reading, p.readings);
   given = p.given;
   asked = p.asked;
-  placed = ap (λ rs. No (refusal_of why) ∷ rs) p.placed;
-  read_whole = λ none. All-cons IsRead (Err why) p.reads (λ e. All-head IsGiven (No (refusal_of why)) replies none (let same : why ≡ bad.Memory = cc in ap (λ w. No (refusal_of w)) same))
-      (p.read_whole (All-tail IsGiven (No (refusal_of why)) replies none));
-  given_whole = λ none. p.given_whole (All-tail IsGiven (No (refusal_of why)) replies none);
+  placed = ap (λ rs. No why ∷ rs) p.placed;
+  read_whole = λ none. All-cons IsRead (Err why) p.reads (λ e. All-head IsGiven (No why) replies none (cc))
+      (p.read_whole (All-tail IsGiven (No why) replies none));
+  given_whole = λ none. p.given_whole (All-tail IsGiven (No why) replies none);
 }
 
-in_place_line : {D : Type 0} {asks : Asking D} {old mid new : D} (line : List ℕ) {lines : List (List ℕ)} (read : Result Request Bad) (reply : Reply) {replies : List Reply}
+in_place_line : {D : Type 0} {asks : Asking D} {old mid new : D} (line : List ℕ) {lines : List (List ℕ)} (read : Result Request Refusal) (reply : Reply) {replies : List Reply}
     → IsReading line read → AnswersRead asks old read reply mid → AreInPlace asks mid lines replies new → AreInPlace asks old (line ∷ lines) (reply ∷ replies) new
 in_place_line line (Ok request) reply reading answered p = in_place_request line request reply reading answered p
 in_place_line {asks = asks} {old} {new = new} line {lines} (Err why) reply {replies} reading answered p =

@@ -4,25 +4,23 @@ use Rattle.std.specs.List.{AllZip}
 use Rattle.hub_requests.specs.declared.request.Request.{Request}
 use Rattle.hub_requests.specs.declared.reply.Reply.{Reply}
 use Rattle.hub_requests.specs.declared.reply.Reply.TheVariants.{No}
+use Rattle.hub_requests.specs.declared.reply.Refusal.{Refusal}
 use Rattle.hub_requests.specs.declared.reply.Refusal.TheVariants.{Memory}
-use Rattle.hub_protocol.specs.declared.parsing.Bad.{Bad}
-use Rattle.hub_protocol.specs.declared.parsing.Bad.TheVariants as bad
 use Rattle.hub_protocol.specs.Reading.{IsReading}
-use Rattle.hub_protocol.specs.Refusing.{refusal_of}
 use Rattle.hub_front.specs.Serving.{Asking}
 
 -- the requests among what lines are read as, in order
-abbrev pub requests_of : List (Result Request Bad) → List Request
+abbrev pub requests_of : List (Result Request Refusal) → List Request
 requests_of [] = []
 requests_of (Ok request ∷ reads) = request ∷ requests_of reads
-requests_of (Err bad ∷ reads) = requests_of reads
+requests_of (Err refusal ∷ reads) = requests_of reads
 
 -- the replies to the requests, with the refusals in the places of their lines
-abbrev pub in_place : List (Result Request Bad) → List Reply → List Reply
+abbrev pub in_place : List (Result Request Refusal) → List Reply → List Reply
 in_place [] given = []
 in_place (Ok request ∷ reads) [] = []
 in_place (Ok request ∷ reads) (reply ∷ given) = reply ∷ in_place reads given
-in_place (Err bad ∷ reads) given = No (refusal_of bad) ∷ in_place reads given
+in_place (Err refusal ∷ reads) given = No refusal ∷ in_place reads given
 
 -- a desk gives these replies to the requests, one after another
 abbrev pub AsksEach : {D : Type 0} → Asking D → D → List Request → List Reply → D → Type 0
@@ -39,12 +37,12 @@ NoneIsMemory replies = All (λ reply. reply ≢ No Memory) replies
 -- The lines are read, the desk is asked the requests among them, and each refusal is in the place of its line.
 pub record AreInPlace {D : Type 0} (asks : Asking D) (old : D) (lines : List (List ℕ)) (replies : List Reply)
     (new : D) : Type 0 where
-  pub reads : List (Result Request Bad)
+  pub reads : List (Result Request Refusal)
   pub readings : AllZip IsReading lines reads
   pub given : List Reply
   pub asked : AsksEach asks old (requests_of reads) given new
   pub placed : replies ≡ in_place reads given
-  pub read_whole : NoneIsMemory replies → All (λ read. read ≢ Err bad.Memory) reads
+  pub read_whole : NoneIsMemory replies → All (λ read. read ≢ Err Memory) reads
   pub given_whole : NoneIsMemory replies → NoneIsMemory given
 
 -- unless memory runs out, a desk has one reply to a request, and one desk afterwards

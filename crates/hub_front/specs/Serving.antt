@@ -5,12 +5,11 @@ use Rattle.hub_requests.specs.declared.request.Request.{Request}
 use Rattle.hub_requests.specs.declared.reply.Reply.{Reply}
 use Rattle.hub_requests.specs.declared.reply.Reply.TheVariants.{No}
 use Rattle.hub_requests.specs.Texts.{text_of}
-use Rattle.hub_protocol.specs.declared.parsing.Bad.{Bad}
+use Rattle.hub_requests.specs.declared.reply.Refusal.{Refusal}
 use Rattle.hub_io.specs.declared.fault.FrontError.{FrontError}
 use Rattle.hub_io.specs.declared.fault.FrontError.TheVariants as fault
 use Rattle.hub_io.specs.declared.fault.FrontError.TheVariants.{Read, Write, Turns}
 use Rattle.hub_protocol.specs.Reading.{IsReading}
-use Rattle.hub_protocol.specs.Refusing.{refusal_of}
 use Rattle.hub_io.specs.declared.reading.TheConstants.{MAX_READS}
 use Rattle.hub_io.specs.Lines.{complete_of, lines_of}
 use Rattle.hub_io.specs.Faults.{AppendsPart}
@@ -21,13 +20,13 @@ abbrev pub Asking : Type 0 → Type 1
 Asking D = D → Request → Reply → D → Type 0
 
 -- A request is answered by the desk. A line that isn't a request is refused, and the desk stays as it is.
-abbrev pub AnswersRead : {D : Type 0} → Asking D → D → Result Request Bad → Reply → D → Type 0
+abbrev pub AnswersRead : {D : Type 0} → Asking D → D → Result Request Refusal → Reply → D → Type 0
 AnswersRead asks old (Ok request) reply new = asks old request reply new
-AnswersRead asks old (Err bad) reply new = (reply ≡ No (refusal_of bad)) × (new ≡ old)
+AnswersRead asks old (Err refusal) reply new = (reply ≡ No refusal) × (new ≡ old)
 
 -- a line is answered by what it is read as
 pub record AnswersLine {D : Type 0} (asks : Asking D) (old : D) (line : List ℕ) (reply : Reply) (new : D) : Type 0 where
-  pub read : Result Request Bad
+  pub read : Result Request Refusal
   pub reading : IsReading line read
   pub answered : AnswersRead asks old read reply new
 

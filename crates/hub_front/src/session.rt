@@ -10,7 +10,7 @@ ghost use Rattle.hub_front.specs.Pieces.{complete_pieces, piece_left};
 
 use hub_io::{FrontError, Sink, write_whole};
 use hub_protocol::{parse, write_reply};
-use hub_requests::{Desk, LONGEST_REPLY, Refusal, Reply};
+use hub_requests::{Desk, LONGEST_REPLY, Reply};
 use std::alloc::{AllocError, Global};
 use std::sync::Wait;
 
@@ -162,6 +162,6 @@ fn reply_to<H: Wait, D: Desk>(rt: &H, alloc: Global, desk: &mut D, line: &[u8]) 
 {
     match parse(alloc, line) {
         Ok(request) => desk.ask(rt, &request),
-        Err(bad) => Reply::No(Refusal::from(bad)),
+        Err(refusal) => Reply::No(refusal),
     }
 }

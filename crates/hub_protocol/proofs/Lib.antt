@@ -3,5 +3,5 @@ pub mod Splits
 pub mod Visible
 pub mod SameWords
 pub mod FieldLists
-pub mod FormRequests
 pub mod OneReading
+pub mod FormRequests

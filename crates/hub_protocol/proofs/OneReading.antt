@@ -1,5 +1,5 @@
 -- A line spells one form, and is read in one way.
-use Rattle.std.proofs.Common.{◌≡◌, ◌≢◌, ℕ, ◌<◌, ◌≤◌, List, length, Bool, true, false, Result, Ok, Err, refl, sym, ap, subst, arith}
+use Rattle.std.proofs.Common.{◌≡◌, ◌≢◌, ℕ, ◌<◌, ◌≤◌, List, length, Bool, true, false, Result, Ok, Err, refl, sym, ap, ◌∙◌, subst, arith}
 use Rattle.std.specs.Prelude.{Any}
 use Rattle.std.specs.Fmt.{decimal}
 use Rattle.hub_letters.specs.declared.want.Want.{Want}
@@ -7,17 +7,15 @@ use Rattle.hub_letters.specs.declared.mode.Mode.{Mode}
 use Rattle.hub_letters.specs.declared.span.Span.{Span}
 use Rattle.hub_requests.specs.declared.request.Request.{Request}
 use Rattle.hub_requests.specs.declared.request.Request.TheVariants as request
-use Rattle.hub_protocol.specs.declared.parsing.Bad.{Bad}
-use Rattle.hub_protocol.specs.declared.parsing.Bad.TheVariants.{Long, Text, Range, Memory}
-use Rattle.hub_protocol.specs.declared.words.Word.{Word}
-use Rattle.hub_protocol.specs.declared.parsing.Bad.TheVariants as bad
-use Rattle.hub_protocol.specs.Spelling.{Form, Dir, Svc, Sub, Pub, Take, Cancel, Close, Status, Listen, Poll, Wait, IsForm, IsWithin, form_of, digit_of, word_of, text_of_word, text_of_mode, text_of_span, text_of_want}
-use Rattle.hub_protocol.specs.Fields.{fields_of, fields_behind}
+use Rattle.hub_requests.specs.declared.reply.Refusal.{Refusal}
+use Rattle.hub_requests.specs.declared.reply.Refusal.TheVariants.{Long, Text, Word, Range, Memory}
+use Rattle.hub_requests.specs.declared.reply.Refusal.TheVariants as no
+use Rattle.hub_protocol.specs.Spelling.{Form, Dir, Svc, Sub, Pub, Take, Cancel, Close, Status, Listen, Poll, Wait, IsForm, IsWithin, IsWord, form_of, digit_of, word_of, text_of_mode, text_of_span, text_of_want, fields_of, fields_behind, fields_in}
 use Rattle.hub_protocol.specs.Reading.{first_word, IsTextByte, IsText, HasForm, Spells, IsReading}
 use Rattle.hub_protocol.proofs.Numerals.{same_number}
 use Rattle.hub_protocol.proofs.Splits.{same_text}
-use Rattle.hub_protocol.proofs.SameWords.{same_word, same_mode, same_span, same_want}
-use Rattle.hub_protocol.proofs.FieldLists.{first_word-fields, fields_in, fields_of-has_form}
+use Rattle.hub_protocol.proofs.SameWords.{apart, same_mode, same_span, same_want}
+use Rattle.hub_protocol.proofs.FieldLists.{first_word-form, fields_of-has_form}
 
 -- ---- forms and requests
 
@@ -88,15 +86,14 @@ same_form (Status n) (Status m) h k words e = cc
 same_form (Listen n o p) (Listen m r q) h k words e = same_listen n m o r p q e
 same_form (Poll i) (Poll j) h k words e = same_poll i j h k e
 same_form (Wait s w x n) (Wait t v y m) h k words e = same_wait s t w v x y n m h k e
-same_form a b h k words e = cc
+same_form a b h k words e = absurd (apart (word_of a) (word_of b) refl words)
 
 pub one_form : (line : List ℕ) (a b : Form) → HasForm line a → HasForm line b → a ≡ b
 one_form line a b h k =
-    let first : fields_of line ≡ fields_in a = fields_of-has_form line a h in
-    let second : fields_of line ≡ fields_in b = fields_of-has_form line b k in
-    let texts : text_of_word (word_of a) ≡ text_of_word (word_of b) = cc in
+    let same : fields_in a ≡ fields_in b = sym (fields_of-has_form line a h) ∙ fields_of-has_form line b k in
+    let words : word_of a ≡ word_of b = cc in
     let behind : fields_behind a ≡ fields_behind b = cc in
-    same_form a b h.formed k.formed (same_word (word_of a) (word_of b) texts) behind
+    same_form a b h.formed k.formed words behind
 
 same_flag : (a b : Bool) → digit_of a ≡ digit_of b → a ≡ b
 same_flag true true e = refl
@@ -123,73 +120,77 @@ one_request line a b h k = same_request a b (one_form line (form_of a) (form_of 
 
 -- ---- readings
 
-first_word-form : (line : List ℕ) (form : Form) → HasForm line form → first_word line ≡ text_of_word (word_of form)
-first_word-form line form has = first_word-fields line (text_of_word (word_of form)) (fields_behind form) (fields_of-has_form line form has)
-
 -- a line that is too long is read as nothing else
-pub only_long : (line : List ℕ) (a : Result Request Bad) → 512 < length line → IsReading line a → a ≢ Err Memory → a ≡ Err Long
+pub only_long : (line : List ℕ) (a : Result Request Refusal) → 512 < length line → IsReading line a → a ≢ Err Memory → a ≡ Err Long
 only_long line (Ok request) long h memory = let short = h.text.short in absurd (omega arith)
 only_long line (Err Long) long h memory = refl
 only_long line (Err Text) long h memory = absurd (omega (arith, h.0))
-only_long line (Err bad.Word) long h memory = let short = h.0.short in absurd (omega arith)
-only_long line (Err bad.Form) long h memory = let short = h.0.short in absurd (omega arith)
+only_long line (Err Word) long h memory = let short = h.0.short in absurd (omega arith)
+only_long line (Err no.Form) long h memory = let short = h.0.short in absurd (omega arith)
 only_long line (Err Range) long h memory = let short = h.0.short in absurd (omega arith)
 only_long line (Err Memory) long h memory = absurd (memory refl)
+only_long line (Err refusal) long h memory = absurd h
 
 no_other_byte : (line : List ℕ) → IsText line → Any (λ b. IsTextByte b → ⊥) line → ⊥
 no_other_byte line text (k, b, below, at, other) = other (subst IsTextByte at (text.plain k b below))
 
-only_text : (line : List ℕ) (a : Result Request Bad) → length line ≤ 512 → Any (λ b. IsTextByte b → ⊥) line → IsReading line a → a ≢ Err Memory → a ≡ Err Text
+only_text : (line : List ℕ) (a : Result Request Refusal) → length line ≤ 512 → Any (λ b. IsTextByte b → ⊥) line → IsReading line a → a ≢ Err Memory → a ≡ Err Text
 only_text line (Ok request) short other h memory = absurd (no_other_byte line h.text other)
 only_text line (Err Long) short other h memory = absurd (omega (arith, h))
 only_text line (Err Text) short other h memory = refl
-only_text line (Err bad.Word) short other h memory = absurd (no_other_byte line h.0 other)
-only_text line (Err bad.Form) short other h memory = absurd (no_other_byte line h.0 other)
+only_text line (Err Word) short other h memory = absurd (no_other_byte line h.0 other)
+only_text line (Err no.Form) short other h memory = absurd (no_other_byte line h.0 other)
 only_text line (Err Range) short other h memory = absurd (no_other_byte line h.0 other)
 only_text line (Err Memory) short other h memory = absurd (memory refl)
+only_text line (Err refusal) short other h memory = absurd h
 
 -- For a text of at most 512 bytes of a line:
-only_word : (line : List ℕ) (a : Result Request Bad) → IsText line → ((word : Word) → first_word line ≢ text_of_word word) → IsReading line a → a ≢ Err Memory → a ≡ Err bad.Word
-only_word line (Ok request) text none h memory = absurd (none _ (first_word-form line (form_of request) h.form))
+only_word : (line : List ℕ) (a : Result Request Refusal) → IsText line → (IsWord (first_word line) → ⊥) → IsReading line a → a ≢ Err Memory → a ≡ Err Word
+only_word line (Ok request) text none h memory = absurd (none (form_of request, first_word-form line (form_of request) h.form))
 only_word line (Err Long) text none h memory = let short = text.short in absurd (omega (arith, h))
 only_word line (Err Text) text none h memory = absurd (no_other_byte line text h.1)
-only_word line (Err bad.Word) text none h memory = refl
-only_word line (Err bad.Form) text none h memory = absurd (none h.1 h.2)
-only_word line (Err Range) text none h memory = absurd (none _ (first_word-form line h.1 h.2))
+only_word line (Err Word) text none h memory = refl
+only_word line (Err no.Form) text none h memory = absurd (none h.1)
+only_word line (Err Range) text none h memory = absurd (none (h.1, first_word-form line h.1 h.2))
 only_word line (Err Memory) text none h memory = absurd (memory refl)
+only_word line (Err refusal) text none h memory = absurd h
 
-only_form : (line : List ℕ) (a : Result Request Bad) → IsText line → (word : Word) → first_word line ≡ text_of_word word → ((form : Form) → HasForm line form → ⊥) → IsReading line a → a ≢ Err Memory → a ≡ Err bad.Form
-only_form line (Ok request) text word first none h memory = absurd (none (form_of request) h.form)
-only_form line (Err Long) text word first none h memory = let short = text.short in absurd (omega (arith, h))
-only_form line (Err Text) text word first none h memory = absurd (no_other_byte line text h.1)
-only_form line (Err bad.Word) text word first none h memory = absurd (h.1 word first)
-only_form line (Err bad.Form) text word first none h memory = refl
-only_form line (Err Range) text word first none h memory = absurd (none h.1 h.2)
-only_form line (Err Memory) text word first none h memory = absurd (memory refl)
+only_form : (line : List ℕ) (a : Result Request Refusal) → IsText line → IsWord (first_word line) → ((form : Form) → HasForm line form → ⊥) → IsReading line a → a ≢ Err Memory → a ≡ Err no.Form
+only_form line (Ok request) text is none h memory = absurd (none (form_of request) h.form)
+only_form line (Err Long) text is none h memory = let short = text.short in absurd (omega (arith, h))
+only_form line (Err Text) text is none h memory = absurd (no_other_byte line text h.1)
+only_form line (Err Word) text is none h memory = absurd (h.1 is)
+only_form line (Err no.Form) text is none h memory = refl
+only_form line (Err Range) text is none h memory = absurd (none h.1 h.2)
+only_form line (Err Memory) text is none h memory = absurd (memory refl)
+only_form line (Err refusal) text is none h memory = absurd h
 
-only_range : (line : List ℕ) (a : Result Request Bad) → IsText line → (form : Form) → HasForm line form → (IsWithin form → ⊥) → IsReading line a → a ≢ Err Memory → a ≡ Err Range
-only_range line (Ok request) text form has beyond h memory = absurd (beyond (subst IsWithin (one_form line (form_of request) form h.form has) h.within))
+only_range : (line : List ℕ) (a : Result Request Refusal) → IsText line → (form : Form) → HasForm line form → (IsWithin form → ⊥) → IsReading line a → a ≢ Err Memory → a ≡ Err Range
+only_range line (Ok request) text form has beyond h memory = absurd (beyond (request, one_form line (form_of request) form h.form has, h.within))
 only_range line (Err Long) text form has beyond h memory = let short = text.short in absurd (omega (arith, h))
 only_range line (Err Text) text form has beyond h memory = absurd (no_other_byte line text h.1)
-only_range line (Err bad.Word) text form has beyond h memory = absurd (h.1 (word_of form) (first_word-form line form has))
-only_range line (Err bad.Form) text form has beyond h memory = absurd (h.3 form has)
+only_range line (Err Word) text form has beyond h memory = absurd (h.1 (form, first_word-form line form has))
+only_range line (Err no.Form) text form has beyond h memory = absurd (h.2 form has)
 only_range line (Err Range) text form has beyond h memory = refl
 only_range line (Err Memory) text form has beyond h memory = absurd (memory refl)
+only_range line (Err refusal) text form has beyond h memory = absurd h
 
-only_request : (line : List ℕ) (a : Result Request Bad) (request : Request) → Spells line request → IsReading line a → a ≢ Err Memory → a ≡ Ok request
+only_request : (line : List ℕ) (a : Result Request Refusal) (request : Request) → Spells line request → IsReading line a → a ≢ Err Memory → a ≡ Ok request
 only_request line (Ok other) request spells h memory = ap Ok (one_request line other request h spells)
 only_request line (Err Long) request spells h memory = let short = spells.text.short in absurd (omega (arith, h))
 only_request line (Err Text) request spells h memory = absurd (no_other_byte line spells.text h.1)
-only_request line (Err bad.Word) request spells h memory = absurd (h.1 _ (first_word-form line (form_of request) spells.form))
-only_request line (Err bad.Form) request spells h memory = absurd (h.3 (form_of request) spells.form)
-only_request line (Err Range) request spells h memory = absurd (h.3 (subst IsWithin (one_form line (form_of request) h.1 spells.form h.2) spells.within))
+only_request line (Err Word) request spells h memory = absurd (h.1 (form_of request, first_word-form line (form_of request) spells.form))
+only_request line (Err no.Form) request spells h memory = absurd (h.2 (form_of request) spells.form)
+only_request line (Err Range) request spells h memory = absurd (h.3 (request, one_form line (form_of request) h.1 spells.form h.2, spells.within))
 only_request line (Err Memory) request spells h memory = absurd (memory refl)
+only_request line (Err refusal) request spells h memory = absurd h
 
-pub one_reading : (line : List ℕ) (a b : Result Request Bad) → a ≢ Err Memory → b ≢ Err Memory → IsReading line a → IsReading line b → a ≡ b
+pub one_reading : (line : List ℕ) (a b : Result Request Refusal) → a ≢ Err Memory → b ≢ Err Memory → IsReading line a → IsReading line b → a ≡ b
 one_reading line (Ok request) b m n h k = sym (only_request line b request h k n)
 one_reading line (Err Long) b m n h k = sym (only_long line b h k n)
 one_reading line (Err Text) b m n h k = sym (only_text line b h.0 h.1 k n)
-one_reading line (Err bad.Word) b m n h k = sym (only_word line b h.0 h.1 k n)
-one_reading line (Err bad.Form) b m n h k = sym (only_form line b h.0 h.1 h.2 h.3 k n)
+one_reading line (Err Word) b m n h k = sym (only_word line b h.0 h.1 k n)
+one_reading line (Err no.Form) b m n h k = sym (only_form line b h.0 h.1 h.2 k n)
 one_reading line (Err Range) b m n h k = sym (only_range line b h.0 h.1 h.2 h.3 k n)
 one_reading line (Err Memory) b m n h k = absurd (m refl)
+one_reading line (Err refusal) b m n h k = absurd h

@@ -5,8 +5,7 @@ use Rattle.std.specs.List.{join_with_byte}
 use Rattle.std.proofs.lemmas.Bool.{ne_eqb}
 use Rattle.std.proofs.lemmas.List.{drop_more, take-append-drop, get_or-take, get_or_default, take_rest, length-take}
 use Rattle.std.proofs.lemmas.List.Splits.{slice_split_none, slice_split_at, length-slice_split, join_with_byte-slice_split}
-use Rattle.hub_protocol.specs.Spelling.{◌·◌}
-use Rattle.hub_protocol.specs.Fields.{is_space, fields_of}
+use Rattle.hub_protocol.specs.Spelling.{is_space, fields_of}
 
 -- no byte of the text is a space
 abbrev pub IsOneField : List ℕ → Type 0
@@ -50,8 +49,3 @@ same_text a b e = sym (join_with_byte-slice_split 32 a) ∙ ap (join_with_byte 3
 -- each text has a field
 pub some_fields : (text : List ℕ) → 0 < length (fields_of text)
 some_fields text = omega (arith, length-slice_split is_space text)
-
--- a field joined to those after it
-pub join_before : (field : List ℕ) (fields : List (List ℕ)) → 0 < length fields → join_with_byte 32 (field ∷ fields) ≡ field · join_with_byte 32 fields
-join_before field [] some = absurd (omega arith)
-join_before field (next ∷ fields) some = refl

@@ -14,10 +14,8 @@ use Rattle.hub_letters.specs.declared.mode.Mode.TheVariants.{Once, Repeat}
 use Rattle.hub_letters.specs.declared.span.Span.{Span}
 use Rattle.hub_letters.specs.declared.span.Span.TheVariants as span
 use Rattle.hub_requests.specs.Names.{within, is_name_byte}
-use Rattle.hub_protocol.specs.declared.words.Word.{Word}
-use Rattle.hub_protocol.specs.declared.words.Word.TheVariants as word
-use Rattle.hub_protocol.specs.Spelling.{IsName, IsNumeral, text_of_word, text_of_mode, text_of_span, text_of_want}
-use Rattle.hub_protocol.specs.Fields.{is_space, fields_of, IsNumeralOf}
+use Rattle.hub_protocol.specs.Spelling.{Form, Dir, Svc, Sub, Pub, Take, Cancel, Close, Status, Listen, Poll, Wait, IsForm, IsName, IsNumeral, text_of_mode, text_of_span, text_of_want, is_space, fields_of, fields_in}
+use Rattle.hub_protocol.specs.Fields.{IsNumeralOf}
 use Rattle.hub_protocol.specs.Reading.{IsTextByte}
 use Rattle.hub_protocol.proofs.Numerals.{digits_of_numeral}
 use Rattle.hub_protocol.proofs.Splits.{IsOneField, fields_of-one, text_of_one}
@@ -57,19 +55,6 @@ visible_name name h = visible_by is_name_byte visible_name_byte name (and_parts 
 pub visible_numeral : (n : ℕ) → IsNumeral n → AreVisible (decimal n)
 visible_numeral n h = visible_by is_ascii_digit visible_digit (decimal n) (digits_of_numeral n h)
 
-pub visible_word : (word : Word) → AreVisible (text_of_word word)
-visible_word word.Dir = visible_name (codes "dir") refl
-visible_word word.Svc = visible_name (codes "svc") refl
-visible_word word.Sub = visible_name (codes "sub") refl
-visible_word word.Pub = visible_name (codes "pub") refl
-visible_word word.Take = visible_name (codes "take") refl
-visible_word word.Cancel = visible_name (codes "cancel") refl
-visible_word word.Close = visible_name (codes "close") refl
-visible_word word.Status = visible_name (codes "status") refl
-visible_word word.Listen = visible_name (codes "listen") refl
-visible_word word.Poll = visible_name (codes "poll") refl
-visible_word word.Wait = visible_name (codes "wait") refl
-
 pub visible_mode : (mode : Mode) → AreVisible (text_of_mode mode)
 visible_mode Once = visible_name (codes "once") refl
 visible_mode Repeat = visible_name (codes "repeat") refl
@@ -107,6 +92,19 @@ pub visible_fields : (text : List ℕ) → All IsTextByte text → AllVisible (f
 visible_fields [] plain = (All-nil IsVisible, tt)
 visible_fields (b ∷ bs) plain =
     visible_by_test (is_space b) b (fields_of bs) refl (All-head IsTextByte b bs plain) (visible_fields bs (All-tail IsTextByte b bs plain))
+
+pub visible_in : (form : Form) → IsForm form → AllVisible (fields_in form)
+visible_in (Dir name waiting total) h = (visible_name (codes "dir") refl, (visible_name name h.0, (visible_numeral waiting h.1, (visible_numeral total h.2, tt))))
+visible_in (Svc name waiting total reports) h = (visible_name (codes "svc") refl, (visible_name name h.0, (visible_numeral waiting h.1, (visible_numeral total h.2, (visible_numeral reports h.3, tt)))))
+visible_in (Sub name) h = (visible_name (codes "sub") refl, (visible_name name h, tt))
+visible_in (Pub name letters) h = (visible_name (codes "pub") refl, (visible_name name h.0, (h.1.each, tt)))
+visible_in (Take id max) h = (visible_name (codes "take") refl, (visible_numeral id h.0, (visible_numeral max h.1, tt)))
+visible_in (Cancel id) h = (visible_name (codes "cancel") refl, (visible_numeral id h, tt))
+visible_in (Close name) h = (visible_name (codes "close") refl, (visible_name name h, tt))
+visible_in (Status name) h = (visible_name (codes "status") refl, (visible_name name h, tt))
+visible_in (Listen name mode pattern) h = (visible_name (codes "listen") refl, (visible_name name h.0, (visible_mode mode, visible_fields pattern h.1.plain)))
+visible_in (Poll id) h = (visible_name (codes "poll") refl, (visible_numeral id h, tt))
+visible_in (Wait span want turns names) h = (visible_name (codes "wait") refl, (visible_span span, (visible_want want, (visible_numeral turns h.0, visible_names names h.1.each))))
 
 -- a text is a numeral if its one field is
 pub fields_of_numeral : (text : List ℕ) (number : Option ℕ) → IsNumeralOf text number

@@ -1,11 +1,11 @@
 -- What the code's forms stand for.
-use Rattle.std.specs.Prelude.{ℕ, List, Option, MatchOption, Result, Ok, Err}
+use Rattle.std.specs.Prelude.{◌≡◌, ℕ, List, Option, MatchOption, Result, Ok, Err}
+use Rattle.hub_requests.specs.declared.reply.Refusal.{Refusal}
+use Rattle.hub_requests.specs.declared.reply.Refusal.TheVariants as no
 use Rattle.hub_protocol.specs.Spelling as spelled
-use Rattle.hub_protocol.specs.Spelling.{Form, IsWithin}
+use Rattle.hub_protocol.specs.Spelling.{Form, IsWithin, IsWord, fields_of}
 use Rattle.hub_protocol.specs.Reading.{HasForm, IsReading}
-use Rattle.hub_protocol.specs.Fields.{fields_of, IsNoForm, IsFormOf}
-use Rattle.hub_protocol.specs.declared.parsing.Bad.{Bad}
-use Rattle.hub_protocol.specs.declared.words.Word.{Word}
+use Rattle.hub_protocol.specs.Fields.{IsNoForm, IsFormOf}
 use Rattle.hub_protocol.specs.declared.forms.BorrowedForm as borrowed
 use Rattle.hub_protocol.specs.declared.forms.BorrowedForm.TheVariants.{Dir, Svc, Sub, Pub, Take, Cancel, Close, Status, Listen, Poll, Wait}
 
@@ -23,10 +23,15 @@ form_shown (Poll id) = spelled.Poll id
 form_shown (Wait span want turns names) = spelled.Wait span want turns (fields_of names.now)
 
 -- the form of the word whose fields are the rest of a line, if there is one
-abbrev pub Finds : Word → List ℕ → Option borrowed.BorrowedForm → Type 0
+abbrev pub Finds : List ℕ → List ℕ → Option borrowed.BorrowedForm → Type 0
 Finds word rest found = MatchOption found (IsNoForm word (fields_of rest)) (λ form. IsFormOf word (fields_of rest) (form_shown form))
 
+-- the same of any text in place of the word, unless no form has this word
+abbrev pub FindsIn : List ℕ → List ℕ → Result (Option borrowed.BorrowedForm) Refusal → Type 0
+FindsIn word rest (Ok found) = IsWord word × Finds word rest found
+FindsIn word rest (Err refusal) = (refusal ≡ no.Word) × (IsWord word → ⊥)
+
 -- the form of a line whose numbers are in their ranges, or the first rule that the line breaks
-abbrev pub IsRead : List ℕ → Result borrowed.BorrowedForm Bad → Type 0
+abbrev pub IsRead : List ℕ → Result borrowed.BorrowedForm Refusal → Type 0
 IsRead line (Ok form) = HasForm line (form_shown form) × IsWithin (form_shown form)
-IsRead line (Err bad) = IsReading line (Err bad)
+IsRead line (Err refusal) = IsReading line (Err refusal)

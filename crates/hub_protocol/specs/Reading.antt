@@ -1,12 +1,12 @@
 -- What a line is read as: the request that it spells, or the first rule that it breaks.
-use Rattle.std.specs.Prelude.{◌≡◌, ◌≢◌, ℕ, ◌<◌, ◌≤◌, List, length, All, Any, Result, Ok, Err, ◌==◌}
+use Rattle.std.specs.Prelude.{◌≡◌, ℕ, ◌<◌, ◌≤◌, List, length, All, Any, Result, Ok, Err, ◌==◌}
 use Rattle.std.specs.List.{before_first}
 use Rattle.hub_requests.specs.declared.request.Request.{Request}
-use Rattle.hub_protocol.specs.declared.parsing.Bad.{Bad}
-use Rattle.hub_protocol.specs.declared.parsing.Bad.TheVariants.{Long, Text, Range, Memory}
-use Rattle.hub_protocol.specs.declared.parsing.Bad.TheVariants as bad
-use Rattle.hub_protocol.specs.declared.words.Word.{Word}
-use Rattle.hub_protocol.specs.Spelling.{Form, IsForm, IsWithin, spelling, form_of, text_of_word}
+use Rattle.hub_requests.specs.declared.reply.Refusal.{Refusal}
+use Rattle.hub_requests.specs.declared.reply.Refusal.TheVariants.{Long, Text, Word, Range, Memory}
+use Rattle.hub_requests.specs.declared.reply.Refusal.TheVariants as no
+use Rattle.hub_requests.specs.Ranges.{IsInRange}
+use Rattle.hub_protocol.specs.Spelling.{Form, IsForm, IsWithin, IsWord, spelling, form_of}
 
 -- the bytes up to the first space, or all of them
 abbrev pub first_word : List ℕ → List ℕ
@@ -30,13 +30,15 @@ pub record HasForm (line : List ℕ) (form : Form) : Type 0 where
 pub record Spells (line : List ℕ) (request : Request) : Type 0 where
   pub text : IsText line
   pub form : HasForm line (form_of request)
-  pub within : IsWithin (form_of request)
+  pub within : IsInRange request
 
-abbrev pub IsReading : List ℕ → Result Request Bad → Type 0
+-- No line is refused for another reason than these six.
+abbrev pub IsReading : List ℕ → Result Request Refusal → Type 0
 IsReading line (Ok request) = Spells line request
 IsReading line (Err Long) = 512 < length line
 IsReading line (Err Text) = (length line ≤ 512) × Any (λ b. IsTextByte b → ⊥) line
-IsReading line (Err bad.Word) = IsText line × ((word : Word) → first_word line ≢ text_of_word word)
-IsReading line (Err bad.Form) = IsText line × (word : Word) × (first_word line ≡ text_of_word word) × ((form : Form) → HasForm line form → ⊥)
+IsReading line (Err Word) = IsText line × (IsWord (first_word line) → ⊥)
+IsReading line (Err no.Form) = IsText line × IsWord (first_word line) × ((form : Form) → HasForm line form → ⊥)
 IsReading line (Err Range) = IsText line × (form : Form) × HasForm line form × (IsWithin form → ⊥)
 IsReading line (Err Memory) = (request : Request) × Spells line request
+IsReading line (Err refusal) = ⊥

@@ -1,7 +1,7 @@
 -- The forms of request lines, and how each is spelled.
-use Rattle.std.specs.Prelude.{◌≡◌, ℕ, ◌<◌, ◌≤◌, ◌^◌, List, ◌∷◌, ◌++◌, length, Bool, true, false, codes, All}
+use Rattle.std.specs.Prelude.{◌≡◌, ℕ, ◌<◌, ◌≤◌, ◌^◌, List, [], ◌∷◌, length, Bool, true, false, codes, All, ◌==◌}
 use Rattle.std.specs.Fmt.{decimal}
-use Rattle.std.specs.List.{join_with_byte}
+use Rattle.std.specs.List.{slice_split, join_with_byte}
 use Rattle.hub_letters.specs.declared.want.Want.{Want}
 use Rattle.hub_letters.specs.declared.want.Want.TheVariants.{Up, Ready, Down, Finished}
 use Rattle.hub_letters.specs.declared.mode.Mode.{Mode}
@@ -9,11 +9,10 @@ use Rattle.hub_letters.specs.declared.mode.Mode.TheVariants.{Once, Repeat}
 use Rattle.hub_letters.specs.declared.span.Span.{Span}
 use Rattle.hub_letters.specs.declared.span.Span.TheVariants as span
 use Rattle.hub_requests.specs.Names.{is_name}
-use Rattle.hub_requests.specs.Ranges.{AreLimits, IsTake}
+use Rattle.hub_requests.specs.Ranges.{IsInRange}
+use Rattle.hub_requests.specs.declared.bounds.TheConstants.{MOST_SERVICES}
 use Rattle.hub_requests.specs.declared.request.Request.{Request}
 use Rattle.hub_requests.specs.declared.request.Request.TheVariants as request
-use Rattle.hub_protocol.specs.declared.words.Word.{Word}
-use Rattle.hub_protocol.specs.declared.words.Word.TheVariants as word
 
 -- what a line of a form says, before its numbers are checked against their ranges
 pub data Form : Type 0 where
@@ -50,7 +49,7 @@ pub record IsPatternText (pattern : List ℕ) : Type 0 where
 -- 1 to 32 names
 pub record AreNames (names : List (List ℕ)) : Type 0 where
   pub some : 0 < length names
-  pub few : length names ≤ 32
+  pub few : length names ≤ MOST_SERVICES
   pub each : All IsName names
 
 -- the form's fields are what it needs
@@ -66,25 +65,6 @@ IsForm (Status name) = IsName name
 IsForm (Listen name mode pattern) = IsName name × IsPatternText pattern
 IsForm (Poll id) = IsNumeral id
 IsForm (Wait span want turns names) = IsNumeral turns × AreNames names
-
--- two fields with the one space between them
-infixr 30 ◌·◌
-abbrev pub ◌·◌ : List ℕ → List ℕ → List ℕ
-a · b = a ++ 32 ∷ b
-
--- how a word is spelled
-abbrev pub text_of_word : Word → List ℕ
-text_of_word word.Dir = codes "dir"
-text_of_word word.Svc = codes "svc"
-text_of_word word.Sub = codes "sub"
-text_of_word word.Pub = codes "pub"
-text_of_word word.Take = codes "take"
-text_of_word word.Cancel = codes "cancel"
-text_of_word word.Close = codes "close"
-text_of_word word.Status = codes "status"
-text_of_word word.Listen = codes "listen"
-text_of_word word.Poll = codes "poll"
-text_of_word word.Wait = codes "wait"
 
 -- whether a listener goes on after a hit
 abbrev pub text_of_mode : Mode → List ℕ
@@ -102,40 +82,48 @@ text_of_want Ready = codes "ready"
 text_of_want Down = codes "down"
 text_of_want Finished = codes "finished"
 
-abbrev pub word_of : Form → Word
-word_of (Dir name waiting total) = word.Dir
-word_of (Svc name waiting total reports) = word.Svc
-word_of (Sub name) = word.Sub
-word_of (Pub name letters) = word.Pub
-word_of (Take id max) = word.Take
-word_of (Cancel id) = word.Cancel
-word_of (Close name) = word.Close
-word_of (Status name) = word.Status
-word_of (Listen name mode pattern) = word.Listen
-word_of (Poll id) = word.Poll
-word_of (Wait span want turns names) = word.Wait
+-- the word that a form begins with
+abbrev pub word_of : Form → List ℕ
+word_of (Dir name waiting total) = codes "dir"
+word_of (Svc name waiting total reports) = codes "svc"
+word_of (Sub name) = codes "sub"
+word_of (Pub name letters) = codes "pub"
+word_of (Take id max) = codes "take"
+word_of (Cancel id) = codes "cancel"
+word_of (Close name) = codes "close"
+word_of (Status name) = codes "status"
+word_of (Listen name mode pattern) = codes "listen"
+word_of (Poll id) = codes "poll"
+word_of (Wait span want turns names) = codes "wait"
 
--- the one line of a form; a pattern may have spaces, and there is one space between two names
+abbrev pub is_space : ℕ → Bool
+is_space b = b == 32
+
+-- the pieces between the spaces of a text, or the whole text if it has none
+abbrev pub fields_of : List ℕ → List (List ℕ)
+fields_of text = slice_split is_space text
+
+-- the fields after a form's word; a pattern may have spaces
+abbrev pub fields_behind : Form → List (List ℕ)
+fields_behind (Dir name waiting total) = name ∷ decimal waiting ∷ decimal total ∷ []
+fields_behind (Svc name waiting total reports) = name ∷ decimal waiting ∷ decimal total ∷ decimal reports ∷ []
+fields_behind (Sub name) = name ∷ []
+fields_behind (Pub name letters) = name ∷ letters ∷ []
+fields_behind (Take id max) = decimal id ∷ decimal max ∷ []
+fields_behind (Cancel id) = decimal id ∷ []
+fields_behind (Close name) = name ∷ []
+fields_behind (Status name) = name ∷ []
+fields_behind (Listen name mode pattern) = name ∷ text_of_mode mode ∷ fields_of pattern
+fields_behind (Poll id) = decimal id ∷ []
+fields_behind (Wait span want turns names) = text_of_span span ∷ text_of_want want ∷ decimal turns ∷ names
+
+-- the fields of a form's line
+abbrev pub fields_in : Form → List (List ℕ)
+fields_in form = word_of form ∷ fields_behind form
+
+-- the one line of a form: its fields, with one space between two
 abbrev pub spelling : Form → List ℕ
-spelling (Dir name waiting total) = codes "dir" · name · decimal waiting · decimal total
-spelling (Svc name waiting total reports) = codes "svc" · name · decimal waiting · decimal total · decimal reports
-spelling (Sub name) = codes "sub" · name
-spelling (Pub name letters) = codes "pub" · name · letters
-spelling (Take id max) = codes "take" · decimal id · decimal max
-spelling (Cancel id) = codes "cancel" · decimal id
-spelling (Close name) = codes "close" · name
-spelling (Status name) = codes "status" · name
-spelling (Listen name mode pattern) = codes "listen" · name · text_of_mode mode · pattern
-spelling (Poll id) = codes "poll" · decimal id
-spelling (Wait span want turns names) = codes "wait" · text_of_span span · text_of_want want · decimal turns · join_with_byte 32 names
-
--- each number is in its range
-abbrev pub IsWithin : Form → Type 0
-IsWithin (Dir name waiting total) = AreLimits waiting total
-IsWithin (Svc name waiting total reports) = AreLimits waiting total × (reports ≤ 1)
-IsWithin (Take id max) = IsTake max
-IsWithin (Wait span want turns names) = turns ≤ 1000000
-IsWithin form = Unit {0}
+spelling form = join_with_byte 32 (fields_in form)
 
 abbrev pub digit_of : Bool → ℕ
 digit_of false = 0
@@ -154,3 +142,11 @@ form_of (request.Status name) = Status name
 form_of (request.Listen name mode pattern) = Listen name mode pattern
 form_of (request.Poll id) = Poll id
 form_of (request.Wait span want turns names) = Wait span want turns names
+
+-- some request in its ranges has the form
+abbrev pub IsWithin : Form → Type 0
+IsWithin form = (request : Request) × (form_of request ≡ form) × IsInRange request
+
+-- some form has this word
+abbrev pub IsWord : List ℕ → Type 0
+IsWord text = (form : Form) × (text ≡ word_of form)

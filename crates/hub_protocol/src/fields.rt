@@ -1,17 +1,15 @@
 //! The fields of a line: the pieces between its spaces.
 ghost use Rattle.std.specs.Prelude.{◌≡◌, ◌<◌, ◌≤◌, ◌↔◌, IsTrue, slice_index, ◌∷◌, [], length, count_by, All, Any, MatchBool, MatchOption};
-ghost use Rattle.hub_protocol.specs.Spelling.{AreLetters, AreNames, IsName, IsPatternText};
+ghost use Rattle.hub_protocol.specs.Spelling.{AreLetters, AreNames, IsName, IsPatternText, is_space, fields_of};
 ghost use Rattle.hub_protocol.specs.Reading.{IsTextByte};
-ghost use Rattle.hub_protocol.specs.Fields.{is_space, fields_of, digits_from, IsNumeralOf};
+ghost use Rattle.hub_protocol.specs.Fields.{digits_from, IsNumeralOf};
 
-use hub_requests::Name;
+use hub_requests::{MOST_SERVICES, Name};
 
 /// The most digits of a numeral.
 const MOST_DIGITS: usize = 13;
 /// The most bytes of a pattern.
 const LONGEST_PATTERN: usize = 200;
-/// The most services of a `wait`.
-const MOST_NAMES: usize = 32;
 
 /// Whether each byte may be in a line: it is within 0x20 to 0x7E.
 pub fn is_text(line: &[u8]) -> bool
@@ -91,7 +89,7 @@ pub fn is_pattern(text: &[u8]) -> bool
 pub fn are_names(text: &[u8]) -> bool
     ensures { MatchBool result (AreNames (fields_of text.now)) (AreNames (fields_of text.now) → ⊥) }
 {
-    spaces(text) < MOST_NAMES && fields_are_names(text)
+    spaces(text) < MOST_SERVICES && fields_are_names(text)
 }
 
 fn spaces(text: &[u8]) -> usize

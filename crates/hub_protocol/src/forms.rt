@@ -1,13 +1,13 @@
 //! The forms of lines: for each word, the fields after it.
-ghost use Rattle.std.specs.Prelude.{◌≡◌};
-ghost use Rattle.hub_protocol.specs.Forms.{Finds};
+ghost use Rattle.std.specs.Prelude.{codes};
+ghost use Rattle.hub_protocol.specs.Forms.{Finds, FindsIn};
 
 use crate::parts::{
     last_letters, last_name, last_names, last_numeral, last_pattern, mode_first, name_first,
     numeral_first, span_first, want_first,
 };
-use crate::words::Word;
 use hub_letters::{Mode, Span, Want};
+use hub_requests::Refusal;
 
 /// What a line of a form says. Its numbers haven't been checked against their ranges yet. Each variant shows its line.
 #[derive(Clone, Copy)]
@@ -71,7 +71,7 @@ pub enum BorrowedForm<'a> {
 }
 
 fn dir(rest: &[u8]) -> Option<BorrowedForm<'_>>
-    ensures { Finds Word.Dir rest.now result }
+    ensures { Finds (codes "dir") rest.now result }
 {
     let (name, rest) = name_first(rest)?;
     let (waiting, rest) = numeral_first(rest)?;
@@ -84,7 +84,7 @@ fn dir(rest: &[u8]) -> Option<BorrowedForm<'_>>
 }
 
 fn svc(rest: &[u8]) -> Option<BorrowedForm<'_>>
-    ensures { Finds Word.Svc rest.now result }
+    ensures { Finds (codes "svc") rest.now result }
 {
     let (name, rest) = name_first(rest)?;
     let (waiting, rest) = numeral_first(rest)?;
@@ -99,7 +99,7 @@ fn svc(rest: &[u8]) -> Option<BorrowedForm<'_>>
 }
 
 fn publication(rest: &[u8]) -> Option<BorrowedForm<'_>>
-    ensures { Finds Word.Pub rest.now result }
+    ensures { Finds (codes "pub") rest.now result }
 {
     let (name, rest) = name_first(rest)?;
     let letters = last_letters(rest)?;
@@ -107,7 +107,7 @@ fn publication(rest: &[u8]) -> Option<BorrowedForm<'_>>
 }
 
 fn take(rest: &[u8]) -> Option<BorrowedForm<'_>>
-    ensures { Finds Word.Take rest.now result }
+    ensures { Finds (codes "take") rest.now result }
 {
     let (id, rest) = numeral_first(rest)?;
     let max = last_numeral(rest)?;
@@ -115,35 +115,35 @@ fn take(rest: &[u8]) -> Option<BorrowedForm<'_>>
 }
 
 fn cancel(rest: &[u8]) -> Option<BorrowedForm<'_>>
-    ensures { Finds Word.Cancel rest.now result }
+    ensures { Finds (codes "cancel") rest.now result }
 {
     let id = last_numeral(rest)?;
     Some(BorrowedForm::Cancel { id })
 }
 
 fn sub(rest: &[u8]) -> Option<BorrowedForm<'_>>
-    ensures { Finds Word.Sub rest.now result }
+    ensures { Finds (codes "sub") rest.now result }
 {
     let name = last_name(rest)?;
     Some(BorrowedForm::Sub { name })
 }
 
 fn close(rest: &[u8]) -> Option<BorrowedForm<'_>>
-    ensures { Finds Word.Close rest.now result }
+    ensures { Finds (codes "close") rest.now result }
 {
     let name = last_name(rest)?;
     Some(BorrowedForm::Close { name })
 }
 
 fn status(rest: &[u8]) -> Option<BorrowedForm<'_>>
-    ensures { Finds Word.Status rest.now result }
+    ensures { Finds (codes "status") rest.now result }
 {
     let name = last_name(rest)?;
     Some(BorrowedForm::Status { name })
 }
 
 fn listen(rest: &[u8]) -> Option<BorrowedForm<'_>>
-    ensures { Finds Word.Listen rest.now result }
+    ensures { Finds (codes "listen") rest.now result }
 {
     let (name, rest) = name_first(rest)?;
     let (mode, rest) = mode_first(rest)?;
@@ -156,14 +156,14 @@ fn listen(rest: &[u8]) -> Option<BorrowedForm<'_>>
 }
 
 fn poll(rest: &[u8]) -> Option<BorrowedForm<'_>>
-    ensures { Finds Word.Poll rest.now result }
+    ensures { Finds (codes "poll") rest.now result }
 {
     let id = last_numeral(rest)?;
     Some(BorrowedForm::Poll { id })
 }
 
 fn wait(rest: &[u8]) -> Option<BorrowedForm<'_>>
-    ensures { Finds Word.Wait rest.now result }
+    ensures { Finds (codes "wait") rest.now result }
 {
     let (span, rest) = span_first(rest)?;
     let (want, rest) = want_first(rest)?;
@@ -177,21 +177,23 @@ fn wait(rest: &[u8]) -> Option<BorrowedForm<'_>>
     })
 }
 
-/// The form that the word has with this rest of the line. None if the rest doesn't have the fields of the word.
-pub fn form_of_word(word: Word, rest: &[u8]) -> Option<BorrowedForm<'_>>
-    ensures { Finds word rest.now result }
+/// The form that the word has with this rest of the line. None if the rest doesn't have the fields of the word. The error
+/// is that no form has the word.
+pub fn form_of_word<'a>(word: &[u8], rest: &'a [u8]) -> Result<Option<BorrowedForm<'a>>, Refusal>
+    ensures { FindsIn word.now rest.now result }
 {
     match word {
-        Word::Dir => dir(rest),
-        Word::Svc => svc(rest),
-        Word::Sub => sub(rest),
-        Word::Pub => publication(rest),
-        Word::Take => take(rest),
-        Word::Cancel => cancel(rest),
-        Word::Close => close(rest),
-        Word::Status => status(rest),
-        Word::Listen => listen(rest),
-        Word::Poll => poll(rest),
-        Word::Wait => wait(rest),
+        b"dir" => Ok(dir(rest)),
+        b"svc" => Ok(svc(rest)),
+        b"sub" => Ok(sub(rest)),
+        b"pub" => Ok(publication(rest)),
+        b"take" => Ok(take(rest)),
+        b"cancel" => Ok(cancel(rest)),
+        b"close" => Ok(close(rest)),
+        b"status" => Ok(status(rest)),
+        b"listen" => Ok(listen(rest)),
+        b"poll" => Ok(poll(rest)),
+        b"wait" => Ok(wait(rest)),
+        _ => Err(Refusal::Word),
     }
 }

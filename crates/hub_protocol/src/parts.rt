@@ -4,8 +4,7 @@ ghost use Rattle.std.specs.Fmt.{decimal};
 ghost use Rattle.hub_letters.specs.declared.want.Want.{Want};
 ghost use Rattle.hub_letters.specs.declared.mode.Mode.{Mode};
 ghost use Rattle.hub_letters.specs.declared.span.Span.{Span};
-ghost use Rattle.hub_protocol.specs.Spelling.{IsName, IsNumeral, IsPatternText, AreLetters, AreNames, text_of_mode, text_of_span, text_of_want};
-ghost use Rattle.hub_protocol.specs.Fields.{fields_of};
+ghost use Rattle.hub_protocol.specs.Spelling.{IsName, IsNumeral, IsPatternText, AreLetters, AreNames, text_of_mode, text_of_span, text_of_want, fields_of};
 
 use crate::fields::{are_letters, are_names, is_pattern, numeral, split_at_space};
 use crate::words::{mode_spelled, span_spelled, want_spelled};

@@ -1,24 +1,24 @@
 //! The request of a form.
 ghost use Rattle.std.specs.Prelude.{◌≡◌, MatchBool, IfOk};
 ghost use Rattle.hub_requests.specs.Ranges.{AreLimits};
-ghost use Rattle.hub_protocol.specs.Spelling.{IsName, IsPatternText, AreLetters, AreNames, IsForm, IsWithin, form_of};
-ghost use Rattle.hub_protocol.specs.Fields.{fields_of};
+ghost use Rattle.hub_protocol.specs.Spelling.{IsName, IsPatternText, AreLetters, AreNames, IsForm, IsWithin, form_of, fields_of};
 ghost use Rattle.hub_protocol.specs.Forms.{form_shown};
 
 use crate::forms::BorrowedForm;
 use hub_letters::Letter;
-use hub_record::Letters;
-use hub_requests::{Name, Names, PatternText, Request};
+use hub_record::{Letters, MOST_EVENTS, MOST_WAITING};
+use hub_requests::{MOST_TAKEN, MOST_TURNS, Name, Names, PatternText, Request};
 use std::alloc::{AllocError, Global};
 
 fn are_limits(waiting: u64, total: u64) -> bool
     ensures { MatchBool result (AreLimits waiting total) (AreLimits waiting total → ⊥) }
 {
-    (1..=4096).contains(&waiting) && (1..=1_000_000_000_000).contains(&total)
+    (1..=MOST_WAITING).contains(&waiting) && (1..=MOST_EVENTS).contains(&total)
 }
 
 /// Whether each number is in its range.
 pub fn is_within(form: &BorrowedForm<'_>) -> bool
+    requires { IsForm (form_shown form.now) }
     ensures { MatchBool result (IsWithin (form_shown form.now))
         (IsWithin (form_shown form.now) → ⊥) }
 {
@@ -29,9 +29,9 @@ pub fn is_within(form: &BorrowedForm<'_>) -> bool
             total,
             reports,
             ..
-        } => are_limits(*waiting, *total) && *reports <= 1,
-        BorrowedForm::Take { max, .. } => *max >= 1 && *max <= 256,
-        BorrowedForm::Wait { turns, .. } => *turns <= 1_000_000,
+        } => *reports <= 1 && are_limits(*waiting, *total),
+        BorrowedForm::Take { max, .. } => *max >= 1 && *max <= MOST_TAKEN,
+        BorrowedForm::Wait { turns, .. } => *turns <= MOST_TURNS,
         _ => true,
     }
 }

@@ -1,50 +1,11 @@
-//! The words of lines, and of modes, spans and wants.
+//! The words of modes, spans and wants.
 ghost use Rattle.std.specs.Prelude.{◌≡◌, ◌≢◌, MatchOption};
 ghost use Rattle.hub_letters.specs.declared.want.Want.{Want};
 ghost use Rattle.hub_letters.specs.declared.mode.Mode.{Mode};
 ghost use Rattle.hub_letters.specs.declared.span.Span.{Span};
-ghost use Rattle.hub_protocol.specs.Spelling.{text_of_word, text_of_mode, text_of_span, text_of_want};
-ghost use Rattle.hub_protocol.specs.declared.words.Word.{Word};
+ghost use Rattle.hub_protocol.specs.Spelling.{text_of_mode, text_of_span, text_of_want};
 
 use hub_letters::{Mode, Span, Want};
-
-/// The words that lines begin with. Each is spelled as its variant, in lower case.
-#[derive(Clone, Copy, Debug, PartialEq, Eq)]
-pub enum Word {
-    Dir,
-    Svc,
-    Sub,
-    Pub,
-    Take,
-    Cancel,
-    Close,
-    Status,
-    Listen,
-    Poll,
-    Wait,
-}
-
-/// The word with this spelling.
-pub fn word_spelled(text: &[u8]) -> Option<Word>
-    ensures { MatchOption result
-        ((word : Word) → text.now ≢ text_of_word word)
-        (λ word. text.now ≡ text_of_word word) }
-{
-    match text {
-        b"dir" => Some(Word::Dir),
-        b"svc" => Some(Word::Svc),
-        b"sub" => Some(Word::Sub),
-        b"pub" => Some(Word::Pub),
-        b"take" => Some(Word::Take),
-        b"cancel" => Some(Word::Cancel),
-        b"close" => Some(Word::Close),
-        b"status" => Some(Word::Status),
-        b"listen" => Some(Word::Listen),
-        b"poll" => Some(Word::Poll),
-        b"wait" => Some(Word::Wait),
-        _ => None,
-    }
-}
 
 /// The mode with this spelling.
 pub fn mode_spelled(text: &[u8]) -> Option<Mode>

@@ -17,14 +17,14 @@ use Rattle.hub_front.specs.Places.{AreInPlace, NoneIsMemory, in_place, requests_
 use Rattle.hub_front.specs.Places as places
 use Rattle.hub_protocol.specs.Reading.{IsReading}
 use Rattle.hub_front.specs.Serving.{Finished, Stopped, Run}
-use Rattle.hub_protocol.specs.declared.parsing.Bad.{Bad}
-use Rattle.hub_protocol.specs.declared.parsing.Bad.TheVariants.{Memory}
+use Rattle.hub_requests.specs.declared.reply.Refusal.{Refusal}
+use Rattle.hub_requests.specs.declared.reply.Refusal.TheVariants.{Memory}
 use Rattle.hub_local.proofs.Running.{runs_answer}
 use Rattle.hub_protocol.proofs.OneReading.{one_reading}
 use Rattle.hub_front.proofs.Placed.{run_in_place}
 use Rattle.hub_script.specs.Output.{AreReplies, IsOutput, Serves, Stops}
 
-abbrev IsEnough : Result Request Bad → Type 0
+abbrev IsEnough : Result Request Refusal → Type 0
 IsEnough read = read ≢ Err Memory
 
 -- each line gets one reply
@@ -106,7 +106,7 @@ no_session_stops held had = record {
 }
 
 -- lines are read in one way
-same_reads : (lines : List (List ℕ)) (a b : List (Result Request Bad)) → AllZip IsReading lines a → AllZip IsReading lines b
+same_reads : (lines : List (List ℕ)) (a b : List (Result Request Refusal)) → AllZip IsReading lines a → AllZip IsReading lines b
     → All (λ read. read ≢ Err Memory) a → All (λ read. read ≢ Err Memory) b → a ≡ b
 same_reads [] [] [] ra rb ea eb = refl
 same_reads [] [] (y ∷ b) ra rb ea eb = absurd rb

@@ -14,12 +14,12 @@ use Rattle.hub_io.specs.declared.fault.FrontError.{FrontError}
 use Rattle.hub_front.specs.Places.{NoneIsMemory, in_place, requests_of}
 use Rattle.hub_front.specs.Serving.{Served, StopsAt}
 use Rattle.hub_protocol.specs.Reading.{IsReading}
-use Rattle.hub_protocol.specs.declared.parsing.Bad.{Bad}
-use Rattle.hub_protocol.specs.declared.parsing.Bad.TheVariants.{Memory}
+use Rattle.hub_requests.specs.declared.reply.Refusal.{Refusal}
+use Rattle.hub_requests.specs.declared.reply.Refusal.TheVariants.{Memory}
 
 -- the replies to these lines, with enough memory; `patterns` says for each text of a `listen` whether it is a pattern
 pub record AreReplies (patterns : List Bool) (lines : List (List ℕ)) (replies : List Reply) : Type 0 where
-  pub reads : List (Result Request Bad)
+  pub reads : List (Result Request Refusal)
   pub readings : AllZip IsReading lines reads
   pub enough : All (λ read. read ≢ Err Memory) reads
   pub are_patterns : AreReads patterns (patterns_in (requests_of reads))

@@ -1,8 +1,7 @@
 use Rattle.std.proofs.Common.{◌≡◌, ◌<◌, ◌≤◌, ℕ, List, count_by, nat_lt, Bool, true, false, All, MatchBool, sym, subst, arith}
 use Rattle.std.proofs.lemmas.Bool.{le-ltb}
 use Rattle.std.proofs.lemmas.List.Splits.{length-slice_split}
-use Rattle.hub_protocol.specs.Spelling.{IsName, AreNames}
-use Rattle.hub_protocol.specs.Fields.{is_space, fields_of}
+use Rattle.hub_protocol.specs.Spelling.{IsName, AreNames, is_space, fields_of}
 use Rattle.hub_protocol.proofs.Splits.{some_fields}
 use Rattle.hub_protocol.proofs.fields.are_names.Goals as goal
 
@@ -16,9 +15,9 @@ too_many text n counted many =
     subst (λ t. MatchBool t (AreNames (fields_of text)) (AreNames (fields_of text) → ⊥)) (sym (le-ltb n 32 many))
     (λ names. let few = names.few in omega (arith, length-slice_split is_space text))
 
-pub returns-then-spaces-lt-MOST_NAMES : goal.returns-then-spaces-lt-MOST_NAMES
-returns-then-spaces-lt-MOST_NAMES c =
-    few_names _ c.args.text.now (omega (arith, c.spaces.ensures, c.if-spaces-lt-MOST_NAMES.true)) c.fields_are_names.ensures
+pub returns-then-spaces-lt-MOST_SERVICES : goal.returns-then-spaces-lt-MOST_SERVICES
+returns-then-spaces-lt-MOST_SERVICES c =
+    few_names _ c.args.text.now (omega (arith, c.spaces.ensures, c.if-spaces-lt-MOST_SERVICES.true)) c.fields_are_names.ensures
 
-pub returns-else-spaces-lt-MOST_NAMES : goal.returns-else-spaces-lt-MOST_NAMES
-returns-else-spaces-lt-MOST_NAMES c = too_many c.args.text.now _ c.spaces.ensures c.if-spaces-lt-MOST_NAMES.false
+pub returns-else-spaces-lt-MOST_SERVICES : goal.returns-else-spaces-lt-MOST_SERVICES
+returns-else-spaces-lt-MOST_SERVICES c = too_many c.args.text.now _ c.spaces.ensures c.if-spaces-lt-MOST_SERVICES.false

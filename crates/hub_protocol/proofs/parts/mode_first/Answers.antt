@@ -1,5 +1,5 @@
 use Rattle.std.proofs.Common.{◌≡◌, ◌<◌, [], length, ap, arith}
-use Rattle.hub_protocol.specs.Fields.{fields_of}
+use Rattle.hub_protocol.specs.Spelling.{fields_of}
 use Rattle.hub_protocol.proofs.Splits.{some_fields}
 use Rattle.hub_protocol.proofs.parts.mode_first.Goals as goal
 

@@ -2,7 +2,7 @@ use Rattle.std.proofs.Common.{◌∙◌, length, sym, subst, rules, tests}
 use Rattle.std.proofs.lemmas.Iterator.Consumers.{YieldsList-turn, YieldsList-end}
 use Rattle.std.proofs.lemmas.Iterator.Splits.{YieldsList-from_slice_split}
 use Rattle.hub_protocol.specs.Spelling.{IsName}
-use Rattle.hub_protocol.specs.Fields.{is_space}
+use Rattle.hub_protocol.specs.Spelling.{is_space}
 use Rattle.hub_protocol.proofs.requests.names_of.Goals as goal
 
 pub name_of-requires : goal.name_of-requires
