@@ -11,7 +11,7 @@ use Rattle.hub_letters.specs.declared.span.Span.{Span}
 use Rattle.hub_letters.specs.declared.span.Span.TheVariants.{All, Any}
 use Rattle.hub_protocol.specs.Spelling.{text_of_mode, text_of_span, text_of_want}
 
--- texts of which a test says so are apart
+-- texts that a test tells apart
 pub apart : (a b : List ℕ) → bytes_eq a b ≡ false → a ≢ b
 apart a b other e = false≢true (sym other ∙ (bytes_eq-Decides a b).1 e)
 

@@ -1,6 +1,6 @@
 -- Names, numerals, letters, words, and the pieces between the spaces of a text, are of visible bytes: bytes that may be
 -- in a line and aren't spaces.
-use Rattle.std.proofs.Common.{◌≡◌, ◌≢◌, ℕ, ◌≤◌, List, [], ◌∷◌, Bool, true, false, cond, not, nat_lt, Option, None, Some, refl, ap, ◌∙◌, codes, arith}
+use Rattle.std.proofs.Common.{◌≡◌, ◌≢◌, ℕ, ◌≤◌, List, [], ◌∷◌, Bool, true, false, cond, not, nat_lt, Option, None, Some, refl, ap, ◌∙◌, arith}
 use Rattle.std.specs.Prelude.{All, MatchOption}
 use Rattle.std.specs.Fmt.{decimal}
 use Rattle.std.specs.List.{list_all, onto_first}
@@ -8,13 +8,13 @@ use Rattle.std.specs.Char.{is_ascii_digit}
 use Rattle.std.proofs.lemmas.Bool.{and_parts, or_cases, eqb-true, eqb-false, ne_eqb, not-true, ltb-false}
 use Rattle.std.proofs.lemmas.List.Elements.{All-nil, All-cons, All-head, All-tail, All-weaker}
 use Rattle.hub_letters.specs.declared.want.Want.{Want}
-use Rattle.hub_letters.specs.declared.want.Want.TheVariants.{Up, Ready, Down, Finished}
+use Rattle.hub_letters.specs.declared.want.Want.TheVariants.{Up}
 use Rattle.hub_letters.specs.declared.mode.Mode.{Mode}
-use Rattle.hub_letters.specs.declared.mode.Mode.TheVariants.{Once, Repeat}
+use Rattle.hub_letters.specs.declared.mode.Mode.TheVariants.{Once}
 use Rattle.hub_letters.specs.declared.span.Span.{Span}
 use Rattle.hub_letters.specs.declared.span.Span.TheVariants as span
 use Rattle.hub_requests.specs.Names.{within, is_name_byte}
-use Rattle.hub_protocol.specs.Spelling.{Form, Dir, Svc, Sub, Pub, Take, Cancel, Close, Status, Listen, Poll, Wait, IsForm, IsName, IsNumeral, text_of_mode, text_of_span, text_of_want, is_space, fields_of, fields_in}
+use Rattle.hub_protocol.specs.Spelling.{Form, Dir, Svc, Sub, Pub, Take, Cancel, Close, Status, Listen, Poll, Wait, IsForm, IsName, IsNumeral, text_of_mode, text_of_span, text_of_want, word_of, is_space, fields_of, fields_behind, fields_in}
 use Rattle.hub_protocol.specs.Fields.{IsNumeralOf}
 use Rattle.hub_protocol.specs.Reading.{IsTextByte}
 use Rattle.hub_protocol.proofs.Numerals.{digits_of_numeral}
@@ -55,19 +55,21 @@ visible_name name h = visible_by is_name_byte visible_name_byte name (and_parts 
 pub visible_numeral : (n : ℕ) → IsNumeral n → AreVisible (decimal n)
 visible_numeral n h = visible_by is_ascii_digit visible_digit (decimal n) (digits_of_numeral n h)
 
-pub visible_mode : (mode : Mode) → AreVisible (text_of_mode mode)
-visible_mode Once = visible_name (codes "once") refl
-visible_mode Repeat = visible_name (codes "repeat") refl
+visible_word : (form : Form) → AreVisible (word_of form)
+visible_word (Dir name waiting total) = visible_name (word_of (Dir name waiting total)) refl
+visible_word form = visible_name (word_of form) refl
 
-pub visible_span : (span : Span) → AreVisible (text_of_span span)
-visible_span span.All = visible_name (codes "all") refl
-visible_span span.Any = visible_name (codes "any") refl
+visible_mode : (mode : Mode) → AreVisible (text_of_mode mode)
+visible_mode Once = visible_name (text_of_mode Once) refl
+visible_mode mode = visible_name (text_of_mode mode) refl
 
-pub visible_want : (want : Want) → AreVisible (text_of_want want)
-visible_want Up = visible_name (codes "up") refl
-visible_want Ready = visible_name (codes "ready") refl
-visible_want Down = visible_name (codes "down") refl
-visible_want Finished = visible_name (codes "finished") refl
+visible_span : (span : Span) → AreVisible (text_of_span span)
+visible_span span.All = visible_name (text_of_span span.All) refl
+visible_span s = visible_name (text_of_span s) refl
+
+visible_want : (want : Want) → AreVisible (text_of_want want)
+visible_want Up = visible_name (text_of_want Up) refl
+visible_want want = visible_name (text_of_want want) refl
 
 -- ---- lists of fields
 
@@ -93,18 +95,21 @@ visible_fields [] plain = (All-nil IsVisible, tt)
 visible_fields (b ∷ bs) plain =
     visible_by_test (is_space b) b (fields_of bs) refl (All-head IsTextByte b bs plain) (visible_fields bs (All-tail IsTextByte b bs plain))
 
+visible_behind : (form : Form) → IsForm form → AllVisible (fields_behind form)
+visible_behind (Dir name waiting total) h = (visible_name name h.0, (visible_numeral waiting h.1, (visible_numeral total h.2, tt)))
+visible_behind (Svc name waiting total reports) h = (visible_name name h.0, (visible_numeral waiting h.1, (visible_numeral total h.2, (visible_numeral reports h.3, tt))))
+visible_behind (Sub name) h = (visible_name name h, tt)
+visible_behind (Pub name letters) h = (visible_name name h.0, (h.1.each, tt))
+visible_behind (Take id max) h = (visible_numeral id h.0, (visible_numeral max h.1, tt))
+visible_behind (Cancel id) h = (visible_numeral id h, tt)
+visible_behind (Close name) h = (visible_name name h, tt)
+visible_behind (Status name) h = (visible_name name h, tt)
+visible_behind (Listen name mode pattern) h = (visible_name name h.0, (visible_mode mode, visible_fields pattern h.1.plain))
+visible_behind (Poll id) h = (visible_numeral id h, tt)
+visible_behind (Wait span want turns names) h = (visible_span span, (visible_want want, (visible_numeral turns h.0, visible_names names h.1.each)))
+
 pub visible_in : (form : Form) → IsForm form → AllVisible (fields_in form)
-visible_in (Dir name waiting total) h = (visible_name (codes "dir") refl, (visible_name name h.0, (visible_numeral waiting h.1, (visible_numeral total h.2, tt))))
-visible_in (Svc name waiting total reports) h = (visible_name (codes "svc") refl, (visible_name name h.0, (visible_numeral waiting h.1, (visible_numeral total h.2, (visible_numeral reports h.3, tt)))))
-visible_in (Sub name) h = (visible_name (codes "sub") refl, (visible_name name h, tt))
-visible_in (Pub name letters) h = (visible_name (codes "pub") refl, (visible_name name h.0, (h.1.each, tt)))
-visible_in (Take id max) h = (visible_name (codes "take") refl, (visible_numeral id h.0, (visible_numeral max h.1, tt)))
-visible_in (Cancel id) h = (visible_name (codes "cancel") refl, (visible_numeral id h, tt))
-visible_in (Close name) h = (visible_name (codes "close") refl, (visible_name name h, tt))
-visible_in (Status name) h = (visible_name (codes "status") refl, (visible_name name h, tt))
-visible_in (Listen name mode pattern) h = (visible_name (codes "listen") refl, (visible_name name h.0, (visible_mode mode, visible_fields pattern h.1.plain)))
-visible_in (Poll id) h = (visible_name (codes "poll") refl, (visible_numeral id h, tt))
-visible_in (Wait span want turns names) h = (visible_name (codes "wait") refl, (visible_span span, (visible_want want, (visible_numeral turns h.0, visible_names names h.1.each))))
+visible_in form h = (visible_word form, visible_behind form h)
 
 -- a text is a numeral if its one field is
 pub fields_of_numeral : (text : List ℕ) (number : Option ℕ) → IsNumeralOf text number

@@ -26,7 +26,7 @@ form_shown (Wait span want turns names) = spelled.Wait span want turns (fields_o
 abbrev pub Finds : List ℕ → List ℕ → Option borrowed.BorrowedForm → Type 0
 Finds word rest found = MatchOption found (IsNoForm word (fields_of rest)) (λ form. IsFormOf word (fields_of rest) (form_shown form))
 
--- the same of any text in place of the word, unless no form has this word
+-- the text is the word of a form, and this is found behind it; or no form has the word
 abbrev pub FindsIn : List ℕ → List ℕ → Result (Option borrowed.BorrowedForm) Refusal → Type 0
 FindsIn word rest (Ok found) = IsWord word × Finds word rest found
 FindsIn word rest (Err refusal) = (refusal ≡ no.Word) × (IsWord word → ⊥)

@@ -143,7 +143,7 @@ form_of (request.Listen name mode pattern) = Listen name mode pattern
 form_of (request.Poll id) = Poll id
 form_of (request.Wait span want turns names) = Wait span want turns names
 
--- some request in its ranges has the form
+-- a request whose numbers are in their ranges has the form
 abbrev pub IsWithin : Form → Type 0
 IsWithin form = (request : Request) × (form_of request ≡ form) × IsInRange request
 

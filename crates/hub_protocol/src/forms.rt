@@ -3,8 +3,8 @@ ghost use Rattle.std.specs.Prelude.{codes};
 ghost use Rattle.hub_protocol.specs.Forms.{Finds, FindsIn};
 
 use crate::parts::{
-    last_letters, last_name, last_names, last_numeral, last_pattern, mode_first, name_first,
-    numeral_first, span_first, want_first,
+    last_letters, last_name, last_names, last_numeral, last_pattern, name_first, numeral_first,
+    word_first,
 };
 use hub_letters::{Mode, Span, Want};
 use hub_requests::Refusal;
@@ -114,39 +114,11 @@ fn take(rest: &[u8]) -> Option<BorrowedForm<'_>>
     Some(BorrowedForm::Take { id, max })
 }
 
-fn cancel(rest: &[u8]) -> Option<BorrowedForm<'_>>
-    ensures { Finds (codes "cancel") rest.now result }
-{
-    let id = last_numeral(rest)?;
-    Some(BorrowedForm::Cancel { id })
-}
-
-fn sub(rest: &[u8]) -> Option<BorrowedForm<'_>>
-    ensures { Finds (codes "sub") rest.now result }
-{
-    let name = last_name(rest)?;
-    Some(BorrowedForm::Sub { name })
-}
-
-fn close(rest: &[u8]) -> Option<BorrowedForm<'_>>
-    ensures { Finds (codes "close") rest.now result }
-{
-    let name = last_name(rest)?;
-    Some(BorrowedForm::Close { name })
-}
-
-fn status(rest: &[u8]) -> Option<BorrowedForm<'_>>
-    ensures { Finds (codes "status") rest.now result }
-{
-    let name = last_name(rest)?;
-    Some(BorrowedForm::Status { name })
-}
-
 fn listen(rest: &[u8]) -> Option<BorrowedForm<'_>>
     ensures { Finds (codes "listen") rest.now result }
 {
     let (name, rest) = name_first(rest)?;
-    let (mode, rest) = mode_first(rest)?;
+    let (mode, rest) = word_first::<Mode>(rest)?;
     let pattern = last_pattern(rest)?;
     Some(BorrowedForm::Listen {
         name,
@@ -155,18 +127,11 @@ fn listen(rest: &[u8]) -> Option<BorrowedForm<'_>>
     })
 }
 
-fn poll(rest: &[u8]) -> Option<BorrowedForm<'_>>
-    ensures { Finds (codes "poll") rest.now result }
-{
-    let id = last_numeral(rest)?;
-    Some(BorrowedForm::Poll { id })
-}
-
 fn wait(rest: &[u8]) -> Option<BorrowedForm<'_>>
     ensures { Finds (codes "wait") rest.now result }
 {
-    let (span, rest) = span_first(rest)?;
-    let (want, rest) = want_first(rest)?;
+    let (span, rest) = word_first::<Span>(rest)?;
+    let (want, rest) = word_first::<Want>(rest)?;
     let (turns, rest) = numeral_first(rest)?;
     let names = last_names(rest)?;
     Some(BorrowedForm::Wait {
@@ -185,14 +150,14 @@ pub fn form_of_word<'a>(word: &[u8], rest: &'a [u8]) -> Result<Option<BorrowedFo
     match word {
         b"dir" => Ok(dir(rest)),
         b"svc" => Ok(svc(rest)),
-        b"sub" => Ok(sub(rest)),
+        b"sub" => Ok(last_name(rest).map(|name| BorrowedForm::Sub { name })),
         b"pub" => Ok(publication(rest)),
         b"take" => Ok(take(rest)),
-        b"cancel" => Ok(cancel(rest)),
-        b"close" => Ok(close(rest)),
-        b"status" => Ok(status(rest)),
+        b"cancel" => Ok(last_numeral(rest).map(|id| BorrowedForm::Cancel { id })),
+        b"close" => Ok(last_name(rest).map(|name| BorrowedForm::Close { name })),
+        b"status" => Ok(last_name(rest).map(|name| BorrowedForm::Status { name })),
         b"listen" => Ok(listen(rest)),
-        b"poll" => Ok(poll(rest)),
+        b"poll" => Ok(last_numeral(rest).map(|id| BorrowedForm::Poll { id })),
         b"wait" => Ok(wait(rest)),
         _ => Err(Refusal::Word),
     }

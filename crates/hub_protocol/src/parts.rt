@@ -1,14 +1,10 @@
 //! The first field of the rest of a line, or its last fields.
 ghost use Rattle.std.specs.Prelude.{◌≡◌, ◌≢◌, ◌∷◌, [], ℕ, List, MatchOption};
 ghost use Rattle.std.specs.Fmt.{decimal};
-ghost use Rattle.hub_letters.specs.declared.want.Want.{Want};
-ghost use Rattle.hub_letters.specs.declared.mode.Mode.{Mode};
-ghost use Rattle.hub_letters.specs.declared.span.Span.{Span};
-ghost use Rattle.hub_protocol.specs.Spelling.{IsName, IsNumeral, IsPatternText, AreLetters, AreNames, text_of_mode, text_of_span, text_of_want, fields_of};
+ghost use Rattle.hub_protocol.specs.Spelling.{IsName, IsNumeral, IsPatternText, AreLetters, AreNames, fields_of};
 
 use crate::fields::{are_letters, are_names, is_pattern, numeral, split_at_space};
-use crate::words::{mode_spelled, span_spelled, want_spelled};
-use hub_letters::{Mode, Span, Want};
+use crate::words::Spelled;
 use hub_requests::Name;
 
 /// A name, and the rest after it. None if the first field isn't a name, or is the last.
@@ -36,36 +32,15 @@ pub fn numeral_first(rest: &[u8]) -> Option<(u64, &[u8])>
     Some((numeral(number)?, rest))
 }
 
-/// A mode, and the rest after it. None if the first field isn't a mode, or is the last.
-pub fn mode_first(rest: &[u8]) -> Option<(Mode, &[u8])>
+/// A mode, a span or a want, and the rest after it. None if the first field isn't one, or is the last.
+pub fn word_first<T: Spelled>(rest: &[u8]) -> Option<(T, &[u8])>
     ensures { MatchOption result
-        ((mode : Mode) (text : List ℕ) → fields_of rest.now ≢ text_of_mode mode ∷ fields_of text)
-        (λ p. fields_of rest.now ≡ text_of_mode p.0 ∷ fields_of p.1.now) }
+        ((x : T) (field : List ℕ) (more : List (List ℕ))
+        → fields_of rest.now ≢ T.word x ∷ field ∷ more)
+        (λ p. fields_of rest.now ≡ T.word p.0 ∷ fields_of p.1.now) }
 {
-    let (mode, rest) = split_at_space(rest)?;
-    Some((mode_spelled(mode)?, rest))
-}
-
-/// A span, and the rest after it. None if the first field isn't a span, or is the last.
-pub fn span_first(rest: &[u8]) -> Option<(Span, &[u8])>
-    ensures { MatchOption result
-        ((span : Span) (field : List ℕ) (more : List (List ℕ))
-        → fields_of rest.now ≢ text_of_span span ∷ field ∷ more)
-        (λ p. fields_of rest.now ≡ text_of_span p.0 ∷ fields_of p.1.now) }
-{
-    let (span, rest) = split_at_space(rest)?;
-    Some((span_spelled(span)?, rest))
-}
-
-/// A want, and the rest after it. None if the first field isn't a want, or is the last.
-pub fn want_first(rest: &[u8]) -> Option<(Want, &[u8])>
-    ensures { MatchOption result
-        ((want : Want) (field : List ℕ) (more : List (List ℕ))
-        → fields_of rest.now ≢ text_of_want want ∷ field ∷ more)
-        (λ p. fields_of rest.now ≡ text_of_want p.0 ∷ fields_of p.1.now) }
-{
-    let (want, rest) = split_at_space(rest)?;
-    Some((want_spelled(want)?, rest))
+    let (word, rest) = split_at_space(rest)?;
+    Some((T::spelled(word)?, rest))
 }
 
 /// A name, if it is the whole rest.

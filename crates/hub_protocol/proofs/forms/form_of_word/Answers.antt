@@ -22,7 +22,7 @@ pub returns-in-svc : goal.returns-in-svc
 returns-in-svc c = found_at c.args.word.now c.args.rest.now (Svc [] 0 0 0) c.svc.result (omega arith) (search rules) c.svc.ensures
 
 pub returns-in-sub : goal.returns-in-sub
-returns-in-sub c = found_at c.args.word.now c.args.rest.now (Sub []) c.sub.result (omega arith) (search rules) c.sub.ensures
+returns-in-sub c = found_at c.args.word.now c.args.rest.now (Sub []) c.map.result (omega arith) (search rules) (search rules)
 
 pub returns-in-pub : goal.returns-in-pub
 returns-in-pub c = found_at c.args.word.now c.args.rest.now (Pub [] []) c.publication.result (omega arith) (search rules) c.publication.ensures
@@ -31,19 +31,19 @@ pub returns-in-take : goal.returns-in-take
 returns-in-take c = found_at c.args.word.now c.args.rest.now (Take 0 0) c.take.result (omega arith) (search rules) c.take.ensures
 
 pub returns-in-cancel : goal.returns-in-cancel
-returns-in-cancel c = found_at c.args.word.now c.args.rest.now (Cancel 0) c.cancel.result (omega arith) (search rules) c.cancel.ensures
+returns-in-cancel c = found_at c.args.word.now c.args.rest.now (Cancel 0) c.map-in-cancel.result (omega arith) (search rules) (search rules)
 
 pub returns-in-close : goal.returns-in-close
-returns-in-close c = found_at c.args.word.now c.args.rest.now (Close []) c.close.result (omega arith) (search rules) c.close.ensures
+returns-in-close c = found_at c.args.word.now c.args.rest.now (Close []) c.map-in-close.result (omega arith) (search rules) (search rules)
 
 pub returns-in-status : goal.returns-in-status
-returns-in-status c = found_at c.args.word.now c.args.rest.now (Status []) c.status.result (omega arith) (search rules) c.status.ensures
+returns-in-status c = found_at c.args.word.now c.args.rest.now (Status []) c.map-in-status.result (omega arith) (search rules) (search rules)
 
 pub returns-in-listen : goal.returns-in-listen
 returns-in-listen c = found_at c.args.word.now c.args.rest.now (Listen [] Once []) c.listen.result (omega arith) (search rules) c.listen.ensures
 
 pub returns-in-poll : goal.returns-in-poll
-returns-in-poll c = found_at c.args.word.now c.args.rest.now (Poll 0) c.poll.result (omega arith) (search rules) c.poll.ensures
+returns-in-poll c = found_at c.args.word.now c.args.rest.now (Poll 0) c.map-in-poll.result (omega arith) (search rules) (search rules)
 
 pub returns-in-wait : goal.returns-in-wait
 returns-in-wait c = found_at c.args.word.now c.args.rest.now (Wait All Up 0 []) c.wait.result (omega arith) (search rules) c.wait.ensures

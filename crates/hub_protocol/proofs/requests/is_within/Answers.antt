@@ -1,5 +1,6 @@
 use Rattle.std.proofs.Common.{◌≡◌, MatchBool, nat_le, refl, sym, ap, ◌∙◌, arith, rules}
 use Rattle.hub_requests.specs.Ranges.{IsTake, IsWait}
+use Rattle.hub_requests.specs.declared.bounds.TheConstants.{MOST_TAKEN, MOST_TURNS}
 use Rattle.hub_requests.specs.declared.request.Request.TheVariants as request
 use Rattle.hub_protocol.specs.declared.forms.BorrowedForm.{BorrowedForm}
 use Rattle.hub_protocol.specs.declared.forms.BorrowedForm.TheVariants as borrowed
@@ -23,15 +24,15 @@ returns-then-reports-le1 c =
 pub returns-then-max-ge1 : goal.returns-then-max-ge1
 returns-then-max-ge1 c =
     let t = c.in-Take in
-    let told : MatchBool (nat_le t.max 256) (IsTake t.max) (IsTake t.max → ⊥) = search rules in
-    within_by (request.Take t.id t.max) (form_shown c.args.form.now) (nat_le t.max 256) (sym (ap form_shown t.is)) told
+    let told : MatchBool (nat_le t.max MOST_TAKEN) (IsTake t.max) (IsTake t.max → ⊥) = search rules in
+    within_by (request.Take t.id t.max) (form_shown c.args.form.now) (nat_le t.max MOST_TAKEN) (sym (ap form_shown t.is)) told
 
 pub returns-in-Wait : goal.returns-in-Wait
 returns-in-Wait c =
     let w = c.in-Wait in
     let names : AreNames (fields_of w.names.now) = search rules in
-    let told : MatchBool (nat_le w.turns 1000000) (IsWait w.turns (fields_of w.names.now)) (IsWait w.turns (fields_of w.names.now) → ⊥) = search rules in
-    within_by (request.Wait w.span w.want w.turns (fields_of w.names.now)) (form_shown c.args.form.now) (nat_le w.turns 1000000) (sym (ap form_shown w.is)) told
+    let told : MatchBool (nat_le w.turns MOST_TURNS) (IsWait w.turns (fields_of w.names.now)) (IsWait w.turns (fields_of w.names.now) → ⊥) = search rules in
+    within_by (request.Wait w.span w.want w.turns (fields_of w.names.now)) (form_shown c.args.form.now) (nat_le w.turns MOST_TURNS) (sym (ap form_shown w.is)) told
 
 -- a form of another kind has no number with a range
 no_range : (c : goal.In_default) (form : BorrowedForm) → c.args.form.now ≡ form → IsWithin (form_shown form)
