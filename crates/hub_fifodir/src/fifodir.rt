@@ -70,7 +70,7 @@ impl Fifodir {
         ensures looks { OnlyLooks (A.view me.old) (A.view me.new) }
         ensures status { IsStatusOf result (A.view me.new).sight }
     {
-        word::unpack(me.look(self.board()))
+        word::unpack(me.look(self.board(), None))
     }
 
     /// The number of events. It is one load of the front word, and never waits for the lock.
@@ -96,9 +96,9 @@ impl Fifodir {
     {
         let board = self.board();
         for _ in rt.forever() {
-            let first = one.look(board);
+            let first = one.look(board, None);
             let note = one.note(board);
-            let last = other.read(board, note);
+            let last = other.look(board, Some(note));
             if first == last {
                 return;
             }

@@ -1,13 +1,20 @@
 //! What publishers and tickets share.
-ghost use Rattle.std.specs.Prelude.{◌≡◌};
+ghost use Rattle.std.specs.Prelude.{◌≡◌, IfSome};
 ghost use Rattle.hub_fifodir.specs.Notes.{IsSized, IsNote, note_sight};
 ghost use Rattle.hub_fifodir.specs.Passes.{HasSoundSight, OnlyLooks};
 ghost use Rattle.hub_fifodir.specs.Steps.{Front, Grows};
 
+use crate::publisher::Publisher;
 use crate::rule::{Board, Seat};
+use crate::steps;
+use crate::ticket::Ticket;
 
 /// A publisher or a ticket. Other crates can't implement it, since it asks for a trait that they can't name.
 pub trait Pass: Seated {}
+
+impl Pass for Publisher {}
+
+impl Pass for Ticket {}
 
 /// What has a seat at a fifodir's table, and makes its steps there.
 pub trait Seated {
@@ -16,12 +23,15 @@ pub trait Seated {
     // What a contract sees of it.
     ghost view: { Self → PassView };
 
-    /// Looks at the front word, and returns it.
-    fn look(&mut self, board: &Board) -> u64
-        requires { ((view self.old).table ≡ board.now.table_id) × IsSized board.now.table_id }
+    /// Joins a note if there is one, and looks at the front word. Returns that word.
+    fn look(&mut self, board: &Board, note: Option<Seat>) -> u64
+        requires board { ((view self.old).table ≡ board.now.table_id)
+            × IsSized board.now.table_id }
+        requires note { IfSome note (λ n. IsNote (view self.old).table (note_sight n) n) }
         ensures looks { OnlyLooks (view self.old) (view self.new) }
         ensures sound { HasSoundSight (view self.new) }
         ensures seen { Grows (view self.old).sight (view self.new).sight }
+        ensures noted { IfSome note (λ n. Grows (note_sight n) (view self.new).sight) }
         ensures word { Front result (view self.new).sight };
 
     /// Splits off a note of what it has seen, for another pass to join.
@@ -29,15 +39,32 @@ pub trait Seated {
         requires { ((view self.old).table ≡ board.now.table_id) × IsSized board.now.table_id }
         ensures still { view self.new ≡ view self.old }
         ensures note { IsNote (view self.old).table (view self.old).sight result };
+}
 
-    /// Joins a note, and looks at the front word. Returns that word.
-    fn read(&mut self, board: &Board, note: Seat) -> u64
-        requires board { ((view self.old).table ≡ board.now.table_id)
-            × IsSized board.now.table_id }
-        requires note { IsNote (view self.old).table (note_sight note) note }
-        ensures looks { OnlyLooks (view self.old) (view self.new) }
-        ensures sound { HasSoundSight (view self.new) }
-        ensures seen { Grows (view self.old).sight (view self.new).sight }
-        ensures noted { Grows (note_sight note) (view self.new).sight }
-        ensures word { Front result (view self.new).sight };
+impl Seated for Publisher {
+    ghost use Rattle.hub_fifodir.specs.Passes.{publisher_view};
+
+    ghost view = { publisher_view };
+
+    fn look(&mut self, board: &Board, note: Option<Seat>) -> u64 {
+        steps::look(board, &mut self.seat, note)
+    }
+
+    fn note(&mut self, board: &Board) -> Seat {
+        steps::note(board, &mut self.seat)
+    }
+}
+
+impl Seated for Ticket {
+    ghost use Rattle.hub_fifodir.specs.Passes.{ticket_view};
+
+    ghost view = { ticket_view };
+
+    fn look(&mut self, board: &Board, note: Option<Seat>) -> u64 {
+        steps::look(board, &mut self.seat, note)
+    }
+
+    fn note(&mut self, board: &Board) -> Seat {
+        steps::note(board, &mut self.seat)
+    }
 }

@@ -3,7 +3,6 @@ ghost use Rattle.std.specs.Prelude.{◌≡◌, ◌≢◌, ◌<◌, [], IfOk, IfE
 ghost use Rattle.hub_fifodir.specs.Steps.{IsWriter};
 
 use crate::fifodir::Fifodir;
-use crate::pass::{Pass, Seated};
 use crate::rule::{Board, Seat};
 use crate::{PassError, steps, word};
 use hub_letters::Letter;
@@ -14,7 +13,7 @@ use std::sync::Wait;
 /// So it is neither `Copy` nor `Drop`, and only `Fifodir::leave` takes it.
 pub struct Publisher {
     number: u64,
-    seat: Seat,
+    pub(crate) seat: Seat,
     pub ghost is_writer: { IsWriter seat.me number },
     pub ghost positive: { 0 < number },
 }
@@ -118,25 +117,5 @@ impl Fifodir {
         let mut held = self.lock(rt, &mut seat);
         held.locked.leave(number);
         steps::rest_gone(board, &mut seat, held);
-    }
-}
-
-impl Pass for Publisher {}
-
-impl Seated for Publisher {
-    ghost use Rattle.hub_fifodir.specs.Passes.{publisher_view};
-
-    ghost view = { publisher_view };
-
-    fn look(&mut self, board: &Board) -> u64 {
-        steps::look(board, &mut self.seat)
-    }
-
-    fn note(&mut self, board: &Board) -> Seat {
-        steps::note(board, &mut self.seat)
-    }
-
-    fn read(&mut self, board: &Board, note: Seat) -> u64 {
-        steps::read(board, &mut self.seat, note)
     }
 }

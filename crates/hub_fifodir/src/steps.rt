@@ -1,5 +1,5 @@
 //! The steps of a call, each on one seat.
-ghost use Rattle.std.specs.Prelude.{◌≡◌, ◌∷◌, [], None};
+ghost use Rattle.std.specs.Prelude.{◌≡◌, ◌∷◌, [], None, IfSome};
 ghost use Rattle.hub_fifodir.specs.Rule.{visitor};
 ghost use Rattle.hub_fifodir.specs.Steps.{IsIdle, Holding, Gives, Front, WritesMessage, WritesMark, Looks, Grows};
 ghost use Rattle.hub_fifodir.specs.Steps.{view_with_letters, closing, writing_of, taking_of, view_at_rest};
@@ -212,13 +212,19 @@ pub(crate) fn enter(board: &Board) -> Seat
     board.load_new_seat::<Enter>(0).1
 }
 
-// One load of the front word by the seat.
-pub(crate) fn look(board: &Board, seat: &mut Seat) -> u64
+// The seat joins a note if there is one, and loads the front word.
+pub(crate) fn look(board: &Board, seat: &mut Seat, note: Option<Seat>) -> u64
     requires table { (seat.old.table_id ≡ board.now.table_id) × IsSized board.now.table_id }
     requires idle { IsIdle seat.old.me }
+    requires note { IfSome note (λ n. IsNote seat.old.table_id (note_sight n) n) }
     ensures table { (seat.new.table_id ≡ seat.old.table_id) × (seat.new.id ≡ seat.old.id) }
     ensures seen { Looks seat.old.me seat.new.me × Front result seat.new.me.0.sight }
+    ensures noted { IfSome note (λ n. Grows (note_sight n) seat.new.me.0.sight) }
 {
+    let Some(note) = note else {
+        return board.load::<Look>(seat, 0);
+    };
+    board.join_seat::<Notes>(seat, note);
     board.load::<Look>(seat, 0)
 }
 
@@ -231,17 +237,4 @@ pub(crate) fn note(board: &Board, seat: &mut Seat) -> Seat
     ensures note { IsNote seat.old.table_id seat.old.me.0.sight result }
 {
     board.split_seat::<Notes>(seat)
-}
-
-// The seat joins a note, and loads the front word.
-pub(crate) fn read(board: &Board, seat: &mut Seat, note: Seat) -> u64
-    requires table { (seat.old.table_id ≡ board.now.table_id) × IsSized board.now.table_id }
-    requires idle { IsIdle seat.old.me }
-    requires note { IsNote seat.old.table_id (note_sight note) note }
-    ensures table { (seat.new.table_id ≡ seat.old.table_id) × (seat.new.id ≡ seat.old.id) }
-    ensures seen { Looks seat.old.me seat.new.me × Front result seat.new.me.0.sight }
-    ensures noted { Grows (note_sight note) seat.new.me.0.sight }
-{
-    board.join_seat::<Notes>(seat, note);
-    board.load::<Look>(seat, 0)
 }

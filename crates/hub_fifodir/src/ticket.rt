@@ -3,7 +3,6 @@ ghost use Rattle.std.specs.Prelude.{◌≡◌, length, IfOk, IfErr};
 ghost use Rattle.hub_fifodir.specs.Steps.{IsTaker};
 
 use crate::fifodir::Fifodir;
-use crate::pass::{Pass, Seated};
 use crate::rule::{Board, Seat};
 use crate::steps;
 use hub_record::{Event, SubError, Taken};
@@ -17,7 +16,7 @@ pub struct Ticket {
     mark: u64,
     /// The number of the next event that it takes.
     next: u64,
-    seat: Seat,
+    pub(crate) seat: Seat,
     pub ghost is_taker: { IsTaker seat.me id mark next },
 }
 
@@ -118,25 +117,5 @@ impl Fifodir {
         let mut held = self.lock(rt, &mut seat);
         held.locked.cancel(id).unwrap();
         steps::rest_gone(board, &mut seat, held);
-    }
-}
-
-impl Pass for Ticket {}
-
-impl Seated for Ticket {
-    ghost use Rattle.hub_fifodir.specs.Passes.{ticket_view};
-
-    ghost view = { ticket_view };
-
-    fn look(&mut self, board: &Board) -> u64 {
-        steps::look(board, &mut self.seat)
-    }
-
-    fn note(&mut self, board: &Board) -> Seat {
-        steps::note(board, &mut self.seat)
-    }
-
-    fn read(&mut self, board: &Board, note: Seat) -> u64 {
-        steps::read(board, &mut self.seat, note)
     }
 }
