@@ -57,13 +57,6 @@ impl Watch {
         }
     }
 
-    /// Notes that the fifodir is closed and no event is pending.
-    pub fn end(&mut self)
-        ensures { self.new ≡ record self.old { ended = true } }
-    {
-        self.ended = true;
-    }
-
     /// How many of the service's events the watch knows.
     pub fn at(&self) -> u64
         ensures { result ≡ self.now.at }
@@ -71,7 +64,14 @@ impl Watch {
         self.at
     }
 
-    /// The flags of those events.
+    /// Notes that the fifodir is closed and no event is pending.
+    pub fn end(&mut self)
+        ensures { self.new ≡ record self.old { ended = true } }
+    {
+        self.ended = true;
+    }
+
+    /// The flags of the events that the watch knows.
     pub fn flags(&self) -> Flags
         ensures { result ≡ self.now.flags }
     {
