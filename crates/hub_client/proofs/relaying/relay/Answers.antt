@@ -56,13 +56,11 @@ returns-in-Nothing-clause-reads g c =
 
 pub returns-in_err-receive_reply-in-Line-clause-stopped : goal.returns-in_err-receive_reply-in-Line-clause-stopped
 returns-in_err-receive_reply-in-Line-clause-stopped g c =
-    let e = c.in_err-receive_reply-in-Line.field-0.0 in
-    let is : c.from_residual-in_err-receive_reply-in-Line.result ≡ Err e = search rules in
     let u = c.turns.invariant.under_way in
     let sent = rw c.in-Line.is at c.in_ok-send_line.ensures.ok in
     let (passed, rest, due, m, cut, d, f, a) = c.in_err-receive_reply-in-Line.ensures.err in
-    IfErr-known _ c.from_residual-in_err-receive_reply-in-Line.result e is
-    (receive_stops (sent_lines (passes_line u.asked sent.1 sent.2 sent.3)) u.answered cut due d e m f (omega (arith, u.spent, sent.1.spent)) a)
+    IfErr-known _ c.from_residual-in_err-receive_reply-in-Line.result c.in_err-receive_reply-in-Line.field-0.0 (search rules)
+    (receive_stops (sent_lines (passes_line u.asked sent.1 sent.2 sent.3)) u.answered cut due d _ m f (omega (arith, u.spent, sent.1.spent)) a)
 
 pub returns-in_err-receive_reply-in-Line-clause-memory : goal.returns-in_err-receive_reply-in-Line-clause-memory
 returns-in_err-receive_reply-in-Line-clause-memory g c = λ memory.
@@ -71,24 +69,19 @@ returns-in_err-receive_reply-in-Line-clause-memory g c = λ memory.
 
 pub returns-in_err-receive_reply-in-Line-clause-reads : goal.returns-in_err-receive_reply-in-Line-clause-reads
 returns-in_err-receive_reply-in-Line-clause-reads g c =
-    let r = c.from_residual-in_err-receive_reply-in-Line.result in
-    let e = c.in_err-receive_reply-in-Line.field-0.0 in
-    let is : c.from_residual-in_err-receive_reply-in-Line.result ≡ Err e = search rules in
     let u = c.turns.invariant.under_way in
     let (line, m, ended, sent) = c.in_ok-send_line.ensures.ok in
     let (passed, rest, due, n, cut, d, f, a) = c.in_err-receive_reply-in-Line.ensures.err in
-    within _ _ _ _ r (u.reads + m.reads) (u.reads' + n.reads) c.receive_reply.new.left (omega (arith, u.spent, m.spent, n.spent)) (Rises-add _ _ _ _ _ u.asked.told m.told) (Rises-add _ _ _ _ _ u.answered.told n.told)
-    (receive_turns r e due rest _ _ is f)
+    within _ _ _ _ _ (u.reads + m.reads) (u.reads' + n.reads) c.receive_reply.new.left (omega (arith, u.spent, m.spent, n.spent)) (Rises-add _ _ _ _ _ u.asked.told m.told) (Rises-add _ _ _ _ _ u.answered.told n.told)
+    (receive_turns c.from_residual-in_err-receive_reply-in-Line.result c.in_err-receive_reply-in-Line.field-0.0 due rest _ _ (search rules) f)
 
 pub returns-in_err-receive_reply-in-Part-clause-stopped : goal.returns-in_err-receive_reply-in-Part-clause-stopped
 returns-in_err-receive_reply-in-Part-clause-stopped g c =
-    let e = c.in_err-receive_reply-in-Part.field-0.0 in
-    let is : c.from_residual-in_err-receive_reply-in-Part.result ≡ Err e = search rules in
     let u = c.turns.invariant.under_way in
     let sent = rw c.in-Part.is at c.in_ok-send_line.ensures.ok in
     let (passed, rest, due, m, cut, d, f, a) = c.in_err-receive_reply-in-Part.ensures.err in
-    IfErr-known _ c.from_residual-in_err-receive_reply-in-Part.result e is
-    (receive_stops (sent_part u.asked sent.1 sent.2.0 sent.2.1 sent.2.2 sent.3) u.answered cut due d e m f (omega (arith, u.spent, sent.1.spent)) a)
+    IfErr-known _ c.from_residual-in_err-receive_reply-in-Part.result c.in_err-receive_reply-in-Part.field-0.0 (search rules)
+    (receive_stops (sent_part u.asked sent.1 sent.2.0 sent.2.1 sent.2.2 sent.3) u.answered cut due d _ m f (omega (arith, u.spent, sent.1.spent)) a)
 
 pub returns-in_err-receive_reply-in-Part-clause-memory : goal.returns-in_err-receive_reply-in-Part-clause-memory
 returns-in_err-receive_reply-in-Part-clause-memory g c = λ memory.
@@ -97,14 +90,11 @@ returns-in_err-receive_reply-in-Part-clause-memory g c = λ memory.
 
 pub returns-in_err-receive_reply-in-Part-clause-reads : goal.returns-in_err-receive_reply-in-Part-clause-reads
 returns-in_err-receive_reply-in-Part-clause-reads g c =
-    let r = c.from_residual-in_err-receive_reply-in-Part.result in
-    let e = c.in_err-receive_reply-in-Part.field-0.0 in
-    let is : c.from_residual-in_err-receive_reply-in-Part.result ≡ Err e = search rules in
     let u = c.turns.invariant.under_way in
     let (line, m, ended, sent) = c.in_ok-send_line.ensures.ok in
     let (passed, rest, due, n, cut, d, f, a) = c.in_err-receive_reply-in-Part.ensures.err in
-    within _ _ _ _ r (u.reads + m.reads) (u.reads' + n.reads) c.receive_reply-in-Part.new.left (omega (arith, u.spent, m.spent, n.spent)) (Rises-add _ _ _ _ _ u.asked.told m.told) (Rises-add _ _ _ _ _ u.answered.told n.told)
-    (receive_turns r e due rest _ _ is f)
+    within _ _ _ _ _ (u.reads + m.reads) (u.reads' + n.reads) c.receive_reply-in-Part.new.left (omega (arith, u.spent, m.spent, n.spent)) (Rises-add _ _ _ _ _ u.asked.told m.told) (Rises-add _ _ _ _ _ u.answered.told n.told)
+    (receive_turns c.from_residual-in_err-receive_reply-in-Part.result c.in_err-receive_reply-in-Part.field-0.0 due rest _ _ (search rules) f)
 
 pub returns-in-Part-clause-finished : goal.returns-in-Part-clause-finished
 returns-in-Part-clause-finished g c =
