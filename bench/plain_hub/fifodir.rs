@@ -60,10 +60,10 @@ impl Fifodir {
 
     pub fn subscribe(&mut self) -> Result<u64, Refusal> {
         if self.closed {
-            return Err(Refusal::Closed);
+            return Err(Refusal::Word("closed"));
         }
         if self.cursors.len() >= 1024 {
-            return Err(Refusal::Many);
+            return Err(Refusal::Word("many"));
         }
         self.given += 1;
         self.cursors.insert(self.given, self.number());
@@ -72,7 +72,7 @@ impl Fifodir {
 
     pub fn publish(&mut self, letters: &str) -> Result<u64, Refusal> {
         if self.closed {
-            return Err(Refusal::Closed);
+            return Err(Refusal::Word("closed"));
         }
         let mut stage = self.stage;
         if self.service.is_some() {
@@ -83,10 +83,10 @@ impl Fifodir {
         let number = self.number();
         let count = letters.len() as u64;
         if count > self.total - number {
-            return Err(Refusal::Spent);
+            return Err(Refusal::Word("spent"));
         }
         if !self.cursors.is_empty() && self.events.len() as u64 + count > self.waiting {
-            return Err(Refusal::Full);
+            return Err(Refusal::Word("full"));
         }
         self.events.extend(letters.bytes());
         self.stage = stage;

@@ -40,10 +40,10 @@ impl Hub {
         match request {
             Request::Make { name, waiting, total, service } => {
                 if self.fifodirs.contains_key(name) {
-                    return Err(Refusal::Exists);
+                    return Err(Refusal::Word("exists"));
                 }
                 if self.fifodirs.len() >= MOST_NAMES {
-                    return Err(Refusal::Many);
+                    return Err(Refusal::Word("many"));
                 }
                 self.fifodirs.insert(name.to_string(), Fifodir::new(service, waiting, total));
                 Ok(Reply::Done)
@@ -67,20 +67,20 @@ impl Hub {
     }
 
     fn find(&mut self, name: &str) -> Result<&mut Fifodir, Refusal> {
-        self.fifodirs.get_mut(name).ok_or(Refusal::Name)
+        self.fifodirs.get_mut(name).ok_or(Refusal::Word("name"))
     }
 
     fn subscribe(&mut self, name: &str, listen: Option<(bool, &str)>) -> Result<Reply, Refusal> {
-        let fifodir = self.fifodirs.get_mut(name).ok_or(Refusal::Name)?;
+        let fifodir = self.fifodirs.get_mut(name).ok_or(Refusal::Word("name"))?;
         if self.handles.len() >= MOST_HANDLES {
-            return Err(Refusal::Many);
+            return Err(Refusal::Word("many"));
         }
         if self.given >= MOST_NUMBERS {
-            return Err(Refusal::Spent);
+            return Err(Refusal::Word("spent"));
         }
         let listener = match listen {
             Some((once, text)) => {
-                let pattern = Pattern::of(text).ok_or(Refusal::Pattern)?;
+                let pattern = Pattern::of(text).ok_or(Refusal::Word("pattern"))?;
                 Some(Listener { pattern, once, letters: String::new() })
             }
             None => None,
@@ -92,11 +92,11 @@ impl Hub {
     }
 
     fn take(&mut self, id: u64, max: usize) -> Result<Reply, Refusal> {
-        let handle = self.handles.get(&id).ok_or(Refusal::Id)?;
+        let handle = self.handles.get(&id).ok_or(Refusal::Word("id"))?;
         if handle.listener.is_some() {
-            return Err(Refusal::Id);
+            return Err(Refusal::Word("id"));
         }
-        let fifodir = self.fifodirs.get_mut(&handle.name).ok_or(Refusal::Name)?;
+        let fifodir = self.fifodirs.get_mut(&handle.name).ok_or(Refusal::Word("name"))?;
         let letters = fifodir.take(handle.id, max);
         Ok(match (letters.is_empty(), fifodir.closed) {
             (false, _) => Reply::Got(letters),
@@ -106,7 +106,7 @@ impl Hub {
     }
 
     fn cancel(&mut self, id: u64) -> Result<Reply, Refusal> {
-        let handle = self.handles.remove(&id).ok_or(Refusal::Id)?;
+        let handle = self.handles.remove(&id).ok_or(Refusal::Word("id"))?;
         self.find(&handle.name)?.cancel(handle.id);
         Ok(Reply::Done)
     }
@@ -114,18 +114,18 @@ impl Hub {
     fn close(&mut self, name: &str) -> Result<Reply, Refusal> {
         let fifodir = self.find(name)?;
         if fifodir.closed {
-            return Err(Refusal::Closed);
+            return Err(Refusal::Word("closed"));
         }
         fifodir.closed = true;
         Ok(Reply::Done)
     }
 
     fn poll(&mut self, id: u64) -> Result<Reply, Refusal> {
-        let handle = self.handles.get_mut(&id).ok_or(Refusal::Id)?;
-        let listener = handle.listener.as_mut().ok_or(Refusal::Id)?;
-        let fifodir = self.fifodirs.get_mut(&handle.name).ok_or(Refusal::Name)?;
+        let handle = self.handles.get_mut(&id).ok_or(Refusal::Word("id"))?;
+        let listener = handle.listener.as_mut().ok_or(Refusal::Word("id"))?;
+        let fifodir = self.fifodirs.get_mut(&handle.name).ok_or(Refusal::Word("name"))?;
         if listener.letters.len() >= MOST_LETTERS {
-            return Err(Refusal::Overlong);
+            return Err(Refusal::Word("overlong"));
         }
         while listener.letters.len() < MOST_LETTERS {
             let letter = fifodir.take(handle.id, 1);
@@ -152,7 +152,7 @@ impl Hub {
             self.find(name)?;
         }
         if names.iter().any(|name| self.fifodirs[*name].service.is_none()) {
-            return Err(Refusal::Kind);
+            return Err(Refusal::Word("kind"));
         }
         for name in names {
             let fifodir = self.find(name)?;

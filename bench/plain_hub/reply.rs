@@ -16,24 +16,11 @@ pub enum Reply {
     No(Refusal),
 }
 
+/// Why a request is refused: the word that the reply says, or the place of an unlawful letter.
 #[derive(Clone, Copy)]
 pub enum Refusal {
-    Long,
-    Text,
-    Word,
-    Form,
-    Range,
-    Name,
-    Exists,
-    Kind,
-    Id,
-    Many,
-    Spent,
-    Closed,
+    Word(&'static str),
     Unlawful(usize),
-    Full,
-    Pattern,
-    Overlong,
 }
 
 impl fmt::Display for Reply {
@@ -65,24 +52,9 @@ impl fmt::Display for Reply {
 
 impl fmt::Display for Refusal {
     fn fmt(&self, f: &mut fmt::Formatter<'_>) -> fmt::Result {
-        let word = match self {
-            Refusal::Long => "long",
-            Refusal::Text => "text",
-            Refusal::Word => "word",
-            Refusal::Form => "form",
-            Refusal::Range => "range",
-            Refusal::Name => "name",
-            Refusal::Exists => "exists",
-            Refusal::Kind => "kind",
-            Refusal::Id => "id",
-            Refusal::Many => "many",
-            Refusal::Spent => "spent",
-            Refusal::Closed => "closed",
-            Refusal::Unlawful(place) => return write!(f, "unlawful {place}"),
-            Refusal::Full => "full",
-            Refusal::Pattern => "pattern",
-            Refusal::Overlong => "overlong",
-        };
-        f.write_str(word)
+        match self {
+            Refusal::Word(word) => f.write_str(word),
+            Refusal::Unlawful(place) => write!(f, "unlawful {place}"),
+        }
     }
 }

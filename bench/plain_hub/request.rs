@@ -37,18 +37,18 @@ const WORDS: [&str; 11] =
 /// The request that a line spells.
 pub fn parse(line: &[u8]) -> Result<Request<'_>, Refusal> {
     if line.len() > 512 {
-        return Err(Refusal::Long);
+        return Err(Refusal::Word("long"));
     }
     if !line.iter().all(|byte| (0x20..=0x7e).contains(byte)) {
-        return Err(Refusal::Text);
+        return Err(Refusal::Word("text"));
     }
-    let line = std::str::from_utf8(line).map_err(|_| Refusal::Text)?;
+    let line = std::str::from_utf8(line).map_err(|_| Refusal::Word("text"))?;
     let (word, rest) = line.split_once(' ').unwrap_or((line, ""));
     if word == "listen" {
         return listen(rest);
     }
     if !WORDS.contains(&word) {
-        return Err(Refusal::Word);
+        return Err(Refusal::Word("word"));
     }
     let fields: Vec<&str> = rest.split(' ').collect();
     match (word, fields.as_slice()) {
@@ -65,7 +65,7 @@ pub fn parse(line: &[u8]) -> Result<Request<'_>, Refusal> {
         ("status", [n]) => Ok(Request::Status { name: name(n)? }),
         ("poll", [id]) => Ok(Request::Poll { id: numeral(id)? }),
         ("wait", [span, want, turns, names @ ..]) => wait(span, want, turns, names),
-        _ => Err(Refusal::Form),
+        _ => Err(Refusal::Word("form")),
     }
 }
 
@@ -84,15 +84,15 @@ fn make<'a>(n: &'a str, w: &str, t: &str, r: Option<&&str>) -> Result<Request<'a
 fn listen(rest: &str) -> Result<Request<'_>, Refusal> {
     let mut fields = rest.splitn(3, ' ');
     let (Some(n), Some(mode), Some(pattern)) = (fields.next(), fields.next(), fields.next()) else {
-        return Err(Refusal::Form);
+        return Err(Refusal::Word("form"));
     };
     let once = match mode {
         "once" => true,
         "repeat" => false,
-        _ => return Err(Refusal::Form),
+        _ => return Err(Refusal::Word("form")),
     };
     if pattern.is_empty() || pattern.len() > 200 {
-        return Err(Refusal::Form);
+        return Err(Refusal::Word("form"));
     }
     Ok(Request::Listen { name: name(n)?, once, pattern })
 }
@@ -106,18 +106,18 @@ fn wait<'a>(
     let all = match span {
         "all" => true,
         "any" => false,
-        _ => return Err(Refusal::Form),
+        _ => return Err(Refusal::Word("form")),
     };
     let want = match want {
         "up" => Want::Up,
         "ready" => Want::Ready,
         "down" => Want::Down,
         "finished" => Want::Finished,
-        _ => return Err(Refusal::Form),
+        _ => return Err(Refusal::Word("form")),
     };
     let turns = numeral(turns)?;
     if names.is_empty() || names.len() > 32 {
-        return Err(Refusal::Form);
+        return Err(Refusal::Word("form"));
     }
     let names = names.iter().map(|n| name(n)).collect::<Result<_, _>>()?;
     within(turns, 0..=1_000_000)?;
@@ -129,18 +129,18 @@ fn name(field: &str) -> Result<&str, Refusal> {
     if (1..=32).contains(&field.len()) && field.bytes().all(stands) {
         Ok(field)
     } else {
-        Err(Refusal::Form)
+        Err(Refusal::Word("form"))
     }
 }
 
 fn numeral(field: &str) -> Result<u64, Refusal> {
     let leading_zero = field.len() > 1 && field.starts_with('0');
     if field.len() > 13 || leading_zero || !field.bytes().all(|byte| byte.is_ascii_digit()) {
-        return Err(Refusal::Form);
+        return Err(Refusal::Word("form"));
     }
-    field.parse().map_err(|_| Refusal::Form)
+    field.parse().map_err(|_| Refusal::Word("form"))
 }
 
 fn within(number: u64, range: RangeInclusive<u64>) -> Result<u64, Refusal> {
-    if range.contains(&number) { Ok(number) } else { Err(Refusal::Range) }
+    if range.contains(&number) { Ok(number) } else { Err(Refusal::Word("range")) }
 }
