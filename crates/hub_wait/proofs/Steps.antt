@@ -1,12 +1,13 @@
 -- What letters add to a watch, and a watch along a history.
 use Rattle.std.proofs.Common.{◌≡◌, ℕ, ◌+◌, ◌-◌, ◌<◌, ◌≤◌, List, [], ◌∷◌, ◌++◌, map, take, drop, length, max, Bool, true, false, ◌||◌, Option, Some, None, if◌then◌else◌, length-drop, subst, refl, ⊎_elim, sym, ap, ◌∙◌, arith}
+use Rattle.std.specs.List.{list_any}
 use Rattle.std.proofs.lemmas.Bool.{cases_lt}
 use Rattle.std.proofs.lemmas.List.{map-append, drop_all, take_all, take-append-drop, drop-drop, take-take}
 use Rattle.hub_letters.specs.declared.flags.Flags.{Flags}
 use Rattle.hub_letters.specs.Marks.{Mark, mark, later, last_among, is_life, is_supervision, is_hope, is_began, is_gave_up}
 use Rattle.hub_letters.specs.Flags.{up_by, settled_by, flags_by, flags_of}
-use Rattle.hub_wait.specs.Watching.{Watching, flag_after, flags_after, flags_after_marks, watching_after_step}
-use Rattle.hub_wait.specs.Histories.{ShowsFlagsOf, IsSlice, Step, End, FollowAnySlices}
+use Rattle.hub_wait.specs.Watching.{Watching, flag_after, flags_after, flags_after_marks, watching_after_step, renewed_by}
+use Rattle.hub_wait.specs.Histories.{ShowsFlagsOf, IsSlice, Step, Renew, End, is_end, FollowAnySlices}
 
 -- ---- flags after more letters
 
@@ -130,6 +131,9 @@ follow_any_slices history [] w f are = record { follows = f; at = refl; want = r
 follow_any_slices history (Step first letters ∷ ms) w f are =
     let rest = follow_any_slices history ms (watching_after_step w first letters) (ShowsFlagsOf-stepped w history letters first are.0.0 f are.0.1) are.1 in
     record { follows = rest.follows; at = rest.at; want = rest.want; notifies = rest.notifies; ended = rest.ended }
+follow_any_slices history (Renew status ∷ ms) w f are =
+    let rest = follow_any_slices history ms (renewed_by w status) (record { within = are.0.1.within; flags = are.0.1.flags }) are.1 in
+    record { follows = rest.follows; at = rest.at; want = rest.want; notifies = rest.notifies; ended = rest.ended ∙ or_assoc w.ended status.closed (list_any is_end ms) }
 follow_any_slices history (End ∷ ms) w f are =
     let rest = follow_any_slices history ms (record w { ended = true }) (record { within = f.within; flags = f.flags }) are.1 in
     record { follows = rest.follows; at = rest.at; want = rest.want; notifies = rest.notifies; ended = rest.ended ∙ by w.ended }

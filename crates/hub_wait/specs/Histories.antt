@@ -2,7 +2,8 @@
 use Rattle.std.specs.Prelude.{ℕ, ◌≡◌, ◌+◌, ◌≤◌, max, Bool, true, false, ◌||◌, List, [], ◌∷◌, length, take, drop}
 use Rattle.std.specs.List.{list_any}
 use Rattle.hub_letters.specs.Flags.{flags_of}
-use Rattle.hub_wait.specs.Watching.{Watching, watching_after_step}
+use Rattle.hub_record.specs.declared.Status.{Status}
+use Rattle.hub_wait.specs.Watching.{Watching, watching_after_step, renewed_by}
 
 -- the watch shows the flags of the first `at` letters of the history
 pub record ShowsFlagsOf (watch : Watching) (history : List ℕ) : Type 0 where
@@ -14,13 +15,20 @@ pub record IsSlice (history : List ℕ) (first : ℕ) (letters : List ℕ) : Typ
   pub within : first + length letters ≤ length history
   pub same : letters ≡ drop first (take (first + length letters) history)
 
+-- the status is that of the first `number` letters of the history
+pub record IsStatusIn (history : List ℕ) (status : Status) : Type 0 where
+  pub within : status.number ≤ length history
+  pub flags : status.flags ≡ flags_of (take status.number history)
+
 -- what happens to a watch
 pub data Move : Type 0 where
   Step : ℕ → List ℕ → Move  -- it gets letters, numbered from the first number
+  Renew : Status → Move  -- it gets a status
   End : Move  -- it learns that no more will come
 
 abbrev pub watching_after_move : Watching → Move → Watching
 watching_after_move w (Step first letters) = watching_after_step w first letters
+watching_after_move w (Renew status) = renewed_by w status
 watching_after_move w End = record w { ended = true }
 
 abbrev pub moved_by : Watching → List Move → Watching
@@ -29,21 +37,23 @@ moved_by w (m ∷ ms) = moved_by (watching_after_move w m) ms
 
 abbrev pub is_end : Move → Bool
 is_end (Step first letters) = false
+is_end (Renew status) = status.closed
 is_end End = true
 
--- the greater of a number and a slice's end
+-- how far a watch is after a move: at a slice's end, unless it was further already, or at a status's number
 abbrev pub reach : ℕ → Move → ℕ
 reach at (Step first letters) = max at (first + length letters)
+reach at (Renew status) = status.number
 reach at End = at
 
--- the greatest of a number and the slices' ends
 abbrev pub furthest : ℕ → List Move → ℕ
 furthest at [] = at
 furthest at (m ∷ ms) = furthest (reach at m) ms
 
--- letters are a slice of the history that leaves no gap after number `at`
+-- letters are a slice of the history that leaves no gap after number `at`, and a status isn't older than that
 abbrev pub IsMoveAlong : List ℕ → ℕ → Move → Type 0
 IsMoveAlong history at (Step first letters) = (first ≤ at) × IsSlice history first letters
+IsMoveAlong history at (Renew status) = (at ≤ status.number) × IsStatusIn history status
 IsMoveAlong history at End = Unit {0}
 
 abbrev pub AreMovesAlong : List ℕ → ℕ → List Move → Type 0
@@ -58,8 +68,8 @@ pub record HasMoved (history : List ℕ) (moves : List Move) (old new : Watching
   pub notifies : new.notifies ≡ old.notifies
   pub ended : new.ended ≡ (old.ended || list_any is_end moves)
 
--- A watch that follows a history, and gets slices of it that are cut anywhere and overlap, follows it up to the
--- greatest of their ends.
+-- A watch that follows a history, and gets slices of it that are cut anywhere and overlap, or statuses that are not older
+-- than what it knows, follows it up to the furthest of them.
 abbrev pub FollowAnySlices : Type 0
 FollowAnySlices = (history : List ℕ) (moves : List Move) (watch : Watching) → ShowsFlagsOf watch history → AreMovesAlong history watch.at moves
     → HasMoved history moves watch (moved_by watch moves)

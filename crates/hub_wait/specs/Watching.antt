@@ -39,6 +39,10 @@ flags_after f letters = flags_after_marks f (map mark letters)
 abbrev pub watching_after_step : Watching → ℕ → List ℕ → Watching
 watching_after_step w first letters = record w { at = max w.at (first + length letters); flags = flags_after w.flags (drop (w.at - first) letters) }
 
+-- after a status of the service; a closed one ends the watch
+abbrev pub renewed_by : Watching → Status → Watching
+renewed_by w status = record w { at = status.number; flags = status.flags; ended = w.ended || status.closed }
+
 abbrev pub is_met_at : Watching → Bool
 is_met_at w = is_met w.want w.flags w.notifies
 

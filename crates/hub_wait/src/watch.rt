@@ -28,7 +28,7 @@ impl Model for Watch {
 
 impl Watch {
     ghost use Rattle.hub_letters.specs.Wants.{is_hopeless};
-    ghost use Rattle.hub_wait.specs.Watching.{new_watching, watching_after_step, is_met_at, is_lost_at};
+    ghost use Rattle.hub_wait.specs.Watching.{new_watching, watching_after_step, renewed_by, is_met_at, is_lost_at};
     ghost use Rattle.hub_wait.specs.Histories.{FollowAnySlices};
 
     /// A watch that begins at a status. `notifies` says whether the service reports that it is ready.
@@ -55,6 +55,16 @@ impl Watch {
             self.flags = self.flags.after_all(&letters[told as usize..]);
             self.at = first + letters.len() as u64;
         }
+    }
+
+    /// Goes on from a status of the service, so that it may miss the letters before that. A closed one ends the watch.
+    pub fn renew(&mut self, status: Status)
+        requires { self.old.at ≤ status.number }
+        ensures { self.new ≡ renewed_by self.old status }
+    {
+        self.at = status.number;
+        self.flags = status.flags;
+        self.ended = self.ended || status.closed;
     }
 
     /// How many of the service's events the watch knows.
@@ -106,7 +116,8 @@ impl Watch {
         self.hopeless() || self.ended
     }
 
-    /// A law: a watch shows the flags of its service's history up to its number, however the history is cut.
+    /// A law: a watch shows the flags of its service's history up to its number, however the history is cut, and whichever
+    /// statuses it gets.
     pub fn follow_any_slices()
         ensures { FollowAnySlices }
     {}

@@ -214,6 +214,10 @@ fn a_watch_is_judged() -> bool {
     };
     let mut watch = Watch::new(Want::Up, true, status);
     watch.step(0, &[Letter::LEAST]);
+    watch.renew(Status {
+        number: 1,
+        ..status
+    });
     let seen = (
         watch.at(),
         watch.flags().code(),

@@ -87,6 +87,65 @@ fn first_unlike(alloc: Global) -> io::Result<Option<&'static str>> {
     Ok(None)
 }
 
+/// A watch at a number and the flags of a code gets the status of a second pair, and then letters from a number on; then
+/// it is at the third pair.
+type Renewal = (
+    &'static str,
+    (u64, u64),
+    (u64, u64),
+    (u64, &'static str),
+    (u64, u64),
+);
+
+static RENEWALS: [Renewal; 3] = [
+    ("missed letters", (1, 6), (7, 7), (7, ""), (7, 7)),
+    ("letters told", (1, 6), (5, 6), (3, "dDu"), (6, 5)),
+    ("nothing new", (3, 7), (3, 7), (3, "d"), (4, 4)),
+];
+
+/// A watch of the first pair after a status of the second one.
+fn renewed(old: (u64, u64), told: (u64, u64), closed: bool) -> Option<Watch> {
+    let mut watch = watch_at(Want::Ready, old.0, old.1)?;
+    let flags = Flags::of_code(told.1)?;
+    if told.0 < watch.at() {
+        return None;
+    }
+    watch.renew(Status {
+        number: told.0,
+        flags,
+        closed,
+    });
+    Some(watch)
+}
+
+/// The name of the first row that isn't so.
+fn first_renewed_otherwise(alloc: Global) -> io::Result<Option<&'static str>> {
+    for (name, old, told, text, new) in RENEWALS.iter() {
+        let Some(mut watch) = renewed(*old, *told, false) else {
+            return Ok(Some(*name));
+        };
+        give(alloc, &mut watch, text.0, text.1)?;
+        if (watch.at(), watch.flags().code()) != *new || watch.ended() {
+            return Ok(Some(*name));
+        }
+    }
+    Ok(None)
+}
+
+/// Whether a closed status ends a watch, and an open one doesn't go on from an end.
+fn a_closed_status_ends_a_watch() -> bool {
+    let status = Status {
+        number: 3,
+        flags: Flags::none(),
+        closed: false,
+    };
+    let mut ended = Watch::new(Want::Ready, true, status);
+    ended.end();
+    ended.renew(status);
+    let closed = renewed((1, 6), (3, 7), true);
+    ended.ended() && closed.is_some_and(|watch| watch.ended() && watch.at() == 3)
+}
+
 /// Whether the watch isn't ended, and is after `end`, with the number and the flags that it had.
 fn ends(watch: Watch) -> bool {
     let mut ended = watch;
@@ -184,6 +243,16 @@ fn first_judged_otherwise() -> Option<&'static str> {
 #[test]
 fn watches_follow_their_letters(rt: HostRuntime) -> Result<(), Fail> {
     none_is_unlike(&rt, first_unlike(rt.alloc())?);
+    Ok(())
+}
+
+#[test]
+fn watches_go_on_from_a_status(rt: HostRuntime) -> Result<(), Fail> {
+    none_is_unlike(&rt, first_renewed_otherwise(rt.alloc())?);
+    assert!(rt;
+        a_closed_status_ends_a_watch(),
+        "a closed status ends a watch"
+    );
     Ok(())
 }
 
