@@ -103,7 +103,7 @@ is_space b = b == 32
 abbrev pub fields_of : List ℕ → List (List ℕ)
 fields_of text = slice_split is_space text
 
--- the fields after a form's word; a pattern may have spaces
+-- the fields after a form's word; a pattern with spaces is several of them
 abbrev pub fields_behind : Form → List (List ℕ)
 fields_behind (Dir name waiting total) = name ∷ decimal waiting ∷ decimal total ∷ []
 fields_behind (Svc name waiting total reports) = name ∷ decimal waiting ∷ decimal total ∷ decimal reports ∷ []
