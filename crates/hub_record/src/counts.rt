@@ -1,5 +1,5 @@
 //! The counts of a record: how many cursors are at each number from the base to the end.
-ghost use Rattle.std.specs.Prelude.{◌≡◌, ◌≤◌, ◌<◌, ◌+◌, ◌++◌, length, get_or, replicate};
+ghost use Rattle.std.specs.Prelude.{◌≡◌, ◌≤◌, ◌<◌, ◌+◌, ◌*◌, ◌++◌, length, get_or, replicate, position, nat_lt};
 ghost use Rattle.circular_buffer.specs.Buffer.{buffer};
 ghost use Rattle.hub_record.specs.declared.limits.TheConstants.{MOST_PASSES};
 ghost use Rattle.hub_record.specs.Backlog.{first_place, with_one_more, with_one_less};
@@ -11,8 +11,20 @@ pub fn lengthen(counts: &mut HeapCircularBuffer<u64>, more: usize)
     requires { length counts.old.items + more ≤ counts.old.capacity }
     ensures { counts.new ≡ buffer (counts.old.items ++ replicate more 0) counts.old.capacity }
 {
-    for _ in 0..more {
+    for _ in 0..more % 32 {
         counts.push_back(0);
+    }
+    add_blocks(counts, more / 32);
+}
+
+// A long message costs less if its places are added 32 at a time.
+fn add_blocks(counts: &mut HeapCircularBuffer<u64>, blocks: usize)
+    requires { length counts.old.items + 32 * blocks ≤ counts.old.capacity }
+    ensures { counts.new
+        ≡ buffer (counts.old.items ++ replicate (32 * blocks) 0) counts.old.capacity }
+{
+    for _ in 0..blocks {
+        counts.fill_from_slice(&[0; 32]);
     }
 }
 
@@ -42,8 +54,28 @@ pub fn one_less(counts: &mut HeapCircularBuffer<u64>, place: usize)
 pub fn first_place(counts: &HeapCircularBuffer<u64>) -> usize
     ensures { result ≡ first_place counts.now.items }
 {
-    counts
-        .iter()
-        .position(|count| *count > 0)
-        .unwrap_or(counts.len())
+    if has_first(counts) {
+        return 0;
+    }
+    let (front, back) = counts.as_slices();
+    if let Some(place) = first_counted(front) {
+        return place;
+    }
+    front.len() + first_counted(back).unwrap_or(back.len())
+}
+
+fn first_counted(counts: &[u64]) -> Option<usize>
+    ensures { result ≡ position (λ n. nat_lt 0 n) counts.now }
+{
+    counts.iter().position(|count| *count > 0)
+}
+
+// Most takes leave a cursor at the base, so this look is often enough.
+fn has_first(counts: &HeapCircularBuffer<u64>) -> bool
+    ensures { result ≡ nat_lt 0 (get_or counts.now.items 0 0) }
+{
+    match counts.front() {
+        Some(count) => *count > 0,
+        None => false,
+    }
 }
