@@ -148,11 +148,12 @@ drop() {
     esac
 }
 
-# begin: makes the service at the hub and tells how it is. It fails if the session has ended.
+# begin: makes the service at the hub and tells how it is. It fails if the session has ended. The service evicts clients that
+# don't take their letters: one of them would else keep the bridge, and with it every wait, from the letters that follow.
 begin() {
     local i
     agreed=yes
-    ask "svc $name 4096 1000000000000 $reports" || return
+    ask "svc $name 4096 1000000000000 $reports evict" || return
     case $reply in
     ok) ;;
     'no exists')

@@ -47,8 +47,9 @@ if [ $# -eq 0 ]; then
     hub=$!
 fi
 
-# Makes the services. The hub listens a moment after it was started, so this retries until it can connect. The letter `s`
-# is published before the wait begins: if the hub is an old one, it ends whatever the services were before.
+# Makes the services, without `evict`: few letters are sent, and no client that subscribes may miss one. The hub listens a
+# moment after it was started, so this retries until it can connect. The letter `s` is published before the wait begins: if
+# the hub is an old one, it ends whatever the services were before.
 tries=0
 until made=$(printf 'svc db 64 1000000000000 1\nsvc web 64 1000000000000 1\npub db s\npub web s\n' | "$ftrighub" call "$socket" 2>/dev/null); do
     tries=$((tries + 1))

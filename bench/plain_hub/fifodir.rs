@@ -2,7 +2,7 @@
 
 use crate::reply::Refusal;
 use crate::request::{Service, Want};
-use std::collections::{HashMap, VecDeque};
+use std::collections::{HashMap, HashSet, VecDeque};
 
 #[derive(Clone, Copy, Default)]
 pub struct Flags {
@@ -29,16 +29,18 @@ pub struct Fifodir {
     stage: Stage,
     waiting: u64,
     total: u64,
+    evicts: bool,
     /// The events from number `first` on.
     events: VecDeque<u8>,
     first: u64,
-    /// The number of the next event of each subscription.
+    /// The number of the next event of each subscription that isn't evicted.
     cursors: HashMap<u64, u64>,
+    evicted: HashSet<u64>,
     given: u64,
 }
 
 impl Fifodir {
-    pub fn new(service: Option<Service>, waiting: u64, total: u64) -> Fifodir {
+    pub fn new(service: Option<Service>, waiting: u64, total: u64, evicts: bool) -> Fifodir {
         Fifodir {
             service,
             closed: false,
@@ -46,9 +48,11 @@ impl Fifodir {
             stage: Stage::default(),
             waiting,
             total,
+            evicts,
             events: VecDeque::new(),
             first: 0,
             cursors: HashMap::new(),
+            evicted: HashSet::new(),
             given: 0,
         }
     }
@@ -62,7 +66,7 @@ impl Fifodir {
         if self.closed {
             return Err(Refusal::Word("closed"));
         }
-        if self.cursors.len() >= 1024 {
+        if self.cursors.len() + self.evicted.len() >= 1024 {
             return Err(Refusal::Word("many"));
         }
         self.given += 1;
@@ -85,12 +89,14 @@ impl Fifodir {
         if count > self.total - number {
             return Err(Refusal::Word("spent"));
         }
-        if !self.cursors.is_empty() && self.events.len() as u64 + count > self.waiting {
+        let held = if self.evicts { 0 } else { self.events.len() as u64 };
+        if !self.cursors.is_empty() && held + count > self.waiting {
             return Err(Refusal::Word("full"));
         }
         self.events.extend(letters.bytes());
         self.stage = stage;
         self.flags = letters.bytes().fold(self.flags, Flags::after);
+        self.evict_slow();
         self.drop_taken();
         Ok(number)
     }
@@ -108,9 +114,23 @@ impl Fifodir {
         letters
     }
 
+    pub fn is_evicted(&self, id: u64) -> bool {
+        self.evicted.contains(&id)
+    }
+
     pub fn cancel(&mut self, id: u64) {
         self.cursors.remove(&id);
+        self.evicted.remove(&id);
         self.drop_taken();
+    }
+
+    /// Evicts each subscription for which too many events are pending, if the fifodir evicts any.
+    fn evict_slow(&mut self) {
+        let (number, waiting) = (self.number(), self.waiting);
+        if self.evicts {
+            let slow = self.cursors.extract_if(|_, next| number - *next > waiting);
+            self.evicted.extend(slow.map(|(id, _)| id));
+        }
     }
 
     /// Lets go of the events that every subscription has taken.

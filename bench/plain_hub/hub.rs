@@ -38,14 +38,15 @@ impl Hub {
 
     fn answer(&mut self, request: Request) -> Result<Reply, Refusal> {
         match request {
-            Request::Make { name, waiting, total, service } => {
+            Request::Make { name, waiting, total, service, evict } => {
                 if self.fifodirs.contains_key(name) {
                     return Err(Refusal::Word("exists"));
                 }
                 if self.fifodirs.len() >= MOST_NAMES {
                     return Err(Refusal::Word("many"));
                 }
-                self.fifodirs.insert(name.to_string(), Fifodir::new(service, waiting, total));
+                let fifodir = Fifodir::new(service, waiting, total, evict);
+                self.fifodirs.insert(name.to_string(), fifodir);
                 Ok(Reply::Done)
             }
             Request::Sub { name } => self.subscribe(name, None),
@@ -98,11 +99,7 @@ impl Hub {
         }
         let fifodir = self.fifodirs.get_mut(&handle.name).ok_or(Refusal::Word("name"))?;
         let letters = fifodir.take(handle.id, max);
-        Ok(match (letters.is_empty(), fifodir.closed) {
-            (false, _) => Reply::Got(letters),
-            (true, true) => Reply::End,
-            (true, false) => Reply::Nothing,
-        })
+        Ok(if letters.is_empty() { idle(fifodir, handle.id) } else { Reply::Got(letters) })
     }
 
     fn cancel(&mut self, id: u64) -> Result<Reply, Refusal> {
@@ -130,7 +127,7 @@ impl Hub {
         while listener.letters.len() < MOST_LETTERS {
             let letter = fifodir.take(handle.id, 1);
             if letter.is_empty() {
-                return Ok(if fifodir.closed { Reply::End } else { Reply::Nothing });
+                return Ok(idle(fifodir, handle.id));
             }
             listener.letters.push_str(&letter);
             if listener.pattern.is_found_in(&listener.letters) {
@@ -170,5 +167,14 @@ impl Hub {
             false if hopeless.iter().all(|hopeless| *hopeless) => Reply::Never,
             _ => Reply::Late,
         })
+    }
+}
+
+/// The reply for a subscription that has no event to take.
+fn idle(fifodir: &Fifodir, id: u64) -> Reply {
+    match (fifodir.is_evicted(id), fifodir.closed) {
+        (true, _) => Reply::Evicted,
+        (false, true) => Reply::End,
+        (false, false) => Reply::Nothing,
     }
 }

@@ -10,6 +10,7 @@ pub enum Reply {
     Hit(String),
     Nothing,
     End,
+    Evicted,
     Yes(Vec<Option<u64>>),
     Never,
     Late,
@@ -36,6 +37,7 @@ impl fmt::Display for Reply {
             Reply::Hit(letters) => write!(f, "hit {letters}"),
             Reply::Nothing => write!(f, "none"),
             Reply::End => write!(f, "end"),
+            Reply::Evicted => write!(f, "evicted"),
             Reply::Yes(numbers) => {
                 write!(f, "yes")?;
                 numbers.iter().try_for_each(|number| match number {

@@ -4,7 +4,7 @@ use crate::reply::Refusal;
 use std::ops::RangeInclusive;
 
 pub enum Request<'a> {
-    Make { name: &'a str, waiting: u64, total: u64, service: Option<Service> },
+    Make { name: &'a str, waiting: u64, total: u64, service: Option<Service>, evict: bool },
     Sub { name: &'a str },
     Pub { name: &'a str, letters: &'a str },
     Take { id: u64, max: usize },
@@ -52,8 +52,10 @@ pub fn parse(line: &[u8]) -> Result<Request<'_>, Refusal> {
     }
     let fields: Vec<&str> = rest.split(' ').collect();
     match (word, fields.as_slice()) {
-        ("dir", [n, w, t]) => make(n, w, t, None),
-        ("svc", [n, w, t, r]) => make(n, w, t, Some(r)),
+        ("dir", [n, w, t]) => make(n, w, t, None, false),
+        ("dir", [n, w, t, "evict"]) => make(n, w, t, None, true),
+        ("svc", [n, w, t, r]) => make(n, w, t, Some(r), false),
+        ("svc", [n, w, t, r, "evict"]) => make(n, w, t, Some(r), true),
         ("sub", [n]) => Ok(Request::Sub { name: name(n)? }),
         ("pub", [n, letters]) if !letters.is_empty() => Ok(Request::Pub { name: name(n)?, letters }),
         ("take", [id, max]) => {
@@ -69,7 +71,13 @@ pub fn parse(line: &[u8]) -> Result<Request<'_>, Refusal> {
     }
 }
 
-fn make<'a>(n: &'a str, w: &str, t: &str, r: Option<&&str>) -> Result<Request<'a>, Refusal> {
+fn make<'a>(
+    n: &'a str,
+    w: &str,
+    t: &str,
+    r: Option<&&str>,
+    evict: bool,
+) -> Result<Request<'a>, Refusal> {
     let (name, waiting, total) = (name(n)?, numeral(w)?, numeral(t)?);
     let reports = r.map(|r| numeral(r)).transpose()?;
     within(waiting, 1..=4096)?;
@@ -78,7 +86,7 @@ fn make<'a>(n: &'a str, w: &str, t: &str, r: Option<&&str>) -> Result<Request<'a
         Some(reports) => Some(Service { notifies: within(reports, 0..=1)? == 1 }),
         None => None,
     };
-    Ok(Request::Make { name, waiting, total, service })
+    Ok(Request::Make { name, waiting, total, service, evict })
 }
 
 fn listen(rest: &str) -> Result<Request<'_>, Refusal> {

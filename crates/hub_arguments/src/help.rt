@@ -10,7 +10,8 @@ An event hub for service start-up: event directories (fifodirs) inside one progr
 
 Publishers and subscribers meet at a fifodir. The letters that are published there are a numbered list of events. A
 subscriber gets every event from then on, each once and in order. Events are pending until the slowest subscriber has
-taken them. No event is lost: if too many are pending, the publisher is refused (`no full`) and retries.
+taken them. No event is lost: if too many are pending, the publisher is refused (`no full`) and retries. If a fifodir
+was made with `evict`, such a subscriber is evicted in place of that, and is told so.
 
 A start-up script waits until two services are ready, for about five seconds at most:
 
@@ -33,12 +34,15 @@ Each line of standard input is a request, and each gets one reply line, in order
                  dir web 64 1000000000000 ok
   svc N W T R    make a service's fifodir, for letters in their lawful order; R is 1 if it reports readiness
                  svc db 64 1000000000000 1 ok
+                 With the word `evict` at the end of a `dir` or `svc` line, slow subscriptions are evicted: if a `pub`
+                 leaves more than W events pending for one, each later `take` or `poll` of it replies `evicted`
+                 dir log 64 1000 evict  ok
   sub N          subscribe; the reply has the handle
                  sub web                ok 1
   pub N LETTERS  publish letters (bytes from ! to ~); the reply has the number of the first event
                  pub web ab             ok 0
   take ID MAX    take at most MAX pending events (1 to 256) of a subscription
-                 take 1 256             got ab, or none, or end
+                 take 1 256             got ab, or none, or end, or evicted
   cancel ID      end a subscription or a listener
                  cancel 1               ok
   close N        close for events and subscriptions; pending events may still be taken
@@ -49,7 +53,7 @@ Each line of standard input is a request, and each gets one reply line, in order
                  listen for a regular expression of 1 to 200 bytes, MODE once or repeat; the reply has the handle
                  listen db once u.*U    ok 2
   poll ID        look for a listener's next hit: the letters since the last one, up to where the pattern first matches
-                 poll 2                 hit suU, or none, or end
+                 poll 2                 hit suU, or none, or end, or evicted
   wait SPAN WANT TURNS N1 .. Nk
                  wait until all or any (SPAN) of 1 to 32 services are up, ready, down or finished (WANT), for at most
                  TURNS turns (0 to 1000000); the reply has each one's number of events, or `-` if it isn't so yet

@@ -183,7 +183,7 @@ fn took<R: Wait>(rt: &R, fifodir: &Fifodir, subscribed: &AtomicU64) -> u64 {
         match fifodir.take_into(rt, &mut ticket, &mut out) {
             Taken::Got(count) => all = all.saturating_add(count as u64),
             Taken::Nothing => thread::yield_now(),
-            Taken::End => break,
+            Taken::End | Taken::Evicted => break,
         }
     }
     fifodir.cancel(rt, ticket);

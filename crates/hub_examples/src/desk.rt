@@ -18,6 +18,7 @@ pub fn make_service<H: Wait, D: Desk>(
         waiting: 64,
         total: 1_000_000,
         notifies: true,
+        evict: false,
     };
     Ok(desk.ask(rt, &service))
 }

@@ -12,6 +12,7 @@ pub fn make_and_subscribe<H: Wait>(rt: &H, alloc: Global) -> Result<Reply, Alloc
         name: name.copy()?,
         waiting: 64,
         total: 1_000,
+        evict: false,
     };
     let mut desk = LocalDesk::new(alloc)?;
     let _made = desk.ask(rt, &dir);

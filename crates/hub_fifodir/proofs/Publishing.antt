@@ -10,7 +10,7 @@ use Rattle.hub_record.specs.declared.limits.TheConstants.{MOST_EVENTS}
 use Rattle.hub_record.specs.declared.PubError.{PubError}
 use Rattle.hub_record.specs.declared.Status.{Status}
 use Rattle.hub_record.specs.declared.PubError.TheVariants as post
-use Rattle.hub_record.specs.World.{World, IsWorld, letters, as_events, load, IsLawfulIn, IsUnlawfulIn, PublishReply, after_publish, close_reply, after_close}
+use Rattle.hub_record.specs.World.{World, IsWorld, letters, as_events, needed_by, IsLawfulIn, IsUnlawfulIn, PublishReply, after_publish, close_reply, after_close}
 use Rattle.hub_record.specs.declared.Closed.{Closed}
 use Rattle.hub_record.specs.Runs.{by}
 use Rattle.std.proofs.lemmas.Bool.{cases_Bool}
@@ -26,7 +26,9 @@ use Rattle.hub_fifodir.specs.Events.{is_closed, front_word, StartsWith}
 use Rattle.hub_fifodir.specs.Locks.{StandsForWorld, KeepsPublishers, status_of}
 use Rattle.hub_fifodir.specs.Rule.{IsLive, IsNumbered, IsSane, IsBehind, IsSound, book_of}
 use Rattle.hub_fifodir.specs.Steps.{M, Locks, Gives, Grows, IsWriter, WritesMessage, WritesMark, view_with_letters, closing, writing_of, mine_of, writer, view_at_rest}
-use Rattle.hub_fifodir.specs.Passes.{IsRefusedBy}
+use Rattle.hub_record.specs.declared.limits.Policy.{Policy}
+use Rattle.hub_record.specs.declared.limits.Policy.TheVariants.{Hold, Evict}
+use Rattle.hub_fifodir.specs.Passes.{IsRefusedBy, most_needed}
 use Rattle.hub_fifodir.proofs.Logs.{by-append, by_own, starts_more, letters_longer, length-stamped}
 use Rattle.hub_fifodir.proofs.Rests.{rests, same_book}
 
@@ -48,8 +50,9 @@ shut_already w x e = elim (cases_Bool w.closed) [ inl t ↦ t | inr f ↦ (let k
 
 -- ---- why a message is refused
 
-full_only : (w : World) (n : ℕ) → IsWorld w → w.limits.waiting < load w + n → (0 < n) × (w.limits.waiting < length w.events + n)
-full_only w n h e = let l = h.loaded in (omega arith, omega arith)
+full_only : (w : World) (n : ℕ) (p : Policy) → IsWorld w → w.limits.waiting < needed_by p w n → (0 < n) × (w.limits.waiting < most_needed p (length w.events) n)
+full_only w n Hold h e = let l = h.loaded in (omega arith, omega arith)
+full_only w n Evict h e = (omega arith, e)
 
 pub refused_by : (rules : Rules) (s : Sight) (b : Locked) (message : List ℕ) (e : PubError) (h : IsBehind rules s.seen s.closed b) → PublishReply h.world message (Err e) → IsRefusedBy rules s message e
 refused_by rules s b message post.Closed h r = closed_when s.closed h.world.closed h.closed r
@@ -59,12 +62,12 @@ refused_by rules s b message post.Spent h r = (
   subst (λ (k : Kind). IsLawfulIn k (letters s.seen ++ message)) h.kind (subst (λ (l : List Event). IsLawfulIn h.world.kind (letters l ++ message)) h.events r.1),
   subst (λ (l : Limits). l.total < length s.seen + length message) h.limits (subst (λ (l : List Event). h.world.limits.total < length l + length message) h.events r.2),
 )
-refused_by rules s b message post.Full h r = let full = full_only h.world (length message) h.for.for.world r.3.1 in (
+refused_by rules s b message post.Full h r = let full = full_only h.world (length message) h.world.limits.policy h.for.for.world r.3.1 in (
   open_when s.closed h.world.closed h.closed r.0,
   subst (λ (k : Kind). IsLawfulIn k (letters s.seen ++ message)) h.kind (subst (λ (l : List Event). IsLawfulIn h.world.kind (letters l ++ message)) h.events r.1),
   subst (λ (l : Limits). length s.seen + length message ≤ l.total) h.limits (subst (λ (l : List Event). length l + length message ≤ h.world.limits.total) h.events r.2),
   full.0,
-  subst (λ (l : Limits). l.waiting < length s.seen + length message) h.limits (subst (λ (l : List Event). h.world.limits.waiting < length l + length message) h.events full.1),
+  subst (λ (l : Limits). l.waiting < most_needed l.policy (length s.seen) (length message)) h.limits (subst (λ (l : List Event). h.world.limits.waiting < most_needed h.world.limits.policy (length l) (length message)) h.events full.1),
 )
 
 -- a status never tells more events than a record may have

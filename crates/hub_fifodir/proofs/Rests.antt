@@ -53,7 +53,7 @@ rests m b b' live held low same behind =
 -- a call on the record alone that leaves the subscriptions as they are
 pub same_book : (b b' : Locked) (w w' : World) → StandsForWorld b w → StandsForWorld b' w' → w'.subscriptions ≡ w.subscriptions → KeepsPublishers b b' → book_of b' ≡ book_of b
 same_book b b' w w' h h' same others =
-    let cursors : b'.kept.cursors ≡ b.kept.cursors = h'.for.cursors ∙ ap (λ (l : List Subscription). Rattle.hub_record.specs.World.standing_from 1 l) same ∙ sym h.for.cursors in
+    let cursors : b'.kept.cursors ≡ b.kept.cursors = h'.for.cursors ∙ ap (λ (l : List Subscription). Rattle.hub_record.specs.World.current_from 1 l) same ∙ sym h.for.cursors in
     let ids : b'.kept.given ≡ b.kept.given = h'.for.given ∙ ap length same ∙ sym h.for.given in
     λ i. record { cursors = cursors i; ids = ids i; standing = others.0 i; numbers = others.1 i }
 

@@ -1,5 +1,5 @@
 -- The laws of the rule.
-use Rattle.std.proofs.Common.{◌≡◌, ℕ, ◌+◌, ◌-◌, ◌<◌, ◌≤◌, List, [], ◌∷◌, ◌++◌, length, take, drop, Bool, true, false, not, nat_eq, Option, Some, sym, refl, ap, ◌∙◌, subst, inl, inr, ⊎_elim, arith}
+use Rattle.std.proofs.Common.{◌≡◌, ℕ, ◌+◌, ◌-◌, ◌<◌, ◌≤◌, List, [], ◌∷◌, ◌++◌, length, take, drop, Bool, true, false, not, Option, Some, sym, refl, ap, ◌∙◌, subst, inl, inr, ⊎_elim, arith}
 use Rattle.std.proofs.lemmas.Bool.{cases_lt}
 use Rattle.std.proofs.lemmas.List.{take-append-drop, take-append-le}
 use mathlib.Core.Option as maybe
@@ -11,8 +11,9 @@ use Rattle.hub_letters.specs.Flags.{flags_of}
 use Rattle.hub_fifodir.specs.Word.{packed_word}
 use Rattle.std.proofs.Common.{get_or}
 use Rattle.std.proofs.lemmas.Bool.{ne_eqb}
-use Rattle.hub_record.specs.World.{letters, World, base}
-use Rattle.hub_record.proofs.Least.{least_bound_at}
+use Rattle.hub_record.specs.World.{letters, World, current}
+use Rattle.hub_record.specs.declared.limits.Limits.{Limits}
+use Rattle.hub_record.proofs.Policies.{base_bound, hold_bound}
 use Rattle.hub_fifodir.specs.declared.views.Rules.{Rules}
 use Rattle.hub_fifodir.specs.declared.views.Book.{Book}
 use Rattle.hub_fifodir.specs.declared.views.View.{View}
@@ -22,9 +23,9 @@ use Rattle.hub_fifodir.specs.declared.views.Role.{Role}
 use Rattle.hub_fifodir.specs.declared.views.Role.TheVariants.{Ticket, Publisher}
 use Rattle.hub_fifodir.specs.declared.locked.Locked.{Locked}
 use Rattle.hub_fifodir.specs.Events.{StartsWith, slice}
-use Rattle.hub_fifodir.specs.Locks.{is_current}
+use Rattle.hub_fifodir.specs.Locks.{StandsForWorld, is_current}
 use Rattle.hub_fifodir.specs.Rule.{LockState, free, held_by, home, RuleHolds, book_of, IsBehind, IsSound, IsHome, InRole, IsTicket, IsPublisher, IsLive, HasId, IsNumbered, cursor_of, cursor_if}
-use Rattle.hub_fifodir.specs.Laws.{HasTicket, HasPublisher, IsFree, TicketsDiffer, PublishersDiffer, SeatsAgree, RecordIsHistory, TicketsHaveCursors, CursorsHaveTickets, StandingHavePublishers, BaseIsBehind}
+use Rattle.hub_fifodir.specs.Laws.{HasTicket, HasPublisher, IsFree, TicketsDiffer, PublishersDiffer, SeatsAgree, RecordIsHistory, TicketsHaveCursors, CursorsHaveTickets, StandingHavePublishers, BaseIsBehind, HoldKeepsAll}
 use Rattle.hub_fifodir.proofs.Looks.{its_seat}
 
 abbrev S : Type 0
@@ -132,10 +133,18 @@ standing_have_publishers rules s b n r homes at =
     stays true e = cc
     stays false e = refl
 
+-- the cursor of a current ticket, in the world
+cursor_in : (rules : Rules) (s : S) (b : Locked) (w : World) (j : ℕ) (t : Taking) → RuleHolds rules s → IsFree s b → StandsForWorld b w → HasTicket s j t → t.gone ≡ false → cursor_of (current w) t.id ≡ Some t.next
+cursor_in rules s b w j t r homes stands h stays = ap (λ c. cursor_of c t.id) (sym stands.for.cursors) ∙ tickets_have_cursors rules s b j t r homes h stays
+
 pub base_is_behind : BaseIsBehind
-base_is_behind rules s b w j t r homes is_current h stays =
-    let at = tickets_have_cursors rules s b j t r homes h stays in
-    least_bound_at (length w.events) (nat_eq t.id) (Rattle.hub_record.specs.World.standing w) t.next (ap (λ c. cursor_of c t.id) (sym is_current.for.cursors) ∙ at)
+base_is_behind rules s b w j t r homes stands h stays up = base_bound w t.id t.next stands.for.world (cursor_in rules s b w j t r homes stands h stays) up
+
+pub hold_keeps_all : HoldKeepsAll
+hold_keeps_all rules s b w j t r homes stands hold h stays =
+    let behind = (home_behind rules s b r homes).0 in
+    let limits = sym stands.for.limits ∙ behind.for.for.limits ∙ behind.limits in
+    hold_bound w t.id t.next stands.for.world (cursor_in rules s b w j t r homes stands h stays) (ap (λ (l : Limits). l.policy) limits ∙ hold)
 
 -- ---- a ticket's events
 

@@ -4,7 +4,7 @@ use Rattle.std.proofs.lemmas.Bool.{ne_eqb, eq-eqb, eqb-true, cases_Bool}
 use Rattle.std.specs.Option.{option_map}
 use Rattle.hub_record.specs.World.{World, Subscription, subscription_in, found_from, changed_from, as_cancelled}
 use Rattle.hub_record.specs.Kept.{Kept, StandsFor}
-use Rattle.hub_record.proofs.Cursors.{lookup_standing}
+use Rattle.hub_record.proofs.Cursors.{lookup_current}
 use Rattle.hub_fifodir.specs.Rule.{cursor_of, IsGiven}
 
 pub found_changed : (f : Subscription → Subscription) (from : ℕ) (subs : List Subscription) (id : ℕ) (s : Subscription) → found_from from subs id ≡ Some s → (f s).current ≡ true → found_from from (changed_from f from subs id) id ≡ Some (f s)
@@ -65,7 +65,7 @@ abbrev pub next_of : Option Subscription → Option ℕ
 next_of o = option_map (λ (s : Subscription). s.next) o
 
 pub cursor_found : (r : Kept) (w : World) (i : ℕ) → StandsFor r w → cursor_of r.cursors i ≡ next_of (subscription_in w i)
-cursor_found r w i h = ap (λ c. cursor_of c i) h.cursors ∙ lookup_standing 1 w.subscriptions i
+cursor_found r w i h = ap (λ c. cursor_of c i) h.cursors ∙ lookup_current 1 w.subscriptions i
 
 -- the current subscription of a cursor
 pub subscription_of : (o : Option Subscription) (next : ℕ) → next_of o ≡ Some next → (s : Subscription) × (o ≡ Some s) × (s.next ≡ next)

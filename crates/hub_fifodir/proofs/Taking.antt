@@ -1,12 +1,12 @@
 -- A ticket's calls, from step to step: m0 before, m1 with the lock, m3 after.
-use Rattle.std.proofs.Common.{◌≡◌, ◌≢◌, ℕ, suc, ◌+◌, ◌-◌, ◌<◌, ◌≤◌, nat_lt, Bool, true, false, List, [], ◌∷◌, ◌++◌, length, take, drop, min, Option, Some, None, Ok, sym, refl, ap, ◌∙◌, subst, inl, inr, arith, length-append, length-drop, Result, IsOk}
+use Rattle.std.proofs.Common.{◌≡◌, ◌≢◌, ℕ, suc, ◌+◌, ◌-◌, ◌<◌, ◌≤◌, nat_lt, ◌&&◌, Bool, true, false, if◌then◌else◌, List, [], ◌∷◌, ◌++◌, length, take, drop, min, Option, Some, None, Ok, Err, sym, refl, ap, ◌∙◌, subst, inl, inr, arith, length-append, length-drop, Result, IsOk}
 use Rattle.std.proofs.lemmas.Bool.{cases_Bool, ltb-true, ltb-false}
 use Rattle.std.proofs.lemmas.List.{length-take-le}
 use Rattle.hub_record.specs.declared.Event.{Event}
 use Rattle.hub_record.specs.declared.NoId.{NoId}
 use Rattle.hub_record.specs.declared.Taken.{Taken}
-use Rattle.hub_record.specs.declared.Taken.TheVariants.{Got, Nothing, End}
-use Rattle.hub_record.specs.World.{World, Subscription, subscription_in, with_changed, moved_on, count_to_take, as_cancelled, new_subscription, after_subscribe, take_reply, reply_for, take_events, moved_for, after_take, after_take_for, cancel_reply, cancel_for, after_cancel, after_cancel_for}
+use Rattle.hub_record.specs.declared.Taken.TheVariants.{Got, Nothing, End, Evicted}
+use Rattle.hub_record.specs.World.{World, Subscription, is_slow, evicts, is_evicted, subscription_in, with_changed, moved_on, count_to_take, as_cancelled, new_subscription, after_subscribe, take_reply, reply_for, take_events, moved_for, after_take, after_take_for, cancel_reply, cancel_for, after_cancel, after_cancel_for}
 use Rattle.hub_fifodir.specs.declared.views.Book.{Book}
 use Rattle.hub_fifodir.specs.declared.views.Sight.{Sight}
 use Rattle.hub_fifodir.specs.declared.views.View.{View}
@@ -18,6 +18,8 @@ use Rattle.hub_fifodir.specs.Events.{slice}
 use Rattle.hub_fifodir.specs.Locks.{StandsForWorld, is_current, KeepsPublishers}
 use Rattle.hub_fifodir.specs.Rule.{IsSane, IsGiven, IsBounded, cursor_of, cursor_if, book_of, IsBehind, IsSound}
 use Rattle.hub_fifodir.specs.Steps.{M, Locks, Changes, Gives, IsInBook, IsTaker, view_at_rest, taker, new_taker, taker_after, taking_of, got_of, as_gone}
+use Rattle.hub_fifodir.specs.Passes.{is_evicted_by}
+use Rattle.hub_record.proofs.Taking.{AnswerShows, shows_by, answered}
 use Rattle.hub_fifodir.proofs.Logs.{slice_none, slice_join}
 use Rattle.hub_fifodir.proofs.Subscriptions.{found_changed, found_stopped, found_else, found_new, found_old, found_stands, length-changed, next_of, cursor_found, subscription_of}
 use Rattle.hub_fifodir.proofs.Publishing.{open_when, closed_when}
@@ -83,33 +85,9 @@ is_new_taker m m3 b' id mark is at ok e = subst (λ (x : M). IsTaker x id mark m
   within = ok.0;
 }
 
--- ---- what the answer to a take shows of a current subscription
-
-got_says : (w : World) (most : ℕ) (s : Subscription) (n : ℕ) → Ok (Got n) ≡ reply_for w most (Some s) → (s.next < length w.events) × (n ≡ count_to_take w s most)
-got_says w most s n e = elim (cases_Bool (nat_lt s.next (length w.events))) [
-  | inl t ↦ (let k = simp t at e in let is : n ≡ count_to_take w s most = cc in let lt : s.next < length w.events = ltb-true s.next (length w.events) t in (lt, is))
-  | inr f ↦ (let k = simp f at e in elim (cases_Bool w.closed) [ inl c ↦ (let j = simp c at k in cc) | inr o ↦ (let j = simp o at k in cc) ])
-]
-
-nothing_says : (w : World) (most : ℕ) (s : Subscription) → Ok Nothing ≡ reply_for w most (Some s) → (length w.events ≤ s.next) × (w.closed ≡ false)
-nothing_says w most s e = elim (cases_Bool (nat_lt s.next (length w.events))) [
-  | inl t ↦ (let k = simp t at e in cc)
-  | inr f ↦ (let k = simp f at e in let le : length w.events ≤ s.next = ltb-false s.next (length w.events) f in elim (cases_Bool w.closed) [ inl c ↦ (let j = simp c at k in cc) | inr o ↦ (le, o) ])
-]
-
-end_says : (w : World) (most : ℕ) (s : Subscription) → Ok End ≡ reply_for w most (Some s) → (length w.events ≤ s.next) × (w.closed ≡ true)
-end_says w most s e = elim (cases_Bool (nat_lt s.next (length w.events))) [
-  | inl t ↦ (let k = simp t at e in cc)
-  | inr f ↦ (let k = simp f at e in let le : length w.events ≤ s.next = ltb-false s.next (length w.events) f in elim (cases_Bool w.closed) [ inl c ↦ (le, c) | inr o ↦ (let j = simp o at k in cc) ])
-]
-
 -- the id and the mark that a subscription is given
 pub id_given : (b' : Locked) (w : World) (given : ℕ × ℕ) → given ≡ (length w.subscriptions + 1, length w.events) → StandsForWorld b' (after_subscribe w (Ok given)) → given.0 ≡ b'.kept.given
 id_given b' w given e after = ap (λ (p : ℕ × ℕ). p.0) e ∙ sym (after.for.given ∙ length-append w.subscriptions (new_subscription w ∷ []))
-
--- a current subscription has an answer
-answered : (w : World) (most : ℕ) (s : Subscription) → IsOk (reply_for w most (Some s))
-answered w most s = elim (cases_Bool (nat_lt s.next (length w.events))) [ inl t ↦ simp t refl | inr f ↦ elim (cases_Bool w.closed) [ inl c ↦ simp (f, c) refl | inr o ↦ simp (f, o) refl ] ]
 
 module _ (m0 m1 : M) (id mark next : ℕ) (b : Locked) (w : IsTaker m0 id mark next) (h : Locks book_of IsBehind IsSound m0.0 m1.0 b) where
   role_is : m1.0.role ≡ taker id mark next (got_of m0.0.role)
@@ -127,6 +105,9 @@ module _ (m0 m1 : M) (id mark next : ℕ) (b : Locked) (w : IsTaker m0 id mark n
   -- its subscription
   subscribed : (s : Subscription) × (subscription_in h.behind.world id ≡ Some s) × (s.next ≡ next)
   subscribed = subscription_of (subscription_in h.behind.world id) next (sym (cursor_found b.kept h.behind.world id h.behind.for.for) ∙ in_book.1)
+
+  pub rules_still : (m3 : M) → m3 ≡ (view_at_rest m1.0 m1.0.role, []) → m3.0.rules ≡ m1.0.rules
+  rules_still m3 e = ap (λ (m : M). m.0.rules) e
 
   pub got_still : (m3 : M) → m3 ≡ (view_at_rest m1.0 m1.0.role, []) → got_of m3.0.role ≡ got_of m0.0.role
   got_still m3 e = ap (λ (m : M). got_of m.0.role) e ∙ ap got_of role_is
@@ -171,33 +152,54 @@ module _ (m0 m1 : M) (id mark next : ℕ) (b : Locked) (w : IsTaker m0 id mark n
 
   -- ---- a take
 
-  pub is_answered : (most : ℕ) (answer : Result Taken NoId) → answer ≡ take_reply h.behind.world id most → IsOk answer
-  is_answered most answer e = subst IsOk (sym (e ∙ ap (reply_for h.behind.world most) subscribed.1)) (answered h.behind.world most subscribed.0)
+  -- whether it is evicted
+  abbrev pub out : Bool
+  out = is_evicted_by m1.0.rules m1.0.sight next
+
+  out_is : is_evicted h.behind.world subscribed.0.next ≡ out
+  out_is = λ i. evicts (h.behind.limits i).policy && is_slow (h.behind.limits i).waiting (length (h.behind.events i)) (subscribed.2 i)
 
   -- how many events were taken
   abbrev pub count : ℕ → ℕ
-  count most = min most (length m1.0.sight.seen - next)
+  count most = if out then 0 else min most (length m1.0.sight.seen - next)
 
   count_is : (most : ℕ) → count_to_take h.behind.world subscribed.0 most ≡ count most
-  count_is most = λ i. min most (length (h.behind.events i) - subscribed.2 i)
+  count_is most = λ i. if out_is i then 0 else min most (length (h.behind.events i) - subscribed.2 i)
 
-  says : (most : ℕ) (answer : Result Taken NoId) (x : Taken) → answer ≡ take_reply h.behind.world id most → answer ≡ Ok x → Ok x ≡ reply_for h.behind.world most (Some subscribed.0)
-  says most answer x e is = sym is ∙ e ∙ ap (reply_for h.behind.world most) subscribed.1
+  count_within : (most : ℕ) → count most ≤ length m1.0.sight.seen - next
+  count_within most = elim (cases_Bool out) [ inl o ↦ simp o (omega arith) | inr u ↦ simp u (omega arith) ]
 
-  pub on_got : (most n : ℕ) (answer : Result Taken NoId) → answer ≡ take_reply h.behind.world id most → answer ≡ Ok (Got n) → (next < length m1.0.sight.seen) × (n ≡ count most)
-  on_got most n answer e is = let t = got_says h.behind.world most subscribed.0 n (says most answer (Got n) e is) in
+  pub count_standing : (most : ℕ) → out ≡ false → count most ≡ min most (length m1.0.sight.seen - next)
+  count_standing most u = ap (λ (b : Bool). if b then 0 else min most (length m1.0.sight.seen - next)) u
+
+  shows : (most : ℕ) (answer : Result Taken NoId) (x : Taken) → answer ≡ take_reply h.behind.world id most → answer ≡ Ok x → AnswerShows h.behind.world most subscribed.0 (Ok x)
+  shows most answer x e is = shows_by h.behind.world most subscribed.0 (Ok x) (sym is ∙ e ∙ ap (reply_for h.behind.world most) subscribed.1)
+
+  pub is_answered : (most : ℕ) (answer : Result Taken NoId) → answer ≡ take_reply h.behind.world id most → IsOk answer
+  is_answered most answer e = answered h.behind.world most subscribed.0 answer (shows_by h.behind.world most subscribed.0 answer (e ∙ ap (reply_for h.behind.world most) subscribed.1))
+
+  pub on_got : (most n : ℕ) (answer : Result Taken NoId) → answer ≡ take_reply h.behind.world id most → answer ≡ Ok (Got n) → (next < length m1.0.sight.seen) × (n ≡ count most) × (out ≡ false)
+  on_got most n answer e is = let t = shows most answer (Got n) e is in
       let long : length h.behind.world.events ≡ length m1.0.sight.seen = ap length h.behind.events in let at : subscribed.0.next ≡ next = subscribed.2 in let lt = t.0 in
-      (omega arith, t.1 ∙ count_is most)
+      (omega arith, t.1 ∙ count_is most, sym out_is ∙ t.2)
 
-  pub on_nothing : (most : ℕ) (answer : Result Taken NoId) → answer ≡ take_reply h.behind.world id most → answer ≡ Ok Nothing → (next ≡ length m1.0.sight.seen) × (m1.0.sight.closed ≡ 0)
-  on_nothing most answer e is = let t = nothing_says h.behind.world most subscribed.0 (says most answer Nothing e is) in
-      let long : length h.behind.world.events ≡ length m1.0.sight.seen = ap length h.behind.events in let at : subscribed.0.next ≡ next = subscribed.2 in let le = t.0 in let in_it = sane_is.1 in
-      (omega arith, open_when m1.0.sight.closed h.behind.world.closed h.behind.closed t.1)
+  -- nothing was taken, for each of the other answers
+  none_taken : (most : ℕ) → next ≡ length m1.0.sight.seen → count most ≡ 0
+  none_taken most at = let within = count_within most in omega arith
 
-  pub on_end : (most : ℕ) (answer : Result Taken NoId) → answer ≡ take_reply h.behind.world id most → answer ≡ Ok End → (next ≡ length m1.0.sight.seen) × (m1.0.sight.closed ≢ 0)
-  on_end most answer e is = let t = end_says h.behind.world most subscribed.0 (says most answer End e is) in
+  pub on_nothing : (most : ℕ) (answer : Result Taken NoId) → answer ≡ take_reply h.behind.world id most → answer ≡ Ok Nothing → (next ≡ length m1.0.sight.seen) × (m1.0.sight.closed ≡ 0) × (count most ≡ 0)
+  on_nothing most answer e is = let t = shows most answer Nothing e is in
       let long : length h.behind.world.events ≡ length m1.0.sight.seen = ap length h.behind.events in let at : subscribed.0.next ≡ next = subscribed.2 in let le = t.0 in let in_it = sane_is.1 in
-      (omega arith, closed_when m1.0.sight.closed h.behind.world.closed h.behind.closed t.1)
+      (omega arith, open_when m1.0.sight.closed h.behind.world.closed h.behind.closed t.1, none_taken most (omega arith))
+
+  pub on_end : (most : ℕ) (answer : Result Taken NoId) → answer ≡ take_reply h.behind.world id most → answer ≡ Ok End → (next ≡ length m1.0.sight.seen) × (m1.0.sight.closed ≢ 0) × (count most ≡ 0)
+  on_end most answer e is = let t = shows most answer End e is in
+      let long : length h.behind.world.events ≡ length m1.0.sight.seen = ap length h.behind.events in let at : subscribed.0.next ≡ next = subscribed.2 in let le = t.0 in let in_it = sane_is.1 in
+      (omega arith, closed_when m1.0.sight.closed h.behind.world.closed h.behind.closed t.1, none_taken most (omega arith))
+
+  pub on_evicted : (most : ℕ) (answer : Result Taken NoId) → answer ≡ take_reply h.behind.world id most → answer ≡ Ok Evicted → (out ≡ true) × (count most ≡ 0)
+  on_evicted most answer e is = let t : out ≡ true = sym out_is ∙ shows most answer Evicted e is in
+      (t, ap (λ (b : Bool). if b then 0 else min most (length m1.0.sight.seen - next)) t)
 
   events_moved : (most : ℕ) → take_events h.behind.world id most ≡ slice next (next + count most) m1.0.sight.seen
   events_moved most = let k : next + count most - next ≡ count most = omega arith in
@@ -205,7 +207,7 @@ module _ (m0 m1 : M) (id mark next : ℕ) (b : Locked) (w : IsTaker m0 id mark n
 
   length_moved : (most : ℕ) → length (slice next (next + count most) m1.0.sight.seen) ≡ count most
   length_moved most = let k : next + count most - next ≡ count most = omega arith in
-      let room : count most ≤ length (drop next m1.0.sight.seen) = omega (arith, length-drop next m1.0.sight.seen) in
+      let room : count most ≤ length (drop next m1.0.sight.seen) = omega (arith, count_within most, length-drop next m1.0.sight.seen) in
       ap (λ (n : ℕ). length (take n (drop next m1.0.sight.seen))) k ∙ length-take-le (count most) (drop next m1.0.sight.seen) room
 
   pub filled_moved : (most : ℕ) (out out' : List Event) → out' ≡ take_events h.behind.world id most ++ drop (length (take_events h.behind.world id most)) out
@@ -221,13 +223,13 @@ module _ (m0 m1 : M) (id mark next : ℕ) (b : Locked) (w : IsTaker m0 id mark n
         cursor_now b' f is_current' others (Some (f s.0)) (found_changed f 1 subs id s.0 s.1 (found_stands 1 subs id s.0 s.1)) ∙ (λ i. Some (s.2 i + count_is most i))
 
     -- nothing was taken
-    pub rests_still : next ≡ length m1.0.sight.seen → Gives m1 b' (view_at_rest m1.0 m1.0.role)
-    rests_still at = let none : next + count most ≡ next = omega arith in
+    pub rests_still : count most ≡ 0 → Gives m1 b' (view_at_rest m1.0 m1.0.role)
+    rests_still zero = let none : next + count most ≡ next = omega arith in
         subst (λ (r : Role). Gives m1 b' (view_at_rest m1.0 r)) (sym role_is)
         (gives b' (moved_on h.behind.world most) is_current' others next (got_of m0.0.role) false sane_is (cursor_own ∙ ap (λ (n : ℕ). Some n) none))
 
     within_moved : (n : ℕ) → n ≡ count most → next + n ≤ length m1.0.sight.seen
-    within_moved n is = let p : next ≤ length m1.0.sight.seen = sane_is.1 in omega arith
+    within_moved n is = let p : next ≤ length m1.0.sight.seen = sane_is.1 in let within = count_within most in omega arith
 
     got_longer : (n : ℕ) → got_of m0.0.role ++ slice next (next + n) m1.0.sight.seen ≡ slice mark (next + n) m1.0.sight.seen
     got_longer n = ap (λ (l : List Event). l ++ slice next (next + n) m1.0.sight.seen) sane_is.2 ∙ slice_join mark next (next + n) m1.0.sight.seen sane_is.0 (omega arith)
@@ -257,6 +259,9 @@ module _ (m0 m1 : M) (id mark next : ℕ) (b : Locked) (w : IsTaker m0 id mark n
 
       pub sight_moved : m3.0.sight ≡ m1.0.sight
       sight_moved = ap (λ (m : M). m.0.sight) now
+
+      pub rules_moved : m3.0.rules ≡ m1.0.rules
+      rules_moved = ap (λ (m : M). m.0.rules) now
 
       pub got_moved : got_of m3.0.role ≡ got_of m0.0.role ++ slice next (next + n) m3.0.sight.seen
       got_moved = ap (λ (m : M). got_of m.0.role) now ∙ ap (λ (s : Sight). got_of m0.0.role ++ slice next (next + n) s.seen) (sym sight_moved)

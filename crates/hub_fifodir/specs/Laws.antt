@@ -1,10 +1,11 @@
 -- What the rule says about any table under it.
-use Rattle.std.specs.Prelude.{◌≢◌, slice_index, length, ◌≡◌, ◌⊎◌, ◌≤◌, ◌∷◌, [], ℕ, Option, Some, true, false}
+use Rattle.std.specs.Prelude.{◌≢◌, slice_index, length, ◌≡◌, ◌⊎◌, ◌≤◌, ◌+◌, ◌∷◌, [], ℕ, Option, Some, true, false}
 use mathlib.Core.Option.{some}
 use lib.ListN.{get_elem?}
 use Rattle.atomic_table.specs.Table.{State}
 use Rattle.hub_letters.specs.Flags.{flags_of}
-use Rattle.hub_record.specs.World.{World, base, letters}
+use Rattle.hub_record.specs.declared.limits.Policy.TheVariants.{Hold}
+use Rattle.hub_record.specs.World.{World, base, letters, is_evicted}
 use Rattle.hub_fifodir.specs.declared.views.Rules.{Rules}
 use Rattle.hub_fifodir.specs.declared.views.View.{View}
 use Rattle.hub_fifodir.specs.declared.views.Taking.{Taking}
@@ -55,9 +56,14 @@ abbrev pub StandingHavePublishers : Type 0
 StandingHavePublishers = (rules : Rules) (s : Board) (b : Locked) (n : ℕ) → RuleHolds rules s → IsFree s b → is_current b.standing.keys n ≡ true
     → (j : ℕ) × (p : Writing) × HasPublisher s j p × (p.number ≡ n) × (p.gone ≡ false)
 
--- the base hasn't passed what a current ticket takes next
+-- the base hasn't passed what a current ticket takes next, unless the ticket is evicted
 abbrev pub BaseIsBehind : Type 0
-BaseIsBehind = (rules : Rules) (s : Board) (b : Locked) (w : World) (j : ℕ) (t : Taking) → RuleHolds rules s → IsFree s b → StandsForWorld b w → HasTicket s j t → t.gone ≡ false → base w ≤ t.next
+BaseIsBehind = (rules : Rules) (s : Board) (b : Locked) (w : World) (j : ℕ) (t : Taking) → RuleHolds rules s → IsFree s b → StandsForWorld b w → HasTicket s j t → t.gone ≡ false → is_evicted w t.next ≡ false → base w ≤ t.next
+
+-- with the policy Hold, no more is pending for a current ticket than may be
+abbrev pub HoldKeepsAll : Type 0
+HoldKeepsAll = (rules : Rules) (s : Board) (b : Locked) (w : World) (j : ℕ) (t : Taking) → RuleHolds rules s → IsFree s b → StandsForWorld b w → rules.limits.policy ≡ Hold → HasTicket s j t → t.gone ≡ false
+    → length w.events ≤ t.next + w.limits.waiting
 
 -- the record behind the lock stands for one history; each seat has seen a prefix of it, and all of it if it has seen
 -- the close; the front word shows its status

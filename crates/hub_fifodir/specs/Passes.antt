@@ -1,17 +1,19 @@
 -- What contracts say about a fifodir and its passes.
-use Rattle.std.specs.Prelude.{◌≡◌, ◌≢◌, ℕ, ◌+◌, ◌-◌, ◌<◌, ◌≤◌, ◌++◌, min, length, drop, List, [], Option, Some, None, Err}
+use Rattle.std.specs.Prelude.{◌≡◌, ◌≢◌, ℕ, ◌+◌, ◌-◌, ◌<◌, ◌≤◌, ◌++◌, ◌&&◌, Bool, true, false, min, length, drop, List, [], Option, Some, None, Err}
 use Rattle.atomic_table.specs.Seated.{TableId}
 use Rattle.hub_letters.specs.Flags.{flags_of}
 use Rattle.hub_record.specs.declared.Event.{Event}
 use Rattle.hub_record.specs.declared.Kind.{Kind}
 use Rattle.hub_record.specs.declared.limits.Limits.{Limits}
+use Rattle.hub_record.specs.declared.limits.Policy.{Policy}
+use Rattle.hub_record.specs.declared.limits.Policy.TheVariants.{Hold, Evict}
 use Rattle.hub_record.specs.declared.Status.{Status}
 use Rattle.hub_record.specs.declared.Taken.{Taken}
-use Rattle.hub_record.specs.declared.Taken.TheVariants.{Got, Nothing, End}
+use Rattle.hub_record.specs.declared.Taken.TheVariants.{Got, Nothing, End, Evicted}
 use Rattle.hub_record.specs.declared.PubError.{PubError}
 use Rattle.hub_record.specs.declared.SubError.{SubError}
 use Rattle.hub_record.specs.declared.PubError.TheVariants as post
-use Rattle.hub_record.specs.World.{World, IsWorld, letters, as_events, IsLawfulIn, IsUnlawfulIn, SubscribeReply}
+use Rattle.hub_record.specs.World.{World, IsWorld, letters, as_events, is_slow, evicts, IsLawfulIn, IsUnlawfulIn, SubscribeReply}
 use Rattle.hub_fifodir.specs.declared.views.Rules.{Rules}
 use Rattle.hub_fifodir.specs.declared.views.Sight.{Sight}
 use Rattle.hub_fifodir.specs.declared.views.Role.{Role}
@@ -149,13 +151,18 @@ abbrev pub HasPublished : Publisher → List ℕ → ℕ → Publisher → Type 
 HasPublished old message n new = (closed_mark new ≡ 0) × (n + length message ≡ length (seen_by new)) × (mine new ≡ mine old ++ message)
     × ((others : List Event) × (seen_by new ≡ (seen_by old ++ others) ++ as_events (publisher_number old) message))
 
+-- how many events have to be kept at once after n more, at most: all, or n alone if others may be evicted
+abbrev pub most_needed : Policy → (seen n : ℕ) → ℕ
+most_needed Hold seen n = seen + n
+most_needed Evict seen n = n
+
 -- why a message was refused, by what the publisher has then seen
 abbrev pub IsRefusedBy : Rules → Sight → List ℕ → PubError → Type 0
 IsRefusedBy rules s message post.Closed = s.closed ≢ 0
 IsRefusedBy rules s message (post.Unlawful i) = (s.closed ≡ 0) × IsUnlawfulIn rules.kind (letters s.seen) message i
 IsRefusedBy rules s message post.Spent = (s.closed ≡ 0) × IsLawfulIn rules.kind (letters s.seen ++ message) × (rules.limits.total < length s.seen + length message)
 IsRefusedBy rules s message post.Full = (s.closed ≡ 0) × IsLawfulIn rules.kind (letters s.seen ++ message) × (length s.seen + length message ≤ rules.limits.total)
-    × (0 < length message) × (rules.limits.waiting < length s.seen + length message)
+    × (0 < length message) × (rules.limits.waiting < most_needed rules.limits.policy (length s.seen) (length message))
 
 abbrev pub IsRefusedAt : Publisher → List ℕ → PubError → Type 0
 IsRefusedAt p message e = IsRefusedBy (publisher_view p).rules (publisher_sight p) message e
@@ -168,21 +175,31 @@ HasSubscribed t = (ticket_mark t ≡ length (ticket_seen t)) × (ticket_next t �
 abbrev pub MayRefuseTicket : Fifodir → SubError → Type 0
 MayRefuseTicket f e = (w : World) × IsWorld w × (w.kind ≡ kind_of f) × (w.limits ≡ limits_of f) × SubscribeReply w (Err e)
 
+-- whether a ticket with this next is evicted, by what it has seen: the policy is Evict, and more is pending than may be
+abbrev pub is_evicted_by : Rules → Sight → ℕ → Bool
+is_evicted_by rules s next = evicts rules.limits.policy && is_slow rules.limits.waiting (length s.seen) next
+
+abbrev pub is_evicted_at : Ticket → ℕ → Bool
+is_evicted_at t next = is_evicted_by (ticket_rules t) (ticket_sight t) next
+
 -- what a take into this many places reports, by what the ticket has then seen
 abbrev pub HasTaken : Ticket → ℕ → Taken → Ticket → Type 0
 HasTaken old most (Got n) new = (ticket_next old < length (ticket_seen new)) × (n ≡ min most (length (ticket_seen new) - ticket_next old)) × (ticket_next new ≡ ticket_next old + n)
-    × (got new ≡ got old ++ slice (ticket_next old) (ticket_next old + n) (ticket_seen new))
+    × (got new ≡ got old ++ slice (ticket_next old) (ticket_next old + n) (ticket_seen new)) × (is_evicted_at new (ticket_next old) ≡ false)
 HasTaken old most Nothing new = (ticket_next old ≡ length (ticket_seen new)) × (ticket_closed new ≡ 0) × (ticket_next new ≡ ticket_next old) × (got new ≡ got old)
 HasTaken old most End new = (ticket_next old ≡ length (ticket_seen new)) × (ticket_closed new ≢ 0) × (ticket_next new ≡ ticket_next old) × (got new ≡ got old)
+HasTaken old most Evicted new = (is_evicted_at new (ticket_next old) ≡ true) × (ticket_next new ≡ ticket_next old) × (got new ≡ got old)
 
 -- the slice after that take
 abbrev pub slice_after_take : Ticket → Taken → Ticket → List Event → List Event
 slice_after_take old (Got n) new out = slice (ticket_next old) (ticket_next old + n) (ticket_seen new) ++ drop n out
 slice_after_take old Nothing new out = out
 slice_after_take old End new out = out
+slice_after_take old Evicted new out = out
 
 -- the letters of what was taken
 abbrev pub sent_on : Ticket → Taken → Ticket → List ℕ
 sent_on old (Got n) new = letters (slice (ticket_next old) (ticket_next old + n) (ticket_seen new))
 sent_on old Nothing new = []
 sent_on old End new = []
+sent_on old Evicted new = []

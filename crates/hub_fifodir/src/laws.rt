@@ -2,7 +2,7 @@
 ghost use Rattle.std.specs.Prelude.{◌≡◌, ◌≤◌, ◌++◌, drop, length};
 ghost use Rattle.hub_record.specs.Runs.{by};
 ghost use Rattle.hub_fifodir.specs.Laws.{TicketsDiffer, PublishersDiffer, SeatsAgree, RecordIsHistory};
-ghost use Rattle.hub_fifodir.specs.Laws.{TicketsHaveCursors, CursorsHaveTickets, StandingHavePublishers, BaseIsBehind};
+ghost use Rattle.hub_fifodir.specs.Laws.{TicketsHaveCursors, CursorsHaveTickets, StandingHavePublishers, BaseIsBehind, HoldKeepsAll};
 ghost use Rattle.hub_fifodir.specs.Passes.{publisher_number, seen_by, mine};
 ghost use Rattle.hub_fifodir.specs.Passes.{ticket_mark, ticket_next, ticket_seen, ticket_rules, got};
 
@@ -44,9 +44,15 @@ pub fn standing_have_publishers()
     ensures { StandingHavePublishers }
 {}
 
-/// The record keeps what a ticket hasn't taken: the base never passes the next event of a current ticket.
+/// The record keeps what a ticket hasn't taken: the base never passes the next event of a current ticket that isn't
+/// evicted.
 pub fn base_is_behind()
     ensures { BaseIsBehind }
+{}
+
+/// With the policy Hold no ticket is evicted: no more events are pending for a current one than may be.
+pub fn hold_keeps_all()
+    ensures { HoldKeepsAll }
 {}
 
 /// What a ticket took, followed by what is pending behind its cursor, is the record since it subscribed, each event

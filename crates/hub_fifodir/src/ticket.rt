@@ -8,8 +8,8 @@ use crate::steps;
 use hub_record::{Event, SubError, Taken};
 use std::sync::Wait;
 
-/// The pass of a subscription. A ticket that was dropped would keep its cursor, and the events that are pending behind it
-/// would fill the fifodir. So a ticket is neither `Copy` nor `Drop`, and only `Fifodir::cancel` takes it.
+/// The pass of a subscription. A ticket that was dropped would keep its cursor, and with the policy Hold the events that
+/// are pending behind it would fill the fifodir. So a ticket is neither `Copy` nor `Drop`, and only `Fifodir::cancel` takes it.
 pub struct Ticket {
     id: u64,
     /// The number of events when it subscribed.
@@ -99,6 +99,10 @@ impl Fifodir {
             Taken::End => {
                 steps::rest(board, &mut me.seat, held);
                 Taken::End
+            }
+            Taken::Evicted => {
+                steps::rest(board, &mut me.seat, held);
+                Taken::Evicted
             }
         }
     }

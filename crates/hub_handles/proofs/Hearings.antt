@@ -4,7 +4,7 @@ use Rattle.std.specs.Prelude.{if◌then◌else◌}
 use Rattle.hub_letters.specs.declared.bounds.TheConstants.{MOST_GATHERED}
 use Rattle.hub_requests.specs.declared.reply.Reply.{Reply}
 use Rattle.hub_requests.specs.declared.reply.Reply.TheVariants as answer
-use Rattle.hub_fifodir.specs.Passes.{got, ticket_sight}
+use Rattle.hub_fifodir.specs.Passes.{got, ticket_sight, is_evicted_at}
 use Rattle.hub_fifodir.proofs.Logs.{letters-append}
 use Rattle.hub_fifodir.proofs.Meeting.{grows_self, grows_through}
 use Rattle.hub_listen.specs.Listening.{Listening, is_spent, spent_by, Feeds}
@@ -98,6 +98,7 @@ gives_taken old new (Ok letter) was is mode takes =
     )
 gives_taken old new (Err answer.Nothing) was is mode takes = (comes_nothing old new takes.same mode takes.shows.3 (is ∙ sym was), (is, (takes.shows.2 ∙ takes.shows.0, takes.shows.1)))
 gives_taken old new (Err answer.End) was is mode takes = (comes_nothing old new takes.same mode takes.shows.3 (is ∙ sym was), (is, (takes.shows.2 ∙ takes.shows.0, takes.shows.1)))
+gives_taken old new (Err answer.Evicted) was is mode takes = (comes_nothing old new takes.same mode takes.shows.2 (is ∙ sym was), (is, ap (is_evicted_at new.subscription.ticket) takes.shows.1 ∙ takes.shows.0))
 gives_taken old new (Err answer.Done) was is mode takes = absurd takes
 gives_taken old new (Err (answer.Number n)) was is mode takes = absurd takes
 gives_taken old new (Err (answer.State s)) was is mode takes = absurd takes
@@ -165,6 +166,7 @@ pub stop_polls : (a b c : SessionListener) (reply : Reply) (fed : List ℕ) → 
     → length a.listener.gathered < MOST_GATHERED → Polls a reply c
 stop_polls a b c answer.Nothing fed p q stops few = (few, (fed ++ [], hears_on a b c fed [] Quiet p q), inl stops)
 stop_polls a b c answer.End fed p q stops few = (few, (fed ++ [], hears_on a b c fed [] Quiet p q), stops)
+stop_polls a b c answer.Evicted fed p q stops few = (few, (fed ++ [], hears_on a b c fed [] Quiet p q), stops)
 stop_polls a b c (answer.No refusal) fed p q stops few = inr (stops.0, few, (fed ++ [], hears_on a b c fed [] Quiet p q), stops.1)
 stop_polls a b c answer.Done fed p q stops few = absurd stops
 stop_polls a b c (answer.Number n) fed p q stops few = absurd stops

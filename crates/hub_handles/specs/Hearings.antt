@@ -5,7 +5,7 @@ use Rattle.hub_requests.specs.declared.reply.Refusal.TheVariants as no
 use Rattle.hub_requests.specs.declared.reply.Reply.{Reply}
 use Rattle.hub_requests.specs.declared.reply.Reply.TheVariants as answer
 use Rattle.hub_fifodir.specs.declared.ticket.Ticket.{Ticket}
-use Rattle.hub_fifodir.specs.Passes.{got, ticket_next, ticket_seen, ticket_closed}
+use Rattle.hub_fifodir.specs.Passes.{got, ticket_next, ticket_seen, ticket_closed, is_evicted_at}
 use Rattle.hub_listen.specs.Listening.{Feeds, Listening}
 use Rattle.hub_listen.specs.declared.feed.Feed.{Feed}
 use Rattle.hub_listen.specs.declared.feed.Feed.TheVariants.{Hit, Quiet}
@@ -51,6 +51,10 @@ IsIdle t = (ticket_next t ≡ length (ticket_seen t)) × (ticket_closed t ≡ 0)
 abbrev pub IsOver : Ticket → Type 0
 IsOver t = (ticket_next t ≡ length (ticket_seen t)) × (ticket_closed t ≢ 0)
 
+-- more waited for it than may, and nothing is kept for it any more
+abbrev pub IsOut : Ticket → Type 0
+IsOut t = is_evicted_at t (ticket_next t) ≡ true
+
 -- a letter is held, or an event waits
 abbrev pub HasMore : SessionListener → Type 0
 HasMore h = (h.held ≢ None) ⊎ (ticket_next h.subscription.ticket ≢ length (ticket_seen h.subscription.ticket))
@@ -59,6 +63,7 @@ HasMore h = (h.held ≢ None) ⊎ (ticket_next h.subscription.ticket ≢ length 
 abbrev pub Stops : Reply → SessionListener → Type 0
 Stops answer.Nothing h = (h.held ≡ None) × IsIdle h.subscription.ticket
 Stops answer.End h = (h.held ≡ None) × IsOver h.subscription.ticket
+Stops answer.Evicted h = (h.held ≡ None) × IsOut h.subscription.ticket
 Stops (answer.No refusal) h = (refusal ≡ no.Memory) × HasMore h
 Stops _ h = ⊥
 
@@ -78,6 +83,7 @@ abbrev pub Polls : SessionListener → Reply → SessionListener → Type 0
 Polls old (answer.Hit hit) new = (fed : List ℕ) × Hears old fed (Ok (Hit (length fed))) new × (hit ≡ new.listener.hit) × (new.held ≡ None)
 Polls old answer.Nothing new = (length old.listener.gathered < MOST_GATHERED) × ((fed : List ℕ) × Hears old fed (Ok Quiet) new) × (Stops answer.Nothing new ⊎ (MOST_GATHERED ≤ length new.listener.gathered))
 Polls old answer.End new = (length old.listener.gathered < MOST_GATHERED) × ((fed : List ℕ) × Hears old fed (Ok Quiet) new) × Stops answer.End new
+Polls old answer.Evicted new = (length old.listener.gathered < MOST_GATHERED) × ((fed : List ℕ) × Hears old fed (Ok Quiet) new) × Stops answer.Evicted new
 Polls old (answer.No refusal) new =
     ((refusal ≡ no.Overlong) × (MOST_GATHERED ≤ length old.listener.gathered) × (new ≡ old))
     ⊎ ((refusal ≡ no.Memory) × (length old.listener.gathered < MOST_GATHERED) × ((fed : List ℕ) × Hears old fed (Ok Quiet) new) × HasMore new)

@@ -7,7 +7,7 @@ use Rattle.hub_fifodir.specs.declared.fifodir.Fifodir.{Fifodir}
 use Rattle.hub_fifodir.specs.declared.ticket.Ticket.{Ticket}
 use Rattle.hub_fifodir.specs.Passes.{HasSubscribed, HasTaken, got, sent_on, ticket_id, ticket_mark, ticket_next, ticket_sight}
 use Rattle.hub_fifodir.specs.Steps.{Grows}
-use Rattle.hub_record.specs.declared.Taken.TheVariants.{Got, Nothing, End}
+use Rattle.hub_record.specs.declared.Taken.TheVariants.{Got, Nothing, End, Evicted}
 use Rattle.hub_handles.specs.declared.subscription.Subscription.{Subscription}
 
 -- the letters that are answered are those of the events that the ticket took, at most so many
@@ -15,6 +15,7 @@ abbrev pub Shows : ℕ → Ticket → Reply → Ticket → Type 0
 Shows max old (answer.Got letters) new = (n : ℕ) × HasTaken old max (Got n) new × (letters ≡ sent_on old (Got n) new)
 Shows max old answer.Nothing new = HasTaken old max Nothing new
 Shows max old answer.End new = HasTaken old max End new
+Shows max old answer.Evicted new = HasTaken old max Evicted new
 Shows max old _ new = ⊥
 
 -- the name that it was asked for by
@@ -44,6 +45,7 @@ abbrev pub TakesOne : Subscription → Result ℕ Reply → Subscription → Typ
 TakesOne old (Ok letter) new = TakesFrom 1 old (answer.Got (letter ∷ [])) new
 TakesOne old (Err answer.Nothing) new = TakesFrom 1 old answer.Nothing new
 TakesOne old (Err answer.End) new = TakesFrom 1 old answer.End new
+TakesOne old (Err answer.Evicted) new = TakesFrom 1 old answer.Evicted new
 TakesOne old (Err _) new = ⊥
 
 -- a subscription by this name that begins now, at the end of what its ticket has seen

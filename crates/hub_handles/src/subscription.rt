@@ -74,6 +74,7 @@ impl Subscription {
             Taken::Got(count) => Reply::Got(letters_of(&events[..count], letters)),
             Taken::Nothing => Reply::Nothing,
             Taken::End => Reply::End,
+            Taken::Evicted => Reply::Evicted,
         }
     }
 
@@ -103,6 +104,7 @@ impl Subscription {
             Taken::Got(_) => Ok(event[0].letter),
             Taken::Nothing => Err(Reply::Nothing),
             Taken::End => Err(Reply::End),
+            Taken::Evicted => Err(Reply::Evicted),
         }
     }
 

@@ -1,5 +1,5 @@
 -- The requests about a current listener.
-use Rattle.std.proofs.Common.{◌≡◌, ◌≢◌, ◌⊎◌, ℕ, ◌+◌, ◌-◌, ◌<◌, ◌≤◌, Bool, true, false, ◌&&◌, if◌then◌else◌, List, length, take, nat_eq, nat_lt, slice_get, Option, Some, None, option_to_list, refl, sym, ap, subst, ◌∙◌, inl, inr, true≢false}
+use Rattle.std.proofs.Common.{◌≡◌, ◌≢◌, ◌⊎◌, ℕ, ◌+◌, ◌-◌, ◌<◌, ◌≤◌, Bool, true, false, List, length, take, nat_eq, nat_lt, slice_get, Option, Some, None, option_to_list, refl, sym, ap, subst, ◌∙◌, inl, inr, true≢false}
 use Rattle.std.proofs.lemmas.Bool.{cases_Bool, le-leb, lt-leb, le-ltb, lt-ltb}
 use Rattle.std.proofs.lemmas.Map.Steps.{set_value_same}
 use Rattle.std.specs.Map.{lookup, set_value}
@@ -15,7 +15,7 @@ use Rattle.hub_record.specs.World.{World, Subscription, subscription_in, after_t
 use Rattle.hub_local.specs.DeskAnswers.{in_world, for_holding, for_hearing, refusal_to_poll, cancel_answer, request_answer, answer_by, refusal_to_cancel}
 use Rattle.hub_local.specs.Desks.{Desk, Answer, standing, holding_at, world_of, with_world, without_handle, AreHeld, AreApart, GoesOn, AllGoOn}
 use Rattle.hub_local.specs.Hearings.{IsAt, Hears}
-use Rattle.hub_local.specs.Polls.{to_hear, taken_from, heard_to_hit, heard_quietly, heard_on, ended_by, hear_answer, poll_answer}
+use Rattle.hub_local.specs.Polls.{is_out, quiet_reply, to_hear, taken_from, heard_to_hit, heard_quietly, heard_on, ended_by, hear_answer, poll_answer}
 use Rattle.hub_local.specs.Standing.{Local, StandsForDesk, StandsForSome, AsksWith}
 use Rattle.hub_local.specs.declared.local_desk.LocalListener.{LocalListener}
 use Rattle.hub_local.specs.declared.local_desk.Holding.{Holding}
@@ -23,7 +23,7 @@ use Rattle.hub_local.specs.declared.local_desk.LocalFifodir.{LocalFifodir}
 use Rattle.hub_local.specs.declared.local_desk.listeners.Heard.TheVariants as heard
 use Rattle.hub_requests.specs.declared.request.Request.TheVariants.{Cancel, Poll}
 use Rattle.hub_requests.specs.declared.reply.Reply.{Reply}
-use Rattle.hub_requests.specs.declared.reply.Reply.TheVariants.{Hit, Nothing, End, No}
+use Rattle.hub_requests.specs.declared.reply.Reply.TheVariants.{Hit, Nothing, End, Evicted, No}
 use Rattle.hub_requests.specs.declared.reply.Refusal.TheVariants as no
 use Rattle.hub_local.proofs.Asking.{by_carrying, by_refusing, by_lacking, stands_same, Replaces, stands_replaced, world_there}
 use Rattle.hub_local.proofs.AskingSubscriptions.{taken_still}
@@ -80,12 +80,15 @@ never_spent l goes_on = ap (λ (m : Mode). spent_by m l.hit) goes_on
 
 -- ---- replies without a hit
 
-quiet_nothing : (count : ℕ) (closed : Bool) → (MOST_GATHERED ≤ count) ⊎ (closed ≡ false) → (if nat_lt count MOST_GATHERED && closed then End else Nothing) ≡ Nothing
-quiet_nothing count closed (inl full) = simp (le-ltb count MOST_GATHERED full)
-quiet_nothing count closed (inr is_open) = elim (cases_Bool (nat_lt count MOST_GATHERED)) [ inl t ↦ simp (t, is_open) | inr t ↦ simp t ]
+quiet_nothing : (count : ℕ) (closed out : Bool) → (MOST_GATHERED ≤ count) ⊎ ((closed ≡ false) × (out ≡ false)) → quiet_reply (nat_lt count MOST_GATHERED) out closed ≡ Nothing
+quiet_nothing count closed out (inl full) = simp (le-ltb count MOST_GATHERED full)
+quiet_nothing count closed out (inr (is_open, up)) = elim (cases_Bool (nat_lt count MOST_GATHERED)) [ inl t ↦ simp (t, is_open, up) | inr t ↦ simp t ]
 
-quiet_end : (count : ℕ) (closed : Bool) → count < MOST_GATHERED → closed ≡ true → (if nat_lt count MOST_GATHERED && closed then End else Nothing) ≡ End
-quiet_end count closed room is_closed = simp (lt-ltb count MOST_GATHERED room, is_closed)
+quiet_end : (count : ℕ) (closed out : Bool) → count < MOST_GATHERED → closed ≡ true → out ≡ false → quiet_reply (nat_lt count MOST_GATHERED) out closed ≡ End
+quiet_end count closed out room is_closed up = simp (lt-ltb count MOST_GATHERED room, is_closed, up)
+
+quiet_evicted : (count : ℕ) (closed out : Bool) → count < MOST_GATHERED → out ≡ true → quiet_reply (nat_lt count MOST_GATHERED) out closed ≡ Evicted
+quiet_evicted count closed out room is_out = simp (lt-ltb count MOST_GATHERED room, is_out)
 
 -- ---- refusals
 
@@ -142,7 +145,7 @@ abbrev HearsQuietly : LocalListener → ℕ → Reply → LocalListener → Kept
 HearsQuietly g id reply new kept w =
     let letters = to_hear g w id in
     let m = fitting g.listener letters in
-    HasNoHit g.listener.pattern g.listener.gathered letters × ((if nat_lt (length g.listener.gathered + length letters) MOST_GATHERED && w.closed then End else Nothing) ≡ reply)
+    HasNoHit g.listener.pattern g.listener.gathered letters × (quiet_reply (nat_lt (length g.listener.gathered + length letters) MOST_GATHERED) (is_out w id) w.closed ≡ reply)
     × IsAt g w id m (after_quiet g.listener (take m letters)) None new kept
 
 -- the answer of a desk that has heard a hit
@@ -199,10 +202,13 @@ module _ (old new : Local) (n : ℕ) (h : Holding) (g hearing : LocalListener) (
       })
 
   pub poll_nothing : OfWorlds r.kept h.id (λ w. Hears g w h.id heard.Nothing hearing kept) → AsksWith false old (Poll n) Nothing new
-  poll_nothing says = poll_quiet Nothing (λ e. cc) (λ w s st f. let k = says w s st f in (k.0, quiet_nothing _ w.closed k.1, k.2))
+  poll_nothing says = poll_quiet Nothing (λ e. cc) (λ w s st f. let k = says w s st f in (k.0, quiet_nothing _ w.closed (is_out w h.id) k.1, k.2))
 
   pub poll_end : OfWorlds r.kept h.id (λ w. Hears g w h.id heard.End hearing kept) → AsksWith false old (Poll n) End new
-  poll_end says = poll_quiet End (λ e. cc) (λ w s st f. let k = says w s st f in (k.0, quiet_end _ w.closed k.1 k.2, k.3))
+  poll_end says = poll_quiet End (λ e. cc) (λ w s st f. let k = says w s st f in (k.0, quiet_end _ w.closed (is_out w h.id) k.1 k.2 k.4, k.3))
+
+  pub poll_evicted : OfWorlds r.kept h.id (λ w. Hears g w h.id heard.Evicted hearing kept) → AsksWith false old (Poll n) Evicted new
+  poll_evicted says = poll_quiet Evicted (λ e. cc) (λ w s st f. let k = says w s st f in (k.0, quiet_evicted _ w.closed (is_out w h.id) k.1 k.2, k.3))
 
   pub poll_stops : OfWorlds r.kept h.id (λ w. Hears g w h.id heard.Lacking hearing kept) → AsksWith false old (Poll n) (No no.Memory) new
   poll_stops says = by_lacking old new true _ _ _ _ refl refl (λ d st.

@@ -82,6 +82,7 @@ shown_real : (letters : List ℕ) (r : Result Taken NoId) → take_shown letters
 shown_real letters (Ok (taken.Got count)) = λ e. cc
 shown_real letters (Ok taken.Nothing) = λ e. cc
 shown_real letters (Ok taken.End) = λ e. cc
+shown_real letters (Ok taken.Evicted) = λ e. cc
 shown_real letters (Err error) = λ e. cc
 
 -- the subscription of a current handle is current

@@ -2,11 +2,12 @@
 use Rattle.std.proofs.Common.{◌≡◌, ℕ, ◌-◌, List, [], ◌∷◌, ◌++◌, length, Option, Some, None, option_to_list, Ok, Err, refl, sym, ap, subst, ◌∙◌, arith}
 use Rattle.hub_record.specs.Kept.{Kept, StandsFor}
 use Rattle.hub_record.specs.World.{World, Subscription, subscription_in, count_to_take, after_take}
+use Rattle.hub_record.proofs.Policies.{count_none}
 use Rattle.hub_local.specs.Polls.{to_hear, taken_from}
 use Rattle.hub_local.specs.Hearings.{behind, HearsOne, TakesOne}
 use Rattle.hub_local.specs.declared.local_desk.LocalListener.{LocalListener}
 use Rattle.hub_local.specs.declared.local_desk.listeners.Heard.{Heard}
-use Rattle.hub_local.specs.declared.local_desk.listeners.Heard.TheVariants.{Hit, Nothing, End, Lacking}
+use Rattle.hub_local.specs.declared.local_desk.listeners.Heard.TheVariants.{Hit, Nothing, End, Evicted, Lacking}
 use Rattle.hub_local.proofs.Takings.{take_none}
 
 -- ---- the next letter
@@ -19,7 +20,7 @@ pub record HasNext (g : LocalListener) (w : World) (id : ℕ) (x : ℕ) (kept : 
 module _ (g : LocalListener) (w : World) (id : ℕ) (s : Subscription) (is : subscription_in w id ≡ Some s) where
   pub none_used : (kept : Kept) → StandsFor kept w → (n : ℕ) → n ≡ length (option_to_list g.held) → StandsFor kept (taken_from g w id n)
   none_used kept stands n same =
-      let t : count_to_take w s (n - length (option_to_list g.held)) ≡ 0 = omega arith in
+      let t : count_to_take w s (n - length (option_to_list g.held)) ≡ 0 = count_none w s _ (omega arith) in
       subst (StandsFor kept) (sym (take_none w id s is (n - length (option_to_list g.held)) t)) stands
 
   pub held_next : (x y : ℕ) → g.held ≡ Some y → x ≡ y → (kept old : Kept) → StandsFor old w → kept ≡ old → HasNext g w id x kept
@@ -41,7 +42,8 @@ module _ (g : LocalListener) (w : World) (id : ℕ) (s : Subscription) (is : sub
   nothing_next held none = ap (λ (o : Option ℕ). option_to_list o ++ behind w id) held ∙ none
 
   pub none_next : g.held ≡ None → (heard : Heard) (kept : Kept) → TakesOne w id (Err heard) kept → HearsOne g w id (Some heard) g kept
-  none_next held Nothing kept t = (nothing_next held t.0, t.1, record { listener_is = refl; mode_is = refl; held_is = held; stands = none_used kept t.2 0 (sym (ap (λ (o : Option ℕ). length (option_to_list o)) held)) })
-  none_next held End kept t = (nothing_next held t.0, t.1, record { listener_is = refl; mode_is = refl; held_is = held; stands = none_used kept t.2 0 (sym (ap (λ (o : Option ℕ). length (option_to_list o)) held)) })
+  none_next held Nothing kept t = (nothing_next held t.0, t.1, record { listener_is = refl; mode_is = refl; held_is = held; stands = none_used kept t.2 0 (sym (ap (λ (o : Option ℕ). length (option_to_list o)) held)) }, t.3)
+  none_next held End kept t = (nothing_next held t.0, t.1, record { listener_is = refl; mode_is = refl; held_is = held; stands = none_used kept t.2 0 (sym (ap (λ (o : Option ℕ). length (option_to_list o)) held)) }, t.3)
+  none_next held Evicted kept t = (nothing_next held t.0, t.1, record { listener_is = refl; mode_is = refl; held_is = held; stands = none_used kept t.2 0 (sym (ap (λ (o : Option ℕ). length (option_to_list o)) held)) })
   none_next held Hit kept t = absurd t
   none_next held Lacking kept t = absurd t

@@ -1,5 +1,5 @@
 -- What a listener has heard after the first n letters, none with a hit.
-use Rattle.std.proofs.Common.{◌≡◌, ℕ, zero, suc, ◌+◌, ◌-◌, ◌<◌, ◌≤◌, true, false, List, [], ◌∷◌, ◌++◌, length, take, drop, slice_get, slice_range, Option, Some, None, is_some, option_to_list, Ok, refl, sym, ap, subst, ◌∙◌, inl, inr, length-append, arith}
+use Rattle.std.proofs.Common.{◌≡◌, ℕ, zero, suc, ◌+◌, ◌-◌, ◌<◌, ◌≤◌, Bool, true, false, List, [], ◌∷◌, ◌++◌, length, take, drop, slice_get, slice_range, Option, Some, None, is_some, option_to_list, Ok, refl, sym, ap, subst, ◌∙◌, inl, inr, length-append, arith}
 use Rattle.std.proofs.lemmas.List.{length-drop, length-take-le, take-append-drop}
 use Rattle.std.proofs.Math.Seq.{take-length}
 use Rattle.hub_letters.specs.declared.bounds.TheConstants.{MOST_GATHERED}
@@ -10,13 +10,14 @@ use Rattle.hub_listen.proofs.Prefixes.{HasNoHit-append}
 use Rattle.hub_listen.proofs.Singly.{nothing_is_quiet, one_more, one_more_hit}
 use Rattle.hub_record.specs.Kept.{Kept, StandsFor}
 use Rattle.hub_record.specs.World.{World, Subscription, subscription_in, count_to_take, moved_on, after_take}
-use Rattle.hub_local.specs.Polls.{to_hear, taken_from}
+use Rattle.hub_record.proofs.Policies.{count_none}
+use Rattle.hub_local.specs.Polls.{is_out, to_hear, taken_from}
 use Rattle.hub_local.specs.Hearings.{behind, IsAt, HearsOne, Hears}
 use Rattle.hub_local.specs.Standing.{HasSubscription}
 use Rattle.hub_local.specs.declared.local_desk.LocalListener.{LocalListener}
 use Rattle.hub_local.specs.declared.local_desk.listeners.Heard.{Heard}
-use Rattle.hub_local.specs.declared.local_desk.listeners.Heard.TheVariants.{Hit, Nothing, End, Lacking}
-use Rattle.hub_local.proofs.Takings.{take_none, take_more_then, found_then, behind_then, closed_then, length-behind}
+use Rattle.hub_local.specs.declared.local_desk.listeners.Heard.TheVariants.{Hit, Nothing, End, Evicted, Lacking}
+use Rattle.hub_local.proofs.Takings.{take_none, take_more_then, found_then, behind_then, out_then, closed_then, up_if_behind}
 
 -- the held letter is the first to be heard
 abbrev pub held_after : LocalListener → ℕ → Option ℕ
@@ -46,8 +47,8 @@ module _ (g : LocalListener) (w : World) (id : ℕ) (s : Subscription) (is : sub
   held_count : ℕ
   held_count = length (option_to_list g.held)
 
-  letters_count : length (to_hear g w id) ≡ length (option_to_list g.held) + (length w.events - s.next)
-  letters_count = let b = length-behind w id s is in let a = length-append (option_to_list g.held) (behind w id) in omega arith
+  letters_count : length (to_hear g w id) ≡ length (option_to_list g.held) + length (behind w id)
+  letters_count = length-append (option_to_list g.held) (behind w id)
 
   -- at the beginning
   pub prefix_none : (kept : Kept) → is_spent g.listener ≡ false → length g.listener.gathered ≤ MOST_GATHERED → StandsFor kept w → HeardPrefix g w id 0 g kept
@@ -56,7 +57,7 @@ module _ (g : LocalListener) (w : World) (id : ℕ) (s : Subscription) (is : sub
     quiet = nothing_is_quiet g.listener unspent short;
     mode_is = refl;
     held_is = refl;
-    stands = (let t : count_to_take w s (0 - length (option_to_list g.held)) ≡ 0 = omega arith in subst (StandsFor kept) (sym (take_none w id s is (0 - length (option_to_list g.held)) t)) stands);
+    stands = (let t : count_to_take w s (0 - length (option_to_list g.held)) ≡ 0 = count_none w s _ (omega arith) in subst (StandsFor kept) (sym (take_none w id s is (0 - length (option_to_list g.held)) t)) stands);
   }
 
   -- the subscription and the letters that are left
@@ -72,7 +73,7 @@ module _ (g : LocalListener) (w : World) (id : ℕ) (s : Subscription) (is : sub
 
   letters_left : (n : ℕ) (new : LocalListener) → new.held ≡ held_after g n → to_hear new (taken_from g w id n) id ≡ drop n (to_hear g w id)
   letters_left zero new held =
-      let t : count_to_take w s (0 - length (option_to_list g.held)) ≡ 0 = omega arith in
+      let t : count_to_take w s (0 - length (option_to_list g.held)) ≡ 0 = count_none w s _ (omega arith) in
       let same : taken_from g w id 0 ≡ w = take_none w id s is (0 - length (option_to_list g.held)) t in
       λ i. option_to_list (held i) ++ behind (same i) id
   letters_left (suc m) new held =
@@ -82,22 +83,24 @@ module _ (g : LocalListener) (w : World) (id : ℕ) (s : Subscription) (is : sub
   -- one more letter is taken
   taken_one_more : (n : ℕ) (new : LocalListener) → new.held ≡ held_after g n → n < length (to_hear g w id) → taken_from new (taken_from g w id n) id 1 ≡ taken_from g w id (n + 1)
   taken_one_more zero new held inside =
-      let t : count_to_take w s (0 - length (option_to_list g.held)) ≡ 0 = omega arith in
+      let t : count_to_take w s (0 - length (option_to_list g.held)) ≡ 0 = count_none w s _ (omega arith) in
       let same : taken_from g w id 0 ≡ w = take_none w id s is (0 - length (option_to_list g.held)) t in
       let e : 1 ≡ 0 + 1 = omega arith in
       (λ i. after_take (same i) id (1 - length (option_to_list (held i)))) ∙ ap (taken_from g w id) e
   taken_one_more (suc m) new held inside =
       let few = few_held g.held in
       let count = letters_count in
+      let up = up_if_behind w id s is (omega arith) in
+      let pending = up.1 in
       let next : (suc m - length (option_to_list g.held)) + 1 ≡ (suc m + 1) - length (option_to_list g.held) = omega arith in
       ap (λ (o : Option ℕ). after_take (taken_from g w id (suc m)) id (1 - length (option_to_list o))) held
-      ∙ take_more_then w id s is (suc m - length (option_to_list g.held)) (omega arith) ∙ ap (after_take w id) next
+      ∙ take_more_then w id s is (suc m - length (option_to_list g.held)) up.0 (omega arith) ∙ ap (after_take w id) next
 
   none_more : (n : ℕ) (new : LocalListener) → taken_from new (taken_from g w id n) id 0 ≡ taken_from g w id n
   none_more n new =
       let v = taken_from g w id n in
       let x = moved_on w (n - length (option_to_list g.held)) s in
-      let t : count_to_take v x (0 - length (option_to_list new.held)) ≡ 0 = omega arith in
+      let t : count_to_take v x (0 - length (option_to_list new.held)) ≡ 0 = count_none v x _ (omega arith) in
       take_none v id x (found_left n) (0 - length (option_to_list new.held)) t
 
   module _ (n : ℕ) (new : LocalListener) (kept : Kept) (prefix : HeardPrefix g w id n new kept) where
@@ -187,11 +190,20 @@ module _ (g : LocalListener) (w : World) (id : ℕ) (s : Subscription) (is : sub
         at_end : IsAt g w id (fitting g.listener letters) (after_quiet g.listener (take (fitting g.listener letters) letters)) None new' kept'
         at_end = prefix_is new' kept' all_fit at.listener_is at.mode_is at.held_is (subst (StandsFor kept') (none_more n new) at.stands)
 
-        pub prefix_nothing : (taken_from g w id n).closed ≡ false → Hears g w id Nothing new' kept'
-        prefix_nothing is_open = (no_hit, inr (sym (closed_then w id s is (n - length (option_to_list g.held))) ∙ is_open), at_end)
+        out_before : (out : Bool) → is_out (taken_from g w id n) id ≡ out → is_out w id ≡ out
+        out_before out e = sym (out_then w id s is (n - length (option_to_list g.held))) ∙ e
 
-        pub prefix_end : (taken_from g w id n).closed ≡ true → Hears g w id End new' kept'
-        prefix_end closed = (no_hit, (let a = all_heard in omega arith), sym (closed_then w id s is (n - length (option_to_list g.held))) ∙ closed, at_end)
+        closed_before : (closed : Bool) → (taken_from g w id n).closed ≡ closed → w.closed ≡ closed
+        closed_before closed e = sym (closed_then w id s is (n - length (option_to_list g.held))) ∙ e
+
+        pub prefix_nothing : (taken_from g w id n).closed ≡ false → is_out (taken_from g w id n) id ≡ false → Hears g w id Nothing new' kept'
+        prefix_nothing is_open up = (no_hit, inr (closed_before false is_open, out_before false up), at_end)
+
+        pub prefix_end : (taken_from g w id n).closed ≡ true → is_out (taken_from g w id n) id ≡ false → Hears g w id End new' kept'
+        prefix_end closed up = (no_hit, (let a = all_heard in omega arith), closed_before true closed, at_end, out_before false up)
+
+        pub prefix_evicted : is_out (taken_from g w id n) id ≡ true → Hears g w id Evicted new' kept'
+        prefix_evicted out = (no_hit, (let a = all_heard in omega arith), out_before true out, at_end)
 
     -- if there is no more room
     pub prefix_full : length g.listener.gathered + n ≡ MOST_GATHERED → length g.listener.gathered < MOST_GATHERED → Hears g w id Nothing new kept
@@ -213,6 +225,7 @@ module _ (g : LocalListener) (w : World) (id : ℕ) (s : Subscription) (is : sub
 
     pub prefix_then : length g.listener.gathered + n < MOST_GATHERED → (heard : Heard) (new' : LocalListener) (kept' : Kept) → HearsOne new (taken_from g w id n) id (Some heard) new' kept' → Hears g w id heard new' kept'
     prefix_then room Hit new' kept' h = prefix_hit h.0 h.1 h.3 h.2 new' kept' h.4 h.5.mode_is h.5.held_is h.5.stands
-    prefix_then room Nothing new' kept' h = prefix_nothing h.0 room new' kept' h.2 h.1
-    prefix_then room End new' kept' h = prefix_end h.0 room new' kept' h.2 h.1
+    prefix_then room Nothing new' kept' h = prefix_nothing h.0 room new' kept' h.2 h.1 h.3
+    prefix_then room End new' kept' h = prefix_end h.0 room new' kept' h.2 h.1 h.3
+    prefix_then room Evicted new' kept' h = prefix_evicted h.0 room new' kept' h.2 h.1
     prefix_then room Lacking new' kept' h = prefix_lacks h.0 h.1 h.2 room new' kept' h.3

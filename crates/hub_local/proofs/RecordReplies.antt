@@ -15,7 +15,7 @@ use Rattle.hub_record.specs.declared.SubError.{SubError}
 use Rattle.hub_record.specs.declared.SubError.TheVariants as sub
 use Rattle.hub_record.specs.declared.PubError.{PubError}
 use Rattle.hub_record.specs.declared.PubError.TheVariants as post
-use Rattle.hub_record.specs.World.{World, standing, letters, load, IsLawfulIn, IsUnlawfulIn, SubscribeReply, HasRoom, IsFull, PublishReply}
+use Rattle.hub_record.specs.World.{World, current, standing, letters, needed, IsLawfulIn, IsUnlawfulIn, SubscribeReply, HasRoom, IsFull, PublishReply}
 use Rattle.hub_local.specs.Replies.{SubscribeIsOf, PublishIsOf, subscribe_reply, is_lawful_in, first_unlawful, is_full, lawful_reply, open_reply, publish_reply}
 
 pub subscribe_reply_is : (w : World) (r : Result (ℕ × ℕ) SubError) → SubscribeReply w r → r ≢ Err sub.Memory → r ≡ subscribe_reply w
@@ -105,7 +105,7 @@ no_room w n h =
 room : (w : World) (n : ℕ) → HasRoom w n → is_full w n ≡ false
 room w n (inl none) = simp none
 room w n (inr fits) =
-    let t = le-ltb w.limits.waiting (load w + n) fits in
+    let t = le-ltb w.limits.waiting (needed w n) fits in
     elim (cases_Bool (nat_eq (length (standing w)) 0)) [ inl e ↦ simp e | inr e ↦ simp (e, t) ]
 
 pub publish_reply_is : (w : World) (message : List ℕ) (r : Result ℕ PubError) → PublishReply w message r → r ≡ publish_reply w message
@@ -124,7 +124,7 @@ subscribe_holds : (w : World) → SubscribeReply w (subscribe_reply w)
 subscribe_holds w =
     elim (cases_Bool w.closed) [
       | inl c ↦ (let e : subscribe_reply w ≡ Err sub.Closed = simp c in subst (SubscribeReply w) (sym e) c)
-      | inr c ↦ elim (cases_Bool (nat_le MOST_PASSES (length (standing w)))) [
+      | inr c ↦ elim (cases_Bool (nat_le MOST_PASSES (length (current w)))) [
         | inl m ↦ (let e : subscribe_reply w ≡ Err sub.Many = simp (c, m) in subst (SubscribeReply w) (sym e) (c, leb-true MOST_PASSES _ m))
         | inr m ↦ elim (cases_Bool (nat_le w.limits.ids (length w.subscriptions))) [
           | inl s ↦ (let e : subscribe_reply w ≡ Err sub.Spent = simp (c, m, s) in subst (SubscribeReply w) (sym e) (c, leb-false MOST_PASSES _ m, leb-true w.limits.ids _ s))
@@ -204,7 +204,7 @@ room_holds w n e = by (standing w) refl
   where
     by : (xs : List (ℕ × ℕ)) → standing w ≡ xs → HasRoom w n
     by [] is = inl is
-    by (x ∷ xs) is = inr (ltb-false w.limits.waiting (load w + n) (let z : nat_eq (length (standing w)) 0 ≡ false = ap (λ (ys : List (ℕ × ℕ)). nat_eq (length ys) 0) is ∙ ne_eqb (length (x ∷ xs)) 0 (λ (same : length (x ∷ xs) ≡ 0). omega arith) in simp z at e))
+    by (x ∷ xs) is = inr (ltb-false w.limits.waiting (needed w n) (let z : nat_eq (length (standing w)) 0 ≡ false = ap (λ (ys : List (ℕ × ℕ)). nat_eq (length ys) 0) is ∙ ne_eqb (length (x ∷ xs)) 0 (λ (same : length (x ∷ xs) ≡ 0). omega arith) in simp z at e))
 
 module _ (w : World) (message : List ℕ) (lawful : IsLawfulIn w.kind (letters w.events)) where
   lawful_holds : w.closed ≡ false → first_unlawful w.kind (letters w.events) message ≡ None → PublishReply w message (lawful_reply w (length message))

@@ -1,13 +1,15 @@
 -- Takes of the letters behind a cursor, one at a time.
-use Rattle.std.proofs.Common.{◌≡◌, ◌≢◌, if◌then◌else◌, ℕ, zero, suc, ◌+◌, ◌-◌, ◌<◌, ◌≤◌, true, false, List, [], ◌∷◌, ◌++◌, length, take, drop, get_or, min, nat_eq, nat_lt, Option, Some, is_some, Ok, refl, sym, ap, subst, ◌∙◌, inl, inr, true≢false, append_assoc, append-nil, ⊎_elim, arith}
-use Rattle.std.proofs.lemmas.Bool.{cases_Bool, cases_lt, ltb-true, ltb-false}
+use Rattle.std.proofs.Common.{◌≡◌, if◌then◌else◌, ℕ, zero, suc, ◌+◌, ◌-◌, ◌<◌, ◌≤◌, Bool, true, false, List, [], ◌∷◌, ◌++◌, length, take, drop, get_or, min, nat_eq, Option, Some, is_some, Ok, refl, sym, ap, subst, ◌∙◌, inl, inr, true≢false, append_assoc, append-nil, ⊎_elim, arith}
+use Rattle.std.proofs.lemmas.Bool.{cases_Bool, cases_lt}
 use Rattle.std.proofs.lemmas.List.{length-drop, length-map, drop-drop, drop-map}
 use Rattle.hub_record.specs.Kept.{Kept, StandsFor}
-use Rattle.hub_record.specs.World.{World, Subscription, letters, subscription_in, found_from, changed_from, with_changed, count_to_take, events_to_take, moved_on, reply_for, take_reply, take_events, moved_for, after_take, after_take_for}
+use Rattle.hub_record.specs.World.{World, Subscription, letters, is_evicted, subscription_in, found_from, changed_from, with_changed, count_to_take, events_to_take, moved_on, reply_for, take_reply, take_events, moved_for, after_take, after_take_for}
 use Rattle.hub_record.specs.declared.Event.{Event}
 use Rattle.hub_record.specs.declared.Taken.{Taken}
 use Rattle.hub_record.specs.declared.Taken.TheVariants as taken
-use Rattle.hub_local.specs.Polls.{waiting_for}
+use Rattle.hub_record.proofs.Policies.{count_standing, count_evicted, count_within, goes_on_up, end_up}
+use Rattle.hub_record.proofs.Taking.{AnswerShows, shows_by}
+use Rattle.hub_local.specs.Polls.{waiting_for, is_out, is_out_for}
 use Rattle.hub_local.specs.Hearings.{behind}
 
 -- ---- lists
@@ -118,15 +120,19 @@ module _ (w : World) (id : ℕ) (s : Subscription) (is : subscription_in w id �
   take_none m none = after_take_is m
       ∙ ap (λ (subs : List Subscription). record w { subscriptions = subs }) (changed_same (moved_on w m) 1 w.subscriptions id (λ x e. moved_on_none m x (only x e) none) there)
 
-  moved_on_more : (m : ℕ) (x : Subscription) → x ≡ s → s.next + m < length w.events → moved_on w 1 (moved_on w m x) ≡ moved_on w (m + 1) x
-  moved_on_more m x e below =
+  moved_on_more : (m : ℕ) (x : Subscription) → x ≡ s → is_evicted w s.next ≡ false → s.next + m < length w.events → moved_on w 1 (moved_on w m x) ≡ moved_on w (m + 1) x
+  moved_on_more m x e up below =
       let at : x.next ≡ s.next = ap (λ (y : Subscription). y.next) e in
-      let one : min m (length w.events - x.next) ≡ m = omega arith in
-      let two : min 1 (length w.events - (x.next + min m (length w.events - x.next))) ≡ 1 = omega arith in
-      let both : min (m + 1) (length w.events - x.next) ≡ m + 1 = omega arith in
-      let next : x.next + min m (length w.events - x.next) + min 1 (length w.events - (x.next + min m (length w.events - x.next))) ≡ x.next + min (m + 1) (length w.events - x.next) = omega arith in
-      let gathered : (x.gathered ++ take (min m (length w.events - x.next)) (drop x.next w.events)) ++ take (min 1 (length w.events - (x.next + min m (length w.events - x.next)))) (drop (x.next + min m (length w.events - x.next)) w.events)
-      ≡ x.gathered ++ take (min (m + 1) (length w.events - x.next)) (drop x.next w.events) =
+      let up_here : is_evicted w x.next ≡ false = ap (λ (y : Subscription). is_evicted w y.next) e ∙ up in
+      let all = count_standing w x m up_here in
+      let one : count_to_take w x m ≡ m = omega arith in
+      let later = count_standing w (moved_on w m x) 1 (goes_on_up w x.next (count_to_take w x m) up_here) in
+      let two : count_to_take w (moved_on w m x) 1 ≡ 1 = omega arith in
+      let sum = count_standing w x (m + 1) up_here in
+      let both : count_to_take w x (m + 1) ≡ m + 1 = omega arith in
+      let next : x.next + count_to_take w x m + count_to_take w (moved_on w m x) 1 ≡ x.next + count_to_take w x (m + 1) = omega arith in
+      let gathered : (x.gathered ++ take (count_to_take w x m) (drop x.next w.events)) ++ take (count_to_take w (moved_on w m x) 1) (drop (x.next + count_to_take w x m) w.events)
+      ≡ x.gathered ++ take (count_to_take w x (m + 1)) (drop x.next w.events) =
       (λ i. (x.gathered ++ take (one i) (drop x.next w.events)) ++ take (two i) (drop (x.next + one i) w.events))
       ∙ append_assoc x.gathered _ _
       ∙ ap (λ (t : List Event). x.gathered ++ (take m (drop x.next w.events) ++ take 1 t)) (sym (drop-drop m x.next w.events))
@@ -135,92 +141,104 @@ module _ (w : World) (id : ℕ) (s : Subscription) (is : subscription_in w id �
       λ i. record x { next = next i; gathered = gathered i }
 
 -- one more is taken
-pub take_more_then : (w : World) (id : ℕ) (s : Subscription) → subscription_in w id ≡ Some s → (m : ℕ) → s.next + m < length w.events → after_take (after_take w id m) id 1 ≡ after_take w id (m + 1)
-take_more_then w id s is m below =
+pub take_more_then : (w : World) (id : ℕ) (s : Subscription) → subscription_in w id ≡ Some s → (m : ℕ) → is_evicted w s.next ≡ false → s.next + m < length w.events → after_take (after_take w id m) id 1 ≡ after_take w id (m + 1)
+take_more_then w id s is m up below =
     let v = with_changed w id (moved_on w m) in
     let first : after_take w id m ≡ v = after_take_is w id s is m in
     let later : subscription_in v id ≡ Some (moved_on w m s) = sym (ap (λ (u : World). subscription_in u id) first) ∙ found_then w id s is m in
     ap (λ (u : World). after_take u id 1) first ∙ after_take_is v id (moved_on w m s) later 1
     ∙ ap (λ (subs : List Subscription). record w { subscriptions = subs })
-    (changed_twice (moved_on w m) (moved_on w 1) (moved_on w (m + 1)) 1 w.subscriptions id (λ x e. moved_on_more w id s is m x (only w id s is x e) below) (there w id s is))
+    (changed_twice (moved_on w m) (moved_on w 1) (moved_on w (m + 1)) 1 w.subscriptions id (λ x e. moved_on_more w id s is m x (only w id s is x e) up below) (there w id s is))
     ∙ sym (after_take_is w id s is (m + 1))
 
 -- ---- the letters behind the cursor
 
 module _ (w : World) (id : ℕ) (s : Subscription) (is : subscription_in w id ≡ Some s) where
-  behind_is : behind w id ≡ letters (drop s.next w.events)
-  behind_is = ap (λ (o : Option Subscription). letters (waiting_for w o)) is
+  out_is : is_out w id ≡ is_evicted w s.next
+  out_is = ap (is_out_for w) is
 
-  pub length-behind : length (behind w id) ≡ length w.events - s.next
-  length-behind = ap length behind_is ∙ length-map (drop s.next w.events) (λ (e : Event). e.letter) ∙ length-drop s.next w.events
+  behind_out : is_evicted w s.next ≡ true → behind w id ≡ []
+  behind_out out = ap (λ (o : Option Subscription). letters (waiting_for w o)) is ∙ ap (λ (b : Bool). letters (if b then [] else drop s.next w.events)) out
+
+  behind_up : is_evicted w s.next ≡ false → behind w id ≡ letters (drop s.next w.events)
+  behind_up up = ap (λ (o : Option Subscription). letters (waiting_for w o)) is ∙ ap (λ (b : Bool). letters (if b then [] else drop s.next w.events)) up
+
+  length-up : is_evicted w s.next ≡ false → length (behind w id) ≡ length w.events - s.next
+  length-up up = ap length (behind_up up) ∙ length-map (drop s.next w.events) (λ (e : Event). e.letter) ∙ length-drop s.next w.events
+
+  -- if a letter is pending, it isn't evicted
+  pub up_if_behind : 0 < length (behind w id) → (is_evicted w s.next ≡ false) × (length (behind w id) ≡ length w.events - s.next)
+  up_if_behind some = elim (cases_Bool (is_evicted w s.next)) [
+    | inl out ↦ (let none = ap length (behind_out out) in absurd (omega arith))
+    | inr up ↦ (up, length-up up)
+  ]
+
+  -- the subscription afterwards is evicted if it was
+  pub out_then : (m : ℕ) → is_out (after_take w id m) id ≡ is_out w id
+  out_then m = elim (cases_Bool (is_evicted w s.next)) [
+    | inl out ↦ ap (λ (u : World). is_out u id) (take_none w id s is m (count_evicted w s m out))
+    | inr up ↦ ap (λ (u : World). is_out_for u (subscription_in (after_take w id m) id)) (after_take_is w id s is m) ∙ ap (is_out_for w) (found_then w id s is m)
+        ∙ goes_on_up w s.next (count_to_take w s m) up ∙ sym (out_is ∙ up)
+  ]
 
   -- the letters afterwards
   pub behind_then : (m : ℕ) → behind (after_take w id m) id ≡ drop m (behind w id)
-  behind_then m =
-      let v = with_changed w id (moved_on w m) in
-      let first : after_take w id m ≡ v = after_take_is w id s is m in
-      let later : subscription_in v id ≡ Some (moved_on w m s) = sym (ap (λ (u : World). subscription_in u id) first) ∙ found_then w id s is m in
-      let all = length-drop s.next w.events in
-      ap (λ (u : World). behind u id) first ∙ ap (λ (o : Option Subscription). letters (waiting_for v o)) later
-      ∙ ap letters (sym (drop-drop (min m (length w.events - s.next)) s.next w.events))
-      ∙ ap (λ (n : ℕ). letters (drop (min m n) (drop s.next w.events))) (sym all)
-      ∙ ap letters (drop-min (drop s.next w.events) m) ∙ sym (drop-map (λ (e : Event). e.letter) m (drop s.next w.events)) ∙ sym (ap (drop m) behind_is)
+  behind_then m = elim (cases_Bool (is_evicted w s.next)) [
+    | inl out ↦ ap (λ (u : World). behind u id) (take_none w id s is m (count_evicted w s m out)) ∙ behind_out out ∙ sym (ap (drop m) (behind_out out) ∙ drop-all [] m (omega arith))
+    | inr up ↦ (let v = with_changed w id (moved_on w m) in
+        let first : after_take w id m ≡ v = after_take_is w id s is m in
+        let later : subscription_in v id ≡ Some (moved_on w m s) = sym (ap (λ (u : World). subscription_in u id) first) ∙ found_then w id s is m in
+        let all = length-drop s.next w.events in
+        ap (λ (u : World). behind u id) first ∙ ap (λ (o : Option Subscription). letters (waiting_for v o)) later
+        ∙ ap (λ (b : Bool). letters (if b then [] else drop (s.next + count_to_take w s m) w.events)) (goes_on_up w s.next (count_to_take w s m) up)
+        ∙ ap (λ (n : ℕ). letters (drop (s.next + n) w.events)) (count_standing w s m up)
+        ∙ ap letters (sym (drop-drop (min m (length w.events - s.next)) s.next w.events))
+        ∙ ap (λ (n : ℕ). letters (drop (min m n) (drop s.next w.events))) (sym all)
+        ∙ ap letters (drop-min (drop s.next w.events) m) ∙ sym (drop-map (λ (e : Event). e.letter) m (drop s.next w.events)) ∙ sym (ap (drop m) (behind_up up)))
+  ]
 
   pub closed_then : (m : ℕ) → (after_take w id m).closed ≡ w.closed
   closed_then m = ap (λ (u : World). u.closed) (after_take_is w id s is m)
 
   -- ---- one take
 
-  pub got_one : (count : ℕ) → Ok (taken.Got count) ≡ take_reply w id 1 → s.next < length w.events
-  got_one count e =
-      let k : Ok (taken.Got count) ≡ reply_for w 1 (Some s) = e ∙ ap (reply_for w 1) is in
-      elim (cases_Bool (nat_lt s.next (length w.events))) [
-        | inl a ↦ ltb-true s.next (length w.events) a
-        | inr a ↦ elim (cases_Bool w.closed) [
-          | inl c ↦ (let j = simp (a, c) at k in absurd (let no : ⊥ = cc in no))
-          | inr c ↦ (let j = simp (a, c) at k in absurd (let no : ⊥ = cc in no))
-        ]
-      ]
+  shown_by : (said : Taken) → Ok said ≡ take_reply w id 1 → AnswerShows w 1 s (Ok said)
+  shown_by said e = shows_by w 1 s (Ok said) (e ∙ ap (reply_for w 1) is)
 
-  -- if nothing is got, the reply says whether more may come
-  none_got : (said : Taken) → ((count : ℕ) → said ≢ taken.Got count) → Ok said ≡ take_reply w id 1
-      → (length w.events ≤ s.next) × (said ≡ (if w.closed then taken.End else taken.Nothing))
-  none_got said none e =
-      let k : Ok said ≡ reply_for w 1 (Some s) = e ∙ ap (reply_for w 1) is in
-      elim (cases_Bool (nat_lt s.next (length w.events))) [
-        | inl a ↦ (let j = simp a at k in absurd (none (count_to_take w s 1) cc))
-        | inr a ↦ (
-          ltb-false s.next (length w.events) a,
-          elim (cases_Bool w.closed) [
-            | inl c ↦ (let j = simp (a, c) at k in simp c cc)
-            | inr c ↦ (let j = simp (a, c) at k in simp c cc)
-          ],
-        )
-      ]
+  pub got_one : (count : ℕ) → Ok (taken.Got count) ≡ take_reply w id 1 → (s.next < length w.events) × (is_evicted w s.next ≡ false)
+  got_one count e = let k = shown_by (taken.Got count) e in (k.0, k.2)
 
   pub got_none : Ok taken.Nothing ≡ take_reply w id 1 → (length w.events ≤ s.next) × (w.closed ≡ false)
-  got_none e =
-      let k = none_got taken.Nothing (λ count same. cc) e in
-      (k.0, elim (cases_Bool w.closed) [ inl c ↦ (let j = simp c at k.1 in absurd (let no : ⊥ = cc in no)) | inr c ↦ c ])
+  got_none e = shown_by taken.Nothing e
 
   pub got_end : Ok taken.End ≡ take_reply w id 1 → (length w.events ≤ s.next) × (w.closed ≡ true)
-  got_end e =
-      let k = none_got taken.End (λ count same. cc) e in
-      (k.0, elim (cases_Bool w.closed) [ inl c ↦ c | inr c ↦ (let j = simp c at k.1 in absurd (let no : ⊥ = cc in no)) ])
+  got_end e = shown_by taken.End e
+
+  -- it is evicted
+  module _ (said : Ok taken.Evicted ≡ take_reply w id 1) (kept : Kept) (stands : StandsFor kept (after_take w id 1)) where
+    out : is_evicted w s.next ≡ true
+    out = shown_by taken.Evicted said
+
+    pub evicted_one : (behind w id ≡ []) × (is_out w id ≡ true) × StandsFor kept w
+    evicted_one = (behind_out out, out_is ∙ out, subst (StandsFor kept) (take_none w id s is 1 (count_evicted w s 1 out)) stands)
 
   -- none is pending
   module _ (none : length w.events ≤ s.next) (kept : Kept) (stands : StandsFor kept (after_take w id 1)) where
     pub none_behind : behind w id ≡ []
-    none_behind = let l = length-behind in length-none (behind w id) (omega arith)
+    none_behind = let l = length-up (end_up w s.next none) in length-none (behind w id) (omega arith)
 
     pub still_stands : StandsFor kept w
-    still_stands = let t : count_to_take w s 1 ≡ 0 = omega arith in subst (StandsFor kept) (take_none w id s is 1 t) stands
+    still_stands = let c = count_within w s 1 in let t : count_to_take w s 1 ≡ 0 = omega arith in subst (StandsFor kept) (take_none w id s is 1 t) stands
+
+    pub not_out : is_out w id ≡ false
+    not_out = out_is ∙ end_up w s.next none
 
   -- one is pending
-  pub one_behind : s.next < length w.events → (out room : List Event) (d : Event) → out ≡ take_events w id 1 ++ room → (rest : List ℕ) × (behind w id ≡ (get_or out 0 d).letter ∷ rest)
-  one_behind some out room d filled =
+  pub one_behind : s.next < length w.events → is_evicted w s.next ≡ false → (out room : List Event) (d : Event) → out ≡ take_events w id 1 ++ room → (rest : List ℕ) × (behind w id ≡ (get_or out 0 d).letter ∷ rest)
+  one_behind some up out room d filled =
       let one = drop-one w.events s.next some in
+      let c = count_standing w s 1 up in
       let t : count_to_take w s 1 ≡ 1 = omega arith in
       let took : take_events w id 1 ≡ one.0 ∷ [] = ap (moved_for w 1) is ∙ (λ i. take (t i) (one.1 i)) in
       let first : out ≡ one.0 ∷ room = filled ∙ ap (λ (z : List Event). z ++ room) took in
-      (letters (drop (suc s.next) w.events), behind_is ∙ ap letters one.1 ∙ sym (ap (λ (z : List Event). (get_or z 0 d).letter ∷ letters (drop (suc s.next) w.events)) first))
+      (letters (drop (suc s.next) w.events), behind_up up ∙ ap letters one.1 ∙ sym (ap (λ (z : List Event). (get_or z 0 d).letter ∷ letters (drop (suc s.next) w.events)) first))

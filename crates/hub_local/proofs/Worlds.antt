@@ -1,7 +1,8 @@
 -- The subscriptions of a world, after each change.
-use Rattle.std.proofs.Common.{◌≡◌, ℕ, ◌+◌, ◌<◌, true, false, List, [], ◌∷◌, ◌++◌, length, nat_eq, nat_lt, Option, None, Some, Err, is_some, sym, ◌∙◌, inl, inr, true≢false, arith}
+use Rattle.std.proofs.Common.{◌≡◌, ℕ, ◌+◌, ◌<◌, true, false, List, [], ◌∷◌, ◌++◌, length, nat_eq, Option, None, Some, Err, is_some, sym, ◌∙◌, inl, inr, true≢false, arith}
 use Rattle.std.proofs.lemmas.Bool.{cases_Bool, eqb-true, ne_eqb, eq-eqb}
 use Rattle.hub_record.specs.declared.NoId.{NoId}
+use Rattle.hub_record.proofs.Taking.{shows_by}
 use Rattle.hub_record.specs.World.{World, subscription_in, reply_for, take_reply, Subscription, found_from, changed_from}
 
 -- one more subscription
@@ -68,8 +69,4 @@ takes_some w id most error s e = by (subscription_in w id) s e
   where
     by : (o : Option Subscription) → is_some o ≡ true → Err error ≡ reply_for w most o → ⊥
     by None t h = true≢false (sym t)
-    by (Some x) t h =
-        elim (cases_Bool (nat_lt x.next (length w.events))) [
-          | inl a ↦ (let k = simp a at h in cc)
-          | inr a ↦ elim (cases_Bool w.closed) [ inl b ↦ (let k = simp (a, b) at h in cc) | inr b ↦ (let k = simp (a, b) at h in cc) ]
-        ]
+    by (Some x) t h = shows_by w most x (Err error) h

@@ -24,14 +24,14 @@ use Rattle.hub_local.specs.Desks.{Desk, Answer, world_of, reports_of, with_world
 use Rattle.hub_local.specs.Polls.{poll_answer, LeftByPoll}
 use Rattle.hub_local.specs.Replies.{subscribe_reply, publish_reply}
 use Rattle.hub_requests.specs.Refusals.{refusal_of_sub, refusal_of_pub}
-use Rattle.hub_requests.specs.Room.{refusal_of_handle}
+use Rattle.hub_requests.specs.Room.{policy_of, refusal_of_handle}
 use Rattle.hub_local.specs.Waits.{wait_answer, LeftByWait}
 use Rattle.hub_local.specs.declared.local_desk.LocalListener.{LocalListener}
 use Rattle.hub_local.specs.declared.local_desk.Holding.{Holding}
 use Rattle.hub_requests.specs.declared.request.Request.{Request}
 use Rattle.hub_requests.specs.declared.request.Request.TheVariants.{Dir, Svc, Sub, Pub, Take, Cancel, Close, Status, Listen, Poll, Wait}
 use Rattle.hub_requests.specs.declared.reply.Reply.{Reply}
-use Rattle.hub_requests.specs.declared.reply.Reply.TheVariants.{Done, Number, State, Got, Nothing, End, No}
+use Rattle.hub_requests.specs.declared.reply.Reply.TheVariants.{Done, Number, State, Got, Nothing, End, Evicted, No}
 use Rattle.hub_requests.specs.declared.reply.Refusal.{Refusal}
 use Rattle.hub_requests.specs.declared.reply.Refusal.TheVariants as no
 
@@ -86,8 +86,8 @@ refusal_to_wait d names =
 
 -- `read` says for a `Listen` whether its text is a pattern
 abbrev pub own_refusal : Desk → Bool → Request → Option Refusal
-own_refusal d read (Dir name waiting total) = refusal_to_make d name
-own_refusal d read (Svc name waiting total notifies) = refusal_to_make d name
+own_refusal d read (Dir name waiting total evict) = refusal_to_make d name
+own_refusal d read (Svc name waiting total notifies evict) = refusal_to_make d name
 own_refusal d read (Sub name) = refusal_to_hold d name
 own_refusal d read (Pub name letters) = refusal_by_name d name
 own_refusal d read (Take id max) = refusal_to_take (holding_at d id)
@@ -150,6 +150,7 @@ abbrev pub take_shown : List ℕ → Result Taken NoId → Reply
 take_shown letters (Ok (taken.Got count)) = Got letters
 take_shown letters (Ok taken.Nothing) = Nothing
 take_shown letters (Ok taken.End) = End
+take_shown letters (Ok taken.Evicted) = Evicted
 take_shown letters (Err error) = No no.Id
 
 abbrev pub took : Desk → ℕ → Holding → World → Answer
@@ -167,8 +168,8 @@ status_answer d w = record { reply = State (record { number = length w.events; f
 
 -- what is done with a request that the desk itself doesn't refuse
 abbrev pub request_answer : Desk → Request → Answer
-request_answer d (Dir name waiting total) = make_answer d name Plain None (limits_of waiting total MOST_IDS)
-request_answer d (Svc name waiting total notifies) = make_answer d name Service (Some notifies) (limits_of waiting total MOST_IDS)
+request_answer d (Dir name waiting total evict) = make_answer d name Plain None (limits_of waiting total MOST_IDS (policy_of evict))
+request_answer d (Svc name waiting total notifies evict) = make_answer d name Service (Some notifies) (limits_of waiting total MOST_IDS (policy_of evict))
 request_answer d (Sub name) = in_world d (λ w. subscribe_answer d name None w (subscribe_reply w)) (world_of d.fifodirs name)
 request_answer d (Pub name message) = in_world d (λ w. publish_answer d name message w (publish_reply w message)) (world_of d.fifodirs name)
 request_answer d (Take id max) = for_holding d (λ h. in_world d (took d max h) (world_of d.fifodirs h.name)) (holding_at d id)

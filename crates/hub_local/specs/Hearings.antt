@@ -6,10 +6,10 @@ use Rattle.hub_listen.specs.Listening.{Listening, Feeds, after_hit, after_quiet,
 use Rattle.hub_listen.specs.declared.feed.Feed.TheVariants as fed
 use Rattle.hub_record.specs.Kept.{Kept, StandsFor}
 use Rattle.hub_record.specs.World.{World, letters, subscription_in, after_take}
-use Rattle.hub_local.specs.Polls.{waiting_for, to_hear, taken_from}
+use Rattle.hub_local.specs.Polls.{waiting_for, is_out, to_hear, taken_from}
 use Rattle.hub_local.specs.declared.local_desk.LocalListener.{LocalListener}
 use Rattle.hub_local.specs.declared.local_desk.listeners.Heard.{Heard}
-use Rattle.hub_local.specs.declared.local_desk.listeners.Heard.TheVariants.{Hit, Nothing, End, Lacking}
+use Rattle.hub_local.specs.declared.local_desk.listeners.Heard.TheVariants.{Hit, Nothing, End, Evicted, Lacking}
 
 -- the letters behind the cursor
 abbrev pub behind : World → ℕ → List ℕ
@@ -18,8 +18,9 @@ behind w id = letters (waiting_for w (subscription_in w id))
 -- the next of them was taken, or there is none
 abbrev pub TakesOne : World → ℕ → Result ℕ Heard → Kept → Type 0
 TakesOne w id (Ok x) kept = (rest : List ℕ) × (behind w id ≡ x ∷ rest) × StandsFor kept (after_take w id 1)
-TakesOne w id (Err Nothing) kept = (behind w id ≡ []) × (w.closed ≡ false) × StandsFor kept w
-TakesOne w id (Err End) kept = (behind w id ≡ []) × (w.closed ≡ true) × StandsFor kept w
+TakesOne w id (Err Nothing) kept = (behind w id ≡ []) × (w.closed ≡ false) × StandsFor kept w × (is_out w id ≡ false)
+TakesOne w id (Err End) kept = (behind w id ≡ []) × (w.closed ≡ true) × StandsFor kept w × (is_out w id ≡ false)
+TakesOne w id (Err Evicted) kept = (behind w id ≡ []) × (is_out w id ≡ true) × StandsFor kept w
 TakesOne w id (Err heard) kept = ⊥
 
 -- the hearing `new` has this listener and this held letter, and the first n of the letters were taken from the record
@@ -35,18 +36,23 @@ HearsOne g w id None new kept = (x : ℕ) × (rest : List ℕ) × (to_hear g w i
 HearsOne g w id (Some Hit) new kept =
     (x : ℕ) × (rest : List ℕ) × (k : ℕ) × (to_hear g w id ≡ x ∷ rest) × Feeds g.listener (x ∷ []) (Ok (fed.Hit k)) new.listener × IsAt g w id 1 new.listener None new kept
 HearsOne g w id (Some Lacking) new kept = (x : ℕ) × (rest : List ℕ) × (to_hear g w id ≡ x ∷ rest) × IsAt g w id 1 g.listener (Some x) new kept
-HearsOne g w id (Some Nothing) new kept = (to_hear g w id ≡ []) × (w.closed ≡ false) × IsAt g w id 0 g.listener None new kept
-HearsOne g w id (Some End) new kept = (to_hear g w id ≡ []) × (w.closed ≡ true) × IsAt g w id 0 g.listener None new kept
+HearsOne g w id (Some Nothing) new kept = (to_hear g w id ≡ []) × (w.closed ≡ false) × IsAt g w id 0 g.listener None new kept × (is_out w id ≡ false)
+HearsOne g w id (Some End) new kept = (to_hear g w id ≡ []) × (w.closed ≡ true) × IsAt g w id 0 g.listener None new kept × (is_out w id ≡ false)
+HearsOne g w id (Some Evicted) new kept = (to_hear g w id ≡ []) × (is_out w id ≡ true) × IsAt g w id 0 g.listener None new kept
 
 -- the letters up to the hit, or all that there is room for
 abbrev pub Hears : LocalListener → World → ℕ → Heard → LocalListener → Kept → Type 0
 Hears g w id Hit new kept =
     (k : ℕ) × IsHit g.listener.pattern g.listener.gathered (to_hear g w id) k × IsAt g w id k (after_hit g.listener (to_hear g w id) k) None new kept
 Hears g w id Nothing new kept =
-    HasNoHit g.listener.pattern g.listener.gathered (to_hear g w id) × ((MOST_GATHERED ≤ length g.listener.gathered + length (to_hear g w id)) ⊎ (w.closed ≡ false))
+    HasNoHit g.listener.pattern g.listener.gathered (to_hear g w id) × ((MOST_GATHERED ≤ length g.listener.gathered + length (to_hear g w id)) ⊎ ((w.closed ≡ false) × (is_out w id ≡ false)))
     × IsAt g w id (fitting g.listener (to_hear g w id)) (after_quiet g.listener (take (fitting g.listener (to_hear g w id)) (to_hear g w id))) None new kept
 Hears g w id End new kept =
     HasNoHit g.listener.pattern g.listener.gathered (to_hear g w id) × (length g.listener.gathered + length (to_hear g w id) < MOST_GATHERED) × (w.closed ≡ true)
+    × IsAt g w id (fitting g.listener (to_hear g w id)) (after_quiet g.listener (take (fitting g.listener (to_hear g w id)) (to_hear g w id))) None new kept
+    × (is_out w id ≡ false)
+Hears g w id Evicted new kept =
+    HasNoHit g.listener.pattern g.listener.gathered (to_hear g w id) × (length g.listener.gathered + length (to_hear g w id) < MOST_GATHERED) × (is_out w id ≡ true)
     × IsAt g w id (fitting g.listener (to_hear g w id)) (after_quiet g.listener (take (fitting g.listener (to_hear g w id)) (to_hear g w id))) None new kept
 Hears g w id Lacking new kept =
     (n : ℕ) × (n < fitting g.listener (to_hear g w id)) × HasNoHit g.listener.pattern g.listener.gathered (take n (to_hear g w id))

@@ -1,22 +1,31 @@
 -- What a poll answers: the letters that a listener still has to hear are heard one at a time, until there is a hit or
 -- no room.
-use Rattle.std.specs.Prelude.{ℕ, ◌≡◌, ◌⊎◌, ◌+◌, ◌-◌, ◌<◌, ◌&&◌, if◌then◌else◌, List, [], ◌++◌, length, take, drop, nat_lt, slice_get, option_to_list, Option, Some, None}
+use Rattle.std.specs.Prelude.{ℕ, ◌≡◌, ◌⊎◌, ◌+◌, ◌-◌, ◌<◌, Bool, false, if◌then◌else◌, List, [], ◌++◌, length, take, drop, nat_lt, slice_get, option_to_list, Option, Some, None}
 use Rattle.hub_letters.specs.declared.bounds.TheConstants.{MOST_GATHERED}
 use Rattle.hub_listen.specs.Hit.{HasNoHit, hit_length}
 use Rattle.hub_listen.specs.Listening.{after_hit, after_quiet, fitting}
 use Rattle.hub_letters.specs.declared.mode.Mode.{Mode}
 use Rattle.hub_letters.specs.declared.mode.Mode.TheVariants.{Once, Repeat}
-use Rattle.hub_record.specs.World.{World, Subscription, letters, subscription_in, after_take}
+use Rattle.hub_record.specs.World.{World, Subscription, letters, is_evicted, subscription_in, after_take}
 use Rattle.hub_record.specs.declared.Event.{Event}
 use Rattle.hub_local.specs.Desks.{Desk, Answer, world_of, with_world, holding_at, with_holding_from, without_handle}
 use Rattle.hub_local.specs.declared.local_desk.LocalListener.{LocalListener}
 use Rattle.hub_local.specs.declared.local_desk.Holding.{Holding}
-use Rattle.hub_requests.specs.declared.reply.Reply.TheVariants.{Hit, Nothing, End}
+use Rattle.hub_requests.specs.declared.reply.Reply.{Reply}
+use Rattle.hub_requests.specs.declared.reply.Reply.TheVariants.{Hit, Nothing, End, Evicted}
 
--- the events behind the cursor
+-- the events behind the cursor; for an evicted subscription none is kept
 abbrev pub waiting_for : World → Option Subscription → List Event
 waiting_for w None = []
-waiting_for w (Some s) = drop s.next w.events
+waiting_for w (Some s) = if is_evicted w s.next then [] else drop s.next w.events
+
+abbrev pub is_out_for : World → Option Subscription → Bool
+is_out_for w None = false
+is_out_for w (Some s) = is_evicted w s.next
+
+-- whether the subscription is evicted
+abbrev pub is_out : World → ℕ → Bool
+is_out w id = is_out_for w (subscription_in w id)
 
 -- the letters that a listener still has to hear: the one that it holds, and then those behind the cursor
 abbrev pub to_hear : LocalListener → World → ℕ → List ℕ
@@ -43,6 +52,10 @@ abbrev pub ended_by : Mode → Desk → ℕ → Holding → Desk
 ended_by Once d number h = without_handle d number h
 ended_by Repeat d number h = d
 
+-- the reply where no letter completes a hit. It says more if there is room to gather further letters.
+abbrev pub quiet_reply : (room out closed : Bool) → Reply
+quiet_reply room out closed = if room then (if out then Evicted else (if closed then End else Nothing)) else Nothing
+
 -- the letters that are still to be heard, and how many of them complete a hit
 abbrev pub hear_answer : Desk → ℕ → Holding → LocalListener → World → List ℕ → Option ℕ → Answer
 hear_answer d number h g w letters (Some k) = record {
@@ -50,7 +63,7 @@ hear_answer d number h g w letters (Some k) = record {
   desk = ended_by g.mode (heard_on d number h (heard_to_hit g letters k) (taken_from g w h.id k)) number h;
 }
 hear_answer d number h g w letters None = record {
-  reply = if nat_lt (length g.listener.gathered + length letters) MOST_GATHERED && w.closed then End else Nothing;
+  reply = quiet_reply (nat_lt (length g.listener.gathered + length letters) MOST_GATHERED) (is_out w h.id) w.closed;
   desk = heard_on d number h (heard_quietly g (take (fitting g.listener letters) letters)) (taken_from g w h.id (fitting g.listener letters));
 }
 

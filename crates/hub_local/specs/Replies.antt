@@ -4,7 +4,7 @@ use Rattle.std.specs.Option.{option_map}
 use Rattle.hub_letters.specs.Stages.{stage_by_code}
 use Rattle.hub_letters.specs.declared.stage.Stage.TheVariants.{Off}
 use Rattle.hub_record.specs.declared.limits.TheConstants.{MOST_PASSES}
-use Rattle.hub_record.specs.World.{World, standing, letters, load, IsLawfulIn, SubscribeReply, PublishReply}
+use Rattle.hub_record.specs.World.{World, current, standing, letters, needed, IsLawfulIn, SubscribeReply, PublishReply}
 use Rattle.hub_record.specs.declared.Kind.{Kind}
 use Rattle.hub_record.specs.declared.Kind.TheVariants.{Plain, Service}
 use Rattle.hub_record.specs.declared.SubError.{SubError}
@@ -15,7 +15,7 @@ use Rattle.hub_record.specs.declared.PubError.TheVariants as post
 abbrev pub subscribe_reply : World → Result (ℕ × ℕ) SubError
 subscribe_reply w =
     if w.closed then Err sub.Closed else
-    if nat_le MOST_PASSES (length (standing w)) then Err sub.Many else
+    if nat_le MOST_PASSES (length (current w)) then Err sub.Many else
     if nat_le w.limits.ids (length w.subscriptions) then Err sub.Spent else
     Ok (length w.subscriptions + 1, length w.events)
 
@@ -32,9 +32,9 @@ first_unlawful kind word [] = None
 first_unlawful kind word (letter ∷ rest) =
     if is_lawful_in kind (word ++ letter ∷ []) then option_map (λ place. place + 1) (first_unlawful kind (word ++ letter ∷ []) rest) else Some 0
 
--- a subscription is current, and with n more events more would be pending than the limit
+-- a subscription stands, and n more events need more room than there is
 abbrev pub is_full : World → ℕ → Bool
-is_full w n = if length (standing w) == 0 then false else nat_lt w.limits.waiting (load w + n)
+is_full w n = if length (standing w) == 0 then false else nat_lt w.limits.waiting (needed w n)
 
 -- the reply to a message of n letters that is lawful
 abbrev pub lawful_reply : World → ℕ → Result ℕ PubError

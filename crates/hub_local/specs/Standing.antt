@@ -73,8 +73,8 @@ pub record CarriesOut (old : Local) (grows : Bool) (own : Desk → Option Refusa
 
 -- the requests that need memory
 abbrev pub grows : Request → Bool
-grows (Dir name waiting total) = true
-grows (Svc name waiting total notifies) = true
+grows (Dir name waiting total evict) = true
+grows (Svc name waiting total notifies evict) = true
 grows (Sub name) = true
 grows (Pub name letters) = false
 grows (Take id max) = true

@@ -100,22 +100,24 @@ impl Desk for LocalDesk {
 
     fn ask<H: Wait>(&mut self, _rt: &H, request: &Request) -> Reply {
         match request {
-            Request::Dir {
-                name,
-                waiting,
-                total,
-            } => self.make(name, Kind::Plain, None, limits(*waiting, *total)),
             Request::Svc {
                 name,
                 waiting,
                 total,
                 notifies,
+                evict,
             } => self.make(
                 name,
                 Kind::Service,
                 Some(*notifies),
-                limits(*waiting, *total),
+                limits(*waiting, *total, *evict),
             ),
+            Request::Dir {
+                name,
+                waiting,
+                total,
+                evict,
+            } => self.make(name, Kind::Plain, None, limits(*waiting, *total, *evict)),
             Request::Sub { name } => self.subscribe(name),
             Request::Pub { name, letters } => self.publish(name, letters),
             Request::Take { id, max } => self.take(*id, *max),

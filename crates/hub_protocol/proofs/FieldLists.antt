@@ -64,5 +64,5 @@ no_form line word fields e none form has =
 
 -- each form has a field after its word
 pub no_form_alone : (word : List ℕ) → IsNoForm word []
-no_form_alone word (Dir name waiting total) h is e = cc
+no_form_alone word (Dir name waiting total evict) h is e = cc
 no_form_alone word form h is e = cc

@@ -10,27 +10,30 @@ use Rattle.hub_requests.specs.declared.request.Request.TheVariants as request
 use Rattle.hub_requests.specs.declared.reply.Refusal.{Refusal}
 use Rattle.hub_requests.specs.declared.reply.Refusal.TheVariants.{Long, Text, Word, Range, Memory}
 use Rattle.hub_requests.specs.declared.reply.Refusal.TheVariants as no
-use Rattle.hub_protocol.specs.Spelling.{Form, Dir, Svc, Sub, Pub, Take, Cancel, Close, Status, Listen, Poll, Wait, IsForm, IsWithin, IsWord, form_of, digit_of, word_of, text_of_mode, text_of_span, text_of_want, fields_of, fields_behind, fields_in}
+use Rattle.hub_protocol.specs.Spelling.{Form, Dir, Svc, Sub, Pub, Take, Cancel, Close, Status, Listen, Poll, Wait, IsForm, IsWithin, IsWord, form_of, digit_of, word_of, text_of_mode, text_of_span, text_of_want, fields_of, fields_of_evict, fields_behind, fields_in}
 use Rattle.hub_protocol.specs.Reading.{first_word, IsTextByte, IsText, HasForm, Spells, IsReading}
 use Rattle.hub_protocol.proofs.Numerals.{same_number}
 use Rattle.hub_protocol.proofs.Splits.{same_text}
-use Rattle.hub_protocol.proofs.SameWords.{apart, same_mode, same_span, same_want}
+use Rattle.hub_protocol.proofs.SameWords.{apart, same_mode, same_span, same_want, same_evict}
 use Rattle.hub_protocol.proofs.FieldLists.{first_word-form, fields_of-has_form}
 
 -- ---- forms and requests
 
 -- forms of one word with the same fields
-same_dir : (n m : List ℕ) (w t v s : ℕ) → IsForm (Dir n w t) → IsForm (Dir m v s) → fields_behind (Dir n w t) ≡ fields_behind (Dir m v s) → Dir n w t ≡ Dir m v s
-same_dir n m w t v s h k e =
+same_dir : (n m : List ℕ) (w t v s : ℕ) (a b : Bool) → IsForm (Dir n w t a) → IsForm (Dir m v s b) → fields_behind (Dir n w t a) ≡ fields_behind (Dir m v s b) → Dir n w t a ≡ Dir m v s b
+same_dir n m w t v s a b h k e =
     let names : n ≡ m = cc in
     let first : decimal w ≡ decimal v = cc in
     let second : decimal t ≡ decimal s = cc in
     let waiting = same_number w v h.1 k.1 first in
     let total = same_number t s h.2 k.2 second in
+    let last : fields_of_evict a ≡ fields_of_evict b = cc in
+    let evict = same_evict a b last in
     cc
 
-same_svc : (n m : List ℕ) (w t r v s q : ℕ) → IsForm (Svc n w t r) → IsForm (Svc m v s q) → fields_behind (Svc n w t r) ≡ fields_behind (Svc m v s q) → Svc n w t r ≡ Svc m v s q
-same_svc n m w t r v s q h k e =
+same_svc : (n m : List ℕ) (w t r v s q : ℕ) (a b : Bool) → IsForm (Svc n w t r a) → IsForm (Svc m v s q b)
+    → fields_behind (Svc n w t r a) ≡ fields_behind (Svc m v s q b) → Svc n w t r a ≡ Svc m v s q b
+same_svc n m w t r v s q a b h k e =
     let names : n ≡ m = cc in
     let first : decimal w ≡ decimal v = cc in
     let second : decimal t ≡ decimal s = cc in
@@ -38,6 +41,8 @@ same_svc n m w t r v s q h k e =
     let waiting = same_number w v h.1 k.1 first in
     let total = same_number t s h.2 k.2 second in
     let reports = same_number r q h.3 k.3 third in
+    let last : fields_of_evict a ≡ fields_of_evict b = cc in
+    let evict = same_evict a b last in
     cc
 
 same_take : (i x j y : ℕ) → IsForm (Take i x) → IsForm (Take j y) → fields_behind (Take i x) ≡ fields_behind (Take j y) → Take i x ≡ Take j y
@@ -75,8 +80,8 @@ same_wait s t w v x y n m h k e =
     cc
 
 same_form : (a b : Form) → IsForm a → IsForm b → word_of a ≡ word_of b → fields_behind a ≡ fields_behind b → a ≡ b
-same_form (Dir n w t) (Dir m v s) h k words e = same_dir n m w t v s h k e
-same_form (Svc n w t r) (Svc m v s q) h k words e = same_svc n m w t r v s q h k e
+same_form (Dir n w t a) (Dir m v s b) h k words e = same_dir n m w t v s a b h k e
+same_form (Svc n w t r a) (Svc m v s q b) h k words e = same_svc n m w t r v s q a b h k e
 same_form (Sub n) (Sub m) h k words e = cc
 same_form (Pub n l) (Pub m o) h k words e = cc
 same_form (Take i x) (Take j y) h k words e = same_take i x j y h k e
@@ -102,8 +107,8 @@ same_flag true false e = absurd (omega (arith, e))
 same_flag false true e = absurd (omega (arith, e))
 
 pub same_request : (a b : Request) → form_of a ≡ form_of b → a ≡ b
-same_request (request.Svc n w t f) (request.Svc m v s g) e = let flags : digit_of f ≡ digit_of g = cc in let same = same_flag f g flags in cc
-same_request (request.Dir n w t) (request.Dir m v s) e = cc
+same_request (request.Svc n w t f a) (request.Svc m v s g b) e = let flags : digit_of f ≡ digit_of g = cc in let same = same_flag f g flags in cc
+same_request (request.Dir n w t a) (request.Dir m v s b) e = cc
 same_request (request.Sub n) (request.Sub m) e = cc
 same_request (request.Pub n l) (request.Pub m o) e = cc
 same_request (request.Take i x) (request.Take j y) e = cc

@@ -1,7 +1,7 @@
 -- Names, numerals, letters, words, and the pieces between the spaces of a text, are of visible bytes: bytes that may be
 -- in a line and aren't spaces.
 use Rattle.std.proofs.Common.{◌≡◌, ◌≢◌, ℕ, ◌≤◌, List, [], ◌∷◌, Bool, true, false, cond, not, nat_lt, Option, None, Some, refl, ap, ◌∙◌, arith}
-use Rattle.std.specs.Prelude.{All, MatchOption}
+use Rattle.std.specs.Prelude.{All, MatchOption, codes}
 use Rattle.std.specs.Fmt.{decimal}
 use Rattle.std.specs.List.{list_all, onto_first}
 use Rattle.std.specs.Char.{is_ascii_digit}
@@ -14,7 +14,7 @@ use Rattle.hub_letters.specs.declared.mode.Mode.TheVariants.{Once}
 use Rattle.hub_letters.specs.declared.span.Span.{Span}
 use Rattle.hub_letters.specs.declared.span.Span.TheVariants as span
 use Rattle.hub_requests.specs.Names.{within, is_name_byte}
-use Rattle.hub_protocol.specs.Spelling.{Form, Dir, Svc, Sub, Pub, Take, Cancel, Close, Status, Listen, Poll, Wait, IsForm, IsName, IsNumeral, text_of_mode, text_of_span, text_of_want, word_of, is_space, fields_of, fields_behind, fields_in}
+use Rattle.hub_protocol.specs.Spelling.{Form, Dir, Svc, Sub, Pub, Take, Cancel, Close, Status, Listen, Poll, Wait, IsForm, IsName, IsNumeral, text_of_mode, text_of_span, text_of_want, word_of, is_space, fields_of, fields_of_evict, fields_behind, fields_in}
 use Rattle.hub_protocol.specs.Fields.{IsNumeralOf}
 use Rattle.hub_protocol.specs.Reading.{IsTextByte}
 use Rattle.hub_protocol.proofs.Numerals.{digits_of_numeral}
@@ -56,7 +56,7 @@ pub visible_numeral : (n : ℕ) → IsNumeral n → AreVisible (decimal n)
 visible_numeral n h = visible_by is_ascii_digit visible_digit (decimal n) (digits_of_numeral n h)
 
 visible_word : (form : Form) → AreVisible (word_of form)
-visible_word (Dir name waiting total) = visible_name (word_of (Dir name waiting total)) refl
+visible_word (Dir name waiting total evict) = visible_name (word_of (Dir name waiting total evict)) refl
 visible_word form = visible_name (word_of form) refl
 
 visible_mode : (mode : Mode) → AreVisible (text_of_mode mode)
@@ -95,9 +95,14 @@ visible_fields [] plain = (All-nil IsVisible, tt)
 visible_fields (b ∷ bs) plain =
     visible_by_test (is_space b) b (fields_of bs) refl (All-head IsTextByte b bs plain) (visible_fields bs (All-tail IsTextByte b bs plain))
 
+visible_evict : (evict : Bool) → AllVisible (fields_of_evict evict)
+visible_evict false = tt
+visible_evict true = (visible_name (codes "evict") refl, tt)
+
 visible_behind : (form : Form) → IsForm form → AllVisible (fields_behind form)
-visible_behind (Dir name waiting total) h = (visible_name name h.0, (visible_numeral waiting h.1, (visible_numeral total h.2, tt)))
-visible_behind (Svc name waiting total reports) h = (visible_name name h.0, (visible_numeral waiting h.1, (visible_numeral total h.2, (visible_numeral reports h.3, tt))))
+visible_behind (Dir name waiting total evict) h = (visible_name name h.0, (visible_numeral waiting h.1, (visible_numeral total h.2, visible_evict evict)))
+visible_behind (Svc name waiting total reports evict) h =
+    (visible_name name h.0, (visible_numeral waiting h.1, (visible_numeral total h.2, (visible_numeral reports h.3, visible_evict evict))))
 visible_behind (Sub name) h = (visible_name name h, tt)
 visible_behind (Pub name letters) h = (visible_name name h.0, (h.1.each, tt))
 visible_behind (Take id max) h = (visible_numeral id h.0, (visible_numeral max h.1, tt))

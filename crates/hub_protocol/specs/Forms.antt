@@ -10,8 +10,8 @@ use Rattle.hub_protocol.specs.declared.forms.BorrowedForm as borrowed
 use Rattle.hub_protocol.specs.declared.forms.BorrowedForm.TheVariants.{Dir, Svc, Sub, Pub, Take, Cancel, Close, Status, Listen, Poll, Wait}
 
 abbrev pub form_shown : borrowed.BorrowedForm → Form
-form_shown (Dir name waiting total) = spelled.Dir name.now waiting total
-form_shown (Svc name waiting total reports) = spelled.Svc name.now waiting total reports
+form_shown (Dir name waiting total evict) = spelled.Dir name.now waiting total evict
+form_shown (Svc name waiting total reports evict) = spelled.Svc name.now waiting total reports evict
 form_shown (Sub name) = spelled.Sub name.now
 form_shown (Pub name letters) = spelled.Pub name.now letters.now
 form_shown (Take id max) = spelled.Take id max

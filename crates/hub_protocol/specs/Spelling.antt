@@ -16,8 +16,8 @@ use Rattle.hub_requests.specs.declared.request.Request.TheVariants as request
 
 -- what a line of a form says, before its numbers are checked against their ranges
 pub data Form : Type 0 where
-  Dir : (name : List ℕ) (waiting total : ℕ) → Form
-  Svc : (name : List ℕ) (waiting total reports : ℕ) → Form
+  Dir : (name : List ℕ) (waiting total : ℕ) (evict : Bool) → Form
+  Svc : (name : List ℕ) (waiting total reports : ℕ) (evict : Bool) → Form
   Sub : (name : List ℕ) → Form
   Pub : (name letters : List ℕ) → Form
   Take : (id max : ℕ) → Form
@@ -54,8 +54,8 @@ pub record AreNames (names : List (List ℕ)) : Type 0 where
 
 -- the form's fields are what it needs
 abbrev pub IsForm : Form → Type 0
-IsForm (Dir name waiting total) = IsName name × IsNumeral waiting × IsNumeral total
-IsForm (Svc name waiting total reports) = IsName name × IsNumeral waiting × IsNumeral total × IsNumeral reports
+IsForm (Dir name waiting total evict) = IsName name × IsNumeral waiting × IsNumeral total
+IsForm (Svc name waiting total reports evict) = IsName name × IsNumeral waiting × IsNumeral total × IsNumeral reports
 IsForm (Sub name) = IsName name
 IsForm (Pub name letters) = IsName name × AreLetters letters
 IsForm (Take id max) = IsNumeral id × IsNumeral max
@@ -84,8 +84,8 @@ text_of_want Finished = codes "finished"
 
 -- the word that a form begins with
 abbrev pub word_of : Form → List ℕ
-word_of (Dir name waiting total) = codes "dir"
-word_of (Svc name waiting total reports) = codes "svc"
+word_of (Dir name waiting total evict) = codes "dir"
+word_of (Svc name waiting total reports evict) = codes "svc"
 word_of (Sub name) = codes "sub"
 word_of (Pub name letters) = codes "pub"
 word_of (Take id max) = codes "take"
@@ -103,10 +103,15 @@ is_space b = b == 32
 abbrev pub fields_of : List ℕ → List (List ℕ)
 fields_of text = slice_split is_space text
 
+-- the last field of a form that evicts is the word `evict`; one that doesn't has no such field
+abbrev pub fields_of_evict : Bool → List (List ℕ)
+fields_of_evict false = []
+fields_of_evict true = codes "evict" ∷ []
+
 -- the fields after a form's word; a pattern with spaces is several of them
 abbrev pub fields_behind : Form → List (List ℕ)
-fields_behind (Dir name waiting total) = name ∷ decimal waiting ∷ decimal total ∷ []
-fields_behind (Svc name waiting total reports) = name ∷ decimal waiting ∷ decimal total ∷ decimal reports ∷ []
+fields_behind (Dir name waiting total evict) = name ∷ decimal waiting ∷ decimal total ∷ fields_of_evict evict
+fields_behind (Svc name waiting total reports evict) = name ∷ decimal waiting ∷ decimal total ∷ decimal reports ∷ fields_of_evict evict
 fields_behind (Sub name) = name ∷ []
 fields_behind (Pub name letters) = name ∷ letters ∷ []
 fields_behind (Take id max) = decimal id ∷ decimal max ∷ []
@@ -131,8 +136,8 @@ digit_of true = 1
 
 -- the form of a request
 abbrev pub form_of : Request → Form
-form_of (request.Dir name waiting total) = Dir name waiting total
-form_of (request.Svc name waiting total notifies) = Svc name waiting total (digit_of notifies)
+form_of (request.Dir name waiting total evict) = Dir name waiting total evict
+form_of (request.Svc name waiting total notifies evict) = Svc name waiting total (digit_of notifies) evict
 form_of (request.Sub name) = Sub name
 form_of (request.Pub name letters) = Pub name letters
 form_of (request.Take id max) = Take id max

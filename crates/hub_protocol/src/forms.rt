@@ -3,8 +3,8 @@ ghost use Rattle.std.specs.Prelude.{codes};
 ghost use Rattle.hub_protocol.specs.Forms.{Finds, FindsIn};
 
 use crate::parts::{
-    last_letters, last_name, last_names, last_numeral, last_pattern, name_first, numeral_first,
-    word_first,
+    last_letters, last_name, last_names, last_numeral, last_numeral_evict, last_pattern,
+    last_two_numerals, name_first, numeral_first, word_first,
 };
 use hub_letters::{Mode, Span, Want};
 use hub_requests::Refusal;
@@ -12,18 +12,20 @@ use hub_requests::Refusal;
 /// What a line of a form says. Its numbers haven't been checked against their ranges yet. Each variant shows its line.
 #[derive(Clone, Copy)]
 pub enum BorrowedForm<'a> {
-    /// `dir N W T`
+    /// `dir N W T` or `dir N W T evict`
     Dir {
         name: &'a [u8],
         waiting: u64,
         total: u64,
+        evict: bool,
     },
-    /// `svc N W T R`
+    /// `svc N W T R` or `svc N W T R evict`
     Svc {
         name: &'a [u8],
         waiting: u64,
         total: u64,
         reports: u64,
+        evict: bool,
     },
     /// `sub N`
     Sub {
@@ -75,11 +77,11 @@ fn dir(rest: &[u8]) -> Option<BorrowedForm<'_>>
 {
     let (name, rest) = name_first(rest)?;
     let (waiting, rest) = numeral_first(rest)?;
-    let total = last_numeral(rest)?;
-    Some(BorrowedForm::Dir {
+    last_numeral_evict(rest).map(|(total, evict)| BorrowedForm::Dir {
         name,
         waiting,
         total,
+        evict,
     })
 }
 
@@ -89,12 +91,13 @@ fn svc(rest: &[u8]) -> Option<BorrowedForm<'_>>
     let (name, rest) = name_first(rest)?;
     let (waiting, rest) = numeral_first(rest)?;
     let (total, rest) = numeral_first(rest)?;
-    let reports = last_numeral(rest)?;
+    let (reports, evict) = last_numeral_evict(rest)?;
     Some(BorrowedForm::Svc {
         name,
         waiting,
         total,
         reports,
+        evict,
     })
 }
 
@@ -104,14 +107,6 @@ fn publication(rest: &[u8]) -> Option<BorrowedForm<'_>>
     let (name, rest) = name_first(rest)?;
     let letters = last_letters(rest)?;
     Some(BorrowedForm::Pub { name, letters })
-}
-
-fn take(rest: &[u8]) -> Option<BorrowedForm<'_>>
-    ensures { Finds (codes "take") rest.now result }
-{
-    let (id, rest) = numeral_first(rest)?;
-    let max = last_numeral(rest)?;
-    Some(BorrowedForm::Take { id, max })
 }
 
 fn listen(rest: &[u8]) -> Option<BorrowedForm<'_>>
@@ -152,7 +147,7 @@ pub fn form_of_word<'a>(word: &[u8], rest: &'a [u8]) -> Result<Option<BorrowedFo
         b"svc" => Ok(svc(rest)),
         b"sub" => Ok(last_name(rest).map(|name| BorrowedForm::Sub { name })),
         b"pub" => Ok(publication(rest)),
-        b"take" => Ok(take(rest)),
+        b"take" => Ok(last_two_numerals(rest).map(|(id, max)| BorrowedForm::Take { id, max })),
         b"cancel" => Ok(last_numeral(rest).map(|id| BorrowedForm::Cancel { id })),
         b"close" => Ok(last_name(rest).map(|name| BorrowedForm::Close { name })),
         b"status" => Ok(last_name(rest).map(|name| BorrowedForm::Status { name })),

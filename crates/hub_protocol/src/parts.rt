@@ -1,7 +1,7 @@
 //! The first field of the rest of a line, or its last fields.
-ghost use Rattle.std.specs.Prelude.{◌≡◌, ◌≢◌, ◌∷◌, [], ℕ, List, MatchOption};
+ghost use Rattle.std.specs.Prelude.{◌≡◌, ◌≢◌, ◌∷◌, [], ℕ, List, Bool, MatchOption};
 ghost use Rattle.std.specs.Fmt.{decimal};
-ghost use Rattle.hub_protocol.specs.Spelling.{IsName, IsNumeral, IsPatternText, AreLetters, AreNames, fields_of};
+ghost use Rattle.hub_protocol.specs.Spelling.{IsName, IsNumeral, IsPatternText, AreLetters, AreNames, fields_of, fields_of_evict};
 
 use crate::fields::{are_letters, are_names, is_pattern, numeral, split_at_space};
 use crate::words::Spelled;
@@ -63,6 +63,32 @@ pub fn last_numeral(rest: &[u8]) -> Option<u64>
         (λ n. IsNumeral n × (fields_of rest.now ≡ decimal n ∷ [])) }
 {
     numeral(rest)
+}
+
+/// The number of a numeral, and whether the word `evict` is behind it, if these are the whole rest.
+pub fn last_numeral_evict(rest: &[u8]) -> Option<(u64, bool)>
+    ensures { MatchOption result
+        ((n : ℕ) (evict : Bool) → IsNumeral n → fields_of rest.now ≢ decimal n ∷ fields_of_evict evict)
+        (λ p. IsNumeral p.0 × (fields_of rest.now ≡ decimal p.0 ∷ fields_of_evict p.1)) }
+{
+    let Some((number, word)) = split_at_space(rest) else {
+        return Some((numeral(rest)?, false));
+    };
+    if word != b"evict".as_slice() {
+        return None;
+    }
+    Some((numeral(number)?, true))
+}
+
+/// The numbers of two numerals, if they are the whole rest.
+pub fn last_two_numerals(rest: &[u8]) -> Option<(u64, u64)>
+    ensures { MatchOption result
+        ((m n : ℕ) → IsNumeral m → IsNumeral n → fields_of rest.now ≢ decimal m ∷ decimal n ∷ [])
+        (λ p. IsNumeral p.0 × IsNumeral p.1
+        × (fields_of rest.now ≡ decimal p.0 ∷ decimal p.1 ∷ [])) }
+{
+    let (first, rest) = numeral_first(rest)?;
+    Some((first, last_numeral(rest)?))
 }
 
 /// Letters, if they are the whole rest.

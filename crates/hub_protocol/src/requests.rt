@@ -85,21 +85,25 @@ pub fn request_of(alloc: Global, form: BorrowedForm<'_>) -> Result<Request, Allo
             name,
             waiting,
             total,
+            evict,
         } => Request::Dir {
             name: name_of(alloc, name)?,
             waiting,
             total,
+            evict,
         },
         BorrowedForm::Svc {
             name,
             waiting,
             total,
             reports,
+            evict,
         } => Request::Svc {
             name: name_of(alloc, name)?,
             waiting,
             total,
             notifies: reports == 1,
+            evict,
         },
         BorrowedForm::Sub { name } => Request::Sub {
             name: name_of(alloc, name)?,

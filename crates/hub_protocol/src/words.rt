@@ -27,6 +27,20 @@ impl Spelled for Mode {
     }
 }
 
+impl Spelled for Want {
+    ghost word = { text_of_want };
+
+    fn spelled(text: &[u8]) -> Option<Want> {
+        Some(match text {
+            b"up" => Want::Up,
+            b"ready" => Want::Ready,
+            b"down" => Want::Down,
+            b"finished" => Want::Finished,
+            _ => return None,
+        })
+    }
+}
+
 impl Spelled for Span {
     ghost word = { text_of_span };
 
@@ -34,20 +48,6 @@ impl Spelled for Span {
         match text {
             b"all" => Some(Span::All),
             b"any" => Some(Span::Any),
-            _ => None,
-        }
-    }
-}
-
-impl Spelled for Want {
-    ghost word = { text_of_want };
-
-    fn spelled(text: &[u8]) -> Option<Want> {
-        match text {
-            b"up" => Some(Want::Up),
-            b"ready" => Some(Want::Ready),
-            b"down" => Some(Want::Down),
-            b"finished" => Some(Want::Finished),
             _ => None,
         }
     }

@@ -47,6 +47,7 @@ fn append_line(reply: &Reply, out: &mut Vec<u8>) -> Result<(), AllocError>
         Reply::Hit(letters) => append_letters(b"hit ", letters.items(), out),
         Reply::Nothing => out.extend_from_slice(b"none"),
         Reply::End => out.extend_from_slice(b"end"),
+        Reply::Evicted => out.extend_from_slice(b"evicted"),
         Reply::Yes(numbers) => append_yes(numbers.items(), out),
         Reply::Never => out.extend_from_slice(b"never"),
         Reply::Late => out.extend_from_slice(b"late"),

@@ -1,60 +1,30 @@
 -- Every run keeps the bounds of a world, and an empty message changes nothing.
-use Rattle.std.proofs.Common.{ℕ, ◌≡◌, ◌+◌, ◌-◌, ◌≤◌, false, List, [], ◌∷◌, ◌++◌, length, Option, Some, None, Ok, Err, refl, sym, ap, subst, ◌∙◌, inr, append-nil, arith}
-use Rattle.std.proofs.lemmas.List.{length-append}
+use Rattle.std.proofs.Common.{ℕ, ◌≡◌, ◌≤◌, false, List, [], ◌∷◌, length, Option, Some, None, Ok, Err, refl, sym, ap, subst, inr, append-nil, arith}
 use Rattle.hub_record.specs.declared.Kind.{Kind}
 use Rattle.hub_record.specs.declared.Kind.TheVariants.{Plain, Service}
 use Rattle.hub_record.specs.declared.limits.Limits.{Limits}
+use Rattle.hub_record.specs.declared.limits.Policy.{Policy}
+use Rattle.hub_record.specs.declared.limits.Policy.TheVariants.{Hold, Evict}
 use Rattle.hub_record.specs.declared.runs.Call.{Call}
 use Rattle.hub_record.specs.declared.runs.Call.TheVariants.{Subscribe, Publish, Take, Cancel, Close}
 use Rattle.hub_record.specs.declared.runs.Said.{Said}
 use Rattle.hub_record.specs.declared.runs.Said.TheVariants.{Subscribed, Published, Took, Cancelled, Shut}
-use Rattle.hub_record.specs.World.{World, Subscription, IsWorld, IsLawfulIn, MaySubscribe, MayPublish, subscription_in, standing, least, letters, as_events, new_subscription, empty_world, after_take_for, after_cancel_for}
+use Rattle.hub_record.specs.World.{World, Subscription, IsWorld, IsLawfulIn, MayPublish, subscription_in, needed, needed_by, letters, empty_world, after_take_for, after_cancel_for}
 use Rattle.hub_record.specs.Runs.{SaidTo, after_call, IsRun, world_after}
-use Rattle.hub_record.proofs.Cursors.{standing-push, within-push, within_more}
-use Rattle.hub_record.proofs.Least.{least-push}
-use Rattle.hub_record.proofs.Keeps.{length_stamped}
-use Rattle.hub_record.proofs.Publishing.{grown, letters_after}
+use Rattle.hub_record.proofs.Publishing.{subscribed, published}
 use Rattle.hub_record.proofs.Taking.{cancelled, moved_world}
 use Rattle.hub_record.proofs.Replies.{same_reply}
 
-subscribed : (w : World) → IsWorld w → MaySubscribe w → IsWorld (record w { subscriptions = w.subscriptions ++ new_subscription w ∷ [] })
-subscribed w i may =
-    let k = i.loaded in
-    let few = may.left in
-    let long = length-append w.subscriptions (new_subscription w ∷ []) in
-    let e = standing-push 1 w.subscriptions (new_subscription w) (length w.subscriptions + 1) refl (omega arith) in
-    let b = ap (least (length w.events)) e ∙ least-push (length w.events) (length w.subscriptions + 1) (standing w) in
-    record {
-      within = i.within;
-      loaded = omega arith;
-      given = omega arith;
-      lawful = i.lawful;
-      each = within-push (length w.events) w.subscriptions (new_subscription w) (record { began = omega arith; ended = omega arith }) i.each;
-    }
-
-published : (w : World) (who : ℕ) (message : List ℕ) → IsWorld w → MayPublish w message → IsWorld (record w { events = w.events ++ as_events who message })
-published w who message i may =
-    let lw = may.within in
-    let size = length_stamped who message in
-    let long : length (w.events ++ as_events who message) ≡ length w.events + length message = length-append w.events (as_events who message) ∙ ap (λ z. length w.events + z) size in
-    record {
-      within = omega arith;
-      loaded = subst (λ z. z - least z (standing w) ≤ w.limits.waiting) (sym long) (grown w (length message) (standing w) refl i may.room);
-      given = i.given;
-      lawful = subst (IsLawfulIn w.kind) (sym (letters_after w.events who message)) may.lawful;
-      each = within_more (length w.events) (length (w.events ++ as_events who message)) w.subscriptions (omega arith) i.each;
-    }
-
 taken : (w : World) (id most : ℕ) (o : Option Subscription) → subscription_in w id ≡ o → IsWorld w → IsWorld (after_take_for w id most o)
 taken w id most None at i = i
-taken w id most (Some s) at i = (moved_world w id most s i at).1
+taken w id most (Some s) at i = moved_world w id most s i at
 
 left : (w : World) (id : ℕ) (o : Option Subscription) → subscription_in w id ≡ o → IsWorld w → IsWorld (after_cancel_for w id o)
 left w id None at i = i
 left w id (Some s) at i = (cancelled w id s i at).1
 
 pub call_keeps : (w : World) (call : Call) (said : Said) → IsWorld w → SaidTo w call said → IsWorld (after_call w call said)
-call_keeps w Subscribe (Subscribed (Ok given)) i said = subscribed w i said.0
+call_keeps w Subscribe (Subscribed (Ok given)) i said = subscribed w i said.0.left
 call_keeps w Subscribe (Subscribed (Err e)) i said = i
 call_keeps w Subscribe (Published r) i said = i
 call_keeps w Subscribe (Took r) i said = i
@@ -94,14 +64,17 @@ nothing_changes w who (Took r) = refl
 nothing_changes w who (Cancelled r) = refl
 nothing_changes w who (Shut r) = refl
 
+nothing_needed : (w : World) (p : Policy) → w.limits.policy ≡ p → IsWorld w → needed w 0 ≤ w.limits.waiting
+nothing_needed w Hold is i = let k = ap (λ p. needed_by p w 0) is in let loaded = i.loaded in omega arith
+nothing_needed w Evict is i = let k = ap (λ p. needed_by p w 0) is in omega arith
+
 pub is_accepted : (w : World) (who : ℕ) (said : Said) → IsWorld w → w.closed ≡ false → SaidTo w (Publish who []) said → said ≡ Published (Ok (length w.events))
 is_accepted w who said i is_open h =
     let within = i.within in
-    let loaded = i.loaded in
     let may : MayPublish w [] = record {
       is_open = is_open;
       lawful = subst (IsLawfulIn w.kind) (sym (append-nil (letters w.events))) i.lawful;
       within = omega arith;
-      room = inr (omega arith);
+      room = inr (nothing_needed w w.limits.policy refl i);
     } in
     same_reply w (Publish who []) said (Published (Ok (length w.events))) h (may, refl)

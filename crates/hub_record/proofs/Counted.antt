@@ -5,9 +5,10 @@ use Rattle.std.proofs.lemmas.List.{length-set, get_or-set_same, get_or-set_other
 use Rattle.std.proofs.lemmas.List.Sums.{fails_before_first, passes_at_first}
 use Rattle.std.specs.Map.{lookup, set_value, remove_entry}
 use Rattle.hub_record.specs.World.{least}
-use Rattle.hub_record.specs.Backlog.{standing_at, with_one_more, with_one_less, first_place}
+use Rattle.hub_record.specs.Backlog.{standing_at, standing_in, with_one_more, with_one_less, first_place}
 use Rattle.hub_record.proofs.Standing.{one, none, one_at, standing_at-push, standing_at-set_value, standing_at-remove_entry, standing_at-some}
 use Rattle.hub_record.proofs.Least.{least_bound, least_bound_standing, least_met}
+use Rattle.hub_record.proofs.Slow.{standing_at-standing_in}
 
 -- place k counts the cursors at base + k
 abbrev pub Counts : ℕ → List ℕ → List (ℕ × ℕ) → Type 0
@@ -92,6 +93,18 @@ counts_remove_entry base v p test counts cs h e at k =
     let s = standing_at-remove_entry (base + k) test cs v e in
     let from = one_at-shift base k p v at in
     omega arith
+
+-- a cursor below the base is counted nowhere
+pub counts_remove_below : (base v : ℕ) (test : ℕ → Bool) (counts : List ℕ) (cs : List (ℕ × ℕ)) → Counts base counts cs → lookup test cs ≡ Some v → v < base → Counts base counts (remove_entry test cs)
+counts_remove_below base v test counts cs h e below k =
+    let here = h k in
+    let s = standing_at-remove_entry (base + k) test cs v e in
+    let z = none (base + k) v (λ is. absurd (omega arith)) in
+    omega arith
+
+-- nor is a slow one, if no more is behind the base than there is room for
+pub counts_standing : (room base end : ℕ) (counts : List ℕ) (cs : List (ℕ × ℕ)) → end ≤ base + room → Counts base counts cs → Counts base counts (standing_in room end cs)
+counts_standing room base end counts cs near h k = h k ∙ sym (standing_at-standing_in room end (base + k) cs (omega arith))
 
 -- ---- the base
 

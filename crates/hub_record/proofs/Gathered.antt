@@ -1,5 +1,5 @@
 -- What was gathered, after each call.
-use Rattle.std.proofs.Common.{ℕ, ◌≡◌, ◌+◌, ◌-◌, ◌≤◌, min, Bool, false, List, [], ◌∷◌, ◌++◌, length, take, drop, Vec, Option, Some, None, Ok, nat_eq, refl, sym, ap, ◌∙◌, inl, inr, append-nil, arith}
+use Rattle.std.proofs.Common.{ℕ, ◌≡◌, ◌+◌, ◌-◌, ◌≤◌, min, Bool, false, if◌then◌else◌, List, [], ◌∷◌, ◌++◌, length, take, drop, Vec, Option, Some, None, Ok, nat_eq, refl, sym, ap, ◌∙◌, inl, inr, append-nil, arith}
 use Rattle.std.proofs.lemmas.Bool.{cases_Bool, ne_eqb}
 use Rattle.std.specs.Map.{lookup, set_value}
 use Rattle.std.specs.Option.{option_map, unwrap_or}
@@ -10,7 +10,8 @@ use Rattle.hub_record.specs.declared.runs.Call.{Call}
 use Rattle.hub_record.specs.declared.runs.Call.TheVariants.{Subscribe, Take, Cancel}
 use Rattle.hub_record.specs.declared.runs.Said.{Said}
 use Rattle.hub_record.specs.declared.runs.Said.TheVariants.{Subscribed}
-use Rattle.hub_record.specs.World.{World, Subscription, subscription_in, found_from, changed_from, new_subscription, events_to_take, moved_on, moved_for, take_events, SubscribeReply, count_to_take, as_cancelled, after_take, after_take_for, after_cancel_for}
+use Rattle.hub_record.specs.World.{World, Subscription, is_evicted, subscription_in, pending_for, found_from, changed_from, new_subscription, events_to_take, moved_on, moved_for, take_events, SubscribeReply, count_to_take, as_cancelled, after_take, after_take_for, after_cancel_for}
+use Rattle.hub_record.proofs.Policies.{count_evicted, count_standing}
 use Rattle.hub_record.specs.Runs.{gathered_from, lists_of, with_more_events, after_call}
 
 pub gathered_changed : (f : Subscription → Subscription) → ((s : Subscription) → (f s).gathered ≡ s.gathered) → (from : ℕ) (subs : List Subscription) (id : ℕ) → gathered_from from (changed_from f from subs id) ≡ gathered_from from subs
@@ -111,23 +112,31 @@ gathered_take w id most = by (subscription_in w id) refl
     by (Some s) is = gathered_moved w most 1 w.subscriptions id s is
 
 -- how many are asked for, if at most what is pending is asked for
-pub asks : (w : World) (id max waiting : ℕ) → waiting ≡ unwrap_or (option_map (λ (s : Subscription). length w.events - s.next) (subscription_in w id)) 0 → (s : Subscription) → subscription_in w id ≡ Some s → count_to_take w s (min waiting max) ≡ count_to_take w s max
-asks w id max waiting e s is =
-    let k = e ∙ ap (λ o. unwrap_or (option_map (λ (s : Subscription). length w.events - s.next) o) 0) is in omega arith
+pub asks : (w : World) (id max waiting : ℕ) → waiting ≡ unwrap_or (pending_for w (subscription_in w id)) 0 → (s : Subscription) → subscription_in w id ≡ Some s → count_to_take w s (min waiting max) ≡ count_to_take w s max
+asks w id max waiting e s is = elim (cases_Bool (is_evicted w s.next)) [
+  | inl out ↦ count_evicted w s (min waiting max) out ∙ sym (count_evicted w s max out)
+  | inr up ↦ (let k = e ∙ ap (λ o. unwrap_or (pending_for w o) 0) is ∙ ap (λ (b : Bool). unwrap_or (if b then None else Some (length w.events - s.next)) 0) up in
+      let one = count_standing w s (min waiting max) up in
+      let all = count_standing w s max up in
+      omega arith)
+]
 
 -- such a slice is filled whole
-pub whole : (w : World) (id max waiting : ℕ) (old new : List Event) → waiting ≡ unwrap_or (option_map (λ (s : Subscription). length w.events - s.next) (subscription_in w id)) 0 → length old ≡ min waiting max → new ≡ take_events w id (length old) ++ drop (length (take_events w id (length old))) old → new ≡ take_events w id (length old)
+pub whole : (w : World) (id max waiting : ℕ) (old new : List Event) → waiting ≡ unwrap_or (pending_for w (subscription_in w id)) 0 → length old ≡ min waiting max → new ≡ take_events w id (length old) ++ drop (length (take_events w id (length old))) old → new ≡ take_events w id (length old)
 whole w id max waiting old new e l h = h ∙ ap (λ z. take_events w id (length old) ++ z) (drop_all (length (take_events w id (length old))) old (by (subscription_in w id) refl)) ∙ append-nil (take_events w id (length old))
   where
     by : (o : Option Subscription) → subscription_in w id ≡ o → length old ≤ length (moved_for w (length old) o)
-    by None is = let k = e ∙ ap (λ o. unwrap_or (option_map (λ (s : Subscription). length w.events - s.next) o) 0) is in omega arith
-    by (Some s) is =
-        let k = e ∙ ap (λ o. unwrap_or (option_map (λ (s : Subscription). length w.events - s.next) o) 0) is in
-        let d = length-drop s.next w.events in
-        let t = length-take-le (count_to_take w s (length old)) (drop s.next w.events) (omega arith) in
-        omega arith
+    by None is = let k = e ∙ ap (λ o. unwrap_or (pending_for w o) 0) is in omega arith
+    by (Some s) is = elim (cases_Bool (is_evicted w s.next)) [
+      | inl out ↦ (let k = e ∙ ap (λ o. unwrap_or (pending_for w o) 0) is ∙ ap (λ (b : Bool). unwrap_or (if b then None else Some (length w.events - s.next)) 0) out in omega arith)
+      | inr up ↦ (let k = e ∙ ap (λ o. unwrap_or (pending_for w o) 0) is ∙ ap (λ (b : Bool). unwrap_or (if b then None else Some (length w.events - s.next)) 0) up in
+          let n = count_standing w s (length old) up in
+          let d = length-drop s.next w.events in
+          let t = length-take-le (count_to_take w s (length old)) (drop s.next w.events) (omega arith) in
+          omega arith)
+    ]
 
-pub gathered_at_take : (w : World) (call : Call) (said : Said) (id max waiting : ℕ) (old new : List Event) (before after : List (ℕ × List Event)) → call ≡ Take id max → waiting ≡ unwrap_or (option_map (λ (s : Subscription). length w.events - s.next) (subscription_in w id)) 0 → length old ≡ min waiting max → new ≡ take_events w id (length old) ++ drop (length (take_events w id (length old))) old → before ≡ gathered_from 1 w.subscriptions → after ≡ with_more_events id new before → after ≡ gathered_from 1 (after_call w call said).subscriptions
+pub gathered_at_take : (w : World) (call : Call) (said : Said) (id max waiting : ℕ) (old new : List Event) (before after : List (ℕ × List Event)) → call ≡ Take id max → waiting ≡ unwrap_or (pending_for w (subscription_in w id)) 0 → length old ≡ min waiting max → new ≡ take_events w id (length old) ++ drop (length (take_events w id (length old))) old → before ≡ gathered_from 1 w.subscriptions → after ≡ with_more_events id new before → after ≡ gathered_from 1 (after_call w call said).subscriptions
 gathered_at_take w call said id max waiting old new before after c e l h b a =
     let same : after_take w id (length old) ≡ after_call w call said = take_at w call said id max (length old) c (λ s is. ap (count_to_take w s) l ∙ asks w id max waiting e s is) in
     a ∙ ap (λ z. with_more_events id z before) (whole w id max waiting old new e l h) ∙ ap (with_more_events id (take_events w id (length old))) b

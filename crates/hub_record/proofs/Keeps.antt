@@ -1,7 +1,7 @@
 -- What a backlog keeps to find the least cursor, after each change.
-use Rattle.std.proofs.Common.{ℕ, suc, ◌≡◌, ◌+◌, ◌-◌, ◌<◌, ◌≤◌, Bool, false, List, [], ◌∷◌, ◌++◌, Some, None, Ok, min, length, take, drop, replicate, get_or, All, nat_eq, refl, sym, ap, subst, ◌∙◌, inl, inr, arith}
-use Rattle.std.proofs.lemmas.Bool.{ne_eqb, cases_Bool}
-use Rattle.std.proofs.lemmas.List.{length-append, length-drop, length-replicate, length-set, length_push, map-append}
+use Rattle.std.proofs.Common.{ℕ, zero, suc, ◌≡◌, ◌↔◌, ◌+◌, ◌-◌, ◌<◌, ◌≤◌, ◌⊎◌, Bool, true, false, IsTrue, nat_lt, nat_le, if◌then◌else◌, List, [], ◌∷◌, ◌++◌, Some, None, Ok, min, length, take, drop, replicate, get_or, All, nat_eq, refl, sym, ap, subst, ◌∙◌, inl, inr, arith}
+use Rattle.std.proofs.lemmas.Bool.{ne_eqb, cases_Bool, cases_lt, lt-ltb, le-ltb, ltb-true, ltb-false, leb-true, le-leb}
+use Rattle.std.proofs.lemmas.List.{get_or_past, nil_from_length, drop-drop, drop-append-le, drop_all, length-append, length-drop, length-replicate, length-set, length_push, map-append}
 use Rattle.std.proofs.lemmas.List.Elements.{All-head, All-tail, All-push, All-weaker}
 use Rattle.std.proofs.lemmas.Map.Views.{All-values-set_value, All-map-remove_entry, IfSome-lookup_from_All}
 use Rattle.std.proofs.lemmas.Map.{keys-set_value, length-set_value}
@@ -12,12 +12,14 @@ use Rattle.indexmap.specs.IndexMap.{IndexMap, insert_entry}
 use Rattle.indexmap.proofs.CallerLemmas.{insert_entry-new}
 use Rattle.circular_buffer.specs.Buffer.{Buffer, buffer}
 use Rattle.hub_record.specs.declared.limits.TheConstants.{MOST_EVENTS, MOST_PASSES}
+use Rattle.hub_record.specs.declared.limits.Policy.{Policy}
 use Rattle.hub_record.specs.declared.Event.{Event}
-use Rattle.hub_record.specs.World.{least, as_events}
-use Rattle.hub_record.specs.Backlog.{Held, IsKept, Takes, TakesBy, RemovesBy, next_of, first_place, with_one_more, with_one_less, with_new_id, with_cursors}
+use Rattle.hub_record.specs.World.{least, is_slow, as_events}
+use Rattle.hub_record.specs.Backlog.{Held, IsKept, IsStill, IsSlow, HasRoomFor, room_for, pending, pending_if, Takes, TakesBy, RemovesBy, next_of, lowest, lowest_in, standing_in, standing_at, first_place, with_one_more, with_one_less, with_new_id, with_events, with_cursors}
+use Rattle.hub_record.specs.declared.backlog.Found.TheVariants.{Nothing, Lost}
 use Rattle.hub_record.proofs.Standing.{standing_at-le-length}
-use Rattle.hub_record.proofs.Least.{least-push, least_bound_at, least_grown, least-set_value, least-remove_entry}
-use Rattle.hub_record.proofs.Counted.{Counts, get_or-one_less, some_at_place, counts_lengthen, counts_push, counts_set_value, counts_remove_entry, counts_drop, base_told}
+use Rattle.hub_record.proofs.Slow.{standing_in-behind, standing_in-remove_slow, standing_at-standing_in, lowest_near, lowest-push, lowest_bound_at, lowest-set_value, lowest-remove_entry, lowest_grown, slow_stay, none_stand}
+use Rattle.hub_record.proofs.Counted.{Counts, get_or-one_less, some_at_place, counts_lengthen, counts_push, counts_set_value, counts_remove_entry, counts_remove_below, counts_standing, counts_drop, base_told}
 
 -- an id above those given has no cursor
 lookup_unknown : (given id : ℕ) (cs : List (ℕ × ℕ)) → given < id → All (λ id. id ≤ given) (keys_of cs) → lookup (nat_eq id) cs ≡ None
@@ -36,10 +38,24 @@ new_id_last room base end given v counts cursors after k is at =
 lookup_bound : (end v : ℕ) (test : ℕ → Bool) (cs : List (ℕ × ℕ)) → All (λ n. n ≤ end) (values_of cs) → lookup test cs ≡ Some v → v ≤ end
 lookup_bound end v test cs h e = subst (λ o. IfSome o (λ n. n ≤ end)) e (IfSome-lookup_from_All (λ n. n ≤ end) test cs h)
 
--- a cursor is at the base or above it, and no further than the end
-pub cursor_between : (room base end given v : ℕ) (test : ℕ → Bool) (counts : Buffer ℕ) (cs : List (ℕ × ℕ)) → IsKept room base counts end given cs → lookup test cs ≡ Some v → (base ≤ v) × (v ≤ end)
-cursor_between room base end given v test counts cs k e =
-    let low = k.lowest in let above = least_bound_at end test cs v e in (omega arith, lookup_bound end v test cs k.behind e)
+-- no more is behind the base than there is room for
+kept_near : (room base end given : ℕ) (counts : Buffer ℕ) (cs : List (ℕ × ℕ)) → IsKept room base counts end given cs → end ≤ base + room
+kept_near room base end given counts cs k = let low = k.lowest in let near = lowest_near room end cs in omega arith
+
+-- a cursor at the base or above it isn't slow, and one below it is
+pub near_above : (room base end given v : ℕ) (counts : Buffer ℕ) (cs : List (ℕ × ℕ)) → IsKept room base counts end given cs → base ≤ v → is_slow room end v ≡ false
+near_above room base end given v counts cs k above = let near = kept_near room base end given counts cs k in le-ltb room (end - v) (omega arith)
+
+pub slow_below : (room base end given v : ℕ) (test : ℕ → Bool) (counts : Buffer ℕ) (cs : List (ℕ × ℕ)) → IsKept room base counts end given cs → lookup test cs ≡ Some v → v < base → room < end - v
+slow_below room base end given v test counts cs k e below =
+    let low = k.lowest in
+    elim (cases_lt room (end - v)) [
+      | inl slow ↦ slow
+      | inr near ↦ (let bound = lowest_bound_at room end test cs v e (le-ltb room (end - v) near) in absurd (omega arith))
+    ]
+
+pub cursor_within : (room base end given v : ℕ) (test : ℕ → Bool) (counts : Buffer ℕ) (cs : List (ℕ × ℕ)) → IsKept room base counts end given cs → lookup test cs ≡ Some v → v ≤ end
+cursor_within room base end given v test counts cs k e = lookup_bound end v test cs k.behind e
 
 -- no count is large, once a cursor has left its place
 pub few_at_place : (room base end given v p q : ℕ) (test : ℕ → Bool) (counts less : Buffer ℕ) (cs : List (ℕ × ℕ)) → IsKept room base counts end given cs → lookup test cs ≡ Some v → v ≡ base + p → less ≡ buffer (with_one_less counts.items p) counts.capacity → get_or less.items q 0 ≤ MOST_PASSES
@@ -68,7 +84,7 @@ kept_stand room base end given size counts more cs after k at few is counted =
     let n = length_push cs (given + 1, end) in
     let m = ap length is in
     record {
-      lowest = k.lowest ∙ sym (least-push end (given + 1) cs) ∙ ap (least end) (sym is);
+      lowest = k.lowest ∙ sym (lowest-push room end (given + 1) cs) ∙ ap (lowest_in room end) (sym is);
       counted = subst (λ (z : List ℕ × List (ℕ × ℕ)). Counts base z.0 z.1) (λ i. ((sym counted i).items, sym is i)) (counts_push base (given + 1) end size counts.items cs k.counted at (omega arith));
       to_end = omega arith;
       fits = omega arith;
@@ -81,50 +97,124 @@ kept_stand room base end given size counts more cs after k at few is counted =
       small = k.small;
     }
 
--- more events, with no cursor at the new places
-pub kept_grown : (room base end given more room' end' : ℕ) (counts longer : Buffer ℕ) (cs : List (ℕ × ℕ)) → IsKept room base counts end given cs → (length cs ≡ 0 → ⊥) → longer ≡ buffer (counts.items ++ replicate more 0) counts.capacity → room' ≡ room → end' ≡ end + more → end' ≤ MOST_EVENTS → IsKept room' base longer end' given cs
-kept_grown room base end given more room' end' counts longer cs k some is same grown small =
-    let to = k.to_end in
-    let fits = k.fits in
-    let long = length-append counts.items (replicate more 0) in
-    let zeros = length-replicate {A = ℕ} more 0 in
-    let size = ap (λ (b : Buffer ℕ). length b.items) is in
-    let capacity = ap (λ (b : Buffer ℕ). b.capacity) is in
+-- the counts are those of the cursors, and the base moves on as they tell
+kept_released : (room base end given size r room' end' : ℕ) (counts now : Buffer ℕ) (cs : List (ℕ × ℕ)) → end ≡ base + size
+    → Counts base counts.items cs → length counts.items ≡ size + 1 → counts.capacity ≡ room + 1
+    → r ≡ min (first_place counts.items) size → now ≡ buffer (drop r counts.items) counts.capacity → room' ≡ room → end' ≡ end
+    → base ≤ lowest_in room end cs → end ≤ base + room → end ≤ MOST_EVENTS
+    → All (λ n. n ≤ end) (values_of cs) → All (λ id. id ≤ given) (keys_of cs) → length cs ≤ MOST_PASSES
+    → IsKept room' (base + r) now end' given cs
+kept_released room base end given size r room' end' counts now cs at counted long capacity told is same_room same low near small behind known few =
+    let l = length-drop r counts.items in
+    let items = ap (λ (b : Buffer ℕ). length b.items) is in
+    let cap = ap (λ (b : Buffer ℕ). b.capacity) is in
     record {
-      lowest = k.lowest ∙ sym (least_grown end end' cs (λ none. some (ap length none)) (omega arith) k.behind);
-      counted = subst (λ (b : Buffer ℕ). Counts base b.items cs) (sym is) (counts_lengthen base more counts.items cs k.counted);
+      lowest = base_told base end size r counts.items (standing_in room end cs) low (counts_standing room base end counts.items cs near counted) at long told ∙ (λ i. lowest_in (sym same_room i) (sym same i) cs);
+      counted = subst (λ (b : Buffer ℕ). Counts (base + r) b.items cs) (sym is) (counts_drop base r counts.items cs counted);
       to_end = omega arith;
       fits = omega arith;
+      behind = subst (λ e. All (λ n. n ≤ e) (values_of cs)) (sym same) behind;
+      known = known;
+      few = few;
+      small = omega arith;
+    }
+
+-- more events: what is over the room gives way to them, and no cursor is at the new places
+pub kept_pushed : (room base end given size more over r room' end' : ℕ) (counts cut longer now : Buffer ℕ) (cs : List (ℕ × ℕ)) → IsKept room base counts end given cs → end ≡ base + size → more ≤ room
+    → over ≡ size + more - room → cut ≡ buffer (drop over counts.items) counts.capacity → longer ≡ buffer (cut.items ++ replicate more 0) cut.capacity
+    → r ≡ min (first_place longer.items) (size - over + more) → now ≡ buffer (drop r longer.items) longer.capacity → room' ≡ room → end' ≡ end + more → end' ≤ MOST_EVENTS
+    → IsKept room' (base + (over + r)) now end' given cs
+kept_pushed room base end given size more over r room' end' counts cut longer now cs k at fits is_over is_cut is_longer told is_now same_room same small =
+    let to = k.to_end in
+    let cap = k.fits in
+    let low = k.lowest in
+    let near = kept_near room base end given counts cs k in
+    let c = length-drop over counts.items in
+    let d = ap (λ (b : Buffer ℕ). length b.items) is_cut in
+    let l = length-append cut.items (replicate more 0) in
+    let z = length-replicate {A = ℕ} more 0 in
+    let m = ap (λ (b : Buffer ℕ). length b.items) is_longer in
+    let cut_capacity = ap (λ (b : Buffer ℕ). b.capacity) is_cut in
+    let capacity = ap (λ (b : Buffer ℕ). b.capacity) is_longer in
+    let counted : Counts (base + over) longer.items cs = subst (λ (b : Buffer ℕ). Counts (base + over) b.items cs) (sym is_longer)
+    (counts_lengthen (base + over) more cut.items cs (subst (λ (b : Buffer ℕ). Counts (base + over) b.items cs) (sym is_cut) (counts_drop base over counts.items cs k.counted))) in
+    let far : (base + over ≤ base) ⊎ (base + over + room ≤ end') = elim (cases_lt room (size + more)) [ inl much ↦ inr (omega arith) | inr all ↦ inl (omega arith) ] in
+    let bound = lowest_grown room base (base + over) end end' cs (omega arith) far (omega arith) (omega arith) in
+    let sum : base + over + r ≡ base + (over + r) = omega arith in
+    subst (λ b. IsKept room' b now end' given cs) sum
+    (kept_released room (base + over) end' given (size - over + more) r room' end' longer now cs (omega arith) counted (omega arith) (omega arith) told is_now same_room refl
+    bound (omega arith) small (All-weaker (λ n. n ≤ end) (λ n. n ≤ end') (λ n h. omega arith) (values_of cs) k.behind) k.known k.few)
+
+-- if no cursor is at the base, each is slow
+pub none_near : (room base end given : ℕ) (counts : Buffer ℕ) (cs : List (ℕ × ℕ)) → IsKept room base counts end given cs → get_or counts.items 0 0 ≡ 0 → standing_in room end cs ≡ []
+none_near room base end given counts cs k none =
+    let near = kept_near room base end given counts cs k in
+    let here = k.counted 0 in
+    let same : standing_at (base + 0) cs ≡ standing_at base cs = ap (λ n. standing_at n cs) (omega arith) in
+    let all = standing_at-standing_in room end base cs near in
+    none_stand base end (standing_in room end cs) (standing_in-behind room end end cs k.behind) k.lowest (omega arith)
+
+-- and if one is, not each is
+pub some_near : (room base end given : ℕ) (counts : Buffer ℕ) (cs : List (ℕ × ℕ)) → IsKept room base counts end given cs → 0 < get_or counts.items 0 0 → standing_in room end cs ≡ [] → ⊥
+some_near room base end given counts cs k some none =
+    let near = kept_near room base end given counts cs k in
+    let here = k.counted 0 in
+    let same : standing_at (base + 0) cs ≡ standing_at base cs = ap (λ n. standing_at n cs) (omega arith) in
+    let all = standing_at-standing_in room end base cs near in
+    let zero = ap (standing_at base) none in
+    absurd (omega arith)
+
+nothing_at : (counts : List ℕ) (n : ℕ) → length counts ≡ 1 → get_or counts 0 0 ≡ 0 → get_or counts n 0 ≡ 0
+nothing_at counts zero one none = none
+nothing_at counts (suc n) one none = get_or_past counts (suc n) 0 (omega arith)
+
+-- a later end, if each cursor is slow
+pub kept_still : (room base end given more base' end' : ℕ) (counts : Buffer ℕ) (cs : List (ℕ × ℕ)) → IsKept room base counts end given cs → get_or counts.items 0 0 ≡ 0 → base' ≡ base + more → end' ≡ end + more → end' ≤ MOST_EVENTS → IsKept room base' counts end' given cs
+kept_still room base end given more base' end' counts cs k none is_base is_end small =
+    let to = k.to_end in
+    let low = k.lowest in
+    let still = none_near room base end given counts cs k none in
+    let at_end = ap (least end) still in
+    let later = ap (least end') (slow_stay room end end' cs still (omega arith)) in
+    let nothing = nothing_at counts.items in
+    record {
+      lowest = omega arith;
+      counted = λ n.
+          let here = nothing n (omega arith) none in
+          let there = nothing (more + n) (omega arith) none in
+          let at = k.counted (more + n) in
+          let same : standing_at (base + (more + n)) cs ≡ standing_at (base' + n) cs = ap (λ m. standing_at m cs) (omega arith) in
+          omega arith;
+      to_end = omega arith;
+      fits = k.fits;
       behind = All-weaker (λ n. n ≤ end) (λ n. n ≤ end') (λ n h. omega arith) (values_of cs) k.behind;
       known = k.known;
       few = k.few;
       small = small;
     }
 
--- the counts are those of the cursors afterwards, and the base moves on as they tell
-kept_released : (room base end given size r room' end' : ℕ) (counts one now : Buffer ℕ) (cs after : List (ℕ × ℕ)) → IsKept room base counts end given cs → end ≡ base + size
-    → Counts base one.items after → length one.items ≡ length counts.items → one.capacity ≡ counts.capacity
-    → r ≡ min (first_place one.items) size → now ≡ buffer (drop r one.items) one.capacity → room' ≡ room → end' ≡ end
-    → base ≤ least end after → All (λ n. n ≤ end) (values_of after) → All (λ id. id ≤ given) (keys_of after) → length after ≤ length cs
-    → IsKept room' (base + r) now end' given after
-kept_released room base end given size r room' end' counts one now cs after k at counted long capacity told is same_room same low behind known few =
-    let to = k.to_end in
-    let fits = k.fits in
-    let most = k.few in
-    let small = k.small in
-    let l = length-drop r one.items in
-    let items = ap (λ (b : Buffer ℕ). length b.items) is in
-    let cap = ap (λ (b : Buffer ℕ). b.capacity) is in
-    record {
-      lowest = base_told base end size r one.items after low counted at (omega arith) told ∙ ap (λ e. least e after) (sym same);
-      counted = subst (λ (b : Buffer ℕ). Counts (base + r) b.items after) (sym is) (counts_drop base r one.items after counted);
-      to_end = omega arith;
-      fits = omega arith;
-      behind = subst (λ e. All (λ n. n ≤ e) (values_of after)) (sym same) behind;
-      known = known;
-      few = omega arith;
-      small = omega arith;
-    }
+-- ---- room for more
+
+pub none_at_base : (counts : List ℕ) (some : Bool) → some ≡ nat_lt 0 (get_or counts 0 0) → some ≡ false → get_or counts 0 0 ≡ 0
+none_at_base counts some is not = let none = ltb-false 0 (get_or counts 0 0) (sym is ∙ not) in omega arith
+
+-- whether a cursor is at the base tells whether each is slow
+pub is_still : (room base end given : ℕ) (counts : Buffer ℕ) (cs : List (ℕ × ℕ)) (some : Bool) → IsKept room base counts end given cs → some ≡ nat_lt 0 (get_or counts.items 0 0) → some ≡ false → standing_in room end cs ≡ []
+is_still room base end given counts cs some k is not = none_near room base end given counts cs k (none_at_base counts.items some is not)
+
+pub not_still : (room base end given : ℕ) (counts : Buffer ℕ) (cs : List (ℕ × ℕ)) (some : Bool) → IsKept room base counts end given cs → some ≡ nat_lt 0 (get_or counts.items 0 0) → some ≡ true → standing_in room end cs ≡ [] → ⊥
+not_still room base end given counts cs some k is so = some_near room base end given counts cs k (ltb-true 0 (get_or counts.items 0 0) (sym is ∙ so))
+
+pub room_told : (inside now : Held) (policy is : Policy) (more : ℕ) → inside ≡ now → policy ≡ is → (IsStill inside → ⊥) → IsTrue (nat_le (room_for is inside more) inside.room) ↔ HasRoomFor policy now more
+room_told inside now policy is more same at none =
+    subst (λ (z : Policy × Held). IsTrue (nat_le (room_for is inside more) inside.room) ↔ HasRoomFor z.0 z.1 more) (λ i. (sym at i, same i))
+    ((λ t. inr (leb-true (room_for is inside more) inside.room t)), λ h. elim h [ inl still ↦ absurd (none still) | inr fits ↦ le-leb (room_for is inside more) inside.room fits ])
+
+-- a message that may be pushed fits by itself, if a cursor is at the base
+pub fits_if : (inside now : Held) (base given : ℕ) (counts : Buffer ℕ) (some : Bool) (more : ℕ) → inside ≡ now → IsKept inside.room base counts inside.end given inside.cursors → some ≡ nat_lt 0 (get_or counts.items 0 0) → some ≡ true → IsStill now ⊎ (more ≤ now.room)
+    → more ≤ inside.room
+fits_if inside now base given counts some more same k is so (inl still) = absurd (not_still inside.room base inside.end given counts inside.cursors some k is so (subst IsStill (sym same) still))
+fits_if inside now base given counts some more same k is so (inr fits) = subst (λ (h : Held). more ≤ h.room) (sym same) fits
 
 -- a cursor moves on
 pub kept_set_value : (room base end given size v w p q r room' end' : ℕ) (test : ℕ → Bool) (counts less more now : Buffer ℕ) (cs after : List (ℕ × ℕ)) → IsKept room base counts end given cs → end ≡ base + size
@@ -134,22 +224,27 @@ pub kept_set_value : (room base end given size v w p q r room' end' : ℕ) (test
     → IsKept room' (base + r) now end' given after
 kept_set_value room base end given size v w p q r room' end' test counts less more now cs after k at e is from into on inside is_less is_more told is_now same_room same =
     let to = k.to_end in
+    let cap = k.fits in
     let low = k.lowest in
-    let above = least-set_value end test cs v w e on in
+    let most = k.few in
+    let near = near_above room base end given v counts cs k (omega arith) in
+    let above = lowest-set_value room end test cs v w e near on in
     let l = length-set counts.items p (get_or counts.items p 0 - 1) in
     let m = length-set less.items q (get_or less.items q 0 + 1) in
     let ll = ap (λ (b : Buffer ℕ). length b.items) is_less in
     let mm = ap (λ (b : Buffer ℕ). length b.items) is_more in
     let lc = ap (λ (b : Buffer ℕ). b.capacity) is_less in
     let mc = ap (λ (b : Buffer ℕ). b.capacity) is_more in
-    let same_least = ap (least end) is in
+    let same_lowest = ap (lowest_in room end) is in
+    let n = ap length is in
+    let o = length-set_value test cs w in
     let items : more.items ≡ with_one_more (with_one_less counts.items p) q = ap (λ (b : Buffer ℕ). b.items) is_more ∙ ap (λ (b : Buffer ℕ). with_one_more b.items q) is_less in
-    kept_released room base end given size r room' end' counts more now cs after k at
+    kept_released room base end given size r room' end' more now after at
     (subst (λ (z : List ℕ × List (ℕ × ℕ)). Counts base z.0 z.1) (λ i. (sym items i, sym is i)) (counts_set_value base v w p q test counts.items cs k.counted e from into (omega arith)))
-    (omega arith) (omega arith) told is_now same_room same (omega arith)
+    (omega arith) (omega arith) told is_now same_room same (omega arith) (kept_near room base end given counts cs k) k.small
     (subst (λ z. All (λ n. n ≤ end) (values_of z)) (sym is) (All-values-set_value test (λ n. n ≤ end) cs w k.behind inside))
     (subst (All (λ id. id ≤ given)) (sym (ap keys_of is ∙ keys-set_value test cs w)) k.known)
-    (let n = ap length is in let o = length-set_value test cs w in omega arith)
+    (omega arith)
 
 -- a cursor is removed
 pub kept_remove_entry : (room base end given size v p r room' end' : ℕ) (test : ℕ → Bool) (counts less now : Buffer ℕ) (cs after : List (ℕ × ℕ)) → IsKept room base counts end given cs → end ≡ base + size
@@ -158,30 +253,53 @@ pub kept_remove_entry : (room base end given size v p r room' end' : ℕ) (test 
     → r ≡ min (first_place less.items) size → now ≡ buffer (drop r less.items) less.capacity → room' ≡ room → end' ≡ end
     → IsKept room' (base + r) now end' given after
 kept_remove_entry room base end given size v p r room' end' test counts less now cs after k at e is from is_less told is_now same_room same =
+    let to = k.to_end in
+    let cap = k.fits in
     let low = k.lowest in
-    let above = least-remove_entry end test cs in
+    let most = k.few in
+    let above = lowest-remove_entry room end test cs in
     let l = length-set counts.items p (get_or counts.items p 0 - 1) in
     let ll = ap (λ (b : Buffer ℕ). length b.items) is_less in
     let lc = ap (λ (b : Buffer ℕ). b.capacity) is_less in
-    let same_least = ap (least end) is in
-    kept_released room base end given size r room' end' counts less now cs after k at
+    let same_lowest = ap (lowest_in room end) is in
+    let n = ap length is in
+    let o = length-remove_entry-le test cs in
+    kept_released room base end given size r room' end' less now after at
     (subst (λ (z : List ℕ × List (ℕ × ℕ)). Counts base z.0 z.1) (λ i. ((sym is_less i).items, sym is i)) (counts_remove_entry base v p test counts.items cs k.counted e from))
-    (omega arith) (omega arith) told is_now same_room same (omega arith)
+    (omega arith) (omega arith) told is_now same_room same (omega arith) (kept_near room base end given counts cs k) k.small
     (subst (λ z. All (λ n. n ≤ end) (values_of z)) (sym is) (All-map-remove_entry test (λ (c : ℕ × ℕ). c.1) (λ n. n ≤ end) cs k.behind))
     (subst (λ z. All (λ id. id ≤ given) (keys_of z)) (sym is) (All-map-remove_entry test (λ (c : ℕ × ℕ). c.0) (λ id. id ≤ given) cs k.known))
-    (let n = ap length is in let o = length-remove_entry-le test cs in omega arith)
+    (omega arith)
+
+-- a slow cursor is removed
+pub kept_remove_slow : (room base end given v : ℕ) (test : ℕ → Bool) (counts : Buffer ℕ) (cs after : List (ℕ × ℕ)) → IsKept room base counts end given cs → lookup test cs ≡ Some v → after ≡ remove_entry test cs → v < base → IsKept room base counts end given after
+kept_remove_slow room base end given v test counts cs after k e is below =
+    let slow = lt-ltb room (end - v) (slow_below room base end given v test counts cs k e below) in
+    let most = k.few in
+    let n = ap length is in
+    let o = length-remove_entry-le test cs in
+    record {
+      lowest = k.lowest ∙ ap (least end) (sym (standing_in-remove_slow room end test cs v e slow)) ∙ ap (lowest_in room end) (sym is);
+      counted = subst (Counts base counts.items) (sym is) (counts_remove_below base v test counts.items cs k.counted e below);
+      to_end = k.to_end;
+      fits = k.fits;
+      behind = subst (λ z. All (λ n. n ≤ end) (values_of z)) (sym is) (All-map-remove_entry test (λ (c : ℕ × ℕ). c.1) (λ n. n ≤ end) cs k.behind);
+      known = subst (λ z. All (λ id. id ≤ given) (keys_of z)) (sym is) (All-map-remove_entry test (λ (c : ℕ × ℕ). c.0) (λ id. id ≤ given) cs k.known);
+      few = omega arith;
+      small = k.small;
+    }
 
 pub end_after_cut : (base r room : ℕ) (items : List Event) (ring : Buffer Event) → r ≤ length items → ring ≡ buffer (drop r items) room → base + r + length ring.items ≡ base + length items
 end_after_cut base r room items ring l cut = let k = length-drop r items in let n = ap (λ (b : Buffer Event). length b.items) cut in omega arith
 
 -- what is held if the ring was cut at a new base
-pub cut_held : (base r room given : ℕ) (items : List Event) (cs cs' entries : List (ℕ × ℕ)) (ring : Buffer Event) → base ≡ least (base + length items) cs → base + r ≡ least (base + length items) entries → r ≤ length items → entries ≡ cs' → ring ≡ buffer (drop r items) room
+pub cut_held : (base r room given : ℕ) (items : List Event) (cs cs' entries : List (ℕ × ℕ)) (ring : Buffer Event) → base ≡ lowest_in room (base + length items) cs → base + r ≡ lowest_in ring.capacity (base + r + length ring.items) entries → r ≤ length items → entries ≡ cs' → ring ≡ buffer (drop r items) room
     → record { room = ring.capacity; end = base + r + length ring.items; events = ring.items; given = given; cursors = entries } ≡ with_cursors (record { room = room; end = base + length items; events = items; given = given; cursors = cs }) cs'
 cut_held base r room given items cs cs' entries ring low now inside is cut =
-    let e = ap (least (base + length items)) is in
     let end = end_after_cut base r room items ring inside cut in
-    let apart : r ≡ least (base + length items) cs' - least (base + length items) cs = omega arith in
-    let events : ring.items ≡ drop (least (base + length items) cs' - least (base + length items) cs) items = ap (λ (b : Buffer Event). b.items) cut ∙ ap (λ n. drop n items) apart in
+    let at : base + r ≡ lowest_in room (base + length items) cs' = now ∙ (λ i. lowest_in (cut i).capacity (end i) (is i)) in
+    let apart : r ≡ lowest_in room (base + length items) cs' - lowest_in room (base + length items) cs = omega arith in
+    let events : ring.items ≡ drop (lowest_in room (base + length items) cs' - lowest_in room (base + length items) cs) items = ap (λ (b : Buffer Event). b.items) cut ∙ ap (λ n. drop n items) apart in
     (λ i. record { room = (cut i).capacity; end = end i; events = events i; given = given; cursors = is i })
 
 -- a new id has its cursor
@@ -192,24 +310,86 @@ pub length_stamped : (who : ℕ) (message : List ℕ) → length (as_events who 
 length_stamped who [] = refl
 length_stamped who (l ∷ ls) = ap suc (length_stamped who ls)
 
+-- ---- push
+
+-- what is held after more events, of which r more than those over the room are released
+pub pushed_held : (inside now : Held) (base over r : ℕ) (more : List Event) (cut grown ring : Buffer Event) → inside ≡ now → inside.end ≡ base + length inside.events → base ≡ lowest inside → over ≤ length inside.events
+    → cut ≡ buffer (drop over inside.events) inside.room → grown ≡ buffer (cut.items ++ more) cut.capacity → ring ≡ buffer (drop r grown.items) grown.capacity → r ≤ length grown.items
+    → base + (over + r) ≡ lowest_in ring.capacity (base + (over + r) + length ring.items) inside.cursors
+    → record { room = ring.capacity; end = base + (over + r) + length ring.items; events = ring.items; given = inside.given; cursors = inside.cursors } ≡ with_events now more
+pushed_held inside now base over r more cut grown ring is at low inside_over is_cut is_grown is_ring within moved =
+    let l = length-drop over inside.events in
+    let m = length-append (drop over inside.events) more in
+    let items : grown.items ≡ drop over inside.events ++ more = ap (λ (b : Buffer Event). b.items) is_grown ∙ ap (λ (b : Buffer Event). b.items ++ more) is_cut in
+    let capacity : ring.capacity ≡ inside.room = ap (λ (b : Buffer Event). b.capacity) is_ring ∙ ap (λ (b : Buffer Event). b.capacity) is_grown ∙ ap (λ (b : Buffer Event). b.capacity) is_cut in
+    let long = ap length items in
+    let cut_long = length-drop r grown.items in
+    let ring_long = ap (λ (b : Buffer Event). length b.items) is_ring in
+    let end : base + (over + r) + length ring.items ≡ inside.end + length more = omega arith in
+    let to : base + (over + r) ≡ lowest_in inside.room (inside.end + length more) inside.cursors = moved ∙ (λ i. lowest_in (capacity i) (end i) inside.cursors) in
+    let apart : over + r ≡ lowest_in inside.room (inside.end + length more) inside.cursors - lowest inside = omega arith in
+    let events : ring.items ≡ drop (lowest_in inside.room (inside.end + length more) inside.cursors - lowest inside) (inside.events ++ more) =
+    ap (λ (b : Buffer Event). b.items) is_ring ∙ ap (drop r) (items ∙ sym (drop-append-le over inside.events more inside_over)) ∙ drop-drop r over (inside.events ++ more) ∙ ap (λ n. drop n (inside.events ++ more)) apart in
+    (λ i. record { room = capacity i; end = end i; events = events i; given = inside.given; cursors = inside.cursors }) ∙ ap (λ h. with_events h more) is
+
+-- nothing is held
+pub pushed_still : (inside now : Held) (base base' more : ℕ) (added : List Event) → inside ≡ now → inside.end ≡ base + length inside.events → base ≡ lowest inside → IsStill inside → length added ≡ more → base' ≡ base + more
+    → lowest_in inside.room (inside.end + more) inside.cursors ≡ inside.end + more
+    → record inside { end = base' + length inside.events } ≡ with_events now added
+pushed_still inside now base base' more added is at low still long is_base moved =
+    let none = ap (least inside.end) still in
+    let empty = drop_all (length inside.events) inside.events (omega arith) in
+    let end : base' + length inside.events ≡ inside.end + length added = omega arith in
+    let nothing : inside.events ≡ [] = nil_from_length inside.events (omega arith) in
+    let to = ap (λ n. lowest_in inside.room (inside.end + n) inside.cursors) long in
+    let events : inside.events ≡ drop (lowest_in inside.room (inside.end + length added) inside.cursors - lowest inside) (inside.events ++ added) =
+    nothing ∙ sym (drop_all (lowest_in inside.room (inside.end + length added) inside.cursors - lowest inside) (inside.events ++ added) (let l = length-append inside.events added in omega arith)) in
+    (λ i. record inside { end = end i; events = events i }) ∙ ap (λ h. with_events h added) is
+
+-- ---- what is pending
+
+pub pending_slow : (inside now : Held) (id next : ℕ) → inside ≡ now → lookup (nat_eq id) inside.cursors ≡ Some next → inside.room < inside.end - next → None ≡ pending now id
+pending_slow inside now id next is found slow =
+    sym (ap (pending_if inside) found ∙ ap (λ (b : Bool). if b then None else Some (inside.end - next)) (lt-ltb inside.room (inside.end - next) slow)) ∙ ap (λ h. pending h id) is
+
+pub pending_near : (inside now : Held) (id next n : ℕ) → inside ≡ now → lookup (nat_eq id) inside.cursors ≡ Some next → is_slow inside.room inside.end next ≡ false → n ≡ now.end → Some (n - next) ≡ pending now id
+pending_near inside now id next n is found near end =
+    ap (λ n. Some (n - next)) (end ∙ ap (λ (h : Held). h.end) (sym is))
+    ∙ sym (ap (pending_if inside) found ∙ ap (λ (b : Bool). if b then None else Some (inside.end - next)) near) ∙ ap (λ h. pending h id) is
+
 -- ---- take
 
-pub takes_nothing : (before now : Held) (id next : ℕ) (cursors : List (ℕ × ℕ)) (slice : List Event) → before ≡ now → lookup (nat_eq id) before.cursors ≡ Some next → next ≡ now.end → cursors ≡ set_value (nat_eq id) before.cursors next → TakesBy now (record before { cursors = cursors }) id slice slice (Ok None)
+pub takes_nothing : (before now : Held) (id next : ℕ) (cursors : List (ℕ × ℕ)) (slice : List Event) → before ≡ now → lookup (nat_eq id) before.cursors ≡ Some next → next ≡ now.end → cursors ≡ set_value (nat_eq id) before.cursors next → TakesBy now (record before { cursors = cursors }) id slice slice (Ok Nothing)
 takes_nothing before now id next cursors slice is found at set =
     (ap (λ (h : Held). next_of h id) (sym is) ∙ found ∙ ap Some at, ap (λ cs. record before { cursors = cs }) (set ∙ set_value_same (nat_eq id) before.cursors next found) ∙ is, refl)
 
-pub takes_some : (before now after : Held) (id next n room base given : ℕ) (counts : Buffer ℕ) (slice filled : List Event) → before ≡ now → lookup (nat_eq id) before.cursors ≡ Some next → IsKept room base counts before.end given before.cursors → (next ≡ now.end → ⊥) → before.end ≡ base + length before.events → n ≡ min (length slice) (length before.events - (next - base)) → filled ≡ take n (drop (next - base) before.events) ++ drop n slice → after ≡ with_cursors before (set_value (nat_eq id) before.cursors (next + n)) → Takes now after id n slice filled
-takes_some before now after id next n room base given counts slice filled is found k apart end count copied moved =
-    let at = cursor_between room base before.end given next (nat_eq id) counts before.cursors k found in
+pub takes_lost : (before now : Held) (id next : ℕ) (cursors : List (ℕ × ℕ)) (slice : List Event) → before ≡ now → lookup (nat_eq id) before.cursors ≡ Some next → before.room < before.end - next → cursors ≡ set_value (nat_eq id) before.cursors next → TakesBy now (record before { cursors = cursors }) id slice slice (Ok Lost)
+takes_lost before now id next cursors slice is found slow set =
+    (subst (λ h. IsSlow h id) is (next, found, slow), ap (λ cs. record before { cursors = cs }) (set ∙ set_value_same (nat_eq id) before.cursors next found) ∙ is, refl)
+
+pub takes_some : (before now after : Held) (id next n base given : ℕ) (counts : Buffer ℕ) (slice filled : List Event) → before ≡ now → lookup (nat_eq id) before.cursors ≡ Some next → IsKept before.room base counts before.end given before.cursors → base ≤ next → (next ≡ now.end → ⊥) → before.end ≡ base + length before.events → n ≡ min (length slice) (length before.events - (next - base)) → filled ≡ take n (drop (next - base) before.events) ++ drop n slice → after ≡ with_cursors before (set_value (nat_eq id) before.cursors (next + n)) → Takes now after id n slice filled
+takes_some before now after id next n base given counts slice filled is found k above apart end count copied moved =
+    let inside = cursor_within before.room base before.end given next (nat_eq id) counts before.cursors k found in
+    let near = kept_near before.room base before.end given counts before.cursors k in
     let same = ap (λ (h : Held). h.end) is in
     subst (λ h. Takes h after id n slice filled) is (record {
       next = next;
       stood = found;
       waited = omega arith;
+      fits = omega arith;
       count = omega arith;
       moved = moved;
       copied = copied ∙ ap (λ b. take n (drop (next - b) before.events) ++ drop n slice) k.lowest;
     })
 
+-- ---- remove
+
 pub removes : (before now after : Held) (id next : ℕ) → before ≡ now → lookup (nat_eq id) before.cursors ≡ Some next → after ≡ with_cursors before (remove_entry (nat_eq id) before.cursors) → RemovesBy now after id (Ok tt)
 removes before now after id next is found moved = subst (λ h. RemovesBy h after id (Ok tt)) is (ap is_some found, moved)
+
+-- a slow cursor held nothing
+pub removes_slow : (before now : Held) (id next : ℕ) (cursors : List (ℕ × ℕ)) → before ≡ now → lookup (nat_eq id) before.cursors ≡ Some next → before.room < before.end - next → cursors ≡ remove_entry (nat_eq id) before.cursors → RemovesBy now (record before { cursors = cursors }) id (Ok tt)
+removes_slow before now id next cursors is found slow gone =
+    let same = ap (least before.end) (standing_in-remove_slow before.room before.end (nat_eq id) before.cursors next found (lt-ltb before.room (before.end - next) slow)) in
+    let none : 0 ≡ lowest_in before.room before.end (remove_entry (nat_eq id) before.cursors) - lowest before = omega arith in
+    removes before now (record before { cursors = cursors }) id next is found (λ i. record before { cursors = gone i; events = drop (none i) before.events })

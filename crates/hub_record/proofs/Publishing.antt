@@ -1,38 +1,49 @@
 -- After a subscribe, a publish or a close a record stands for the world after it.
-use Rattle.std.proofs.Common.{ℕ, ◌≡◌, ◌+◌, ◌-◌, ◌<◌, ◌≤◌, true, false, List, [], ◌∷◌, ◌++◌, length, drop, All, refl, sym, ap, subst, ◌∙◌, inl, inr, arith}
+use Rattle.std.proofs.Common.{ℕ, ◌≡◌, ◌+◌, ◌-◌, ◌<◌, ◌≤◌, ◌⊎◌, true, false, List, [], ◌∷◌, ◌++◌, length, drop, All, refl, sym, ap, subst, ◌∙◌, inl, inr, arith}
 use Rattle.std.proofs.lemmas.Bool.{cases_lt}
-use Rattle.std.proofs.lemmas.List.{map-append, length-append, length-drop, drop-append-le, drop_all}
+use Rattle.std.proofs.lemmas.List.{map-append, length-append, length-drop, drop-append-le, drop-drop}
 use Rattle.std.specs.Map.{values_of}
 use Rattle.hub_letters.specs.declared.stage.Stage.{Stage}
 use Rattle.hub_letters.specs.declared.flags.Flags.{Flags}
 use Rattle.hub_letters.specs.Flags.{flags_of}
+use Rattle.hub_record.specs.declared.limits.Limits.{Limits}
+use Rattle.hub_record.specs.declared.limits.Policy.{Policy}
+use Rattle.hub_record.specs.declared.limits.Policy.TheVariants.{Hold, Evict}
 use Rattle.hub_record.specs.declared.Event.{Event}
-use Rattle.hub_record.specs.World.{World, IsWorld, standing, new_subscription, least, base, load, letters, as_events, IsLawfulIn, HasRoom, IsFull, MayPublish, after_close}
-use Rattle.hub_record.specs.Backlog.{Held, HasRoomFor, kept_with, with_new_id, with_events}
+use Rattle.hub_record.specs.World.{World, IsWorld, current, standing, new_subscription, least, base, load, letters, as_events, IsLawfulIn, needed_by, needed, HasRoom, IsFull, MayPublish, after_close}
+use Rattle.hub_record.specs.Backlog.{Held, IsStill, HasRoomFor, room_for, standing_in, lowest_in, with_new_id, with_events}
 use Rattle.hub_record.specs.Kept.{Kept, StandsFor, stage_in}
-use Rattle.hub_record.proofs.Cursors.{standing-push, within_standing, within_more, within-push}
+use Rattle.hub_record.proofs.Cursors.{current-push, within_current, within_more, within-push}
 use Rattle.hub_record.proofs.Least.{least_bound, least-push, least_grown}
+use Rattle.hub_record.proofs.Slow.{lowest-push, lowest_grown}
+use Rattle.hub_record.proofs.Policies.{standing_hold, standing_is, base_is_lowest, loaded_by, holds}
 use Rattle.hub_record.proofs.Keeps.{length_stamped}
 use Rattle.hub_record.proofs.StandsForWorlds.{held_of, with_held, stands_with}
 
 -- ---- subscribe
 
+pub subscribed : (w : World) → IsWorld w → length w.subscriptions < w.limits.ids → IsWorld (record w { subscriptions = w.subscriptions ++ new_subscription w ∷ [] })
+subscribed w i few =
+    let long = length-append w.subscriptions (new_subscription w ∷ []) in
+    let e = current-push 1 w.subscriptions (new_subscription w) (length w.subscriptions + 1) refl (omega arith) in
+    let b = ap (least (length w.events)) e ∙ least-push (length w.events) (length w.subscriptions + 1) (current w) in
+    record {
+      within = i.within;
+      loaded = loaded_by (record w { subscriptions = w.subscriptions ++ new_subscription w ∷ [] }) (λ hold. let k = holds w i hold in omega arith);
+      given = omega arith;
+      lawful = i.lawful;
+      each = within-push (length w.events) w.subscriptions (new_subscription w) (record { began = omega arith; ended = omega arith }) i.each;
+    }
+
 pub subscribe_stands : (r : Kept) (h : Held) (w : World) (room : ℕ) → StandsFor r w → r.given < r.limits.ids → h ≡ with_new_id (held_of r room) → StandsFor (with_held r h) (record w { subscriptions = w.subscriptions ++ new_subscription w ∷ [] })
 subscribe_stands r h w room s few is =
-    let n = s.end in
     let g = s.given in
-    let k = s.world.loaded in
-    let lim = ap (λ l. l.ids) s.limits in
+    let lim = ap (λ (l : Limits). l.ids) s.limits in
+    let e = current-push 1 w.subscriptions (new_subscription w) (r.given + 1) refl (omega arith) in
     let long = length-append w.subscriptions (new_subscription w ∷ []) in
-    let e = standing-push 1 w.subscriptions (new_subscription w) (r.given + 1) refl (omega arith) in
-    let b = ap (least (length w.events)) e ∙ least-push (length w.events) (r.given + 1) (standing w) in
-    let world : IsWorld (record w { subscriptions = w.subscriptions ++ new_subscription w ∷ [] }) = record {
-      within = s.world.within;
-      loaded = omega arith;
-      given = omega arith;
-      lawful = s.world.lawful;
-      each = within-push (length w.events) w.subscriptions (new_subscription w) (record { began = omega arith; ended = omega arith }) s.world.each;
-    } in
+    let after = record w { subscriptions = w.subscriptions ++ new_subscription w ∷ [] } in
+    let world : IsWorld after = subscribed w s.world (omega arith) in
+    let b : base after ≡ base w = base_is_lowest after world ∙ ap (lowest_in w.limits.waiting (length w.events)) e ∙ lowest-push w.limits.waiting (length w.events) (r.given + 1) (current w) ∙ sym (base_is_lowest w s.world) in
     stands_with r h w (w.subscriptions ++ new_subscription w ∷ []) s world (ap (λ (h : Held). h.end) is)
     (ap (λ (h : Held). h.events) is ∙ s.events ∙ ap (λ n. drop n w.events) (sym b)) (ap (λ (h : Held). h.given) is ∙ omega arith)
     (ap (λ (h : Held). h.cursors) is ∙ (λ i. s.cursors i ++ (r.given + 1, s.end i) ∷ []) ∙ sym e)
@@ -46,67 +57,100 @@ letters_stamped who (l ∷ ls) = ap (λ z. l ∷ z) (letters_stamped who ls)
 pub letters_after : (events : List Event) (who : ℕ) (message : List ℕ) → letters (events ++ as_events who message) ≡ letters events ++ message
 letters_after events who message = map-append (λ (e : Event). e.letter) events (as_events who message) ∙ ap (λ z. letters events ++ z) (letters_stamped who message)
 
--- the base with more events: the same, or the end if no subscription is current
-pub grown : (w : World) (n : ℕ) (cs : List (ℕ × ℕ)) → standing w ≡ cs → IsWorld w → HasRoom w n → (length w.events + n) - least (length w.events + n) cs ≤ w.limits.waiting
-grown w n [] is i room = omega arith
-grown w n (c ∷ cs) is i (inl none) = cc
-grown w n (c ∷ cs) is i (inr room) =
-    let g = least_grown (length w.events) (length w.events + n) (c ∷ cs) (λ (z : (c ∷ cs) ≡ []). cc) (omega arith) (subst (λ z. All (λ v. v ≤ length w.events) (values_of z)) is (within_standing (length w.events) 1 w.subscriptions i.each)) in
-    let b = ap (least (length w.events)) is in
+-- with the policy Hold a message that has room leaves no more pending than may be
+grown : (w : World) (n : ℕ) (cs : List (ℕ × ℕ)) → current w ≡ cs → IsWorld w → HasRoom w n → w.limits.policy ≡ Hold → length w.events + n ≤ least (length w.events + n) cs + w.limits.waiting
+grown w n [] is i room hold = omega arith
+grown w n (c ∷ cs) is i (inl none) hold = let e : c ∷ cs ≡ [] = sym is ∙ sym (standing_hold w hold) ∙ none in cc
+grown w n (c ∷ cs) is i (inr room) hold =
+    let g = least_grown (length w.events) (length w.events + n) (c ∷ cs) (λ (z : (c ∷ cs) ≡ []). cc) (omega arith) (subst (λ z. All (λ v. v ≤ length w.events) (values_of z)) is (within_current (length w.events) 1 w.subscriptions i.each)) in
+    let b = ap (least (length w.events)) (standing_hold w hold ∙ is) in
     let u = least_bound (length w.events) (c ∷ cs) in
+    let need : needed w n ≡ load w + n = ap (λ p. needed_by p w n) hold in
     omega arith
 
-kept_grown : (w : World) (more : List Event) (cs : List (ℕ × ℕ)) → standing w ≡ cs → IsWorld w → kept_with cs (drop (base w) w.events) more ≡ drop (least (length (w.events ++ more)) cs) (w.events ++ more)
-kept_grown w more [] is i = sym (drop_all (length (w.events ++ more)) (w.events ++ more) (omega arith))
-kept_grown w more (c ∷ cs) is i =
-    let long = length-append w.events more in
-    let g = least_grown (length w.events) (length (w.events ++ more)) (c ∷ cs) (λ (z : (c ∷ cs) ≡ []). cc) (omega arith) (subst (λ z. All (λ v. v ≤ length w.events) (values_of z)) is (within_standing (length w.events) 1 w.subscriptions i.each)) in
-    let b = ap (least (length w.events)) is in
-    let u = least_bound (length w.events) (standing w) in
-    sym (drop-append-le (base w) w.events more u) ∙ ap (λ n. drop n (w.events ++ more)) (b ∙ sym g)
-
-pub publish_stands : (r : Kept) (h : Held) (w : World) (who room : ℕ) (message : List ℕ) (stage : Stage) (flags : Flags) → StandsFor r w → MayPublish w message → h ≡ with_events (held_of r room) (as_events who message) → stage ≡ stage_in w.kind (letters w.events ++ message) → flags ≡ flags_of (letters w.events ++ message) → StandsFor (record (with_held r h) { stage = stage; flags = flags }) (record w { events = w.events ++ as_events who message })
-publish_stands r h w who room message stage flags s may e st fl =
-    let n = s.end in
+pub published : (w : World) (who : ℕ) (message : List ℕ) → IsWorld w → MayPublish w message → IsWorld (record w { events = w.events ++ as_events who message })
+published w who message i may =
     let lw = may.within in
     let size = length_stamped who message in
     let long : length (w.events ++ as_events who message) ≡ length w.events + length message = length-append w.events (as_events who message) ∙ ap (λ z. length w.events + z) size in
-    let same = letters_after w.events who message in
-    let g = grown w (length message) (standing w) refl s.world may.room in
+    let after = record w { events = w.events ++ as_events who message } in
     record {
-      world = record {
-        within = omega arith;
-        loaded = subst (λ z. z - least z (standing w) ≤ w.limits.waiting) (sym long) g;
-        given = s.world.given;
-        lawful = subst (IsLawfulIn w.kind) (sym same) may.lawful;
-        each = within_more (length w.events) (length (w.events ++ as_events who message)) w.subscriptions (omega arith) s.world.each;
-      };
+      within = omega arith;
+      loaded = loaded_by after (λ hold. subst (λ z. z ≤ least z (current w) + w.limits.waiting) (sym long) (grown w (length message) (current w) refl i may.room hold));
+      given = i.given;
+      lawful = subst (IsLawfulIn w.kind) (sym (letters_after w.events who message)) may.lawful;
+      each = within_more (length w.events) (length (w.events ++ as_events who message)) w.subscriptions (omega arith) i.each;
+    }
+
+-- what is kept of the events then
+kept_after : (r : Kept) (w : World) (who room : ℕ) (message : List ℕ) → StandsFor r w → room ≡ r.limits.waiting → MayPublish w message
+    → (with_events (held_of r room) (as_events who message)).events ≡ drop (base (record w { events = w.events ++ as_events who message })) (w.events ++ as_events who message)
+kept_after r w who room message s at may =
+    let more = as_events who message in
+    let after = record w { events = w.events ++ more } in
+    let world : IsWorld after = published w who message s.world may in
+    let long = length-append w.events more in
+    let most : room ≡ w.limits.waiting = at ∙ ap (λ (l : Limits). l.waiting) s.limits in
+    let low = base_is_lowest w s.world in
+    let within = least_bound (length w.events) (standing w) in
+    let now : lowest_in room (r.end + length more) r.cursors ≡ base after =
+    (λ j. lowest_in (most j) (s.end j + length more) (s.cursors j)) ∙ ap (λ n. lowest_in w.limits.waiting n (current w)) (sym long) ∙ sym (base_is_lowest after world) in
+    let was : lowest_in room r.end r.cursors ≡ base w = (λ j. lowest_in (most j) (s.end j) (s.cursors j)) ∙ sym low in
+    let moved = base_is_lowest after world in
+    let on = lowest_grown w.limits.waiting (base w) (base w) (length w.events) (length (w.events ++ more)) (current w) (omega arith) (inl (omega arith)) (omega arith) (omega arith) in
+    let sum : base w + (base after - base w) ≡ base after = omega arith in
+    (λ j. drop (now j - was j) (s.events j ++ more)) ∙ ap (drop (base after - base w)) (sym (drop-append-le (base w) w.events more within))
+    ∙ drop-drop (base after - base w) (base w) (w.events ++ more) ∙ ap (λ n. drop n (w.events ++ more)) sum
+
+pub publish_stands : (r : Kept) (h : Held) (w : World) (who room : ℕ) (message : List ℕ) (stage : Stage) (flags : Flags) → StandsFor r w → room ≡ r.limits.waiting → MayPublish w message → h ≡ with_events (held_of r room) (as_events who message) → stage ≡ stage_in w.kind (letters w.events ++ message) → flags ≡ flags_of (letters w.events ++ message) → StandsFor (record (with_held r h) { stage = stage; flags = flags }) (record w { events = w.events ++ as_events who message })
+publish_stands r h w who room message stage flags s at may e st fl =
+    let n = s.end in
+    let long = length-append w.events (as_events who message) in
+    let same = letters_after w.events who message in
+    record {
+      world = published w who message s.world may;
       kind = s.kind;
       limits = s.limits;
       closed = s.closed;
       end = ap (λ (h : Held). h.end) e ∙ omega arith;
-      events = ap (λ (h : Held). h.events) e ∙ (λ i. kept_with (s.cursors i) (s.events i) (as_events who message)) ∙ kept_grown w (as_events who message) (standing w) refl s.world;
+      events = ap (λ (h : Held). h.events) e ∙ kept_after r w who room message s at may;
       given = ap (λ (h : Held). h.given) e ∙ s.given;
       cursors = ap (λ (h : Held). h.cursors) e ∙ s.cursors;
       stage = st ∙ ap (stage_in w.kind) (sym same);
       flags = fl ∙ ap flags_of (sym same);
     }
 
-pub has_room : (r : Kept) (w : World) (n room : ℕ) → StandsFor r w → room ≡ r.limits.waiting → HasRoomFor (held_of r room) n → HasRoom w n
-has_room r w n room s is (inl none) = inl (sym s.cursors ∙ none)
-has_room r w n room s is (inr left) =
+-- ---- room
+
+needed_is : (r : Kept) (w : World) (n room : ℕ) (p : Policy) → StandsFor r w → room_for p (held_of r room) n ≡ needed_by p w n
+needed_is r w n room Hold s =
     let k = ap length s.events in
     let d = length-drop (base w) w.events in
-    let l = ap (λ z. z.waiting) s.limits in
+    omega arith
+needed_is r w n room Evict s = refl
+
+none_stands : (r : Kept) (w : World) (room : ℕ) → StandsFor r w → room ≡ r.limits.waiting → standing w ≡ standing_in room r.end r.cursors
+none_stands r w room s at = standing_is w s.world ∙ sym (λ j. standing_in ((at ∙ ap (λ (l : Limits). l.waiting) s.limits) j) (s.end j) (s.cursors j))
+
+pub has_room : (r : Kept) (w : World) (n room : ℕ) → StandsFor r w → room ≡ r.limits.waiting → HasRoomFor r.limits.policy (held_of r room) n → HasRoom w n
+has_room r w n room s is (inl none) = inl (none_stands r w room s is ∙ none)
+has_room r w n room s is (inr left) =
+    let need = needed_is r w n room r.limits.policy s ∙ ap (λ (l : Limits). needed_by l.policy w n) s.limits in
+    let l = ap (λ (z : Limits). z.waiting) s.limits in
     inr (omega arith)
 
-pub is_full : (r : Kept) (w : World) (n room : ℕ) → StandsFor r w → room ≡ r.limits.waiting → (HasRoomFor (held_of r room) n → ⊥) → IsFull w n
+pub is_full : (r : Kept) (w : World) (n room : ℕ) → StandsFor r w → room ≡ r.limits.waiting → (HasRoomFor r.limits.policy (held_of r room) n → ⊥) → IsFull w n
 is_full r w n room s is full =
-    let k = ap length s.events in
-    let d = length-drop (base w) w.events in
-    let l = ap (λ z. z.waiting) s.limits in
-    let over : w.limits.waiting < load w + n = elim (cases_lt w.limits.waiting (load w + n)) [ inl more ↦ more | inr less ↦ absurd (full (inr (omega arith))) ] in
-    ((λ none. full (inl (s.cursors ∙ none))), over)
+    let need = needed_is r w n room r.limits.policy s ∙ ap (λ (l : Limits). needed_by l.policy w n) s.limits in
+    let l = ap (λ (z : Limits). z.waiting) s.limits in
+    let over : w.limits.waiting < needed w n = elim (cases_lt w.limits.waiting (needed w n)) [ inl more ↦ more | inr less ↦ absurd (full (inr (omega arith))) ] in
+    ((λ none. full (inl (sym (none_stands r w room s is) ∙ none))), over)
+
+-- what has room fits by itself
+pub fits_from : (p : Policy) (h : Held) (n : ℕ) → HasRoomFor p h n → IsStill h ⊎ (n ≤ h.room)
+fits_from p h n (inl none) = inl none
+fits_from Hold h n (inr left) = inr (omega arith)
+fits_from Evict h n (inr left) = inr left
 
 pub may_publish : (r : Kept) (w : World) (message : List ℕ) → StandsFor r w → r.closed ≡ false → IsLawfulIn w.kind (letters w.events ++ message) → r.end + length message ≤ r.limits.total → HasRoom w (length message) → MayPublish w message
 may_publish r w message s o l t room =

@@ -11,6 +11,7 @@ use Rattle.hub_record.specs.declared.runs.Call.TheVariants.{Subscribe, Publish, 
 use Rattle.hub_record.specs.declared.runs.Said.{Said}
 use Rattle.hub_record.specs.declared.runs.Said.TheVariants.{Subscribed, Published, Took, Cancelled, Shut}
 use Rattle.hub_record.specs.World.{World, Subscription, subscription_in, changed_from, new_subscription, as_events, moved_on, count_to_take, as_cancelled, after_subscribe, after_publish, after_take_for, after_cancel_for}
+use Rattle.hub_record.proofs.Policies.{count_within}
 use Rattle.hub_record.specs.Runs.{after_call, world_after, GathersSinceMark, EachGathersSinceMark, AllGatherSinceMark, by, letters_accepted, letters_published}
 
 -- ---- since
@@ -53,6 +54,7 @@ follows-moved w most s h =
     let b = h.began in
     let e = h.ended in
     let k = count_to_take w s most in
+    let c = count_within w s most in
     follows w.events (moved_on w most s) (omega arith) (omega arith)
     (h.since ∙ ap (λ z. s.gathered ++ z) (sym (take-append-drop k (drop s.next w.events)) ∙ ap (λ z. take k (drop s.next w.events) ++ z) (drop-drop k s.next w.events))
     ∙ sym (append_assoc s.gathered (take k (drop s.next w.events)) (drop (s.next + k) w.events)))

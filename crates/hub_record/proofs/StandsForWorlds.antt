@@ -1,13 +1,14 @@
 -- What follows from a record that stands for a world.
-use Rattle.std.proofs.Common.{ℕ, ◌≡◌, ◌-◌, ◌≤◌, List, [], length, drop, Option, Some, None, nat_eq, refl, sym, ap, subst, ◌∙◌, arith}
+use Rattle.std.proofs.Common.{ℕ, ◌≡◌, ◌-◌, ◌≤◌, Bool, if◌then◌else◌, List, [], length, drop, Option, Some, None, nat_eq, refl, sym, ap, subst, ◌∙◌, arith}
 use Rattle.std.proofs.lemmas.List.{length-drop, drop-drop, drop_all}
 use Rattle.std.specs.Option.{option_map}
 use Rattle.std.specs.Map.{lookup}
 use Rattle.hub_record.specs.declared.limits.Limits.{Limits}
-use Rattle.hub_record.specs.World.{World, Subscription, IsWorld, standing, standing_from, subscription_in, least, base}
-use Rattle.hub_record.specs.Backlog.{Held, with_cursors}
+use Rattle.hub_record.specs.World.{World, Subscription, IsWorld, current, current_from, standing, is_slow, subscription_in, pending_for, least, base}
+use Rattle.hub_record.specs.Backlog.{Held, pending, pending_if, lowest, lowest_in, with_cursors}
 use Rattle.hub_record.specs.Kept.{Kept, StandsFor, IsSound}
-use Rattle.hub_record.proofs.Cursors.{lookup_standing}
+use Rattle.hub_record.proofs.Cursors.{lookup_current}
+use Rattle.hub_record.proofs.Policies.{base_is_lowest, evicted_is_slow}
 
 -- what a record holds, with this much room; and a record that holds something else
 abbrev pub held_of : Kept → ℕ → Held
@@ -25,7 +26,7 @@ pub found_some : (r : Kept) (w : World) (id v : ℕ) → StandsFor r w → looku
 found_some r w id v s e = by (subscription_in w id) refl
   where
     seen : option_map (λ (s : Subscription). s.next) (subscription_in w id) ≡ Some v
-    seen = sym (lookup_standing 1 w.subscriptions id) ∙ ap (lookup (nat_eq id)) (sym s.cursors) ∙ e
+    seen = sym (lookup_current 1 w.subscriptions id) ∙ ap (lookup (nat_eq id)) (sym s.cursors) ∙ e
 
     by : (o : Option Subscription) → subscription_in w id ≡ o → (s : Subscription) × (subscription_in w id ≡ Some s) × (s.next ≡ v)
     by None is = let k = seen in let j = ap (option_map (λ (s : Subscription). s.next)) is in cc
@@ -35,23 +36,38 @@ pub found_none : (r : Kept) (w : World) (id : ℕ) → StandsFor r w → lookup 
 found_none r w id s e = by (subscription_in w id) refl
   where
     seen : option_map (λ (s : Subscription). s.next) (subscription_in w id) ≡ None
-    seen = sym (lookup_standing 1 w.subscriptions id) ∙ ap (lookup (nat_eq id)) (sym s.cursors) ∙ e
+    seen = sym (lookup_current 1 w.subscriptions id) ∙ ap (lookup (nat_eq id)) (sym s.cursors) ∙ e
 
     by : (o : Option Subscription) → subscription_in w id ≡ o → subscription_in w id ≡ None
     by None is = is
     by (Some s) is = let k = seen in let j = ap (option_map (λ (s : Subscription). s.next)) is in cc
 
-pub waiting_is : (r : Kept) (w : World) (id : ℕ) → StandsFor r w → option_map (λ n. r.end - n) (lookup (nat_eq id) r.cursors) ≡ option_map (λ (s : Subscription). length w.events - s.next) (subscription_in w id)
-waiting_is r w id s = (λ i. option_map (λ n. s.end i - n) (lookup (nat_eq id) (s.cursors i))) ∙ ap (option_map (λ n. length w.events - n)) (lookup_standing 1 w.subscriptions id) ∙ both (subscription_in w id)
-  where
-    both : (o : Option Subscription) → option_map (λ n. length w.events - n) (option_map (λ (s : Subscription). s.next) o) ≡ option_map (λ (s : Subscription). length w.events - s.next) o
-    both None = refl
-    both (Some s) = refl
-
 -- ---- the base
 
-pub base_is : (r : Kept) (w : World) → StandsFor r w → least r.end r.cursors ≡ base w
-base_is r w s = (λ i. least (s.end i) (s.cursors i))
+pub base_is : (r : Kept) (w : World) → StandsFor r w → lowest_in r.limits.waiting r.end r.cursors ≡ base w
+base_is r w s = (λ i. lowest_in (s.limits i).waiting (s.end i) (s.cursors i)) ∙ sym (base_is_lowest w s.world)
+
+pub lowest_is : (r : Kept) (w : World) (room : ℕ) → StandsFor r w → room ≡ r.limits.waiting → lowest (held_of r room) ≡ base w
+lowest_is r w room s at = ap (λ n. lowest_in n r.end r.cursors) at ∙ base_is r w s
+
+-- what is pending behind the cursor of an id
+pub waiting_is : (r : Kept) (w : World) (id room : ℕ) → StandsFor r w → room ≡ r.limits.waiting → pending (held_of r room) id ≡ pending_for w (subscription_in w id)
+waiting_is r w id room s at = by (subscription_in w id) refl
+  where
+    most : room ≡ w.limits.waiting
+    most = at ∙ ap (λ (l : Limits). l.waiting) s.limits
+
+    next : lookup (nat_eq id) r.cursors ≡ option_map (λ (s : Subscription). s.next) (subscription_in w id)
+    next = ap (lookup (nat_eq id)) s.cursors ∙ lookup_current 1 w.subscriptions id
+
+    by : (o : Option Subscription) → subscription_in w id ≡ o → pending (held_of r room) id ≡ pending_for w (subscription_in w id)
+    by None is = ap (pending_if (held_of r room)) (next ∙ ap (option_map (λ (s : Subscription). s.next)) is) ∙ sym (ap (pending_for w) is)
+    by (Some x) is =
+        let found : lookup (nat_eq id) (current w) ≡ Some x.next = lookup_current 1 w.subscriptions id ∙ ap (option_map (λ (s : Subscription). s.next)) is in
+        ap (pending_if (held_of r room)) (next ∙ ap (option_map (λ (s : Subscription). s.next)) is)
+        ∙ (λ i. if is_slow (most i) (s.end i) x.next then None else Some (s.end i - x.next))
+        ∙ ap (λ (b : Bool). if b then None else Some (length w.events - x.next)) (sym (evicted_is_slow w id x.next s.world found))
+        ∙ sym (ap (pending_for w) is)
 
 -- what is kept from the base on, from a later number on
 pub later : (w : World) (n : ℕ) → base w ≤ n → drop (n - base w) (drop (base w) w.events) ≡ drop n w.events
@@ -72,7 +88,7 @@ kept_none r w s none = s.events ∙ ap (λ cs. drop (least (length w.events) cs)
 
 -- what is held has changed with the subscriptions
 pub stands_with : (r : Kept) (h : Held) (w : World) (subs : List Subscription) → StandsFor r w → IsWorld (record w { subscriptions = subs })
-    → h.end ≡ r.end → h.events ≡ drop (least (length w.events) (standing_from 1 subs)) w.events → h.given ≡ length subs → h.cursors ≡ standing_from 1 subs
+    → h.end ≡ r.end → h.events ≡ drop (base (record w { subscriptions = subs })) w.events → h.given ≡ length subs → h.cursors ≡ current_from 1 subs
     → StandsFor (with_held r h) (record w { subscriptions = subs })
 stands_with r h w subs s i end events given cursors = record {
   world = i;
@@ -87,11 +103,12 @@ stands_with r h w subs s i end events given cursors = record {
   cursors = cursors;
 }
 
-pub recut_stands : (r : Kept) (h : Held) (w : World) (subs : List Subscription) (cs : List (ℕ × ℕ)) (room : ℕ) → StandsFor r w → IsWorld (record w { subscriptions = subs }) → length subs ≡ length w.subscriptions → cs ≡ standing_from 1 subs → base w ≤ least (length w.events) (standing_from 1 subs) → h ≡ with_cursors (held_of r room) cs → StandsFor (with_held r h) (record w { subscriptions = subs })
-recut_stands r h w subs cs room s i long is l e =
-    let now : least r.end cs ≡ least (length w.events) (standing_from 1 subs) = (λ j. least (s.end j) (is j)) in
+pub recut_stands : (r : Kept) (h : Held) (w : World) (subs : List Subscription) (cs : List (ℕ × ℕ)) (room : ℕ) → StandsFor r w → room ≡ r.limits.waiting → IsWorld (record w { subscriptions = subs }) → length subs ≡ length w.subscriptions → cs ≡ current_from 1 subs → base w ≤ base (record w { subscriptions = subs }) → h ≡ with_cursors (held_of r room) cs → StandsFor (with_held r h) (record w { subscriptions = subs })
+recut_stands r h w subs cs room s at i long is l e =
+    let now : lowest_in room r.end cs ≡ base (record w { subscriptions = subs }) = (λ j. lowest_in ((at ∙ ap (λ (l : Limits). l.waiting) s.limits) j) (s.end j) (is j)) ∙ sym (base_is_lowest (record w { subscriptions = subs }) i) in
+    let was = lowest_is r w room s at in
     stands_with r h w subs s i (ap (λ (h : Held). h.end) e)
-    (ap (λ (h : Held). h.events) e ∙ (λ j. drop (now j - base_is r w s j) (s.events j)) ∙ later w (least (length w.events) (standing_from 1 subs)) l)
+    (ap (λ (h : Held). h.events) e ∙ (λ j. drop (now j - was j) (s.events j)) ∙ later w (base (record w { subscriptions = subs })) l)
     (ap (λ (h : Held). h.given) e ∙ s.given ∙ sym long) (ap (λ (h : Held). h.cursors) e ∙ is)
 
 -- nothing changed

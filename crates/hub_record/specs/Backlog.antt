@@ -1,14 +1,18 @@
 -- What a contract sees of the events that are kept, and of the cursors into them.
-use Rattle.std.specs.Prelude.{ℕ, ◌≡◌, ◌⊎◌, ◌==◌, ◌+◌, ◌-◌, ◌<◌, ◌≤◌, List, [], ◌∷◌, ◌++◌, Option, Some, None, Result, Ok, Err, take, drop, set, get_or, length, min, nat_eq, nat_lt, count_by, All, IsSome}
+use Rattle.std.specs.Prelude.{ℕ, ◌≡◌, ◌⊎◌, ◌==◌, if◌then◌else◌, ◌+◌, ◌-◌, ◌<◌, ◌≤◌, not, List, [], ◌∷◌, ◌++◌, Option, Some, None, Result, Ok, Err, filter, take, drop, set, get_or, length, min, nat_eq, nat_lt, count_by, All, IsSome}
 use Rattle.std.specs.List.{position_or_len}
 use Rattle.std.specs.Map.{lookup, set_value, remove_entry, keys_of, values_of}
 use Rattle.hub_record.specs.declared.Event.{Event}
 use Rattle.hub_record.specs.declared.NoId.{NoId}
+use Rattle.hub_record.specs.declared.limits.Policy.{Policy}
+use Rattle.hub_record.specs.declared.limits.Policy.TheVariants.{Hold, Evict}
+use Rattle.hub_record.specs.declared.backlog.Found.{Found}
+use Rattle.hub_record.specs.declared.backlog.Found.TheVariants.{Moved, Nothing, Lost}
 use Rattle.circular_buffer.specs.Buffer.{Buffer}
 use Rattle.hub_record.specs.declared.limits.TheConstants.{MOST_EVENTS, MOST_PASSES}
-use Rattle.hub_record.specs.World.{least}
+use Rattle.hub_record.specs.World.{least, is_slow}
 
--- the events from the least cursor on, and the cursors of the current ids in the order of the ids
+-- the events from the least cursor on that isn't slow, and the cursors of the current ids in the order of the ids
 pub record Held : Type 0 where
   pub room : ℕ
   pub end : ℕ
@@ -19,9 +23,17 @@ pub record Held : Type 0 where
 abbrev pub nothing_held : ℕ → Held
 nothing_held room = record { room = room; end = 0; events = []; given = 0; cursors = [] }
 
+-- the cursors behind which no more events are pending than there is room for
+abbrev pub standing_in : (room end : ℕ) → List (ℕ × ℕ) → List (ℕ × ℕ)
+standing_in room end cursors = filter (λ c. not (is_slow room end c.1)) cursors
+
+-- the least of these, or the end
+abbrev pub lowest_in : (room end : ℕ) → List (ℕ × ℕ) → ℕ
+lowest_in room end cursors = least end (standing_in room end cursors)
+
 -- the number of the first event that is kept
 abbrev pub lowest : Held → ℕ
-lowest h = least h.end h.cursors
+lowest h = lowest_in h.room h.end h.cursors
 
 -- the number of the event that an id takes next
 abbrev pub next_of : Held → ℕ → Option ℕ
@@ -31,20 +43,24 @@ next_of h id = lookup (nat_eq id) h.cursors
 abbrev pub with_new_id : Held → Held
 with_new_id h = record h { given = h.given + 1; cursors = h.cursors ++ (h.given + 1, h.end) ∷ [] }
 
--- more events are kept only if there is a cursor
-abbrev pub kept_with : List (ℕ × ℕ) → List Event → List Event → List Event
-kept_with [] events more = []
-kept_with (c ∷ cs) events more = events ++ more
-
+-- with more events, cut at the least of the cursors that aren't slow then
 abbrev pub with_events : Held → List Event → Held
-with_events h more = record h { end = h.end + length more; events = kept_with h.cursors h.events more }
+with_events h more = record h { end = h.end + length more; events = drop (lowest_in h.room (h.end + length more) h.cursors - lowest h) (h.events ++ more) }
 
--- with these cursors, cut at the least of them
+-- with these cursors, cut at the least of them that isn't slow
 abbrev pub with_cursors : Held → List (ℕ × ℕ) → Held
-with_cursors h cursors = record h { cursors = cursors; events = drop (least h.end cursors - lowest h) h.events }
+with_cursors h cursors = record h { cursors = cursors; events = drop (lowest_in h.room h.end cursors - lowest h) h.events }
 
-abbrev pub HasRoomFor : Held → ℕ → Type 0
-HasRoomFor h n = (h.cursors ≡ []) ⊎ (length h.events + n ≤ h.room)
+abbrev pub IsStill : Held → Type 0
+IsStill h = standing_in h.room h.end h.cursors ≡ []
+
+-- how many events have to be kept at once after n more: all that are kept and these, or these alone
+abbrev pub room_for : Policy → Held → ℕ → ℕ
+room_for Hold h n = length h.events + n
+room_for Evict h n = n
+
+abbrev pub HasRoomFor : Policy → Held → ℕ → Type 0
+HasRoomFor policy h n = IsStill h ⊎ (room_for policy h n ≤ h.room)
 
 -- ---- take
 
@@ -53,15 +69,29 @@ pub record Takes (before after : Held) (id n : ℕ) (slice filled : List Event) 
   pub next : ℕ
   pub stood : next_of before id ≡ Some next
   pub waited : next < before.end
+  pub fits : before.end - next ≤ before.room
   pub count : n ≡ min (length slice) (before.end - next)
   pub moved : after ≡ with_cursors before (set_value (nat_eq id) before.cursors (next + n))
   pub copied : filled ≡ take n (drop (next - lowest before) before.events) ++ drop n slice
 
--- for each answer: no such cursor, nothing behind it, or how many were moved
-abbrev pub TakesBy : Held → Held → ℕ → List Event → List Event → Result (Option ℕ) NoId → Type 0
+-- the cursor of the id is slow
+abbrev pub IsSlow : Held → ℕ → Type 0
+IsSlow h id = (next : ℕ) × (next_of h id ≡ Some next) × (h.room < h.end - next)
+
+-- for each answer: no such cursor, nothing behind it, too much behind it, or how many were moved
+abbrev pub TakesBy : Held → Held → ℕ → List Event → List Event → Result Found NoId → Type 0
 TakesBy before after id slice filled (Err no_id) = (next_of before id ≡ None) × (after ≡ before) × (filled ≡ slice)
-TakesBy before after id slice filled (Ok None) = (next_of before id ≡ Some before.end) × (after ≡ before) × (filled ≡ slice)
-TakesBy before after id slice filled (Ok (Some n)) = Takes before after id n slice filled
+TakesBy before after id slice filled (Ok Nothing) = (next_of before id ≡ Some before.end) × (after ≡ before) × (filled ≡ slice)
+TakesBy before after id slice filled (Ok Lost) = IsSlow before id × (after ≡ before) × (filled ≡ slice)
+TakesBy before after id slice filled (Ok (Moved n)) = Takes before after id n slice filled
+
+-- how many events are pending behind the cursor of an id
+abbrev pub pending_if : Held → Option ℕ → Option ℕ
+pending_if h None = None
+pending_if h (Some next) = if is_slow h.room h.end next then None else Some (h.end - next)
+
+abbrev pub pending : Held → ℕ → Option ℕ
+pending h id = pending_if h (next_of h id)
 
 -- ---- remove
 
@@ -78,7 +108,7 @@ standing_at number cursors = count_by (λ n. n == number) (values_of cursors)
 
 -- the counts are, event by event from the base on, how many cursors are at it; the last is for the end
 pub record IsKept (room base : ℕ) (counts : Buffer ℕ) (end given : ℕ) (cursors : List (ℕ × ℕ)) : Type 0 where
-  pub lowest : base ≡ least end cursors
+  pub lowest : base ≡ lowest_in room end cursors
   pub counted : (k : ℕ) → get_or counts.items k 0 ≡ standing_at (base + k) cursors
   pub to_end : base + length counts.items ≡ end + 1
   pub fits : counts.capacity ≡ room + 1

@@ -1,28 +1,41 @@
 //! The pending events, and the cursors into them.
-ghost use Rattle.std.specs.Prelude.{◌≡◌, ◌≤◌, ◌<◌, ◌↔◌, ◌+◌, ◌-◌, length, min, IfOk, OnErr, IsTrue, option_map, drop};
+ghost use Rattle.std.specs.Prelude.{◌≡◌, ◌≤◌, ◌<◌, ◌↔◌, ◌+◌, ◌-◌, ◌⊎◌, length, min, IfOk, OnErr, IsTrue, drop};
 ghost use Rattle.circular_buffer.specs.Buffer.{buffer};
 ghost use Rattle.hub_record.specs.declared.limits.TheConstants.{MOST_EVENTS, MOST_IDS, MOST_PASSES};
 ghost use Rattle.hub_record.specs.World.{as_events};
-ghost use Rattle.hub_record.specs.Backlog.{Held, nothing_held, lowest, next_of, first_place};
-ghost use Rattle.hub_record.specs.Backlog.{with_new_id, with_events, with_cursors, HasRoomFor, TakesBy, RemovesBy};
+ghost use Rattle.hub_record.specs.Backlog.{Held, nothing_held, lowest, pending, first_place};
+ghost use Rattle.hub_record.specs.Backlog.{with_new_id, with_events, IsStill, HasRoomFor, TakesBy, RemovesBy};
 
-use crate::counts::{first_place, lengthen, one_less, one_more};
+use crate::counts::{first_place, has_first, lengthen, one_less, one_more};
 use crate::ring::{copy_out, cut, push_in};
-use crate::{Event, NoId};
+use crate::{Event, NoId, Policy};
 use circular_buffer::HeapCircularBuffer;
 use hub_letters::Letter;
 use indexmap::IndexMap;
 use std::alloc::{AllocError, Global};
 use std::marker::Model;
 
-/// The events from the least cursor on. A push or a take looks at no cursor but its own.
+/// What a take finds behind a cursor.
+#[derive(Clone, Copy, Debug, PartialEq, Eq, Hash)]
+pub enum Found {
+    /// This many events were moved into the slice.
+    Moved(usize),
+    /// Nothing is pending.
+    Nothing,
+    /// More events were pending than there is room for, so that they aren't kept.
+    Lost,
+}
+
+/// The events that are pending, as far as there is room, and the cursors. A cursor is slow if more events are pending
+/// behind it than there is room for: it is below the base, and nothing is kept for it. A push or a take looks at no
+/// cursor but its own.
 #[derive(Drop)]
 pub struct Backlog {
     /// The events from the base on.
     ring: HeapCircularBuffer<Event>,
-    /// How many cursors are at each of these events, and last how many are at the end.
+    /// How many cursors are at each of these events, and last how many are at the end. Slow ones aren't counted.
     counts: HeapCircularBuffer<u64>,
-    /// The number of the first event that is kept, which is the least cursor.
+    /// The number of the first event that is kept, which is the least cursor that isn't slow.
     base: u64,
     /// How many ids were given so far.
     given: u64,
@@ -73,7 +86,7 @@ impl Backlog {
         self.base + self.ring.len() as u64
     }
 
-    /// The least cursor, or `end()` if there is none.
+    /// The least cursor that isn't slow, or `end()` if there is none.
     pub fn base(&self) -> u64
         ensures { result ≡ lowest self.now }
     {
@@ -87,31 +100,36 @@ impl Backlog {
         self.given
     }
 
-    /// How many cursors there are.
-    pub fn standing(&self) -> usize
+    /// How many cursors there are, slow ones too.
+    pub fn current(&self) -> usize
         ensures { result ≡ length self.now.cursors }
     {
         self.cursors.len()
     }
 
-    /// How many events are pending behind the cursor of an id. None if the id has no cursor.
+    /// How many events are pending behind the cursor of an id. None if the id has no cursor, or a slow one.
     pub fn waiting(&self, id: u64) -> Option<u64>
-        ensures { result ≡ option_map (λ next. self.now.end - next) (next_of self.now id) }
+        ensures { result ≡ pending self.now id }
     {
-        match self.cursors.get(&id) {
-            Some(next) => return Some(self.end() - *next),
-            None => return None,
+        let next = *self.cursors.get(&id)?;
+        if next < self.base {
+            return None;
         }
+        Some(self.end() - next)
     }
 
-    /// Whether this many more events may be added. If there is no cursor nothing is kept, so any number may.
-    pub fn has_room(&self, more: usize) -> bool
-        ensures { IsTrue result ↔ HasRoomFor self.now more }
+    /// Whether this many more events may be added, if the policy is asked what gives way. If each cursor is slow nothing
+    /// is kept, so any number may.
+    pub fn has_room(&self, policy: Policy, more: usize) -> bool
+        ensures { IsTrue result ↔ HasRoomFor policy self.now more }
     {
-        if self.cursors.is_empty() {
+        if !has_first(&self.counts) {
             return true;
         }
-        more <= self.ring.capacity() - self.ring.len()
+        match policy {
+            Policy::Hold => more <= self.ring.capacity() - self.ring.len(),
+            Policy::Evict => more <= self.ring.capacity(),
+        }
     }
 
     /// Gives the next id a cursor at the end. Returns the id and its cursor.
@@ -133,22 +151,27 @@ impl Backlog {
         Ok((id, end))
     }
 
-    /// Adds the letters as events of a publisher. They are kept only if there is a cursor.
+    /// Adds the letters as events of a publisher. The first events give way to them as far as needed, and the cursors at
+    /// these are slow then. If each cursor is slow nothing is kept.
     pub fn push(&mut self, who: u64, letters: &[Letter])
-        requires room { HasRoomFor self.old (length letters.now) }
+        requires fits { IsStill self.old ⊎ (length letters.now ≤ self.old.room) }
         requires small { self.old.end + length letters.now ≤ MOST_EVENTS }
         ensures { self.new ≡ with_events self.old (as_events who letters.now) }
     {
-        if self.cursors.is_empty() {
+        if !has_first(&self.counts) {
             self.base += letters.len() as u64;
             return;
         }
+        let over = (self.ring.len() + letters.len()).saturating_sub(self.ring.capacity());
+        cut(&mut self.ring, over);
+        cut(&mut self.counts, over);
         push_in(&mut self.ring, who, letters);
         lengthen(&mut self.counts, letters.len());
+        self.base += (over + release(&mut self.ring, &mut self.counts)) as u64;
     }
 
-    /// Moves what is pending behind a cursor into the slice, as far as it fits. None if nothing is pending.
-    pub fn take(&mut self, id: u64, out: &mut [Event]) -> Result<Option<usize>, NoId>
+    /// Moves what is pending behind a cursor into the slice, as far as it fits.
+    pub fn take(&mut self, id: u64, out: &mut [Event]) -> Result<Found, NoId>
         ensures { TakesBy self.old self.new id out.old out.new result }
     {
         let end = self.end();
@@ -156,8 +179,11 @@ impl Backlog {
             return Err(NoId);
         };
         let from = *next;
+        if from < self.base {
+            return Ok(Found::Lost);
+        }
         if from == end {
-            return Ok(None);
+            return Ok(Found::Nothing);
         }
         let place = (from - self.base) as usize;
         let count = copy_out(&self.ring, place, out);
@@ -165,7 +191,7 @@ impl Backlog {
         one_less(&mut self.counts, place);
         one_more(&mut self.counts, place + count);
         self.base += release(&mut self.ring, &mut self.counts) as u64;
-        Ok(Some(count))
+        Ok(Found::Moved(count))
     }
 
     /// Removes the cursor of an id, and releases what was pending for it alone.
@@ -175,6 +201,9 @@ impl Backlog {
         let Some(next) = self.cursors.shift_remove(&id) else {
             return Err(NoId);
         };
+        if next < self.base {
+            return Ok(());
+        }
         one_less(&mut self.counts, (next - self.base) as usize);
         self.base += release(&mut self.ring, &mut self.counts) as u64;
         Ok(())

@@ -70,8 +70,8 @@ fn first_counted(counts: &[u64]) -> Option<usize>
     counts.iter().position(|count| *count > 0)
 }
 
-// Most takes leave a cursor at the base, so this look is often enough.
-fn has_first(counts: &HeapCircularBuffer<u64>) -> bool
+/// Whether a cursor is at the first place. Most takes leave one at the base, so this look is often enough.
+pub fn has_first(counts: &HeapCircularBuffer<u64>) -> bool
     ensures { result ≡ nat_lt 0 (get_or counts.now.items 0 0) }
 {
     match counts.front() {

@@ -8,10 +8,12 @@
 //! **Delivery.** The mark of a subscription is the number of events that there were when it subscribed. A subscription
 //! gets the events from its mark on, each once and in order, and no earlier event.
 //!
-//! **A slow subscriber.** A pipe that nobody reads loses letters silently. Here no event is dropped that is pending for
-//! a subscription. The events from the least cursor on are in a ring that is made with the record. A message that
-//! doesn't fit is refused whole (`PubError::Full`), and there is room again after the slowest subscription takes or is
-//! cancelled. If no subscription is current nothing is kept, and no message is too long for the ring.
+//! **A slow subscriber.** A pipe that nobody reads loses letters silently. Here a ring that is made with the record keeps
+//! the events that are pending, and the record's policy says what happens if a message doesn't fit. With `Policy::Hold` no
+//! event is dropped that is pending for a subscription: the message is refused whole (`PubError::Full`), and there is
+//! room again after the slowest subscription takes or is cancelled. With `Policy::Evict` the slowest subscriptions give
+//! way: they are evicted, and each take of one reports `Taken::Evicted`. So no subscription gets a list with a hole that
+//! looks whole. If no subscription stands nothing is kept, and no message is too long for the ring.
 //!
 //! **Closing.** A closed record takes no event and no subscription any more. Pending events can still be taken; after
 //! them a take reports `Taken::End`.
@@ -31,7 +33,7 @@ mod runs;
 
 use hub_letters::{Flags, Letter};
 pub use letters::Letters;
-pub use limits::{Limits, MOST_EVENTS, MOST_IDS, MOST_PASSES, MOST_WAITING};
+pub use limits::{Limits, MOST_EVENTS, MOST_IDS, MOST_PASSES, MOST_WAITING, Policy};
 pub use record::Record;
 pub use runs::{Call, Said, World, replay};
 use thiserror::Error;
@@ -71,6 +73,9 @@ pub enum Taken {
     Nothing,
     /// Nothing is pending, and nothing will be: the record is closed.
     End,
+    /// Nothing is pending any more, and nothing will be. More events were pending than may be, and with the policy
+    /// [`Policy::Evict`] they gave way to later ones.
+    Evicted,
 }
 
 /// Why there is no new subscription. If several reasons hold, the first in this order is reported.

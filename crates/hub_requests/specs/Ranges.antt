@@ -22,8 +22,8 @@ pub record IsWait (turns : ℕ) (names : List (List ℕ)) : Type 0 where
 
 -- each number of the request is in its range
 abbrev pub IsInRange : Request → Type 0
-IsInRange (Dir name waiting total) = AreLimits waiting total
-IsInRange (Svc name waiting total notifies) = AreLimits waiting total
+IsInRange (Dir name waiting total evict) = AreLimits waiting total
+IsInRange (Svc name waiting total notifies evict) = AreLimits waiting total
 IsInRange (Take id max) = IsTake max
 IsInRange (Wait span want turns names) = IsWait turns names
 IsInRange request = Unit {0}

@@ -3,7 +3,7 @@ use Rattle.std.specs.Prelude.{ℕ, List, [], ◌∷◌, ◌++◌, codes, Bool, t
 use Rattle.std.specs.Fmt.{decimal}
 use Rattle.hub_letters.specs.Flags.{code_of}
 use Rattle.hub_requests.specs.declared.reply.Reply.{Reply}
-use Rattle.hub_requests.specs.declared.reply.Reply.TheVariants.{Done, Number, State, Got, Hit, Nothing, End, Yes, Never, Late, No}
+use Rattle.hub_requests.specs.declared.reply.Reply.TheVariants.{Done, Number, State, Got, Hit, Nothing, End, Evicted, Yes, Never, Late, No}
 use Rattle.hub_requests.specs.declared.reply.Refusal.{Refusal}
 use Rattle.hub_requests.specs.declared.reply.Refusal.TheVariants.{Long, Text, Word, Form, Range, Name, Exists, Kind, Id, Many, Spent, Closed, Unlawful, Full, Pattern, Overlong, Memory}
 
@@ -51,6 +51,7 @@ line_of (Got letters) = codes "got " ++ letters
 line_of (Hit letters) = codes "hit " ++ letters
 line_of Nothing = codes "none"
 line_of End = codes "end"
+line_of Evicted = codes "evicted"
 line_of (Yes numbers) = codes "yes" ++ numbers_text numbers
 line_of Never = codes "never"
 line_of Late = codes "late"

@@ -20,6 +20,8 @@ pub enum Reply {
     Nothing,
     /// No event is pending, and none will be: the fifodir is closed.
     End,
+    /// No event is pending, and none will be: more were pending than may be, and the subscription was evicted.
+    Evicted,
     /// All of the services are as wanted, or at least one of them for `any`. Each has its number of events here, or
     /// none if it isn't as wanted.
     Yes(Numbers),
@@ -60,7 +62,8 @@ pub enum Refusal {
     Closed,
     /// The letter at this place of the message, from 0, is unlawful there.
     Unlawful(u64),
-    /// More events would be pending for the slowest subscription than the fifodir's limit. The publisher retries.
+    /// More events would be pending for the slowest subscription than the fifodir's limit, and it isn't evicted; or the
+    /// message alone is longer than that. The publisher retries in the first case.
     Full,
     /// The text isn't a pattern, or the pattern is too large.
     Pattern,
@@ -90,8 +93,13 @@ impl Reply {
             }
             Reply::Yes(numbers) => numbers.are_short(),
             Reply::No(Refusal::Unlawful(place)) => number_is_short(*place),
-            Reply::Done | Reply::Nothing | Reply::End | Reply::Never | Reply::Late | Reply::No(_) =>
-                {}
+            Reply::Done
+            | Reply::Nothing
+            | Reply::End
+            | Reply::Evicted
+            | Reply::Never
+            | Reply::Late
+            | Reply::No(_) => {}
         }
     }
 }

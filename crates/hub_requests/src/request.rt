@@ -8,12 +8,14 @@ use hub_record::Letters;
 /// A request. Each variant has a line of its own form, which begins with the variant's word.
 #[derive(Drop)]
 pub enum Request {
-    /// Makes a plain fifodir. At most `waiting` events may be pending for its slowest subscription (1 to 4,096), and it
-    /// takes `total` events in its life (1 to 10^12).
+    /// Makes a plain fifodir. At most `waiting` events may be pending for a subscription (1 to 4,096), and it takes `total`
+    /// events in its life (1 to 10^12). `evict` says whether a subscription for which more would be pending is evicted,
+    /// or the message is refused.
     Dir {
         name: Name,
         waiting: u64,
         total: u64,
+        evict: bool,
     },
     /// Makes the fifodir of a service, which takes only letters in their lawful order. `notifies` says whether the
     /// service reports its readiness.
@@ -22,6 +24,7 @@ pub enum Request {
         waiting: u64,
         total: u64,
         notifies: bool,
+        evict: bool,
     },
     /// Subscribes to all events from now on.
     Sub {

@@ -54,18 +54,18 @@ impl Model for Names {
 }
 
 impl Names {
-    /// Wraps the names.
-    pub fn of(names: Vec<Name>) -> Names
-        ensures { result ≡ names.items }
-    {
-        Names { names }
-    }
-
     /// The names, borrowed.
     pub fn items(&self) -> &[Name]
         ensures { result.now ≡ self.now }
     {
         &self.names
+    }
+
+    /// Wraps the names.
+    pub fn of(names: Vec<Name>) -> Names
+        ensures { result ≡ names.items }
+    {
+        Names { names }
     }
 }
 

@@ -141,6 +141,7 @@ subscribed_named hub fs hs ks name (answer.Got l) (inl (j, at, a)) n = absurd a
 subscribed_named hub fs hs ks name (answer.Hit l) (inl (j, at, a)) n = absurd a
 subscribed_named hub fs hs ks name answer.Nothing (inl (j, at, a)) n = absurd a
 subscribed_named hub fs hs ks name answer.End (inl (j, at, a)) n = absurd a
+subscribed_named hub fs hs ks name answer.Evicted (inl (j, at, a)) n = absurd a
 subscribed_named hub fs hs ks name (answer.Yes l) (inl (j, at, a)) n = absurd a
 subscribed_named hub fs hs ks name answer.Never (inl (j, at, a)) n = absurd a
 subscribed_named hub fs hs ks name answer.Late (inl (j, at, a)) n = absurd a
@@ -162,6 +163,7 @@ listened_named hub fs hs ks name mode pattern (answer.Got l) (inl (j, at, a)) n 
 listened_named hub fs hs ks name mode pattern (answer.Hit l) (inl (j, at, a)) n = absurd a
 listened_named hub fs hs ks name mode pattern answer.Nothing (inl (j, at, a)) n = absurd a
 listened_named hub fs hs ks name mode pattern answer.End (inl (j, at, a)) n = absurd a
+listened_named hub fs hs ks name mode pattern answer.Evicted (inl (j, at, a)) n = absurd a
 listened_named hub fs hs ks name mode pattern (answer.Yes l) (inl (j, at, a)) n = absurd a
 listened_named hub fs hs ks name mode pattern answer.Never (inl (j, at, a)) n = absurd a
 listened_named hub fs hs ks name mode pattern answer.Late (inl (j, at, a)) n = absurd a
@@ -183,6 +185,7 @@ polls_named : (fs : Fifodirs) (before after : SessionListener) (reply : Reply) �
 polls_named fs before after (answer.Hit hit) (fed, hears, is, unheld) n = same_named fs before.subscription after.subscription hears.comes.ticket n
 polls_named fs before after answer.Nothing (few, (fed, hears), why) n = same_named fs before.subscription after.subscription hears.comes.ticket n
 polls_named fs before after answer.End (few, (fed, hears), why) n = same_named fs before.subscription after.subscription hears.comes.ticket n
+polls_named fs before after answer.Evicted (few, (fed, hears), why) n = same_named fs before.subscription after.subscription hears.comes.ticket n
 polls_named fs before after (answer.No refusal) (inl (e, full, same)) n = subst (λ (h : SessionListener). IsNamed fs h.subscription) (sym same) n
 polls_named fs before after (answer.No refusal) (inr (e, few, (fed, hears), more)) n = same_named fs before.subscription after.subscription hears.comes.ticket n
 polls_named fs before after answer.Done p n = absurd p
@@ -224,8 +227,8 @@ same_both : (hub : Hub) (fs gs : Fifodirs) (hs ks : Handles) → gs ≡ fs → k
 same_both hub fs gs hs ks e f n = subst (λ (z : Fifodirs). AreNamed hub z ks) (sym e) (subst (AreNamed hub fs) (sym f) n)
 
 asked_named : (hub : Hub) (fs gs : Fifodirs) (hs ks : Handles) (request : Request) (reply : Reply) → AreNamed hub fs hs → CarriesOut hub fs hs request reply gs ks → AreNamed hub gs ks
-asked_named hub fs gs hs ks (Dir name waiting total) reply n (made, e, f) = same_both hub fs gs hs ks e f n
-asked_named hub fs gs hs ks (Svc name waiting total notifies) reply n (made, e, f) = same_both hub fs gs hs ks e f n
+asked_named hub fs gs hs ks (Dir name waiting total evict) reply n (made, e, f) = same_both hub fs gs hs ks e f n
+asked_named hub fs gs hs ks (Svc name waiting total notifies evict) reply n (made, e, f) = same_both hub fs gs hs ks e f n
 asked_named hub fs gs hs ks (Sub name) reply n (keeps, a) = subscribed_named hub gs hs ks name reply a (all_still hub fs gs hs keeps n)
 asked_named hub fs gs hs ks (Pub name letters) reply n (a, f) = subst (AreNamed hub gs) (sym f) (spoken_named hub _ fs gs hs name reply a n)
 asked_named hub fs gs hs ks (Take id max) reply n (e, a) = subst (λ (z : Fifodirs). AreNamed hub z ks) (sym e) (taken_named hub fs hs ks id max reply a n)

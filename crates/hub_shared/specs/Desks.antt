@@ -40,8 +40,8 @@ ListensTo fs name mode pattern old reply new = ((j : Joined) × (joined_at fs na
 -- What a request leads to. Of what the hub has, which other sessions change, nothing can be said but by what the
 -- session's own passes see.
 abbrev pub CarriesOut : Hub → Fifodirs → Handles → Request → Reply → Fifodirs → Handles → Type 0
-CarriesOut hub fs hs (Dir name waiting total) reply gs ks = IsMadeReply reply × (gs ≡ fs) × (ks ≡ hs)
-CarriesOut hub fs hs (Svc name waiting total notifies) reply gs ks = IsMadeReply reply × (gs ≡ fs) × (ks ≡ hs)
+CarriesOut hub fs hs (Dir name waiting total evict) reply gs ks = IsMadeReply reply × (gs ≡ fs) × (ks ≡ hs)
+CarriesOut hub fs hs (Svc name waiting total notifies evict) reply gs ks = IsMadeReply reply × (gs ≡ fs) × (ks ≡ hs)
 CarriesOut hub fs hs (Sub name) reply gs ks = KeepsAll hub fs gs × SubscribesTo gs name hs reply ks
 CarriesOut hub fs hs (Pub name letters) reply gs ks = AsksByName hub (says_published letters) fs name reply gs × (ks ≡ hs)
 CarriesOut hub fs hs (Take id max) reply gs ks = (gs ≡ fs) × TakesAt hs id max reply ks

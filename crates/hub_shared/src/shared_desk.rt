@@ -21,8 +21,8 @@ use watched::Watched;
 /// first `pub`, `close` or `status` of that name; `status` is one load through that publisher and waits for nobody.
 /// Each wait begins with a copy of the pause.
 ///
-/// A desk that was dropped would keep its subscriptions, and the events that are pending for them would fill the
-/// fifodirs. So it isn't `Drop`, and only `release` takes it.
+/// A desk that was dropped would keep its subscriptions, and the events that are pending for them would fill those
+/// fifodirs that hold. So it isn't `Drop`, and only `release` takes it.
 pub struct SharedDesk<P: Pause + Copy> {
     alloc: Global,
     hub: Arc<Hub, Global>,
@@ -105,13 +105,27 @@ impl<P: Pause + Copy> Desk for SharedDesk<P> {
                 name,
                 waiting,
                 total,
-            } => self.make(rt, name, Kind::Plain, false, limits(*waiting, *total)),
+                evict,
+            } => self.make(
+                rt,
+                name,
+                Kind::Plain,
+                false,
+                limits(*waiting, *total, *evict),
+            ),
             Request::Svc {
                 name,
                 waiting,
                 total,
                 notifies,
-            } => self.make(rt, name, Kind::Service, *notifies, limits(*waiting, *total)),
+                evict,
+            } => self.make(
+                rt,
+                name,
+                Kind::Service,
+                *notifies,
+                limits(*waiting, *total, *evict),
+            ),
             Request::Sub { name } => match self.fifodirs.find(rt, &self.hub, name) {
                 Ok(found) => self.handles.subscribe(rt, name, found.dir),
                 Err(refusal) => Reply::No(refusal),

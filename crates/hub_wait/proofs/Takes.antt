@@ -1,17 +1,20 @@
 -- A watch and its ticket, after a take.
-use Rattle.std.proofs.Common.{◌≡◌, ◌≢◌, ℕ, ◌+◌, ◌-◌, ◌≤◌, List, ◌++◌, take, drop, length, true, sym, ap, subst, ◌∙◌, arith}
-use Rattle.std.proofs.lemmas.List.{take-append-le, length-append, length-take-le, length-drop, length-map, drop-take, take-take, drop-map, take-map, map-append}
+use Rattle.std.proofs.Common.{◌≡◌, ◌≢◌, ℕ, ◌+◌, ◌-◌, ◌≤◌, Bool, true, false, ◌||◌, ◌&&◌, inl, inr, List, ◌++◌, take, drop, length, sym, refl, ap, subst, ◌∙◌, arith}
+use Rattle.std.proofs.lemmas.Bool.{cases_Bool, ltb-true, lt-ltb}
+use Rattle.std.proofs.lemmas.List.{take_all, take-append-le, length-append, length-take-le, length-drop, length-map, drop-take, take-take, drop-map, take-map, map-append}
 use Rattle.hub_letters.specs.Flags.{flags_of}
 use Rattle.hub_record.specs.declared.Event.{Event}
 use Rattle.hub_record.specs.declared.Taken.TheVariants.{Got}
-use Rattle.hub_record.specs.World.{letters}
+use Rattle.hub_record.specs.declared.Status.{Status}
+use Rattle.hub_record.specs.World.{letters, is_slow, evicts}
 use Rattle.hub_fifodir.specs.declared.ticket.Ticket.{Ticket}
 use Rattle.hub_fifodir.specs.Events.{StartsWith, slice}
-use Rattle.hub_fifodir.specs.Passes.{ticket_mark, ticket_next, ticket_seen, ticket_closed, ticket_sight, HasTaken, slice_after_take}
+use Rattle.hub_fifodir.specs.Passes.{ticket_mark, ticket_next, ticket_seen, ticket_closed, ticket_sight, ticket_rules, is_evicted_by, is_evicted_at, HasTaken, IsStatusOf, slice_after_take}
 use Rattle.hub_fifodir.specs.Steps.{Grows}
-use Rattle.hub_wait.specs.Watching.{Watching, watching_after_step}
+use Rattle.hub_wait.specs.Watching.{Watching, watching_after_step, renewed_by}
 use Rattle.hub_wait.specs.Histories.{ShowsFlagsOf, IsSlice}
 use Rattle.hub_wait.specs.Reading.{Reads}
+use Rattle.hub_fifodir.proofs.Publishing.{closed_when}
 use Rattle.hub_wait.proofs.Steps.{ShowsFlagsOf-stepped}
 
 -- a watch follows a history that goes on
@@ -109,3 +112,41 @@ Reads-ended new w r all closed = record {
   reached = r.reached;
   ended = λ is. (closed, at_end new w r all);
 }
+
+-- after a status of what the ticket has seen
+pub Reads-renewed : (old new : Ticket) (w : Watching) (status : Status) → Reads old w → Grows (ticket_sight old) (ticket_sight new) → ticket_mark new ≡ ticket_mark old → ticket_next new ≡ ticket_next old
+    → IsStatusOf status (ticket_sight new) → Reads new (renewed_by w status)
+Reads-renewed old new w status r grows mark next is =
+    let kept = Reads-kept old new w r grows mark next in
+    let all : length (letters (ticket_seen new)) ≡ length (ticket_seen new) = length-map (ticket_seen new) _ in
+    let number = is.0 in
+    let inside = kept.follows.within in
+    let marked = kept.marked in
+    let reached = kept.reached in
+    record {
+      follows = record {
+        within = omega (arith, all, number);
+        flags = is.1 ∙ ap flags_of (sym (take_all status.number (letters (ticket_seen new)) (omega (arith, all, number))));
+      };
+      marked = omega (arith, marked, inside, all, number);
+      reached = omega (arith, reached, inside, all, number);
+      ended = by w.ended refl;
+    }
+  where
+    by : (e : Bool) → w.ended ≡ e → (e || status.closed) ≡ true → (ticket_closed new ≢ 0) × (status.number ≡ length (ticket_seen new))
+    by true was so = (((Reads-kept old new w r grows mark next).ended was).0, is.0)
+    by false was so = (closed_when (ticket_closed new) status.closed is.2 so, is.0)
+
+-- it knows then all that the ticket has seen, and an evicted ticket stays evicted
+pub stays_evicted : (old new : Ticket) → Grows (ticket_sight old) (ticket_sight new) → ticket_rules new ≡ ticket_rules old → (next : ℕ) → is_evicted_at old next ≡ true → is_evicted_at new next ≡ true
+stays_evicted old new grows rules next out =
+    let limits = (ticket_rules old).limits in
+    let longer = length-append (ticket_seen old) grows.0.0 in
+    let long = ap length grows.0.1 in
+    elim (cases_Bool (evicts limits.policy)) [
+      | inl e ↦ (let slow : is_slow limits.waiting (length (ticket_seen old)) next ≡ true = sym (ap (λ b. b && is_slow limits.waiting (length (ticket_seen old)) next) e) ∙ out in
+          let far = ltb-true limits.waiting (length (ticket_seen old) - next) slow in
+          ap (λ r. is_evicted_by r (ticket_sight new) next) rules ∙ ap (λ b. b && is_slow limits.waiting (length (ticket_seen new)) next) e
+          ∙ lt-ltb limits.waiting (length (ticket_seen new) - next) (omega arith))
+      | inr n ↦ absurd (let no : false ≡ true = sym (ap (λ b. b && is_slow limits.waiting (length (ticket_seen old)) next) n) ∙ out in cc)
+    ]

@@ -9,7 +9,7 @@ use Rattle.hub_record.specs.declared.Status.{Status}
 use Rattle.hub_record.specs.World.{letters}
 use Rattle.hub_fifodir.specs.declared.fifodir.Fifodir.{Fifodir}
 use Rattle.hub_fifodir.specs.Events.{StartsWith, is_closed}
-use Rattle.hub_fifodir.specs.Passes.{IsTicketOf, ticket_mark, ticket_next, ticket_seen, ticket_closed}
+use Rattle.hub_fifodir.specs.Passes.{IsTicketOf, ticket_mark, ticket_next, ticket_seen, ticket_closed, is_evicted_at}
 use Rattle.hub_wait.specs.declared.post.Post.{Post}
 use Rattle.hub_wait.specs.declared.post.TheConstants.{SLICE, SLICES}
 use Rattle.hub_wait.specs.Watching.{Watching, new_watching}
@@ -58,17 +58,23 @@ pub record IsKept (old new : Post) : Type 0 where
   pub seen : StartsWith (seen_of new) (seen_of old)
   pub follows : ShowsFlagsOf (watch_of new) (letters (seen_of new))
 
--- it took all that was seen, or as many slices as it may; it is ended only at the end of a closed record, and it is ended
--- if it took nothing and has seen the close
+-- its ticket is evicted, and its watch goes on from the status of what it has seen
+pub record IsRenewed (p : Post) : Type 0 where
+  pub evicted : is_evicted_at p.ticket (next_of p) ≡ true
+  pub renewed : (watch_of p).at ≡ length (seen_of p)
+
+-- it took all that was seen, or as many slices as it may, or it is renewed; it is ended only at the end of a closed record,
+-- and it is ended if it took nothing and has seen the close
 pub record HasCaughtUp (old new : Post) : Type 0 where
-  pub all : (next_of new ≡ length (seen_of new)) ⊎ (next_of new ≡ next_of old + SLICE * SLICES)
+  pub all : (next_of new ≡ length (seen_of new)) ⊎ ((next_of new ≡ next_of old + SLICE * SLICES) ⊎ IsRenewed new)
   pub ended_only : (watch_of new).ended ≡ true → (closed_of new ≢ 0) × ((watch_of new).at ≡ length (seen_of new))
   pub ended : closed_of new ≢ 0 → next_of new ≡ next_of old → (watch_of new).ended ≡ true
 
--- the slice was full, or all that was seen is taken; and it is ended if nothing was taken and the close was seen
+-- the slice was full, or all that was seen is taken, or it is renewed; and it is ended if nothing was taken and the close
+-- was seen
 pub record HasTakenSlice (old : Post) (whole : Bool) (new : Post) : Type 0 where
   pub more : whole ≡ true → next_of new ≡ next_of old + SLICE
-  pub all : whole ≡ false → next_of new ≡ length (seen_of new)
+  pub all : whole ≡ false → (next_of new ≡ length (seen_of new)) ⊎ IsRenewed new
   pub ended : closed_of new ≢ 0 → next_of new ≡ next_of old → (watch_of new).ended ≡ true
 
 -- Its fifodir had a wanted state after it subscribed: that of the first so many events of the record, as far as its ticket

@@ -21,7 +21,7 @@ pub const SLICE: usize = 256;
 pub const SLICES: u64 = 16;
 
 /// A subscription to a service's events, and what is known of the service by it. A post that was dropped would keep its
-/// subscription, and the events that are pending for it would fill the fifodir. So a post isn't `Drop`, and only `end`
+/// subscription, and with the policy Hold the events that are pending for it would fill the fifodir. So a post isn't `Drop`, and only `end`
 /// takes it.
 pub struct Post {
     fifodir: Arc<Fifodir, Global>,
@@ -74,7 +74,8 @@ impl Post {
         self.ticket.mark()
     }
 
-    /// Takes what came meanwhile: slices of [`SLICE`] events, until one isn't whole or [`SLICES`] were taken.
+    /// Takes what came meanwhile: slices of [`SLICE`] events, until one isn't whole or [`SLICES`] were taken. If the
+    /// subscription is evicted, the watch goes on from the status: what it missed lies between two of its numbers.
     pub fn catch_up<R: Wait>(&mut self, rt: &R)
         ensures kept { IsKept self.old self.new }
         ensures caught_up { HasCaughtUp self.old self.new }
@@ -101,6 +102,10 @@ impl Post {
             Taken::Nothing => false,
             Taken::End => {
                 self.watch.end();
+                false
+            }
+            Taken::Evicted => {
+                self.watch.renew(self.fifodir.status(&mut self.ticket));
                 false
             }
         }

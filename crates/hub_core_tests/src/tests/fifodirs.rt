@@ -1,11 +1,12 @@
 use crate::tests::fixtures::{BLANK, are_events, none_is_unlike, word};
 use crate::tests::passes::{
-    Reader, Sender, Shared, end_all, keep, new_reader, new_sender, open, publisher, ticket,
+    Reader, Sender, Shared, end_all, keep, new_reader, new_sender, open, open_with, publisher,
+    ticket,
 };
 use hub_fifodir::together::{Unsent, send_both, send_on};
 use hub_fifodir::{Fifodir, PassError, word as front_word};
 use hub_letters::{Flags, Letter};
-use hub_record::{Closed, Event, Kind, Limits, PubError, Status, SubError, Taken};
+use hub_record::{Closed, Event, Kind, Limits, Policy, PubError, Status, SubError, Taken};
 use std::alloc::{AllocError, Global};
 use std::process::Abort;
 use std::sync::{Arc, Wait};
@@ -248,6 +249,47 @@ static ROWS: [Row; 10] = [
     },
 ];
 
+/// Rows of fifodirs that evict.
+static EVICTING: [Row; 2] = [
+    Row {
+        name: "a slow ticket is evicted, and no other",
+        kind: Kind::Plain,
+        limits: (2, 100, 10),
+        steps: &[
+            Step::Subscribe(Ok((1, 0))),
+            Step::Subscribe(Ok((2, 0))),
+            Step::Join(Ok(1)),
+            Step::Publish("ab", Ok(0)),
+            Step::Take(1, Taken::Got(2), [(1, b'a'), (1, b'b'), BLANK]),
+            Step::Publish("c", Ok(2)),
+            Step::Take(0, Taken::Evicted, [BLANK, BLANK, BLANK]),
+            Step::Take(1, Taken::Got(1), [(1, b'c'), BLANK, BLANK]),
+            Step::Ticket(0, (1, 0, 0)),
+            Step::Shows(0, (3, 0, false)),
+            Step::Publish("def", Err(PubError::Full)),
+            Step::Close(Ok(())),
+            Step::Take(0, Taken::Evicted, [BLANK, BLANK, BLANK]),
+            Step::Cancel(0),
+            Step::Take(0, Taken::End, [BLANK, BLANK, BLANK]),
+        ],
+    },
+    Row {
+        name: "a service's letters are lawful though the slow one missed some",
+        kind: Kind::Service,
+        limits: (2, 100, 10),
+        steps: &[
+            Step::Subscribe(Ok((1, 0))),
+            Step::Join(Ok(1)),
+            Step::Publish("su", Ok(0)),
+            Step::Publish("U", Ok(2)),
+            Step::Take(0, Taken::Evicted, [BLANK, BLANK, BLANK]),
+            Step::Publish("U", Err(PubError::Unlawful(0))),
+            Step::Publish("dD", Ok(3)),
+            Step::Shows(0, (5, 6, false)),
+        ],
+    },
+];
+
 /// A fifodir with the passes that were given.
 struct Scene {
     fifodir: Shared,
@@ -417,9 +459,9 @@ fn status_by(reader: &mut Reader) -> (u64, u64, bool) {
     (status.number, status.flags.code(), status.closed)
 }
 
-fn goes_so<R: Wait>(rt: &R, alloc: Global, row: &Row) -> Result<bool, Fail> {
+fn goes_so<R: Wait>(rt: &R, alloc: Global, row: &Row, policy: Policy) -> Result<bool, Fail> {
     let mut scene = Scene {
-        fifodir: open(alloc, row.kind, row.limits)?,
+        fifodir: open_with(alloc, row.kind, row.limits, policy)?,
         senders: Vec::new(alloc),
         readers: Vec::new(alloc),
         events: 0,
@@ -431,9 +473,14 @@ fn goes_so<R: Wait>(rt: &R, alloc: Global, row: &Row) -> Result<bool, Fail> {
 }
 
 /// The name of the first row that goes otherwise.
-fn first_unlike<R: Wait>(rt: &R, alloc: Global) -> Result<Option<&'static str>, Fail> {
-    for row in ROWS.iter() {
-        if !goes_so(rt, alloc, row)? {
+fn first_unlike<R: Wait>(
+    rt: &R,
+    alloc: Global,
+    rows: &[Row],
+    policy: Policy,
+) -> Result<Option<&'static str>, Fail> {
+    for row in rows {
+        if !goes_so(rt, alloc, row, policy)? {
             return Ok(Some(row.name));
         }
     }
@@ -443,7 +490,11 @@ fn first_unlike<R: Wait>(rt: &R, alloc: Global) -> Result<Option<&'static str>, 
 #[test]
 fn fifodirs_by_rows(rt: HostRuntime) -> Result<(), Fail> {
     assert!(rt; front_words_are_packed(), "front words");
-    none_is_unlike(&rt, first_unlike(&rt, rt.alloc())?);
+    none_is_unlike(&rt, first_unlike(&rt, rt.alloc(), &ROWS, Policy::Hold)?);
+    none_is_unlike(
+        &rt,
+        first_unlike(&rt, rt.alloc(), &EVICTING, Policy::Evict)?,
+    );
     Ok(())
 }
 

@@ -6,7 +6,7 @@ ghost use Rattle.hub_fifodir.specs.Passes.{HasTaken, IsPublisherOf, IsTicketOf, 
 
 use hub_fifodir::{Fifodir, PassError, Publisher, Ticket};
 use hub_letters::Letter;
-use hub_record::{Closed, Event, Kind, Limits, PubError, Status, SubError, Taken};
+use hub_record::{Closed, Event, Kind, Limits, Policy, PubError, Status, SubError, Taken};
 use std::alloc::{AllocError, Global};
 use std::process::Abort;
 use std::sync::{Arc, Wait};
@@ -16,9 +16,18 @@ pub(crate) type Shared = Arc<Fifodir, Global>;
 
 /// A fifodir with these limits: how many may be pending, how many events there may be in all, and how many ids.
 pub(crate) fn open(alloc: Global, kind: Kind, limits: (u64, u64, u64)) -> Result<Shared, Fail> {
+    open_with(alloc, kind, limits, Policy::Hold)
+}
+
+pub(crate) fn open_with(
+    alloc: Global,
+    kind: Kind,
+    limits: (u64, u64, u64),
+    policy: Policy,
+) -> Result<Shared, Fail> {
     let (waiting, total, ids) = limits;
     let limits = Limits::of(waiting, total, ids).ok_or("no limits")?;
-    Ok(Arc::new(alloc, Fifodir::new(alloc, kind, limits)?)?)
+    Ok(Arc::new(alloc, Fifodir::new(alloc, kind, limits.with(policy))?)?)
 }
 
 /// A pass beside the fifodir that made it.

@@ -2,8 +2,8 @@
 use crate::tests::fixtures::{BLANK, are_events, none_is_unlike, word};
 use hub_letters::Stage;
 use hub_record::{
-    Call, Closed, Event, Kind, Letters, Limits, NoId, PubError, Record, Said, SubError, Taken,
-    World, replay,
+    Call, Closed, Event, Kind, Letters, Limits, NoId, Policy, PubError, Record, Said, SubError,
+    Taken, World, replay,
 };
 use std::alloc::Global;
 use std::io;
@@ -161,6 +161,86 @@ static ROWS: [Row; 7] = [
     },
 ];
 
+/// Rows of records that evict.
+static EVICTING: [Row; 4] = [
+    Row {
+        name: "the slowest is evicted, and no other",
+        kind: Kind::Plain,
+        limits: (4, 100, 10),
+        steps: &[
+            Step::Subscribe(Ok((1, 0))),
+            Step::Subscribe(Ok((2, 0))),
+            Step::Publish(1, "abcd", Ok(0)),
+            Step::Take(1, Ok(Taken::Got(3)), [(1, b'a'), (1, b'b'), (1, b'c')]),
+            Step::Publish(1, "ef", Ok(4)),
+            Step::Counts(6, 3, Some(3)),
+            Step::Take(2, Ok(Taken::Evicted), [BLANK, BLANK, BLANK]),
+            Step::Take(1, Ok(Taken::Got(3)), [(1, b'd'), (1, b'e'), (1, b'f')]),
+            Step::Take(1, Ok(Taken::Nothing), [BLANK, BLANK, BLANK]),
+            Step::Take(2, Ok(Taken::Evicted), [BLANK, BLANK, BLANK]),
+            Step::Cancel(2, Ok(())),
+            Step::Take(2, Err(NoId), [BLANK, BLANK, BLANK]),
+            Step::Publish(1, "ghijk", Err(PubError::Full)),
+            Step::Cancel(1, Ok(())),
+            Step::Publish(1, "ghijk", Ok(6)),
+            Step::Counts(11, 11, None),
+        ],
+    },
+    Row {
+        name: "an evicted one stays so until it is cancelled",
+        kind: Kind::Plain,
+        limits: (2, 100, 10),
+        steps: &[
+            Step::Subscribe(Ok((1, 0))),
+            Step::Publish(1, "ab", Ok(0)),
+            Step::Counts(2, 0, Some(2)),
+            Step::Publish(1, "c", Ok(2)),
+            Step::Counts(3, 3, None),
+            Step::Take(1, Ok(Taken::Evicted), [BLANK, BLANK, BLANK]),
+            Step::Subscribe(Ok((2, 3))),
+            Step::Publish(1, "de", Ok(3)),
+            Step::Take(1, Ok(Taken::Evicted), [BLANK, BLANK, BLANK]),
+            Step::Take(2, Ok(Taken::Got(2)), [(1, b'd'), (1, b'e'), BLANK]),
+            Step::Close(Ok(())),
+            Step::Take(2, Ok(Taken::End), [BLANK, BLANK, BLANK]),
+            Step::Take(1, Ok(Taken::Evicted), [BLANK, BLANK, BLANK]),
+            Step::Cancel(1, Ok(())),
+            Step::Cancel(1, Err(NoId)),
+        ],
+    },
+    Row {
+        name: "the total and an empty message",
+        kind: Kind::Plain,
+        limits: (3, 5, 10),
+        steps: &[
+            Step::Subscribe(Ok((1, 0))),
+            Step::Publish(1, "abc", Ok(0)),
+            Step::Publish(1, "", Ok(3)),
+            Step::Counts(3, 0, Some(3)),
+            Step::Publish(1, "def", Err(PubError::Spent)),
+            Step::Publish(1, "de", Ok(3)),
+            Step::Counts(5, 5, None),
+            Step::Publish(1, "f", Err(PubError::Spent)),
+        ],
+    },
+    Row {
+        name: "evicted ones are among the thousand and twenty-four",
+        kind: Kind::Plain,
+        limits: (1, 100, 2000),
+        steps: &[
+            Step::SubscribeUpTo(1024),
+            Step::Publish(1, "a", Ok(0)),
+            Step::Publish(1, "b", Ok(1)),
+            Step::Take(1024, Ok(Taken::Evicted), [BLANK, BLANK, BLANK]),
+            Step::Subscribe(Err(SubError::Many)),
+            Step::Cancel(7, Ok(())),
+            Step::Subscribe(Ok((1025, 2))),
+            Step::Publish(1, "c", Ok(2)),
+            Step::Take(1025, Ok(Taken::Got(1)), [(1, b'c'), BLANK, BLANK]),
+        ],
+    },
+];
+
 fn takes(
     record: &mut Record,
     id: u64,
@@ -221,19 +301,19 @@ fn answers_all(alloc: Global, record: &mut Record, steps: &[Step]) -> io::Result
     Ok(true)
 }
 
-fn goes_so(alloc: Global, row: &Row) -> io::Result<bool> {
+fn goes_so(alloc: Global, row: &Row, policy: Policy) -> io::Result<bool> {
     let (waiting, total, ids) = row.limits;
     let Some(limits) = Limits::of(waiting, total, ids) else {
         return Ok(false);
     };
-    let mut record = Record::new(alloc, row.kind, limits)?;
+    let mut record = Record::new(alloc, row.kind, limits.with(policy))?;
     answers_all(alloc, &mut record, row.steps)
 }
 
 /// The name of the first row that goes otherwise.
-fn first_unlike(alloc: Global) -> io::Result<Option<&'static str>> {
-    for row in ROWS.iter() {
-        if !goes_so(alloc, row)? {
+fn first_unlike(alloc: Global, rows: &[Row], policy: Policy) -> io::Result<Option<&'static str>> {
+    for row in rows {
+        if !goes_so(alloc, row, policy)? {
             return Ok(Some(row.name));
         }
     }
@@ -243,7 +323,8 @@ fn first_unlike(alloc: Global) -> io::Result<Option<&'static str>> {
 #[test]
 fn records_by_rows(rt: HostRuntime) -> Result<(), Fail> {
     assert_eq!(rt; limits_within_their_ranges(), 8);
-    none_is_unlike(&rt, first_unlike(rt.alloc())?);
+    none_is_unlike(&rt, first_unlike(rt.alloc(), &ROWS, Policy::Hold)?);
+    none_is_unlike(&rt, first_unlike(rt.alloc(), &EVICTING, Policy::Evict)?);
     Ok(())
 }
 

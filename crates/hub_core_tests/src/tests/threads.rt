@@ -49,7 +49,7 @@ fn gather<R: Wait>(rt: &R, alloc: Global, me: &mut Reader) -> Gathered {
         match me.take(rt, &mut out) {
             Taken::Got(count) => all.extend_from_slice(&out[..count])?,
             Taken::Nothing => thread::yield_now(),
-            Taken::End => return Ok(all),
+            Taken::End | Taken::Evicted => return Ok(all),
         }
     }
     unreachable!()

@@ -1,7 +1,7 @@
 use crate::tests::fixtures::{none_is_unlike, word};
-use crate::tests::passes::{Sender, Shared, new_sender, open};
+use crate::tests::passes::{Sender, Shared, new_sender, open, open_with};
 use hub_letters::{Letter, Want};
-use hub_record::{Kind, PubError};
+use hub_record::{Kind, Policy, PubError};
 use hub_wait::{Backoff, Go, Pause, Post, Span, Verdict, svlisten, svwait};
 use std::alloc::Global;
 use std::process::Abort;
@@ -182,6 +182,51 @@ fn waits_for_no_service<R: Wait + Clock>(rt: &R, pause: &mut Backoff<R>) -> bool
         && pause.turns == 0
 }
 
+/// A pause that sends its messages at its first call.
+struct Bursts {
+    supervisor: Sender,
+    messages: [Vec<Letter>; 3],
+    sent: bool,
+}
+
+impl Pause for Bursts {
+    fn pause<R: Wait>(&mut self, rt: &R) -> Go {
+        if !self.sent {
+            self.sent = true;
+            for message in &self.messages {
+                let _ = self.supervisor.send(rt, message);
+            }
+        }
+        Go::Again
+    }
+}
+
+/// Whether a wait is told right if its own subscription is evicted while it waits.
+fn an_evicted_wait_goes_on<R: Abort + Wait>(rt: &R, alloc: Global) -> Result<bool, Fail> {
+    let messages = [word(alloc, "uU")?, word(alloc, "dD")?, word(alloc, "uU")?];
+    let first = word(alloc, "s")?;
+    let fifodir = open_with(alloc, Kind::Service, (2, 1000, 10), Policy::Evict)?;
+    let mut supervisor = new_sender(rt, &fifodir);
+    let is_begun = supervisor.send(rt, &first) == Ok(0);
+    let mut posts = [open_post(rt, fifodir, Want::Ready, true)];
+    let mut pause = Bursts {
+        supervisor,
+        messages,
+        sent: false,
+    };
+    let verdict = svwait(rt, &mut posts, Span::All, 1, &mut pause);
+    let [post] = posts;
+    let (at, code, mark) = (post.watch().at(), post.watch().flags().code(), post.mark());
+    post.end(rt);
+    let Bursts {
+        supervisor,
+        messages: _,
+        sent: _,
+    } = pause;
+    supervisor.leave(rt);
+    Ok(is_begun && (verdict, at, code, mark) == (Verdict::Yes, 7, 7, 1))
+}
+
 /// Whether a wait for so many turns, beside a supervisor that starts the service, ends with the verdict and at the number.
 fn act_is_heard<R: Abort + Wait + Clock + Copy>(
     rt: &R,
@@ -230,6 +275,10 @@ fn room_comes_with_a_wait<R: Abort + Wait + Clock + Copy>(
 #[test]
 fn a_wait_goes_on_for_so_many_turns(rt: HostRuntime) -> Result<(), Fail> {
     none_is_unlike(&rt, first_unlike(&rt, rt.alloc())?);
+    assert!(rt;
+        an_evicted_wait_goes_on(&rt, rt.alloc())?,
+        "a wait whose subscription is evicted"
+    );
     Ok(())
 }
 

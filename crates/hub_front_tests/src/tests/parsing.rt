@@ -14,20 +14,36 @@ fn read(alloc: Global, line: &[u8]) -> Result<Request, Bad> {
 }
 
 /// Lines, and the requests that they spell, in words.
-static GOOD: [(&str, &str); 24] = [
-    ("dir web 64 1000", "make web: 64 may wait, 1000 in all"),
-    ("dir w 1 1", "make w: 1 may wait, 1 in all"),
+static GOOD: [(&str, &str); 27] = [
+    (
+        "dir web 64 1000",
+        "make web: 64 may wait, 1000 in all, evicts false",
+    ),
+    ("dir w 1 1", "make w: 1 may wait, 1 in all, evicts false"),
     (
         "dir w 4096 1000000000000",
-        "make w: 4096 may wait, 1000000000000 in all",
+        "make w: 4096 may wait, 1000000000000 in all, evicts false",
     ),
     (
         "svc v 4 10 0",
-        "make service v: 4 may wait, 10 in all, reports false",
+        "make service v: 4 may wait, 10 in all, reports false, evicts false",
     ),
     (
         "svc v 4 10 1",
-        "make service v: 4 may wait, 10 in all, reports true",
+        "make service v: 4 may wait, 10 in all, reports true, evicts false",
+    ),
+    // The last word.
+    (
+        "dir evict 64 1000 evict",
+        "make evict: 64 may wait, 1000 in all, evicts true",
+    ),
+    (
+        "svc v 4 10 0 evict",
+        "make service v: 4 may wait, 10 in all, reports false, evicts true",
+    ),
+    (
+        "svc v 4 10 1 evict",
+        "make service v: 4 may wait, 10 in all, reports true, evicts true",
     ),
     ("sub A-Z_a.z09", "subscribe to A-Z_a.z09"),
     (
@@ -92,7 +108,7 @@ fn good_lines_spell_requests(rt: HostRuntime) {
 }
 
 /// Lines, and the first rule that each breaks.
-static BAD: [(&str, Bad); 65] = [
+static BAD: [(&str, Bad); 79] = [
     ("dir web 0 10", Bad::Range),
     ("dir web 4097 10", Bad::Range),
     ("dir web 04 10", Bad::Form),
@@ -134,6 +150,21 @@ static BAD: [(&str, Bad); 65] = [
     ("dir web 4 1000000000001", Bad::Range),
     ("svc v 4 10 2", Bad::Range),
     ("svc v 0 10 1", Bad::Range),
+    // The last word.
+    ("dir web 64 1000 Evict", Bad::Form),
+    ("dir web 64 1000 evicts", Bad::Form),
+    ("dir web 64 1000 evic", Bad::Form),
+    ("dir web 64 1000 evict x", Bad::Form),
+    ("dir web 64 1000 evict evict", Bad::Form),
+    ("dir web 64 1000  evict", Bad::Form),
+    ("dir web 64 1000 evict ", Bad::Form),
+    ("dir web 64 1000 ", Bad::Form),
+    ("dir web 64 evict", Bad::Form),
+    ("svc db 64 1000 evict", Bad::Form),
+    ("svc db 64 1000 1 evict 1", Bad::Form),
+    ("svc db 64 1000 2 evict", Bad::Range),
+    ("dir web 0 1000 evict", Bad::Range),
+    ("dir web 0 1000 Evict", Bad::Form),
     // A name has at most 32 bytes.
     ("sub abcdefghijklmnopqrstuvwxyz0123456", Bad::Form),
     // Listeners.

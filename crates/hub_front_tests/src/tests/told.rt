@@ -11,8 +11,9 @@ pub fn words_of(alloc: Global, request: &Request) -> Result<String, AllocError> 
             name,
             waiting,
             total,
+            evict,
         } => format!(in alloc;
-            "make {}: {waiting} may wait, {total} in all",
+            "make {}: {waiting} may wait, {total} in all, evicts {evict}",
             text(alloc, name)?
         ),
         Request::Svc {
@@ -20,10 +21,11 @@ pub fn words_of(alloc: Global, request: &Request) -> Result<String, AllocError> 
             waiting,
             total,
             notifies,
+            evict: evicts,
         } => {
             let name = text(alloc, name)?;
             format!(in alloc;
-                "make service {name}: {waiting} may wait, {total} in all, reports {notifies}"
+                "make service {name}: {waiting} may wait, {total} in all, reports {notifies}, evicts {evicts}"
             )
         }
         Request::Sub { name } => format!(in alloc; "subscribe to {}", text(alloc, name)?),

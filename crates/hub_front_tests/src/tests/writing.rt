@@ -60,6 +60,7 @@ fn each_reply_has_its_text(rt: HostRuntime) -> Result<(), Fail> {
         (Reply::Got(letters), "got sU\n"),
         (Reply::Nothing, "none\n"),
         (Reply::End, "end\n"),
+        (Reply::Evicted, "evicted\n"),
         (Reply::Hit(hit), "hit suU\n"),
         (Reply::Yes(one), "yes 2\n"),
         (Reply::Yes(two), "yes - 2\n"),

@@ -20,6 +20,8 @@ enum Heard {
     Nothing,
     /// There was no hit, and no letter will come.
     End,
+    /// There was no hit, and no letter will come, since the subscription is evicted.
+    Evicted,
     /// Memory ran out in the search of the next letter, which is held.
     Lacking,
 }
@@ -66,6 +68,7 @@ impl LocalDesk {
         match hear(hearing, &mut fifodir.kept, holding.id) {
             Heard::Nothing => Reply::Nothing,
             Heard::End => Reply::End,
+            Heard::Evicted => Reply::Evicted,
             Heard::Lacking => Reply::No(Refusal::Memory),
             Heard::Hit => {
                 letters.extend_from_slice(hearing.listener.hit()).unwrap();
@@ -139,6 +142,7 @@ fn take_one(kept: &mut Record, id: u64) -> Result<Letter, Heard>
         Ok(Taken::Got(_)) => Ok(room[0].letter),
         Ok(Taken::Nothing) => Err(Heard::Nothing),
         Ok(Taken::End) => Err(Heard::End),
+        Ok(Taken::Evicted) => Err(Heard::Evicted),
         Err(_) => unreachable!(),
     }
 }

@@ -165,9 +165,7 @@ fn take_waiting(alloc: Global, kept: &mut Record, id: u64, most: usize) -> Resul
         → OnOk result (StandsFor kept.new (after_take w id most)) }
     ensures err { OnErr result (kept.new ≡ kept.old) }
 {
-    let Some(waiting) = kept.waiting(id) else {
-        unreachable!()
-    };
+    let waiting = kept.waiting(id).unwrap_or(0);
     let mut room = vec![in alloc; Event::FILLER; most.min(waiting as usize)]?;
     take_letters(alloc, kept, id, &mut room)
 }
@@ -193,6 +191,7 @@ fn take_letters(
         Ok(Taken::Got(count)) => Ok(Reply::Got(letters_of(&room[..count], letters))),
         Ok(Taken::Nothing) => Ok(Reply::Nothing),
         Ok(Taken::End) => Ok(Reply::End),
+        Ok(Taken::Evicted) => Ok(Reply::Evicted),
         Err(_) => unreachable!(),
     }
 }

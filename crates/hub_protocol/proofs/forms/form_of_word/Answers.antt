@@ -1,4 +1,4 @@
-use Rattle.std.proofs.Common.{◌≡◌, ◌≢◌, ℕ, List, [], length, refl, Option, sym, subst, arith, rules}
+use Rattle.std.proofs.Common.{◌≡◌, ◌≢◌, ℕ, List, [], length, false, refl, Option, sym, subst, arith, rules}
 use Rattle.std.proofs.lemmas.Slice.Eq.{HasBytesAt, text_from_reads}
 use Rattle.hub_letters.specs.declared.mode.Mode.TheVariants.{Once}
 use Rattle.hub_letters.specs.declared.span.Span.TheVariants.{All}
@@ -16,10 +16,10 @@ found_at word rest form found long bytes finds =
     ((form, same), subst (λ w. Finds w rest found) (sym same) finds)
 
 pub returns-in-dir : goal.returns-in-dir
-returns-in-dir c = found_at c.args.word.now c.args.rest.now (Dir [] 0 0) c.dir.result (omega arith) (search rules) c.dir.ensures
+returns-in-dir c = found_at c.args.word.now c.args.rest.now (Dir [] 0 0 false) c.dir.result (omega arith) (search rules) c.dir.ensures
 
 pub returns-in-svc : goal.returns-in-svc
-returns-in-svc c = found_at c.args.word.now c.args.rest.now (Svc [] 0 0 0) c.svc.result (omega arith) (search rules) c.svc.ensures
+returns-in-svc c = found_at c.args.word.now c.args.rest.now (Svc [] 0 0 0 false) c.svc.result (omega arith) (search rules) c.svc.ensures
 
 pub returns-in-sub : goal.returns-in-sub
 returns-in-sub c = found_at c.args.word.now c.args.rest.now (Sub []) c.map.result (omega arith) (search rules) (search rules)
@@ -28,7 +28,7 @@ pub returns-in-pub : goal.returns-in-pub
 returns-in-pub c = found_at c.args.word.now c.args.rest.now (Pub [] []) c.publication.result (omega arith) (search rules) c.publication.ensures
 
 pub returns-in-take : goal.returns-in-take
-returns-in-take c = found_at c.args.word.now c.args.rest.now (Take 0 0) c.take.result (omega arith) (search rules) c.take.ensures
+returns-in-take c = found_at c.args.word.now c.args.rest.now (Take 0 0) c.map-in-take.result (omega arith) (search rules) (search rules)
 
 pub returns-in-cancel : goal.returns-in-cancel
 returns-in-cancel c = found_at c.args.word.now c.args.rest.now (Cancel 0) c.map-in-cancel.result (omega arith) (search rules) (search rules)
@@ -50,7 +50,7 @@ returns-in-wait c = found_at c.args.word.now c.args.rest.now (Wait All Up 0 []) 
 
 -- what isn't read as a word is the word of no form
 no_word : (c : goal.In_default) (form : Form) → c.args.word.now ≢ word_of form
-no_word c (Dir name waiting total) = search rules
+no_word c (Dir name waiting total evict) = search rules
 no_word c form = search rules
 
 pub returns-in_default : goal.returns-in_default

@@ -12,14 +12,14 @@ use Rattle.hub_protocol.proofs.requests.is_within.Goals as goal
 pub returns-in-Dir : goal.returns-in-Dir
 returns-in-Dir c =
     let d = c.in-Dir in
-    within_by (request.Dir d.name.now d.waiting d.total) (form_shown c.args.form.now) c.are_limits.result (sym (ap form_shown d.is)) c.are_limits.ensures
+    within_by (request.Dir d.name.now d.waiting d.total d.evict) (form_shown c.args.form.now) c.are_limits.result (sym (ap form_shown d.is)) c.are_limits.ensures
 
 pub returns-then-reports-le1 : goal.returns-then-reports-le1
 returns-then-reports-le1 c =
     let s = c.in-Svc in
     let (notifies, e) = flag_of s.reports (omega arith) in
-    within_by (request.Svc s.name.now s.waiting s.total notifies) (form_shown c.args.form.now) c.are_limits-then-reports-le1.result
-    (ap (λ r. Svc s.name.now s.waiting s.total r) e ∙ sym (ap form_shown s.is)) c.are_limits-then-reports-le1.ensures
+    within_by (request.Svc s.name.now s.waiting s.total notifies s.evict) (form_shown c.args.form.now) c.are_limits-then-reports-le1.result
+    (ap (λ r. Svc s.name.now s.waiting s.total r s.evict) e ∙ sym (ap form_shown s.is)) c.are_limits-then-reports-le1.ensures
 
 pub returns-then-max-ge1 : goal.returns-then-max-ge1
 returns-then-max-ge1 c =
@@ -36,8 +36,8 @@ returns-in-Wait c =
 
 -- a form of another kind has no number with a range
 no_range : (c : goal.In_default) (form : BorrowedForm) → c.args.form.now ≡ form → IsWithin (form_shown form)
-no_range c (borrowed.Dir name waiting total) e = absurd (c.in_default.not-Dir name waiting total e)
-no_range c (borrowed.Svc name waiting total reports) e = absurd (c.in_default.not-Svc name waiting total reports e)
+no_range c (borrowed.Dir name waiting total evict) e = absurd (c.in_default.not-Dir name waiting total evict e)
+no_range c (borrowed.Svc name waiting total reports evict) e = absurd (c.in_default.not-Svc name waiting total reports evict e)
 no_range c (borrowed.Take id max) e = absurd (c.in_default.not-Take id max e)
 no_range c (borrowed.Wait span want turns names) e = absurd (c.in_default.not-Wait span want turns names e)
 no_range c (borrowed.Sub name) e = (request.Sub name.now, refl, tt)

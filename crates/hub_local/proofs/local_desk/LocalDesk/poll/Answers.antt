@@ -1,7 +1,7 @@
 use Rattle.std.proofs.Common.{◌≡◌, ℕ, List, ◌++◌, length, Some, refl, sym, ap, ◌∙◌, arith}
 use Rattle.hub_local.specs.Standing.{Local}
 use Rattle.hub_local.proofs.Asking.{answers_from, same_parts, stands_on}
-use Rattle.hub_local.proofs.AskingPolls.{HasLooked, same_hearing, never_spent, poll_plain, poll_overlong, unspent, poll_lacks, poll_nothing, poll_end, poll_stops, hit_stands, poll_ended, poll_goes_on}
+use Rattle.hub_local.proofs.AskingPolls.{HasLooked, same_hearing, never_spent, poll_plain, poll_overlong, unspent, poll_lacks, poll_nothing, poll_end, poll_evicted, poll_stops, hit_stands, poll_ended, poll_goes_on}
 use Rattle.hub_local.proofs.AskingSubscriptions.{held_somewhere, has_subscription}
 use Rattle.hub_local.proofs.local_desk.LocalDesk.poll.Goals as goal
 use Rattle.hub_local.proofs.local_desk.LocalDesk.poll.Goals.{After-hear, in-Once+in-Got-1, in-Once+in-Hit-1, in-Once+in-Yes-1, in-Once+in-Done-1, in-Repeat}
@@ -101,3 +101,9 @@ returns-after-hearing c =
       | in-Once+in-Done-1 w ↦ ends w.in-Once.is _ _ _ w.cancel.ensures w.self-is
       | in-Repeat w ↦ goes_on w.in-Repeat.is _ w.self-is
     ])
+
+pub returns-in-Evicted : goal.returns-in-Evicted
+returns-in-Evicted c = answers_from c.self.view_is (poll_evicted _ _ _ _ _ _ _ _ (look (goal.at.returns-in-Evicted c).After-hear) c.in-Evicted.ensures)
+
+pub invariant_of-self-in-Evicted-1 : goal.invariant_of-self-in-Evicted-1
+invariant_of-self-in-Evicted-1 c = stands_on _ c.args.self.now _ _ _ _ _ _ c.self.view_is (returns-in-Evicted c) c.self.invariant
