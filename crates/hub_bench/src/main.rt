@@ -1,15 +1,17 @@
 //! Measures the layers of the hub and plain forms of the same work, so that the ratios hold on any machine.
 //!
-//! `record` measures how many letters a second pass through a record, and `fifodir` measures looks and publishing among
-//! threads. `echo` isn't a measure but a contender: a program built like the hub that only writes each line back.
+//! `record` measures how many letters a second pass through a record, `fifodir` looks and publishing among threads, and
+//! `policies` what it costs that slow subscriptions are evicted. `echo` isn't a measure but a contender: a program built like
+//! the hub that only writes each line back.
 #![tactic(auto)]
 
 mod echo;
+mod policies;
 mod shared;
 
 use anyhow::{Result, anyhow};
 use hub_letters::Letter;
-use hub_record::{Event, Kind, Limits, Record};
+use hub_record::{Event, Kind, Limits, Policy, Record};
 use std::alloc::{AllocGlobal, Global};
 use std::env;
 use std::io::{Read, Write};
@@ -22,18 +24,22 @@ use std::time::{Duration, Instant};
 /// How many events may be pending.
 const WAITING: usize = 4096;
 
+/// The most events and ids of a record that is measured.
+const MOST: u64 = 1_000_000_000_000;
+
 /// The length of each kind of burst, and how many bursts are sent.
 const MEASURES: [(usize, u32); 2] = [(1, 1_000_000), (256, 20_000)];
 
 /// The numbers of listeners to measure with.
 const LISTENERS: [u64; 3] = [1, 4, 16];
 
-/// Bursts of a message, and how many listeners take each.
+/// Bursts of a message, how many listeners take each, and what happens to one that doesn't.
 #[derive(Clone, Copy)]
 struct Load<'a> {
     listeners: u64,
     message: &'a [Letter],
     bursts: u32,
+    policy: Policy,
 }
 
 fn main(rt: HostRuntime) -> ExitCode {
@@ -56,9 +62,10 @@ fn run<R: Read + Drop, W: Write>(
     match word.as_ref().map(|word| word.as_str()) {
         Some("record") => measure_record(rt, alloc),
         Some("fifodir") => measure_fifodir(rt, alloc),
+        Some("policies") => policies::measure(rt, alloc),
         Some("echo") => echo::echo(alloc, input, output),
         _ => {
-            println!(rt; "usage: hub_bench record|fifodir|echo")?;
+            println!(rt; "usage: hub_bench record|fifodir|policies|echo")?;
             Ok(())
         }
     }
@@ -84,6 +91,7 @@ fn measure_record(rt: &impl Runtime, alloc: Global) -> Result<()> {
                 listeners,
                 message: &message,
                 bursts,
+                policy: Policy::Hold,
             };
             let record = through_record(rt, alloc, load)?;
             let vector = through_vector(rt, alloc, load)?;
@@ -100,6 +108,7 @@ fn measure_record(rt: &impl Runtime, alloc: Global) -> Result<()> {
             listeners,
             message: &message,
             bursts: 2_000,
+            policy: Policy::Hold,
         };
         let took = publishing_alone(rt, alloc, load)?;
         println!(rt;
@@ -115,14 +124,17 @@ fn rate(letters: u64, took: Duration) -> u128 {
     letters as u128 * 1_000_000 / took.as_micros().max(1)
 }
 
-/// A record with this many subscriptions, and their ids.
-fn subscribe_all(alloc: Global, listeners: u64) -> Result<(Record, Vec<u64>)> {
-    let limits = Limits::of(WAITING as u64, 1_000_000_000_000, listeners.max(1)).ok_or_else(
-        || anyhow!("no limits"),
-    )?;
-    let mut record = Record::new(alloc, Kind::Plain, limits)?;
+/// The limits of what is measured.
+fn limits(policy: Policy) -> Result<Limits> {
+    let limits = Limits::of(WAITING as u64, MOST, MOST).ok_or_else(|| anyhow!("no limits"))?;
+    Ok(limits.with(policy))
+}
+
+/// A record with the subscriptions of the load, and their ids.
+fn subscribe_all(alloc: Global, load: Load<'_>) -> Result<(Record, Vec<u64>)> {
+    let mut record = Record::new(alloc, Kind::Plain, limits(load.policy)?)?;
     let mut ids = Vec::new(alloc);
-    for _ in 0..listeners {
+    for _ in 0..load.listeners {
         let (id, _mark) = record.subscribe()?;
         ids.push(id)?;
     }
@@ -131,7 +143,7 @@ fn subscribe_all(alloc: Global, listeners: u64) -> Result<(Record, Vec<u64>)> {
 
 /// The time to publish each burst and to take it with each listener.
 fn through_record(rt: &impl Clock, alloc: Global, load: Load<'_>) -> Result<Duration> {
-    let (mut record, ids) = subscribe_all(alloc, load.listeners)?;
+    let (mut record, ids) = subscribe_all(alloc, load)?;
     let mut out = vec![in alloc; Event::FILLER; load.message.len()]?;
     let start = Instant::now(rt)?;
     for _ in 0..load.bursts {
@@ -178,7 +190,7 @@ fn copy_events(events: &[Event], from: usize, out: &mut [Event]) -> usize {
 /// The time to fill the ring with 16 messages, as often as the load has bursts. The listeners then empty it, and that time
 /// doesn't count.
 fn publishing_alone(rt: &impl Clock, alloc: Global, load: Load<'_>) -> Result<Duration> {
-    let (mut record, ids) = subscribe_all(alloc, load.listeners)?;
+    let (mut record, ids) = subscribe_all(alloc, load)?;
     let mut out = vec![in alloc; Event::FILLER; WAITING]?;
     let mut total = Duration::ZERO;
     for _ in 0..load.bursts {

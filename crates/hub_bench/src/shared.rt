@@ -2,11 +2,11 @@
 //! threads.
 ghost use Rattle.hub_fifodir.specs.Passes.{IsPublisherOf, IsTicketOf};
 
-use crate::rate;
-use anyhow::{Result, anyhow};
+use crate::{limits, rate};
+use anyhow::Result;
 use hub_fifodir::{Fifodir, Publisher, Ticket};
 use hub_letters::Letter;
-use hub_record::{Event, Kind, Limits, PubError, Record, Taken};
+use hub_record::{Event, Kind, Policy, PubError, Record, Taken};
 use std::alloc::{AllocGlobal, Global};
 use std::rt::Runtime;
 use std::sync::atomic::{AtomicU64, Ordering};
@@ -24,10 +24,6 @@ const BURST: usize = 256;
 /// How many messages are published.
 const BURSTS: u64 = 20_000;
 
-fn limits() -> Result<Limits> {
-    Limits::of(4096, 1_000_000_000_000, 1_000).ok_or_else(|| anyhow!("no limits"))
-}
-
 /// Looks a second: at a bare word, at a fifodir's status and front, and at the same record behind a mutex.
 pub fn looks<R: Runtime + Wait>(rt: &R, alloc: Global) -> Result<()> {
     let word = AtomicU64::new(69);
@@ -37,7 +33,7 @@ pub fn looks<R: Runtime + Wait>(rt: &R, alloc: Global) -> Result<()> {
         all = all.wrapping_add(word.load(Ordering::SeqCst));
     }
     let bare = start.elapsed(rt)?;
-    let fifodir = Fifodir::new(alloc, Kind::Plain, limits()?)?;
+    let fifodir = Fifodir::new(alloc, Kind::Plain, limits(Policy::Hold)?)?;
     let mut ticket = fifodir.subscribe(rt)?;
     let looked = look_by(rt, &fifodir, &mut ticket, &mut all);
     fifodir.cancel(rt, ticket);
@@ -95,7 +91,7 @@ fn fronts(fifodir: &Fifodir, ticket: &mut Ticket) -> u64
 }
 
 fn behind_a_mutex<R: Runtime + Wait>(rt: &R, alloc: Global, all: &mut u64) -> Result<Duration> {
-    let record = Mutex::new(Record::new(alloc, Kind::Plain, limits()?)?);
+    let record = Mutex::new(Record::new(alloc, Kind::Plain, limits(Policy::Hold)?)?);
     let start = Instant::now(rt)?;
     for _ in 0..LOOKS {
         *all = all.wrapping_add(record.lock(rt).end());
@@ -109,7 +105,7 @@ pub fn threads<R: Runtime + AllocGlobal + Wait + Threads + Sync + Send + 'static
     alloc: Global,
     listeners: u64,
 ) -> Result<()> {
-    let fifodir = Arc::new(alloc, Fifodir::new(alloc, Kind::Plain, limits()?)?)?;
+    let fifodir = Arc::new(alloc, Fifodir::new(alloc, Kind::Plain, limits(Policy::Hold)?)?)?;
     let ready = Arc::new(alloc, AtomicU64::new(0))?;
     let mut running: Vec<JoinHandle<u64>> = Vec::new(alloc);
     for _ in 0..listeners {

@@ -4,9 +4,10 @@
 //! What a pass knows is its seen list: the record at the moment of its latest step. Contracts speak only of seen lists,
 //! since other threads may change the record at any time. Two passes that meet have seen the same list.
 //!
-//! A ticket gets every event from its mark on. If the slowest ticket leaves no room, `publish` is refused as `Full`,
-//! nothing is lost, and the publisher retries. After a close nothing is added. Pending events can still be taken; after
-//! them a take reports `End`.
+//! A ticket gets every event from its mark on. If the slowest ticket leaves no room, the policy says what gives way. With Hold,
+//! `publish` is refused as `Full`, nothing is lost, and the publisher retries. With Evict the ticket is evicted, and each take
+//! of it reports `Evicted`. After a close nothing is added. A ticket that isn't evicted can still take what is pending; after
+//! that a take reports `End`.
 //!
 //! `status` and `front` read one word without the lock, so a reader of the status never waits for a publisher.
 #![tactic(auto)]

@@ -21,7 +21,7 @@ use Rattle.hub_handles.specs.declared.session_listener.SessionListener.{SessionL
 use Rattle.hub_handles.specs.declared.subscription.Subscription.{Subscription}
 use Rattle.hub_handles.specs.Taking.{HasLooked, IsSameTicket, TakesOne}
 use Rattle.hub_handles.specs.Handles.{PollsAt, listener_of}
-use Rattle.hub_handles.specs.Hearings.{ends_by, held_letters, Comes, Hears, Stops, Gives, HearsOne, Polls}
+use Rattle.hub_handles.specs.Hearings.{ends_by, held_letters, Comes, Hears, HearsQuietly, HasRoom, Stops, Gives, HearsOne, Polls}
 
 same_ticket : (s : Subscription) → IsSameTicket s s
 same_ticket s = record { named = refl; dir = refl; id = refl; mark = refl; seen = grows_self (ticket_sight s.ticket) }
@@ -162,20 +162,31 @@ hit_polls a b c fed hit p q same =
     let long : length fed + 1 ≡ length (fed ++ q.0 ∷ []) = sym (length-append fed (q.0 ∷ [])) in
     (fed ++ q.0 ∷ [], subst (λ (n : ℕ). Hears a (fed ++ q.0 ∷ []) (Ok (Hit n)) c) long (hears_on a b c fed (q.0 ∷ []) (Hit 1) p q.1), same, q.2)
 
+-- no letter more
+pub gathers_none : (b c : SessionListener) → Hears b [] (Ok Quiet) c → length c.listener.gathered ≡ length b.listener.gathered
+gathers_none b c q = ap (λ (l : Listening). length l.gathered) q.feeds.3 ∙ ap length (append-nil b.listener.gathered)
+
 pub stop_polls : (a b c : SessionListener) (reply : Reply) (fed : List ℕ) → Hears a fed (Ok Quiet) b → Hears b [] (Ok Quiet) c → Stops reply c
-    → length a.listener.gathered < MOST_GATHERED → Polls a reply c
-stop_polls a b c answer.Nothing fed p q stops few = (few, (fed ++ [], hears_on a b c fed [] Quiet p q), inl stops)
-stop_polls a b c answer.End fed p q stops few = (few, (fed ++ [], hears_on a b c fed [] Quiet p q), stops)
-stop_polls a b c answer.Evicted fed p q stops few = (few, (fed ++ [], hears_on a b c fed [] Quiet p q), stops)
-stop_polls a b c (answer.No refusal) fed p q stops few = inr (stops.0, few, (fed ++ [], hears_on a b c fed [] Quiet p q), stops.1)
-stop_polls a b c answer.Done fed p q stops few = absurd stops
-stop_polls a b c (answer.Number n) fed p q stops few = absurd stops
-stop_polls a b c (answer.State s) fed p q stops few = absurd stops
-stop_polls a b c (answer.Got l) fed p q stops few = absurd stops
-stop_polls a b c (answer.Hit l) fed p q stops few = absurd stops
-stop_polls a b c (answer.Yes l) fed p q stops few = absurd stops
-stop_polls a b c answer.Never fed p q stops few = absurd stops
-stop_polls a b c answer.Late fed p q stops few = absurd stops
+    → HasRoom a → HasRoom b → Polls a reply c
+stop_polls a b c reply fed p q stops few room = polls reply stops
+  where
+    heard : HearsQuietly a c
+    heard = (fed ++ [], hears_on a b c fed [] Quiet p q)
+    left : HasRoom c
+    left = subst (λ (n : ℕ). n < MOST_GATHERED) (sym (gathers_none b c q)) room
+    polls : (reply : Reply) → Stops reply c → Polls a reply c
+    polls answer.Nothing stops = (few, heard, inl (left, stops))
+    polls answer.End stops = (left, heard, stops)
+    polls answer.Evicted stops = (left, heard, stops)
+    polls (answer.No refusal) stops = inr (stops.0, left, heard, inl stops.1)
+    polls answer.Done stops = absurd stops
+    polls (answer.Number n) stops = absurd stops
+    polls (answer.State s) stops = absurd stops
+    polls (answer.Got l) stops = absurd stops
+    polls (answer.Hit l) stops = absurd stops
+    polls (answer.Yes l) stops = absurd stops
+    polls answer.Never stops = absurd stops
+    polls answer.Late stops = absurd stops
 
 -- ---- after a poll
 

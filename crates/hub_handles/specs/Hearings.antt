@@ -55,7 +55,7 @@ IsOver t = (ticket_next t ≡ length (ticket_seen t)) × (ticket_closed t ≢ 0)
 abbrev pub IsOut : Ticket → Type 0
 IsOut t = is_evicted_at t (ticket_next t) ≡ true
 
--- a letter is held, or an event waits
+-- a letter is held, or its ticket isn't at the end of what it has seen
 abbrev pub HasMore : SessionListener → Type 0
 HasMore h = (h.held ≢ None) ⊎ (ticket_next h.subscription.ticket ≢ length (ticket_seen h.subscription.ticket))
 
@@ -64,7 +64,7 @@ abbrev pub Stops : Reply → SessionListener → Type 0
 Stops answer.Nothing h = (h.held ≡ None) × IsIdle h.subscription.ticket
 Stops answer.End h = (h.held ≡ None) × IsOver h.subscription.ticket
 Stops answer.Evicted h = (h.held ≡ None) × IsOut h.subscription.ticket
-Stops (answer.No refusal) h = (refusal ≡ no.Memory) × HasMore h
+Stops (answer.No refusal) h = (refusal ≡ no.Memory) × (h.held ≢ None)
 Stops _ h = ⊥
 
 -- the letter that is to be heard next, or why there is none
@@ -77,16 +77,24 @@ abbrev pub HearsOne : SessionListener → Bool → SessionListener → Type 0
 HearsOne old true new = (letter : ℕ) × Hears old (letter ∷ []) (Ok (Hit 1)) new × (new.held ≡ None)
 HearsOne old false new = (letter : ℕ) × Hears old (letter ∷ []) (Ok Quiet) new × (new.held ≡ None)
 
--- A hit ends with the last letter that was heard. Without one all were heard quietly, until none waits or as many are
--- gathered as may be.
+-- it may gather a further letter
+abbrev pub HasRoom : SessionListener → Type 0
+HasRoom h = length h.listener.gathered < MOST_GATHERED
+
+-- all that came was heard quietly
+abbrev pub HearsQuietly : SessionListener → SessionListener → Type 0
+HearsQuietly old new = (fed : List ℕ) × Hears old fed (Ok Quiet) new
+
+-- A hit ends with the last letter that was heard. Without one all were heard quietly, until no further one is heard, or
+-- until as many are gathered as may be, and then none is held.
 abbrev pub Polls : SessionListener → Reply → SessionListener → Type 0
 Polls old (answer.Hit hit) new = (fed : List ℕ) × Hears old fed (Ok (Hit (length fed))) new × (hit ≡ new.listener.hit) × (new.held ≡ None)
-Polls old answer.Nothing new = (length old.listener.gathered < MOST_GATHERED) × ((fed : List ℕ) × Hears old fed (Ok Quiet) new) × (Stops answer.Nothing new ⊎ (MOST_GATHERED ≤ length new.listener.gathered))
-Polls old answer.End new = (length old.listener.gathered < MOST_GATHERED) × ((fed : List ℕ) × Hears old fed (Ok Quiet) new) × Stops answer.End new
-Polls old answer.Evicted new = (length old.listener.gathered < MOST_GATHERED) × ((fed : List ℕ) × Hears old fed (Ok Quiet) new) × Stops answer.Evicted new
+Polls old answer.Nothing new = HasRoom old × HearsQuietly old new × ((HasRoom new × Stops answer.Nothing new) ⊎ ((MOST_GATHERED ≤ length new.listener.gathered) × (new.held ≡ None)))
+Polls old answer.End new = HasRoom new × HearsQuietly old new × Stops answer.End new
+Polls old answer.Evicted new = HasRoom new × HearsQuietly old new × Stops answer.Evicted new
 Polls old (answer.No refusal) new =
     ((refusal ≡ no.Overlong) × (MOST_GATHERED ≤ length old.listener.gathered) × (new ≡ old))
-    ⊎ ((refusal ≡ no.Memory) × (length old.listener.gathered < MOST_GATHERED) × ((fed : List ℕ) × Hears old fed (Ok Quiet) new) × HasMore new)
+    ⊎ ((refusal ≡ no.Memory) × HasRoom new × HearsQuietly old new × HasMore new)
 Polls old _ new = ⊥
 
 -- the one hit of mode Once is the last reply

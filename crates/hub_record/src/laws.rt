@@ -30,7 +30,7 @@ pub fn one_reply()
         → IsRun w calls other → one ≡ other }
 {}
 
-/// A record never keeps more events than may be pending, and keeps none if no subscription is current.
+/// A record never keeps more events than may be pending, and keeps none if no subscription stands.
 pub fn no_more_than_may_wait()
     ensures most { (r : Kept) (w : World) → StandsFor r w → length r.events ≤ w.limits.waiting }
     ensures none { (r : Kept) (w : World) → StandsFor r w → standing w ≡ [] → r.events ≡ [] }

@@ -15,8 +15,8 @@
 //! way: they are evicted, and each take of one reports `Taken::Evicted`. So no subscription gets a list with a hole that
 //! looks whole. If no subscription stands nothing is kept, and no message is too long for the ring.
 //!
-//! **Closing.** A closed record takes no event and no subscription any more. Pending events can still be taken; after
-//! them a take reports `Taken::End`.
+//! **Closing.** A closed record takes no event and no subscription any more. Unless a subscription is evicted, it can still
+//! take the events that are pending; after them a take reports `Taken::End`.
 //!
 //! Each call is the model's call on one list of all events (`specs/World.antt`). `specs/Kept.antt` says when a record
 //! stands for a world of the model.
@@ -84,8 +84,8 @@ pub enum SubError {
     /// The record is closed.
     #[error("the fifodir is closed")]
     Closed,
-    /// [`MOST_PASSES`] subscriptions are current. There is room again after one of them is cancelled.
-    #[error("too many subscriptions stand")]
+    /// [`MOST_PASSES`] subscriptions are current, evicted ones among them. There is room again after one of them is cancelled.
+    #[error("too many subscriptions")]
     Many,
     /// The last id was given. An id is never given again.
     #[error("no id is left")]
@@ -108,8 +108,9 @@ pub enum PubError {
     /// The record would have more events than its limits allow in all.
     #[error("no number is left")]
     Spent,
-    /// More events would be pending for the slowest subscription than the limits allow. The publisher retries after a
-    /// take or a cancel makes room.
+    /// More events would be pending for the slowest subscription than the limits allow. With [`Policy::Hold`] the publisher
+    /// retries after a take or a cancel makes room. With [`Policy::Evict`] the message alone is too long, so the publisher
+    /// sends it in several.
     #[error("too many events wait")]
     Full,
 }

@@ -1,5 +1,5 @@
 -- What the calls on a post make of it.
-use Rattle.std.specs.Prelude.{ℕ, ◌≡◌, ◌≢◌, ◌+◌, ◌*◌, ◌≤◌, ◌⊎◌, Bool, true, false, List, length, take}
+use Rattle.std.specs.Prelude.{ℕ, ◌≡◌, ◌≢◌, ◌+◌, ◌*◌, ◌<◌, ◌≤◌, ◌⊎◌, Bool, true, false, List, length, take}
 use Rattle.std.specs.Arc.{arc_value}
 use Rattle.hub_letters.specs.declared.want.Want.{Want}
 use Rattle.hub_letters.specs.Flags.{flags_of}
@@ -62,18 +62,20 @@ pub record IsKept (old new : Post) : Type 0 where
 pub record IsRenewed (p : Post) : Type 0 where
   pub evicted : is_evicted_at p.ticket (next_of p) ≡ true
   pub renewed : (watch_of p).at ≡ length (seen_of p)
+  pub ended : closed_of p ≢ 0 → (watch_of p).ended ≡ true
 
 -- it took all that was seen, or as many slices as it may, or it is renewed; it is ended only at the end of a closed record,
--- and it is ended if it took nothing and has seen the close
+-- and it is ended if it has seen the close and the slices that it took were full, fewer than it may take
 pub record HasCaughtUp (old new : Post) : Type 0 where
   pub all : (next_of new ≡ length (seen_of new)) ⊎ ((next_of new ≡ next_of old + SLICE * SLICES) ⊎ IsRenewed new)
   pub ended_only : (watch_of new).ended ≡ true → (closed_of new ≢ 0) × ((watch_of new).at ≡ length (seen_of new))
-  pub ended : closed_of new ≢ 0 → next_of new ≡ next_of old → (watch_of new).ended ≡ true
+  pub ended : closed_of new ≢ 0 → (slices : ℕ) → slices < SLICES → next_of new ≡ next_of old + SLICE * slices → (watch_of new).ended ≡ true
 
 -- the slice was full, or all that was seen is taken, or it is renewed; and it is ended if nothing was taken and the close
 -- was seen
 pub record HasTakenSlice (old : Post) (whole : Bool) (new : Post) : Type 0 where
   pub more : whole ≡ true → next_of new ≡ next_of old + SLICE
+  pub fewer : whole ≡ false → next_of new < next_of old + SLICE
   pub all : whole ≡ false → (next_of new ≡ length (seen_of new)) ⊎ IsRenewed new
   pub ended : closed_of new ≢ 0 → next_of new ≡ next_of old → (watch_of new).ended ≡ true
 

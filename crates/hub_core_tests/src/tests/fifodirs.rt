@@ -250,7 +250,7 @@ static ROWS: [Row; 10] = [
 ];
 
 /// Rows of fifodirs that evict.
-static EVICTING: [Row; 2] = [
+static EVICTING: [Row; 3] = [
     Row {
         name: "a slow ticket is evicted, and no other",
         kind: Kind::Plain,
@@ -271,6 +271,24 @@ static EVICTING: [Row; 2] = [
             Step::Take(0, Taken::Evicted, [BLANK, BLANK, BLANK]),
             Step::Cancel(0),
             Step::Take(0, Taken::End, [BLANK, BLANK, BLANK]),
+        ],
+    },
+    Row {
+        name: "a long message fits if no ticket stands",
+        kind: Kind::Plain,
+        limits: (2, 100, 10),
+        steps: &[
+            Step::Join(Ok(1)),
+            Step::Publish("abc", Ok(0)),
+            Step::Subscribe(Ok((1, 3))),
+            Step::Publish("def", Err(PubError::Full)),
+            Step::Cancel(0),
+            Step::Publish("def", Ok(3)),
+            Step::Subscribe(Ok((2, 6))),
+            Step::Publish("gh", Ok(6)),
+            Step::Publish("i", Ok(8)),
+            Step::Publish("jkl", Ok(9)),
+            Step::Take(0, Taken::Evicted, [BLANK, BLANK, BLANK]),
         ],
     },
     Row {
