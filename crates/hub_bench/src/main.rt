@@ -145,11 +145,21 @@ fn subscribe_all(alloc: Global, load: Load<'_>) -> Result<(Record, Vec<u64>)> {
 fn through_record(rt: &impl Clock, alloc: Global, load: Load<'_>) -> Result<Duration> {
     let (mut record, ids) = subscribe_all(alloc, load)?;
     let mut out = vec![in alloc; Event::FILLER; load.message.len()]?;
+    pass_all(rt, &mut record, &ids, &mut out, load)
+}
+
+fn pass_all(
+    rt: &impl Clock,
+    record: &mut Record,
+    ids: &[u64],
+    out: &mut [Event],
+    load: Load<'_>,
+) -> Result<Duration> {
     let start = Instant::now(rt)?;
     for _ in 0..load.bursts {
         record.publish(1, load.message)?;
-        for id in &ids {
-            record.take_into(*id, &mut out)?;
+        for id in ids {
+            record.take_into(*id, out)?;
         }
     }
     Ok(start.elapsed(rt)?)
@@ -192,17 +202,31 @@ fn copy_events(events: &[Event], from: usize, out: &mut [Event]) -> usize {
 fn publishing_alone(rt: &impl Clock, alloc: Global, load: Load<'_>) -> Result<Duration> {
     let (mut record, ids) = subscribe_all(alloc, load)?;
     let mut out = vec![in alloc; Event::FILLER; WAITING]?;
+    fill_all(rt, &mut record, &ids, &mut out, load)
+}
+
+fn fill_all(
+    rt: &impl Clock,
+    record: &mut Record,
+    ids: &[u64],
+    out: &mut [Event],
+    load: Load<'_>,
+) -> Result<Duration> {
     let mut total = Duration::ZERO;
     for _ in 0..load.bursts {
-        let start = Instant::now(rt)?;
-        for _ in 0..16 {
-            record.publish(1, load.message)?;
-        }
-        let took = start.elapsed(rt)?;
+        let took = fill(rt, record, load.message)?;
         total = total.checked_add(took).unwrap_or(total);
-        for id in &ids {
-            record.take_into(*id, &mut out)?;
+        for id in ids {
+            record.take_into(*id, out)?;
         }
     }
     Ok(total)
+}
+
+fn fill(rt: &impl Clock, record: &mut Record, message: &[Letter]) -> Result<Duration> {
+    let start = Instant::now(rt)?;
+    for _ in 0..16 {
+        record.publish(1, message)?;
+    }
+    Ok(start.elapsed(rt)?)
 }
