@@ -130,38 +130,58 @@ fn limits(policy: Policy) -> Result<Limits> {
     Ok(limits.with(policy))
 }
 
-/// A record with the subscriptions of the load, and their ids.
-fn subscribe_all(alloc: Global, load: Load<'_>) -> Result<(Record, Vec<u64>)> {
-    let mut record = Record::new(alloc, Kind::Plain, limits(load.policy)?)?;
-    let mut ids = Vec::new(alloc);
-    for _ in 0..load.listeners {
-        let (id, _mark) = record.subscribe()?;
-        ids.push(id)?;
+/// A record with the subscriptions of a load, and room for what one of them takes at once.
+#[derive(Drop)]
+struct Crowd {
+    record: Record,
+    ids: Vec<u64>,
+    out: Vec<Event>,
+}
+
+impl Crowd {
+    fn new(alloc: Global, load: Load<'_>, room: usize) -> Result<Crowd> {
+        let out = vec![in alloc; Event::FILLER; room]?;
+        let mut record = Record::new(alloc, Kind::Plain, limits(load.policy)?)?;
+        let mut ids = Vec::new(alloc);
+        for _ in 0..load.listeners {
+            let (id, _mark) = record.subscribe()?;
+            ids.push(id)?;
+        }
+        Ok(Crowd { record, ids, out })
     }
-    Ok((record, ids))
+
+    /// Takes with each listener.
+    fn take(&mut self) -> Result<()> {
+        for id in &self.ids {
+            self.record.take_into(*id, &mut self.out)?;
+        }
+        Ok(())
+    }
+
+    /// Publishes each burst, and takes it with each listener.
+    fn pass(&mut self, load: Load<'_>) -> Result<()> {
+        for _ in 0..load.bursts {
+            self.record.publish(1, load.message)?;
+            self.take()?;
+        }
+        Ok(())
+    }
+
+    /// The time to fill the ring with 16 messages.
+    fn fill(&mut self, rt: &impl Clock, message: &[Letter]) -> Result<Duration> {
+        let start = Instant::now(rt)?;
+        for _ in 0..16 {
+            self.record.publish(1, message)?;
+        }
+        Ok(start.elapsed(rt)?)
+    }
 }
 
 /// The time to publish each burst and to take it with each listener.
 fn through_record(rt: &impl Clock, alloc: Global, load: Load<'_>) -> Result<Duration> {
-    let (mut record, ids) = subscribe_all(alloc, load)?;
-    let mut out = vec![in alloc; Event::FILLER; load.message.len()]?;
-    pass_all(rt, &mut record, &ids, &mut out, load)
-}
-
-fn pass_all(
-    rt: &impl Clock,
-    record: &mut Record,
-    ids: &[u64],
-    out: &mut [Event],
-    load: Load<'_>,
-) -> Result<Duration> {
+    let mut crowd = Crowd::new(alloc, load, load.message.len())?;
     let start = Instant::now(rt)?;
-    for _ in 0..load.bursts {
-        record.publish(1, load.message)?;
-        for id in ids {
-            record.take_into(*id, out)?;
-        }
-    }
+    crowd.pass(load)?;
     Ok(start.elapsed(rt)?)
 }
 
@@ -200,33 +220,12 @@ fn copy_events(events: &[Event], from: usize, out: &mut [Event]) -> usize {
 /// The time to fill the ring with 16 messages, as often as the load has bursts. The listeners then empty it, and that time
 /// doesn't count.
 fn publishing_alone(rt: &impl Clock, alloc: Global, load: Load<'_>) -> Result<Duration> {
-    let (mut record, ids) = subscribe_all(alloc, load)?;
-    let mut out = vec![in alloc; Event::FILLER; WAITING]?;
-    fill_all(rt, &mut record, &ids, &mut out, load)
-}
-
-fn fill_all(
-    rt: &impl Clock,
-    record: &mut Record,
-    ids: &[u64],
-    out: &mut [Event],
-    load: Load<'_>,
-) -> Result<Duration> {
+    let mut crowd = Crowd::new(alloc, load, WAITING)?;
     let mut total = Duration::ZERO;
     for _ in 0..load.bursts {
-        let took = fill(rt, record, load.message)?;
+        let took = crowd.fill(rt, load.message)?;
         total = total.checked_add(took).unwrap_or(total);
-        for id in ids {
-            record.take_into(*id, out)?;
-        }
+        crowd.take()?;
     }
     Ok(total)
-}
-
-fn fill(rt: &impl Clock, record: &mut Record, message: &[Letter]) -> Result<Duration> {
-    let start = Instant::now(rt)?;
-    for _ in 0..16 {
-        record.publish(1, message)?;
-    }
-    Ok(start.elapsed(rt)?)
 }

@@ -2,7 +2,7 @@
 //! fifodir with many evicted subscriptions.
 ghost use Rattle.hub_fifodir.specs.Passes.{IsPublisherOf, IsTicketOf};
 
-use crate::{LISTENERS, Load, WAITING, limits, rate, through_record};
+use crate::{LISTENERS, Load, limits, rate, through_record};
 use anyhow::Result;
 use hub_fifodir::{Fifodir, Publisher, Ticket};
 use hub_letters::Letter;
@@ -74,7 +74,7 @@ fn fifodirs<R: Runtime + Wait>(rt: &R, alloc: Global) -> Result<()> {
     Ok(())
 }
 
-/// The time to publish each burst and to take it, beside so many subscriptions that were evicted.
+/// The time to publish each burst and to take it, beside so many subscriptions that are evicted.
 fn through_fifodir<R: Clock + Wait>(rt: &R, alloc: Global, evicted: u64) -> Result<Duration> {
     let message = vec![in alloc; Letter::LEAST; BURST]?;
     let fifodir = Fifodir::new(alloc, Kind::Plain, limits(Policy::Evict)?)?;
@@ -84,7 +84,8 @@ fn through_fifodir<R: Clock + Wait>(rt: &R, alloc: Global, evicted: u64) -> Resu
     took
 }
 
-/// Subscribes so often, and then measures. Nobody takes from these subscriptions.
+/// Subscribes so often and once more, and measures with the last subscription. Nobody takes from the others, so the first
+/// messages evict them.
 fn beside<R: Clock + Wait>(
     rt: &R,
     fifodir: &Fifodir,
@@ -95,48 +96,17 @@ fn beside<R: Clock + Wait>(
     requires { IsPublisherOf fifodir.now publisher.old }
     ensures { IsPublisherOf fifodir.now publisher.new }
 {
-    if others == 0 {
-        evict(rt, fifodir, publisher, message)?;
-        return passing(rt, fifodir, publisher, message);
-    }
-    let ticket = fifodir.subscribe(rt)?;
-    let took = beside(rt, fifodir, publisher, message, others - 1);
-    fifodir.cancel(rt, ticket);
-    took
-}
-
-/// Publishes one message more than fit, so that whoever is subscribed is evicted.
-fn evict<R: Wait>(
-    rt: &R,
-    fifodir: &Fifodir,
-    publisher: &mut Publisher,
-    message: &[Letter],
-) -> Result<()>
-    requires { IsPublisherOf fifodir.now publisher.old }
-    ensures { IsPublisherOf fifodir.now publisher.new }
-{
-    'messages: for _ in 0..=WAITING / BURST {
-        fifodir.publish(rt, publisher, message)?;
-    }
-    Ok(())
-}
-
-fn passing<R: Clock + Wait>(
-    rt: &R,
-    fifodir: &Fifodir,
-    publisher: &mut Publisher,
-    message: &[Letter],
-) -> Result<Duration>
-    requires { IsPublisherOf fifodir.now publisher.old }
-    ensures { IsPublisherOf fifodir.now publisher.new }
-{
     let mut ticket = fifodir.subscribe(rt)?;
-    let took = passing_by(rt, fifodir, publisher, &mut ticket, message);
+    let took = if others == 0 {
+        pass_by(rt, fifodir, publisher, &mut ticket, message)
+    } else {
+        beside(rt, fifodir, publisher, message, others - 1)
+    };
     fifodir.cancel(rt, ticket);
     took
 }
 
-fn passing_by<R: Clock + Wait>(
+fn pass_by<R: Clock + Wait>(
     rt: &R,
     fifodir: &Fifodir,
     publisher: &mut Publisher,

@@ -105,7 +105,10 @@ pub fn threads<R: Runtime + AllocGlobal + Wait + Threads + Sync + Send + 'static
     alloc: Global,
     listeners: u64,
 ) -> Result<()> {
-    let fifodir = Arc::new(alloc, Fifodir::new(alloc, Kind::Plain, limits(Policy::Hold)?)?)?;
+    let fifodir = Arc::new(
+        alloc,
+        Fifodir::new(alloc, Kind::Plain, limits(Policy::Hold)?)?,
+    )?;
     let ready = Arc::new(alloc, AtomicU64::new(0))?;
     let mut running: Vec<JoinHandle<u64>> = Vec::new(alloc);
     for _ in 0..listeners {

@@ -172,8 +172,10 @@ stop_polls a b c reply fed p q stops few room = polls reply stops
   where
     heard : HearsQuietly a c
     heard = (fed ++ [], hears_on a b c fed [] Quiet p q)
+
     left : HasRoom c
     left = subst (λ (n : ℕ). n < MOST_GATHERED) (sym (gathers_none b c q)) room
+
     polls : (reply : Reply) → Stops reply c → Polls a reply c
     polls answer.Nothing stops = (few, heard, inl (left, stops))
     polls answer.End stops = (left, heard, stops)

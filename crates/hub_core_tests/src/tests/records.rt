@@ -479,9 +479,11 @@ fn a_refused_growth_changes_nothing(rt: HostRuntime) -> Result<(), Fail> {
         a_new_record_has_a_hundred(rt.alloc(), limits)?,
         "each of a hundred subscribes"
     );
-    let is_so = replays_so(rt.alloc(), limits, &HELD).or_else(
-        |_| replays_so(rt.alloc(), limits, &HELD),
-    )?;
+    let is_so = replays_so(rt.alloc(), limits, &HELD).or_else(|_| replays_so(
+        rt.alloc(),
+        limits,
+        &HELD,
+    ))?;
     assert!(rt; is_so, "replay gives the replies and what was gathered");
     Ok(())
 }
