@@ -1,13 +1,13 @@
 //! Calls that take no memory. Whether they take none is counted by `tests/no-memory`, which runs this program over a
 //! `malloc` that counts (`tests/count.c`): it counts between two marks.
 use crate::tests::fixtures::word;
-use crate::tests::passes::{Sender, Shared, new_sender, open, publisher, ticket};
+use crate::tests::passes::{Sender, Shared, new_sender, open, open_with, publisher, ticket};
 use crate::tests::waits::{Deed, Doing, open_post};
 use hub_fifodir::{Fifodir, Locked};
 use hub_letters::{Flags, Letter, Stage, Want};
 use hub_listen::{Feed, Listener, Mode};
 use hub_record::{
-    Closed, Event, Kind, Letters, Limits, NoId, PubError, Record, Status, SubError, Taken,
+    Closed, Event, Kind, Letters, Limits, NoId, Policy, PubError, Record, Status, SubError, Taken,
 };
 use hub_wait::{Span, Tally, Verdict, Watch, svlisten, svwait};
 use std::alloc::Global;
@@ -21,7 +21,7 @@ fn mark() {
     thread::yield_now();
 }
 
-/// Each call of `hub_letters`, and `Limits::of`.
+/// Each call of `hub_letters` and of `Limits`.
 fn letters_are_read() -> bool {
     mark();
     let letter = Letter::of(b'u').unwrap_or(Letter::LEAST);
@@ -32,6 +32,7 @@ fn letters_are_read() -> bool {
     let again = Flags::of_code(code);
     let met = (Want::Up.met(flags, true), Want::Up.hopeless(flags));
     let limits = Limits::of(1, 1, 1);
+    let policy = Limits::new(1, 1, 1).with(Policy::Evict).policy();
     mark();
     letter.byte() == b'u'
         && stage == Some(Stage::Starting)
@@ -39,6 +40,7 @@ fn letters_are_read() -> bool {
         && (code, again) == (1, Some(flags))
         && met == (true, false)
         && limits.is_some()
+        && policy == Policy::Evict
 }
 
 /// Each call of a record that has a subscription, and `Letters`.
@@ -100,6 +102,30 @@ fn a_record_is_used(alloc: Global) -> io::Result<bool> {
             && closed == (Ok(()), Err(Closed), Err(PubError::Closed))
             && end == (Ok(Taken::End), Stage::Starting, true)
             && cancelled == Ok(()),
+    )
+}
+
+/// The calls of a record that evicts the first of its two subscriptions.
+fn a_record_evicts(alloc: Global) -> io::Result<bool> {
+    let limits = Limits::new(2, 10, 10).with(Policy::Evict);
+    let (ab, long) = (word(alloc, "ab")?, word(alloc, "abc")?);
+    let mut record = Record::new(alloc, Kind::Plain, limits)?;
+    let subscribed = (record.subscribe(), record.subscribe());
+    let mut out = [Event::FILLER; 4];
+    mark();
+    let first = (record.publish(1, &ab), record.take_into(2, &mut out));
+    let second = (record.publish(1, &ab), record.publish(1, &long));
+    let evicted = (record.take_into(1, &mut out), record.waiting(1));
+    let ended = (record.cancel(1), record.cancel(2));
+    let alone = record.publish(1, &long);
+    mark();
+    Ok(
+        subscribed == (Ok((1, 0)), Ok((2, 0)))
+            && first == (Ok(0), Ok(Taken::Got(2)))
+            && second == (Ok(2), Err(PubError::Full))
+            && evicted == (Ok(Taken::Evicted), None)
+            && ended == (Ok(()), Ok(()))
+            && alone == Ok(4),
     )
 }
 
@@ -165,6 +191,27 @@ fn passes_are_used<R: Abort + Wait>(rt: &R, fifodir: &Fifodir, ab: &[Letter]) ->
         && closed == (Ok(()), Err(Closed))
         && numbers == (1, 1, 0, 2)
         && kind == Kind::Plain
+}
+
+/// The calls of a publisher and of a ticket that it evicts.
+fn a_ticket_is_evicted<R: Abort + Wait>(rt: &R, fifodir: &Fifodir, ab: &[Letter]) -> bool {
+    let mut one = publisher(rt, fifodir);
+    let mut reader = ticket(rt, fifodir);
+    let mut out = [Event::FILLER; 4];
+    mark();
+    let sent = (
+        fifodir.publish(rt, &mut one, ab),
+        fifodir.publish(rt, &mut one, ab),
+    );
+    let taken = fifodir.take_into(rt, &mut reader, &mut out);
+    let seen = (
+        fifodir.status(&mut reader).number,
+        fifodir.front(&mut reader),
+    );
+    fifodir.leave(rt, one);
+    fifodir.cancel(rt, reader);
+    mark();
+    sent == (Ok(0), Ok(2)) && taken == Taken::Evicted && seen == (4, 4)
 }
 
 /// The calls of a publisher that are refused because its fifodir is closed, has given its total, or finds the letters
@@ -266,6 +313,7 @@ fn memory_is_taken(alloc: Global) -> io::Result<bool> {
 #[test]
 fn these_calls_take_no_memory(rt: HostRuntime) -> Result<(), Fail> {
     let plain = open(rt.alloc(), Kind::Plain, (2, 100, 10))?;
+    let evicting = open_with(rt.alloc(), Kind::Plain, (2, 100, 10), Policy::Evict)?;
     let service = open(rt.alloc(), Kind::Service, (64, 100, 10))?;
     let (s, u) = (word(rt.alloc(), "s")?, word(rt.alloc(), "u")?);
     let ab = word(rt.alloc(), "ab")?;
@@ -274,8 +322,10 @@ fn these_calls_take_no_memory(rt: HostRuntime) -> Result<(), Fail> {
     assert!(rt; memory_is_taken(rt.alloc())?);
     assert!(rt; letters_are_read());
     assert!(rt; a_record_is_used(rt.alloc())?);
+    assert!(rt; a_record_evicts(rt.alloc())?);
     assert!(rt; a_locked_is_used(rt.alloc())?);
     assert!(rt; passes_are_used(&rt, &plain, &ab));
+    assert!(rt; a_ticket_is_evicted(&rt, &evicting, &ab));
     assert!(rt; publishers_are_refused(&rt, &short, &su, &x));
     assert!(rt; a_listener_is_shown(rt.alloc())?);
     assert!(rt; a_watch_is_judged());
