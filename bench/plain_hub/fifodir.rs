@@ -147,11 +147,13 @@ impl Fifodir {
             Want::Ready => self.flags.up && (!notifies || self.flags.settled),
             Want::Down => !self.flags.up,
             Want::Finished => !self.flags.up && self.flags.settled,
+            // A wait of this hub looks once, so no fall comes after it began.
+            Want::Restarted | Want::RestartedReady => false,
         }
     }
 
     pub fn is_hopeless(&self, want: Want) -> bool {
-        matches!(want, Want::Up | Want::Ready) && self.flags.failed
+        !matches!(want, Want::Down | Want::Finished) && self.flags.failed
     }
 }
 

@@ -28,6 +28,8 @@ pub enum Want {
     Ready,
     Down,
     Finished,
+    Restarted,
+    RestartedReady,
 }
 
 const MOST_EVENTS: u64 = 1_000_000_000_000;
@@ -121,6 +123,8 @@ fn wait<'a>(
         "ready" => Want::Ready,
         "down" => Want::Down,
         "finished" => Want::Finished,
+        "restarted" => Want::Restarted,
+        "restarted-ready" => Want::RestartedReady,
         _ => return Err(Refusal::Word("form")),
     };
     let turns = numeral(turns)?;

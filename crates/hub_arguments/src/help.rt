@@ -55,8 +55,9 @@ Each line of standard input is a request, and each gets one reply line, in order
   poll ID        look for a listener's next hit: the letters since the last one, up to where the pattern first matches
                  poll 2                 hit suU, or none, or end, or evicted
   wait SPAN WANT TURNS N1 .. Nk
-                 wait until all or any (SPAN) of 1 to 32 services are up, ready, down or finished (WANT), for at most
-                 TURNS turns (0 to 1000000); the reply has each one's number of events, or `-` if it isn't so yet
+                 wait until all or any (SPAN) of 1 to 32 services are up, ready, down, finished, restarted or
+                 restarted-ready (WANT: the last two are to be up, or ready, again), for at most TURNS turns (0 to
+                 1000000); the reply has each one's number of events, or `-` if it isn't so yet
                  wait all ready 5000 db yes 3, or never, or late
                  `never`: it can't come about any more, because one failed for good or is closed
 

@@ -9,6 +9,7 @@ mod passes;
 mod pauses;
 mod posts;
 mod records;
+mod restarts;
 mod sizes;
 mod threads;
 mod waits;

@@ -10,5 +10,5 @@ pub fn is_ready(bytes: &[u8]) -> Option<bool> {
         stage = stage.next(letter)?;
         flags = flags.after(letter);
     }
-    Some(Want::Ready.met(flags, true))
+    Some(Want::Ready.met(flags, true, false))
 }

@@ -1,11 +1,11 @@
 -- What a flag says of a word is what the last of the letters says that bear on it.
-use Rattle.std.proofs.Common.{ℕ, ◌≡◌, ◌==◌, ◌⊎◌, ◌↔◌, Bool, true, false, List, [], ◌∷◌, ◌++◌, Option, Some, None, map, not, ◌&&◌, ◌||◌, cond, refl, sym, ap, subst, ◌∙◌, inl, inr}
+use Rattle.std.proofs.Common.{ℕ, ◌≡◌, ◌==◌, ◌↔◌, Bool, true, false, List, [], ◌∷◌, ◌++◌, Option, Some, None, map, not, ◌&&◌, ◌||◌, cond, refl, sym, ap, subst, ◌∙◌, inl, inr}
 use Rattle.std.specs.Prelude.{All, codes}
 use Rattle.std.proofs.lemmas.Bool.{cases_Bool, eqb-true}
 use Rattle.std.proofs.lemmas.List.Elements.{All-nil, All-cons, All-head, All-tail}
 use Rattle.hub_letters.specs.declared.want.Want.{Want}
-use Rattle.hub_letters.specs.declared.want.Want.TheVariants.{Up, Ready, Down, Finished}
-use Rattle.hub_letters.specs.Wants.{is_hopeless}
+use Rattle.hub_letters.specs.declared.want.Want.TheVariants.{Down, Finished}
+use Rattle.hub_letters.specs.Wants.{is_hopeless, NeedsUp}
 use Rattle.hub_letters.specs.Marks.{Mark, Began, Ran, Reported, Died, Finished, GaveUp, Exited, Other, mark, later, last_among, is_hope, is_gave_up}
 use Rattle.hub_letters.specs.Flags.{up_by, settled_by, flags_of}
 use Rattle.hub_letters.specs.Occurrences.{is_among, LastIs}
@@ -109,8 +109,12 @@ not_true false A same = (λ e a. absurd (let z = same.1 a in cc), λ none. refl)
 
 -- only a want that needs the service to be up is hopeless
 pub hopeless_by_last : (want : Want) (word : List ℕ)
-    → (is_hopeless want (flags_of word) ≡ true) ↔ (((want ≡ Up) ⊎ (want ≡ Ready)) × LastIs (codes "Osu") (codes "O") word)
-hopeless_by_last Up word = let h = by_last is_hope is_gave_up _ _ refl word in (λ e. (inl refl, h.0 e), λ l. h.1 l.1)
-hopeless_by_last Ready word = let h = by_last is_hope is_gave_up _ _ refl word in (λ e. (inr refl, h.0 e), λ l. h.1 l.1)
-hopeless_by_last Down word = (λ e. absurd (let z = e in cc), λ l. elim l.0 [ inl e ↦ absurd (let z = e in cc) | inr e ↦ absurd (let z = e in cc) ])
-hopeless_by_last Finished word = (λ e. absurd (let z = e in cc), λ l. elim l.0 [ inl e ↦ absurd (let z = e in cc) | inr e ↦ absurd (let z = e in cc) ])
+    → (is_hopeless want (flags_of word) ≡ true) ↔ (NeedsUp want × LastIs (codes "Osu") (codes "O") word)
+hopeless_by_last Down word = (λ e. absurd (let z = e in cc), λ l. absurd (l.0.0 refl))
+hopeless_by_last Finished word = (λ e. absurd (let z = e in cc), λ l. absurd (l.0.1 refl))
+hopeless_by_last want word = let h = by_last is_hope is_gave_up _ _ refl word in (λ e. ((λ z. cc, λ z. cc), h.0 e), λ l. h.1 l.1)
+
+-- what two say together is what each says
+pub both_true : (a b : Bool) → ((a && b) ≡ true) ↔ ((a ≡ true) × (b ≡ true))
+both_true true b = (λ e. (refl, e), λ each. each.1)
+both_true false b = (λ e. absurd (let z = e in cc), λ each. absurd (let z = each.0 in cc))

@@ -1,5 +1,7 @@
 //! Letters.
-ghost use Rattle.std.specs.Prelude.{◌≡◌, ◌≤◌, SomeIff};
+ghost use Rattle.std.specs.Prelude.{◌≡◌, ◌↔◌, ◌≤◌, ◌++◌, ℕ, List, [], ◌∷◌, SomeIff, true, false};
+ghost use Rattle.hub_letters.specs.Falls.{falls, has_fall};
+ghost use Rattle.hub_letters.specs.Flags.{flags_of};
 
 use std::marker::Model;
 
@@ -43,4 +45,24 @@ impl Letter {
     {
         self.byte
     }
+
+    /// Whether it is `s`, `d` or `D`: no run of the service goes on after it.
+    pub fn falls(self) -> bool
+        ensures { result ≡ falls self }
+    {
+        matches!(self.byte, b's' | b'd' | b'D')
+    }
+
+    /// Whether one of the letters falls.
+    pub fn any_falls(letters: &[Letter]) -> bool
+        ensures { result ≡ has_fall letters.now }
+    {
+        letters.iter().any(|letter| letter.falls())
+    }
+
+    /// A law: a letter falls exactly if no service is up after it, whatever came before.
+    pub fn falls_end_every_run()
+        ensures { (letter : ℕ) → (falls letter ≡ true)
+            ↔ ((word : List ℕ) → (flags_of (word ++ letter ∷ [])).up ≡ false) }
+    {}
 }

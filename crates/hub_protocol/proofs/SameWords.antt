@@ -4,7 +4,7 @@ use Rattle.std.specs.Str.{bytes_eq}
 use Rattle.std.proofs.lemmas.Slice.Eq.{bytes_eq-Decides}
 use Rattle.std.proofs.lemmas.Bool.{false≢true}
 use Rattle.hub_letters.specs.declared.want.Want.{Want}
-use Rattle.hub_letters.specs.declared.want.Want.TheVariants.{Up, Ready, Down, Finished}
+use Rattle.hub_letters.specs.declared.want.Want.TheVariants.{Up, Ready, Down, Finished, Restarted, RestartedReady}
 use Rattle.hub_letters.specs.declared.mode.Mode.{Mode}
 use Rattle.hub_letters.specs.declared.mode.Mode.TheVariants.{Once, Repeat}
 use Rattle.hub_letters.specs.declared.span.Span.{Span}
@@ -36,4 +36,6 @@ same_want Up Up e = refl
 same_want Ready Ready e = refl
 same_want Down Down e = refl
 same_want Finished Finished e = refl
+same_want Restarted Restarted e = refl
+same_want RestartedReady RestartedReady e = refl
 same_want a b e = absurd (apart (text_of_want a) (text_of_want b) refl e)

@@ -3,7 +3,7 @@ use Rattle.std.specs.Prelude.{◌≡◌, ℕ, ◌<◌, ◌≤◌, ◌^◌, List,
 use Rattle.std.specs.Fmt.{decimal}
 use Rattle.std.specs.List.{slice_split, join_with_byte}
 use Rattle.hub_letters.specs.declared.want.Want.{Want}
-use Rattle.hub_letters.specs.declared.want.Want.TheVariants.{Up, Ready, Down, Finished}
+use Rattle.hub_letters.specs.declared.want.Want.TheVariants.{Up, Ready, Down, Finished, Restarted, RestartedReady}
 use Rattle.hub_letters.specs.declared.mode.Mode.{Mode}
 use Rattle.hub_letters.specs.declared.mode.Mode.TheVariants.{Once, Repeat}
 use Rattle.hub_letters.specs.declared.span.Span.{Span}
@@ -81,6 +81,8 @@ text_of_want Up = codes "up"
 text_of_want Ready = codes "ready"
 text_of_want Down = codes "down"
 text_of_want Finished = codes "finished"
+text_of_want Restarted = codes "restarted"
+text_of_want RestartedReady = codes "restarted-ready"
 
 -- the word that a form begins with
 abbrev pub word_of : Form → List ℕ

@@ -36,6 +36,8 @@ impl Spelled for Want {
             b"ready" => Want::Ready,
             b"down" => Want::Down,
             b"finished" => Want::Finished,
+            b"restarted" => Want::Restarted,
+            b"restarted-ready" => Want::RestartedReady,
             _ => return None,
         })
     }

@@ -1,5 +1,5 @@
 -- Posts that are kept and that catch up, one by one and all together, and the states that they name.
-use Rattle.std.proofs.Common.{◌≡◌, ℕ, suc, ◌+◌, ◌<◌, ◌≤◌, Bool, true, false, Some, None, List, [], ◌∷◌, ◌++◌, if◌then◌else◌, inl, inr, append-nil, length, get_or, slice_set, refl, sym, subst, ⊎_elim, ◌∙◌, ap, append_assoc, arith, get_or-set_other}
+use Rattle.std.proofs.Common.{◌≡◌, ℕ, suc, ◌+◌, ◌<◌, ◌≤◌, Bool, true, false, ◌&&◌, Some, None, List, [], ◌∷◌, ◌++◌, if◌then◌else◌, inl, inr, append-nil, length, get_or, slice_set, refl, sym, subst, ⊎_elim, ◌∙◌, ap, append_assoc, arith, get_or-set_other}
 use Rattle.std.specs.Prelude.{All, Any}
 use Rattle.std.specs.List.{list_all, list_any}
 use Rattle.std.proofs.lemmas.Bool.{cases_Bool, cases_eq}
@@ -7,6 +7,9 @@ use Rattle.std.proofs.lemmas.List.{length-set, length-map, take-map, get_or_defa
 use Rattle.std.proofs.lemmas.List.Elements.{All-nil, All-cons}
 use Rattle.std.proofs.lemmas.Grind.{get_or-set_at}
 use Rattle.hub_wait.specs.declared.post.Post.{Post}
+use Rattle.hub_letters.specs.declared.flags.Flags.{Flags}
+use Rattle.hub_letters.specs.declared.want.Want.{Want}
+use Rattle.hub_letters.specs.declared.want.Want.TheVariants.{Up, Ready, Down, Finished, Restarted, RestartedReady}
 use Rattle.hub_letters.specs.Flags.{flags_of}
 use Rattle.hub_letters.specs.Wants.{is_met}
 use Rattle.hub_letters.specs.declared.span.Span.{Span}
@@ -14,6 +17,8 @@ use Rattle.hub_letters.specs.declared.span.Span.TheVariants as span
 use Rattle.hub_wait.specs.declared.tally.Verdict.TheVariants.{Yes, Never}
 use Rattle.hub_wait.specs.Verdicts.{verdict, is_bar}
 use Rattle.hub_wait.specs.Watching.{is_met_at, is_lost_at}
+use Rattle.hub_record.specs.World.{letters}
+use Rattle.hub_wait.specs.Histories.{has_fall_between}
 use Rattle.hub_wait.specs.Posts.{IsKept, HasCaughtUp, HadState, seen_of, watch_of}
 use Rattle.hub_wait.specs.Waits.{AreKept, HadStates, watches_of}
 
@@ -24,11 +29,15 @@ IsKept-refl p = record {
   want = refl;
   notifies = refl;
   ended = λ e. e;
+  since = refl;
+  fell = λ e. e;
   marked = p.reads.marked;
   forward = omega arith;
   taken = omega arith;
   seen = ([], sym (append-nil _));
   follows = p.reads.follows;
+  falls = p.reads.falls;
+  misses_no_fall = p.reads.misses_no_fall;
 }
 
 IsKept-trans : (a b c : Post) → IsKept a b → IsKept b c → IsKept a c
@@ -40,11 +49,15 @@ IsKept-trans a b c f g =
       want = g.want ∙ f.want;
       notifies = g.notifies ∙ f.notifies;
       ended = λ e. g.ended (f.ended e);
+      since = g.since ∙ f.since;
+      fell = λ e. g.fell (f.fell e);
       marked = g.marked;
       forward = omega (arith, forward, further);
       taken = omega (arith, taken, more);
       seen = (f.seen.0 ++ g.seen.0, g.seen.1 ∙ ap (λ z. z ++ g.seen.0) f.seen.1 ∙ append_assoc (seen_of a) f.seen.0 g.seen.0);
       follows = g.follows;
+      falls = g.falls;
+      misses_no_fall = g.misses_no_fall;
     }
 
 pub AreKept-refl : (posts : List Post) → AreKept posts posts
@@ -92,6 +105,24 @@ CaughtUpBelow-set old posts i now was below count c one = let inside : i < lengt
 
 -- ---- what a yes names
 
+and_false : (b : Bool) → (b && false) ≡ false
+and_false true = refl
+and_false false = refl
+
+met_by_fall : (want : Want) (flags : Flags) (notifies : Bool) → is_met want flags notifies false ≡ true → is_met want flags notifies true ≡ true
+met_by_fall Up flags notifies e = e
+met_by_fall Ready flags notifies e = e
+met_by_fall Down flags notifies e = e
+met_by_fall Finished flags notifies e = e
+met_by_fall Restarted flags notifies e = absurd (let z = sym (and_false flags.up) ∙ e in cc)
+met_by_fall RestartedReady flags notifies e = absurd (let z = sym (and_false _) ∙ e in cc)
+
+-- what is met without a fall is met with one
+still_met : (want : Want) (flags : Flags) (notifies fell falls : Bool) → (fell ≡ true → falls ≡ true) → is_met want flags notifies fell ≡ true → is_met want flags notifies falls ≡ true
+still_met want flags notifies true falls only e = ap (is_met want flags notifies) (only refl) ∙ e
+still_met want flags notifies false true only e = met_by_fall want flags notifies e
+still_met want flags notifies false false only e = e
+
 had_state : (p : Post) → is_met_at (watch_of p) ≡ true → HadState p
 had_state p met =
     let f = p.reads.follows in
@@ -101,8 +132,10 @@ had_state p met =
       of = p.of;
       number = (watch_of p).at;
       marked = p.reads.marked;
+      begun = p.reads.falls.begun;
       within = omega (arith, long, inside);
-      met = ap (λ z. is_met (watch_of p).want z (watch_of p).notifies) (sym (f.flags ∙ ap flags_of (take-map _ (watch_of p).at (seen_of p)))) ∙ met;
+      met = ap (λ z. is_met (watch_of p).want z (watch_of p).notifies (has_fall_between (letters (seen_of p)) (watch_of p).since (watch_of p).at)) (sym (f.flags ∙ ap flags_of (take-map _ (watch_of p).at (seen_of p))))
+          ∙ still_met (watch_of p).want (watch_of p).flags (watch_of p).notifies (watch_of p).fell _ p.reads.falls.only met;
     }
 
 all_had : (posts : List Post) → list_all is_met_at (watches_of posts) ≡ true → All HadState posts

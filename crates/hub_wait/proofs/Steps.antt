@@ -1,13 +1,16 @@
 -- What letters add to a watch, and a watch along a history.
-use Rattle.std.proofs.Common.{◌≡◌, ℕ, ◌+◌, ◌-◌, ◌<◌, ◌≤◌, List, [], ◌∷◌, ◌++◌, map, take, drop, length, max, Bool, true, false, ◌||◌, Option, Some, None, if◌then◌else◌, length-drop, subst, refl, ⊎_elim, sym, ap, ◌∙◌, arith}
+use Rattle.std.proofs.Common.{◌≡◌, ℕ, ◌+◌, ◌-◌, ◌<◌, ◌≤◌, List, [], ◌∷◌, ◌++◌, map, take, drop, length, max, Bool, true, false, ◌||◌, Option, Some, None, if◌then◌else◌, length-drop, append-nil, subst, refl, ⊎_elim, sym, ap, ◌∙◌, arith}
 use Rattle.std.specs.List.{list_any}
 use Rattle.std.proofs.lemmas.Bool.{cases_lt}
-use Rattle.std.proofs.lemmas.List.{map-append, drop_all, take_all, take-append-drop, drop-drop, take-take}
+use Rattle.std.proofs.lemmas.List.{map-append, drop_all, take_all, take-append-drop, drop-append-le, drop-drop, take-take, length-take, length-take-le}
+use Rattle.std.proofs.lemmas.List.Folds.{list_any-append}
 use Rattle.hub_letters.specs.declared.flags.Flags.{Flags}
 use Rattle.hub_letters.specs.Marks.{Mark, mark, later, last_among, is_life, is_supervision, is_hope, is_began, is_gave_up}
 use Rattle.hub_letters.specs.Flags.{up_by, settled_by, flags_by, flags_of}
+use Rattle.hub_letters.specs.Falls.{falls, has_fall}
+use Rattle.hub_record.specs.declared.Status.{Status}
 use Rattle.hub_wait.specs.Watching.{Watching, flag_after, flags_after, flags_after_marks, watching_after_step, renewed_by}
-use Rattle.hub_wait.specs.Histories.{ShowsFlagsOf, IsSlice, Step, Renew, End, is_end, FollowAnySlices}
+use Rattle.hub_wait.specs.Histories.{ShowsFlagsOf, ShowsFallsOf, MissesNoFall, has_fall_between, IsSlice, Step, Renew, End, is_end, BeginAtAnyStatus, FollowAnySlices}
 
 -- ---- flags after more letters
 
@@ -78,16 +81,18 @@ flags_after_from_words f g letters h =
     h (word_of f) is ∙ sym (flags_after-flags_of (word_of f) letters) ∙ ap (λ z. flags_after z letters) is
 
 -- what a step writes if it gets letters past those that are known
-pub stepped_past : (v w : Watching) (letters : List ℕ) (first : ℕ) (g : Flags) → v ≡ w → first ≤ w.at → v.at - first < length letters
+pub stepped_past : (v w : Watching) (letters : List ℕ) (first : ℕ) (g : Flags) (fall : Bool) → v ≡ w → first ≤ w.at → v.at - first < length letters
     → ((word : List ℕ) → flags_of word ≡ v.flags → g ≡ flags_of (word ++ take (length letters - (v.at - first)) (drop (v.at - first) letters)))
-    → record v { at = first + length letters; flags = g } ≡ watching_after_step w first letters
-stepped_past v w letters first g e low past h =
+    → fall ≡ has_fall (take (length letters - (v.at - first)) (drop (v.at - first) letters))
+    → record v { at = first + length letters; flags = g; fell = v.fell || fall } ≡ watching_after_step w first letters
+stepped_past v w letters first g fall e low past h falls =
     let low_here : first ≤ v.at = subst (λ z. first ≤ z.at) (sym e) low in
     let furthest : first + length letters ≡ max v.at (first + length letters) = omega arith in
     let new = drop (v.at - first) letters in
     let whole : take (length letters - (v.at - first)) new ≡ new = take_all (length letters - (v.at - first)) new (omega (arith, length-drop (v.at - first) letters)) in
     let shown : g ≡ flags_after v.flags new = flags_after_from_words v.flags g new (λ word is. h word is ∙ ap (λ z. flags_of (word ++ z)) whole) in
-    (λ i. record v { at = furthest i; flags = shown i }) ∙ ap (λ z. watching_after_step z first letters) e
+    let fallen : fall ≡ has_fall new = falls ∙ ap has_fall whole in
+    (λ i. record v { at = furthest i; flags = shown i; fell = v.fell || fallen i }) ∙ ap (λ z. watching_after_step z first letters) e
 
 -- ---- a watch along a history
 
@@ -102,41 +107,136 @@ slice_joins history letters first at low high e =
     ∙ ap (λ t. take at all ++ t) (drop-drop (at - first) first all ∙ ap (λ k. drop k all) here)
     ∙ take-append-drop at all
 
+-- what a watch knows of the history after a step: what it knew, and the letters that it did not skip
+known_after : (history letters : List ℕ) (first at : ℕ) → first ≤ at → IsSlice history first letters
+    → take (max at (first + length letters)) history ≡ take at history ++ drop (at - first) letters
+known_after history letters first at low s = let end = first + length letters in
+    ⊎_elim
+    (λ (lt : at < end). let e : max at end ≡ end = omega arith in ap (λ k. take k history) e ∙ sym (slice_joins history letters first at low (omega arith) s.same))
+    (λ (le : end ≤ at). let e : max at end ≡ at = omega arith in
+    ap (λ k. take k history) e ∙ sym (append-nil (take at history)) ∙ ap (λ l. take at history ++ l) (sym (drop_all (at - first) letters (omega arith))))
+    (cases_lt at end)
+
 pub ShowsFlagsOf-stepped : (w : Watching) (history letters : List ℕ) (first : ℕ) → first ≤ w.at → ShowsFlagsOf w history → IsSlice history first letters
     → ShowsFlagsOf (watching_after_step w first letters) history
 ShowsFlagsOf-stepped w history letters first low f s =
-    let end = first + length letters in let inside = s.within in let had = f.within in
-    let split = ap (λ z. flags_after z (drop (w.at - first) letters)) f.flags ∙ flags_after-flags_of (take w.at history) (drop (w.at - first) letters) in
-    ⊎_elim
-    (λ (lt : w.at < end). let e : max w.at end ≡ end = omega arith in record {
+    let inside = s.within in let had = f.within in
+    let new = drop (w.at - first) letters in
+    record {
       within = omega arith;
-      flags = split ∙ ap flags_of (slice_joins history letters first w.at low (omega arith) s.same) ∙ ap (λ k. flags_of (take k history)) (sym e);
-    })
-    (λ (le : end ≤ w.at). let e : max w.at end ≡ w.at = omega arith in record {
-      within = omega arith;
-      flags = ap (λ l. flags_after w.flags l) (drop_all (w.at - first) letters (omega arith)) ∙ f.flags ∙ ap (λ k. flags_of (take k history)) (sym e);
-    })
-    (cases_lt w.at end)
+      flags = ap (λ z. flags_after z new) f.flags ∙ flags_after-flags_of (take w.at history) new ∙ ap flags_of (sym (known_after history letters first w.at low s));
+    }
+
+-- ---- falls along a history
+
+-- the letters from `since` on are joined with more of them
+falls_join : (history new : List ℕ) (since at further : ℕ) → since ≤ at → at ≤ length history → take further history ≡ take at history ++ new
+    → has_fall_between history since further ≡ (has_fall_between history since at || has_fall new)
+falls_join history new since at further low high e =
+    let long : length (take at history) ≡ at = length-take-le at history high in
+    ap (λ t. has_fall (drop since t)) e
+    ∙ ap has_fall (drop-append-le since (take at history) new (omega (arith, long)))
+    ∙ list_any-append falls (drop since (take at history)) new
+
+-- what implies another still does if both are joined with the same
+or_implies : (a b n : Bool) → (a ≡ true → b ≡ true) → (a || n) ≡ true → (b || n) ≡ true
+or_implies true b n k e = ap (λ z. z || n) (k refl)
+or_implies false true n k e = refl
+or_implies false false n k e = e
+
+falls_after : (w : Watching) (history letters : List ℕ) (first : ℕ) → first ≤ w.at → w.at ≤ length history → w.since ≤ w.at → IsSlice history first letters
+    → has_fall_between history w.since (max w.at (first + length letters)) ≡ (has_fall_between history w.since w.at || has_fall (drop (w.at - first) letters))
+falls_after w history letters first low high begun s = falls_join history (drop (w.at - first) letters) w.since w.at _ begun high (known_after history letters first w.at low s)
+
+pub ShowsFallsOf-stepped : (w : Watching) (history letters : List ℕ) (first : ℕ) → first ≤ w.at → w.at ≤ length history → ShowsFallsOf w history → IsSlice history first letters
+    → ShowsFallsOf (watching_after_step w first letters) history
+ShowsFallsOf-stepped w history letters first low high f s = let begun = f.begun in record {
+  begun = omega (arith, begun);
+  only = λ e. falls_after w history letters first low high begun s ∙ or_implies w.fell _ _ f.only e;
+}
+
+pub MissesNoFall-stepped : (w : Watching) (history letters : List ℕ) (first : ℕ) → first ≤ w.at → w.at ≤ length history → w.since ≤ w.at → IsSlice history first letters
+    → MissesNoFall w history → MissesNoFall (watching_after_step w first letters) history
+MissesNoFall-stepped w history letters first low high begun s none =
+    λ e. or_implies _ w.fell _ none (sym (falls_after w history letters first low high begun s) ∙ e)
+
+-- a fall stays between `since` and what is known
+pub falls_onward : (history : List ℕ) (since at further : ℕ) → since ≤ at → at ≤ length history → at ≤ further → has_fall_between history since at ≡ true
+    → has_fall_between history since further ≡ true
+falls_onward history since at further low high on e =
+    let rest = drop at (take further history) in
+    let split : take further history ≡ take at history ++ rest =
+    sym (take-append-drop at (take further history)) ∙ ap (λ t. t ++ rest) (take-take at further history on) in
+    falls_join history rest since at further low high split ∙ or_implies true _ (has_fall rest) (λ z. e) refl
+
+pub ShowsFallsOf-renewed : (w : Watching) (history : List ℕ) (status : Status) → w.at ≤ length history → w.at ≤ status.number → ShowsFallsOf w history
+    → ShowsFallsOf (renewed_by w status) history
+ShowsFallsOf-renewed w history status high on f = let begun = f.begun in record {
+  begun = omega (arith, begun);
+  only = λ e. falls_onward history w.since w.at status.number begun high on (f.only e);
+}
+
+-- nothing fell between a number and itself
+pub none_fell : (history : List ℕ) (n : ℕ) → has_fall_between history n n ≡ false
+none_fell history n = ap has_fall (drop_all n (take n history) (omega (arith, length-take n history)))
+
+pub begin_at_any_status : BeginAtAnyStatus
+begin_at_any_status history want notifies status is = record {
+  follows = record { within = is.within; flags = is.flags };
+  falls = record { begun = omega arith; only = λ e. absurd (let z = e in cc) };
+  misses_no_fall = λ e. sym (none_fell history status.number) ∙ e;
+}
 
 or_assoc : (a b c : Bool) → ((a || b) || c) ≡ (a || (b || c))
 or_assoc true b c = refl
 or_assoc false b c = refl
 
 pub follow_any_slices : FollowAnySlices
-follow_any_slices history [] w f are = record { follows = f; at = refl; want = refl; notifies = refl; ended = or_false w.ended }
+follow_any_slices history [] w f g are = record { follows = f; falls = g; misses_no_fall = λ no none. none; since = refl; at = refl; want = refl; notifies = refl; ended = or_false w.ended }
   where
     or_false : (a : Bool) → a ≡ (a || false)
     or_false true = refl
     or_false false = refl
-follow_any_slices history (Step first letters ∷ ms) w f are =
-    let rest = follow_any_slices history ms (watching_after_step w first letters) (ShowsFlagsOf-stepped w history letters first are.0.0 f are.0.1) are.1 in
-    record { follows = rest.follows; at = rest.at; want = rest.want; notifies = rest.notifies; ended = rest.ended }
-follow_any_slices history (Renew status ∷ ms) w f are =
-    let rest = follow_any_slices history ms (renewed_by w status) (record { within = are.0.1.within; flags = are.0.1.flags }) are.1 in
-    record { follows = rest.follows; at = rest.at; want = rest.want; notifies = rest.notifies; ended = rest.ended ∙ or_assoc w.ended status.closed (list_any is_end ms) }
-follow_any_slices history (End ∷ ms) w f are =
-    let rest = follow_any_slices history ms (record w { ended = true }) (record { within = f.within; flags = f.flags }) are.1 in
-    record { follows = rest.follows; at = rest.at; want = rest.want; notifies = rest.notifies; ended = rest.ended ∙ by w.ended }
+follow_any_slices history (Step first letters ∷ ms) w f g are =
+    let new = watching_after_step w first letters in
+    let follows = ShowsFlagsOf-stepped w history letters first are.0.0 f are.0.1 in
+    let rest = follow_any_slices history ms new follows (ShowsFallsOf-stepped w history letters first are.0.0 f.within g are.0.1) are.1 in
+    record {
+      follows = rest.follows;
+      falls = rest.falls;
+      misses_no_fall = λ no none. rest.misses_no_fall no (MissesNoFall-stepped w history letters first are.0.0 f.within g.begun are.0.1 none);
+      since = rest.since;
+      at = rest.at;
+      want = rest.want;
+      notifies = rest.notifies;
+      ended = rest.ended;
+    }
+follow_any_slices history (Renew status ∷ ms) w f g are =
+    let follows : ShowsFlagsOf (renewed_by w status) history = record { within = are.0.1.within; flags = are.0.1.flags } in
+    let rest = follow_any_slices history ms (renewed_by w status) follows (ShowsFallsOf-renewed w history status f.within are.0.0 g) are.1 in
+    record {
+      follows = rest.follows;
+      falls = rest.falls;
+      misses_no_fall = λ no none. absurd (let z = no in cc);
+      since = rest.since;
+      at = rest.at;
+      want = rest.want;
+      notifies = rest.notifies;
+      ended = rest.ended ∙ or_assoc w.ended status.closed (list_any is_end ms);
+    }
+follow_any_slices history (End ∷ ms) w f g are =
+    let follows : ShowsFlagsOf (record w { ended = true }) history = record { within = f.within; flags = f.flags } in
+    let rest = follow_any_slices history ms (record w { ended = true }) follows (record { begun = g.begun; only = g.only }) are.1 in
+    record {
+      follows = rest.follows;
+      falls = rest.falls;
+      misses_no_fall = λ no none. rest.misses_no_fall no none;
+      since = rest.since;
+      at = rest.at;
+      want = rest.want;
+      notifies = rest.notifies;
+      ended = rest.ended ∙ by w.ended;
+    }
   where
     by : (e : Bool) → true ≡ (e || true)
     by true = refl

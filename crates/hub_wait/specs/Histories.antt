@@ -1,14 +1,29 @@
 -- A watch along its service's history, which is the word of all its letters.
 use Rattle.std.specs.Prelude.{ℕ, ◌≡◌, ◌+◌, ◌≤◌, max, Bool, true, false, ◌||◌, List, [], ◌∷◌, length, take, drop}
 use Rattle.std.specs.List.{list_any}
+use Rattle.hub_letters.specs.declared.want.Want.{Want}
 use Rattle.hub_letters.specs.Flags.{flags_of}
+use Rattle.hub_letters.specs.Falls.{has_fall}
 use Rattle.hub_record.specs.declared.Status.{Status}
-use Rattle.hub_wait.specs.Watching.{Watching, watching_after_step, renewed_by}
+use Rattle.hub_wait.specs.Watching.{Watching, new_watching, watching_after_step, renewed_by}
 
 -- the watch shows the flags of the first `at` letters of the history
 pub record ShowsFlagsOf (watch : Watching) (history : List ℕ) : Type 0 where
   pub within : watch.at ≤ length history
   pub flags : watch.flags ≡ flags_of (take watch.at history)
+
+-- whether a letter falls among those of the history from number `since` up to number `at`
+abbrev pub has_fall_between : List ℕ → ℕ → ℕ → Bool
+has_fall_between history since at = has_fall (drop since (take at history))
+
+-- the watch fell only if a letter falls since it began
+pub record ShowsFallsOf (watch : Watching) (history : List ℕ) : Type 0 where
+  pub begun : watch.since ≤ watch.at
+  pub only : watch.fell ≡ true → has_fall_between history watch.since watch.at ≡ true
+
+-- the watch fell if a letter falls since it began
+abbrev pub MissesNoFall : Watching → List ℕ → Type 0
+MissesNoFall watch history = has_fall_between history watch.since watch.at ≡ true → watch.fell ≡ true
 
 -- the letters are those of the history from number `first` on
 pub record IsSlice (history : List ℕ) (first : ℕ) (letters : List ℕ) : Type 0 where
@@ -40,6 +55,11 @@ is_end (Step first letters) = false
 is_end (Renew status) = status.closed
 is_end End = true
 
+abbrev pub is_renewal : Move → Bool
+is_renewal (Step first letters) = false
+is_renewal (Renew status) = true
+is_renewal End = false
+
 -- how far a watch is after a move: at a slice's end, unless it was further already, or at a status's number
 abbrev pub reach : ℕ → Move → ℕ
 reach at (Step first letters) = max at (first + length letters)
@@ -63,13 +83,25 @@ AreMovesAlong history at (m ∷ ms) = IsMoveAlong history at m × AreMovesAlong 
 -- what the moves have made of a watch
 pub record HasMoved (history : List ℕ) (moves : List Move) (old new : Watching) : Type 0 where
   pub follows : ShowsFlagsOf new history
+  pub falls : ShowsFallsOf new history
+  pub misses_no_fall : list_any is_renewal moves ≡ false → MissesNoFall old history → MissesNoFall new history
+  pub since : new.since ≡ old.since
   pub at : new.at ≡ furthest old.at moves
   pub want : new.want ≡ old.want
   pub notifies : new.notifies ≡ old.notifies
   pub ended : new.ended ≡ (old.ended || list_any is_end moves)
 
+-- a watch that begins at a status of a history follows it
+pub record Begins (history : List ℕ) (watch : Watching) : Type 0 where
+  pub follows : ShowsFlagsOf watch history
+  pub falls : ShowsFallsOf watch history
+  pub misses_no_fall : MissesNoFall watch history
+
+abbrev pub BeginAtAnyStatus : Type 0
+BeginAtAnyStatus = (history : List ℕ) (want : Want) (notifies : Bool) (status : Status) → IsStatusIn history status → Begins history (new_watching want notifies status)
+
 -- A watch that follows a history, and gets slices of it that are cut anywhere and overlap, or statuses that are not older
 -- than what it knows, follows it up to the furthest of them.
 abbrev pub FollowAnySlices : Type 0
-FollowAnySlices = (history : List ℕ) (moves : List Move) (watch : Watching) → ShowsFlagsOf watch history → AreMovesAlong history watch.at moves
-    → HasMoved history moves watch (moved_by watch moves)
+FollowAnySlices = (history : List ℕ) (moves : List Move) (watch : Watching) → ShowsFlagsOf watch history → ShowsFallsOf watch history
+    → AreMovesAlong history watch.at moves → HasMoved history moves watch (moved_by watch moves)

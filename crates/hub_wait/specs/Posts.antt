@@ -13,7 +13,7 @@ use Rattle.hub_fifodir.specs.Passes.{IsTicketOf, ticket_mark, ticket_next, ticke
 use Rattle.hub_wait.specs.declared.post.Post.{Post}
 use Rattle.hub_wait.specs.declared.post.TheConstants.{SLICE, SLICES}
 use Rattle.hub_wait.specs.Watching.{Watching, new_watching}
-use Rattle.hub_wait.specs.Histories.{ShowsFlagsOf}
+use Rattle.hub_wait.specs.Histories.{ShowsFlagsOf, ShowsFallsOf, MissesNoFall, has_fall_between}
 
 abbrev pub fifodir_of : Post → Fifodir
 fifodir_of p = arc_value p.fifodir
@@ -45,18 +45,23 @@ pub record HasOpened (fifodir : Fifodir) (want : Want) (notifies : Bool) (post :
   pub watch : watch_of post ≡ new_watching want notifies (status_of post)
   pub marked : mark_of post ≤ (watch_of post).at
 
--- it waits for the same, has lost nothing that it had seen, and shows the flags of what it has seen, up to its number
+-- It waits for the same, has lost nothing that it had seen, and shows the flags of what it has seen, up to its number. It fell
+-- only if a letter falls since it began, and exactly then unless it is evicted.
 pub record IsKept (old new : Post) : Type 0 where
   pub fifodir : fifodir_of new ≡ fifodir_of old
   pub mark : mark_of new ≡ mark_of old
   pub want : (watch_of new).want ≡ (watch_of old).want
   pub notifies : (watch_of new).notifies ≡ (watch_of old).notifies
   pub ended : (watch_of old).ended ≡ true → (watch_of new).ended ≡ true
-  pub marked : mark_of new ≤ (watch_of new).at
+  pub since : (watch_of new).since ≡ (watch_of old).since
+  pub fell : (watch_of old).fell ≡ true → (watch_of new).fell ≡ true
+  pub marked : mark_of new ≤ (watch_of new).since
   pub forward : (watch_of old).at ≤ (watch_of new).at
   pub taken : next_of old ≤ next_of new
   pub seen : StartsWith (seen_of new) (seen_of old)
   pub follows : ShowsFlagsOf (watch_of new) (letters (seen_of new))
+  pub falls : ShowsFallsOf (watch_of new) (letters (seen_of new))
+  pub misses_no_fall : is_evicted_at new.ticket (next_of new) ≡ false → MissesNoFall (watch_of new) (letters (seen_of new))
 
 -- its ticket is evicted, and its watch goes on from the status of what it has seen
 pub record IsRenewed (p : Post) : Type 0 where
@@ -80,10 +85,12 @@ pub record HasTakenSlice (old : Post) (whole : Bool) (new : Post) : Type 0 where
   pub ended : closed_of new ≢ 0 → next_of new ≡ next_of old → (watch_of new).ended ≡ true
 
 -- Its fifodir had a wanted state after it subscribed: that of the first so many events of the record, as far as its ticket
--- has seen it.
+-- has seen it. It fell if a letter falls among those of them that came since the watch began.
 pub record HadState (p : Post) : Type 0 where
   pub of : IsTicketOf (fifodir_of p) p.ticket
   pub number : ℕ
-  pub marked : mark_of p ≤ number
+  pub marked : mark_of p ≤ (watch_of p).since
+  pub begun : (watch_of p).since ≤ number
   pub within : number ≤ length (seen_of p)
-  pub met : is_met (watch_of p).want (flags_of (letters (take number (seen_of p)))) (watch_of p).notifies ≡ true
+  pub met : is_met (watch_of p).want (flags_of (letters (take number (seen_of p)))) (watch_of p).notifies
+      (has_fall_between (letters (seen_of p)) (watch_of p).since number) ≡ true

@@ -1,22 +1,34 @@
 -- What a watch knows of a service, and what letters add to it. A word is a list of letters, each seen as its byte.
-use Rattle.std.specs.Prelude.{ℕ, ◌+◌, ◌-◌, max, Bool, ◌||◌, List, length, drop, map, Option, Some, None}
+use Rattle.std.specs.Prelude.{ℕ, ◌+◌, ◌-◌, max, Bool, false, ◌||◌, List, length, drop, map, Option, Some, None}
 use Rattle.hub_letters.specs.declared.flags.Flags.{Flags}
 use Rattle.hub_letters.specs.declared.want.Want.{Want}
 use Rattle.hub_letters.specs.Marks.{Mark, mark, last_among, is_life, is_supervision, is_hope, is_began, is_gave_up}
 use Rattle.hub_letters.specs.Flags.{up_by, settled_by}
 use Rattle.hub_letters.specs.Wants.{is_met, is_hopeless}
+use Rattle.hub_letters.specs.Falls.{has_fall}
 use Rattle.hub_record.specs.declared.Status.{Status}
 
--- what is wanted of a service, how many of its events are known, their flags, and whether no more will come
+-- what is wanted of a service, how many events it had when the watch began, how many are known, their flags, whether one of
+-- those between fell, and whether no more will come
 pub record Watching : Type 0 where
   pub want : Want
   pub notifies : Bool
+  pub since : ℕ
   pub at : ℕ
   pub flags : Flags
+  pub fell : Bool
   pub ended : Bool
 
 abbrev pub new_watching : Want → Bool → Status → Watching
-new_watching want notifies status = record { want = want; notifies = notifies; at = status.number; flags = status.flags; ended = status.closed }
+new_watching want notifies status = record {
+  want = want;
+  notifies = notifies;
+  since = status.number;
+  at = status.number;
+  flags = status.flags;
+  fell = false;
+  ended = status.closed;
+}
 
 -- a flag by the last letter that bears on it, or unchanged if none does
 abbrev pub flag_after : Bool → (Option Mark → Bool) → Option Mark → Bool
@@ -37,14 +49,18 @@ flags_after f letters = flags_after_marks f (map mark letters)
 
 -- after letters that are numbered from `first`; those below `at` are skipped
 abbrev pub watching_after_step : Watching → ℕ → List ℕ → Watching
-watching_after_step w first letters = record w { at = max w.at (first + length letters); flags = flags_after w.flags (drop (w.at - first) letters) }
+watching_after_step w first letters = let new = drop (w.at - first) letters in record w {
+  at = max w.at (first + length letters);
+  flags = flags_after w.flags new;
+  fell = w.fell || has_fall new;
+}
 
 -- after a status of the service; a closed one ends the watch
 abbrev pub renewed_by : Watching → Status → Watching
 renewed_by w status = record w { at = status.number; flags = status.flags; ended = w.ended || status.closed }
 
 abbrev pub is_met_at : Watching → Bool
-is_met_at w = is_met w.want w.flags w.notifies
+is_met_at w = is_met w.want w.flags w.notifies w.fell
 
 -- no further event can bring what is wanted
 abbrev pub is_lost_at : Watching → Bool

@@ -75,7 +75,8 @@ impl Post {
     }
 
     /// Takes what came meanwhile: slices of [`SLICE`] events, until one isn't whole or [`SLICES`] were taken. If the
-    /// subscription is evicted, the watch goes on from the status: what it missed lies between two of its numbers.
+    /// subscription is evicted, the watch goes on from the status: what it missed lies between two of its numbers, and a
+    /// fall that it missed doesn't count.
     pub fn catch_up<R: Wait>(&mut self, rt: &R)
         ensures kept { IsKept self.old self.new }
         ensures caught_up { HasCaughtUp self.old self.new }

@@ -11,8 +11,10 @@ use std::marker::Model;
 pub struct Watch {
     want: Want,
     notifies: bool,
+    since: u64,
     at: u64,
     flags: Flags,
+    fell: bool,
     ended: bool,
 }
 
@@ -21,15 +23,31 @@ impl Model for Watch {
 
     ghost Value = { Watching };
 
-    ghost view = { λ w. record { want = w.want; notifies = w.notifies; at = w.at; flags = w.flags; ended = w.ended } };
+    ghost view = { λ w. record {
+      want = w.want;
+      notifies = w.notifies;
+      since = w.since;
+      at = w.at;
+      flags = w.flags;
+      fell = w.fell;
+      ended = w.ended;
+    } };
 
-    ghost inverse = { λ v. record { want = v.want; notifies = v.notifies; at = v.at; flags = v.flags; ended = v.ended } };
+    ghost inverse = { λ v. record {
+      want = v.want;
+      notifies = v.notifies;
+      since = v.since;
+      at = v.at;
+      flags = v.flags;
+      fell = v.fell;
+      ended = v.ended;
+    } };
 }
 
 impl Watch {
     ghost use Rattle.hub_letters.specs.Wants.{is_hopeless};
     ghost use Rattle.hub_wait.specs.Watching.{new_watching, watching_after_step, renewed_by, is_met_at, is_lost_at};
-    ghost use Rattle.hub_wait.specs.Histories.{FollowAnySlices};
+    ghost use Rattle.hub_wait.specs.Histories.{BeginAtAnyStatus, FollowAnySlices};
 
     /// A watch that begins at a status. `notifies` says whether the service reports that it is ready.
     pub fn new(want: Want, notifies: bool, status: Status) -> Watch
@@ -38,8 +56,10 @@ impl Watch {
         Watch {
             want,
             notifies,
+            since: status.number,
             at: status.number,
             flags: status.flags,
+            fell: false,
             ended: status.closed,
         }
     }
@@ -52,12 +72,15 @@ impl Watch {
     {
         let told = self.at - first;
         if told < letters.len() as u64 {
-            self.flags = self.flags.after_all(&letters[told as usize..]);
+            let new = &letters[told as usize..];
+            self.flags = self.flags.after_all(new);
+            self.fell |= Letter::any_falls(new);
             self.at = first + letters.len() as u64;
         }
     }
 
-    /// Goes on from a status of the service, so that it may miss the letters before that. A closed one ends the watch.
+    /// Goes on from a status of the service, so that it may miss the letters before that, and a fall among them. A closed
+    /// one ends the watch.
     pub fn renew(&mut self, status: Status)
         requires { self.old.at ≤ status.number }
         ensures { self.new ≡ renewed_by self.old status }
@@ -65,6 +88,13 @@ impl Watch {
         self.at = status.number;
         self.flags = status.flags;
         self.ended = self.ended || status.closed;
+    }
+
+    /// How many events the service had when the watch began. What fell before doesn't count.
+    pub fn since(&self) -> u64
+        ensures { result ≡ self.now.since }
+    {
+        self.since
     }
 
     /// How many of the service's events the watch knows.
@@ -88,11 +118,18 @@ impl Watch {
         self.flags
     }
 
+    /// Whether a letter that falls was among those that it followed (`s`, `d` or `D`).
+    pub fn fell(&self) -> bool
+        ensures { result ≡ self.now.fell }
+    {
+        self.fell
+    }
+
     /// Whether what is wanted holds.
     pub fn met(&self) -> bool
         ensures { result ≡ is_met_at self.now }
     {
-        self.want.met(self.flags, self.notifies)
+        self.want.met(self.flags, self.notifies, self.fell)
     }
 
     /// Whether the service has failed for good, if that rules out what is wanted.
@@ -117,8 +154,9 @@ impl Watch {
     }
 
     /// A law: a watch shows the flags of its service's history up to its number, however the history is cut, and whichever
-    /// statuses it gets.
+    /// statuses it gets. It fell only if a letter falls since the watch began, and exactly then if it never was renewed.
     pub fn follow_any_slices()
-        ensures { FollowAnySlices }
+        ensures begin { BeginAtAnyStatus }
+        ensures follow { FollowAnySlices }
     {}
 }

@@ -20,6 +20,21 @@ fn letters_are_from_bang_to_tilde() -> bool {
     Letter::LEAST.byte() == b'!'
 }
 
+/// Whether just `s`, `d` and `D` fall, by themselves and among others.
+fn s_d_and_big_d_fall() -> bool {
+    for byte in b'!'..=b'~' {
+        let Some(letter) = Letter::of(byte) else {
+            return false;
+        };
+        let falls = byte == b's' || byte == b'd' || byte == b'D';
+        let among = [Letter::LEAST, letter, Letter::LEAST];
+        if letter.falls() != falls || Letter::any_falls(&among) != falls {
+            return false;
+        }
+    }
+    !Letter::any_falls(&[])
+}
+
 /// The letters of the columns of `NEXT`.
 static LETTERS: [u8; 8] = *b"suUdDOxa";
 
@@ -159,6 +174,7 @@ fn letters_stages_and_flags(rt: HostRuntime) {
         letters_are_from_bang_to_tilde(),
         "letters are the bytes from bang to tilde"
     );
+    assert!(rt; s_d_and_big_d_fall(), "the letters that fall");
     assert!(rt;
         stages_lead_to_their_next(),
         "the next stage by stage and letter"

@@ -30,7 +30,7 @@ fn letters_are_read() -> bool {
     let flags = Flags::none().after(letter).after_all(&[letter]);
     let code = flags.code();
     let again = Flags::of_code(code);
-    let met = (Want::Up.met(flags, true), Want::Up.hopeless(flags));
+    let met = (Want::Up.met(flags, true, false), Want::Up.hopeless(flags));
     let limits = Limits::of(1, 1, 1);
     let policy = Limits::new(1, 1, 1).with(Policy::Evict).policy();
     mark();

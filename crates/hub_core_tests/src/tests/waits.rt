@@ -127,12 +127,18 @@ static ROWS: [Row; 6] = [
     },
 ];
 
-/// A service's fifodir whose supervisor has started.
-fn start_service<R: Abort + Wait>(rt: &R, alloc: Global) -> Result<(Shared, Sender), Fail> {
-    let letters = word(alloc, "s")?;
+/// A service's fifodir whose supervisor has sent these letters.
+fn start_service<R: Abort + Wait>(
+    rt: &R,
+    alloc: Global,
+    text: &str,
+) -> Result<(Shared, Sender), Fail> {
+    let letters = word(alloc, text)?;
     let fifodir = open(alloc, Kind::Service, (64, 1000, 10))?;
     let mut supervisor = new_sender(rt, &fifodir);
-    supervisor.send(rt, &letters).expect(rt, "its first letter");
+    supervisor
+        .send(rt, &letters)
+        .expect(rt, "its first letters");
     Ok((fifodir, supervisor))
 }
 
@@ -156,7 +162,7 @@ fn letters_of(alloc: Global, deed: Deed) -> Result<Vec<Letter>, Fail> {
 
 fn waits_so<R: Abort + Wait>(rt: &R, alloc: Global, row: &Row) -> Result<bool, Fail> {
     let letters = letters_of(alloc, row.deed)?;
-    let (fifodir, supervisor) = start_service(rt, alloc)?;
+    let (fifodir, supervisor) = start_service(rt, alloc, "s")?;
     let mut pause = Doing::new(supervisor, row.deed, letters, row.at_call);
     let mut posts = [open_post(rt, fifodir, Want::Ready, true)];
     let verdict = svwait(rt, &mut posts, Span::All, row.turns, &mut pause);
@@ -201,6 +207,146 @@ impl Pause for Bursts {
     }
 }
 
+/// A pause that sends a message at its first call, and another one at its second.
+struct Reports {
+    supervisor: Sender,
+    messages: [Vec<Letter>; 2],
+    calls: usize,
+}
+
+impl Pause for Reports {
+    fn pause<R: Wait>(&mut self, rt: &R) -> Go {
+        if let Some(message) = self.messages.get(self.calls) {
+            let _ = self.supervisor.send(rt, message);
+        }
+        self.calls = self.calls.wrapping_add(1);
+        Go::Again
+    }
+}
+
+/// A wait for a restart of a service that sent some letters before, and sends two messages in the first two pauses, for so
+/// many turns. Then the verdict, and the watch's number, code of flags and fall.
+struct Restart {
+    name: &'static str,
+    before: &'static str,
+    want: Want,
+    messages: [&'static str; 2],
+    turns: u64,
+    verdict: Verdict,
+    shown: (u64, u64, bool),
+}
+
+static RESTARTS: [Restart; 8] = [
+    Restart {
+        name: "up again in the first turn",
+        before: "su",
+        want: Want::Restarted,
+        messages: ["dDu", "U"],
+        turns: 1,
+        verdict: Verdict::Yes,
+        shown: (5, 5, true),
+    },
+    Restart {
+        name: "up again, and not ready yet",
+        before: "su",
+        want: Want::RestartedReady,
+        messages: ["dDu", "U"],
+        turns: 1,
+        verdict: Verdict::Late,
+        shown: (5, 5, true),
+    },
+    Restart {
+        name: "ready again in the second turn",
+        before: "su",
+        want: Want::RestartedReady,
+        messages: ["dDu", "U"],
+        turns: 2,
+        verdict: Verdict::Yes,
+        shown: (6, 7, true),
+    },
+    Restart {
+        name: "ready without a fall",
+        before: "su",
+        want: Want::Restarted,
+        messages: ["U", ""],
+        turns: 3,
+        verdict: Verdict::Late,
+        shown: (3, 7, false),
+    },
+    Restart {
+        name: "a new supervisor started it",
+        before: "su",
+        want: Want::Restarted,
+        messages: ["su", ""],
+        turns: 1,
+        verdict: Verdict::Yes,
+        shown: (4, 5, true),
+    },
+    Restart {
+        name: "it fell before the wait",
+        before: "suUdDu",
+        want: Want::RestartedReady,
+        messages: ["U", ""],
+        turns: 3,
+        verdict: Verdict::Late,
+        shown: (7, 7, false),
+    },
+    Restart {
+        name: "it fell, and is down",
+        before: "suU",
+        want: Want::Restarted,
+        messages: ["d", "D"],
+        turns: 3,
+        verdict: Verdict::Late,
+        shown: (5, 6, true),
+    },
+    Restart {
+        name: "it fell, and won't be restarted",
+        before: "suU",
+        want: Want::RestartedReady,
+        messages: ["dO", "D"],
+        turns: 3,
+        verdict: Verdict::Never,
+        shown: (5, 12, true),
+    },
+];
+
+fn restarts_so<R: Abort + Wait>(rt: &R, alloc: Global, row: &Restart) -> Result<bool, Fail> {
+    let [first, second] = row.messages;
+    let messages = [word(alloc, first)?, word(alloc, second)?];
+    let (fifodir, supervisor) = start_service(rt, alloc, row.before)?;
+    let mut pause = Reports {
+        supervisor,
+        messages,
+        calls: 0,
+    };
+    let mut posts = [open_post(rt, fifodir, row.want, true)];
+    let verdict = svwait(rt, &mut posts, Span::All, row.turns, &mut pause);
+    let [post] = posts;
+    let watch = *post.watch();
+    post.end(rt);
+    let Reports {
+        supervisor,
+        messages: _,
+        calls: _,
+    } = pause;
+    supervisor.leave(rt);
+    Ok(verdict == row.verdict && (watch.at(), watch.flags().code(), watch.fell()) == row.shown)
+}
+
+/// The name of the first row that goes otherwise.
+fn first_restarted_otherwise<R: Abort + Wait>(
+    rt: &R,
+    alloc: Global,
+) -> Result<Option<&'static str>, Fail> {
+    for row in RESTARTS.iter() {
+        if !restarts_so(rt, alloc, row)? {
+            return Ok(Some(row.name));
+        }
+    }
+    Ok(None)
+}
+
 /// Whether a wait is told right if its own subscription is evicted while it waits.
 fn an_evicted_wait_goes_on<R: Abort + Wait>(rt: &R, alloc: Global) -> Result<bool, Fail> {
     let messages = [word(alloc, "uU")?, word(alloc, "dD")?, word(alloc, "uU")?];
@@ -235,7 +381,7 @@ fn act_is_heard<R: Abort + Wait + Clock + Copy>(
     wanted: (Verdict, u64),
 ) -> Result<bool, Fail> {
     let up = word(alloc, "u")?;
-    let (fifodir, mut supervisor) = start_service(rt, alloc)?;
+    let (fifodir, mut supervisor) = start_service(rt, alloc, "s")?;
     let mut posts = [open_post(rt, fifodir, Want::Up, true)];
     let mut pause = Backoff::new(*rt);
     let (acted, verdict) = svlisten(rt, &mut posts, Span::All, turns, &mut pause, |_posts| {
@@ -279,6 +425,12 @@ fn a_wait_goes_on_for_so_many_turns(rt: HostRuntime) -> Result<(), Fail> {
         an_evicted_wait_goes_on(&rt, rt.alloc())?,
         "a wait whose subscription is evicted"
     );
+    Ok(())
+}
+
+#[test]
+fn waits_for_a_restart(rt: HostRuntime) -> Result<(), Fail> {
+    none_is_unlike(&rt, first_restarted_otherwise(&rt, rt.alloc())?);
     Ok(())
 }
 

@@ -87,6 +87,58 @@ fn first_unlike(alloc: Global) -> io::Result<Option<&'static str>> {
     Ok(None)
 }
 
+/// A watch begins at a number and the flags of a code, and hears pieces, each from a number on; then it fell or not.
+type Falling = (
+    &'static str,
+    (u64, u64),
+    &'static [(u64, &'static str)],
+    bool,
+);
+
+static FALLINGS: [Falling; 9] = [
+    ("nothing was heard", (4, 4), &[], false),
+    ("it died", (3, 7), &[(3, "d")], true),
+    ("its finish script ended", (4, 4), &[(4, "D")], true),
+    ("a new supervisor", (3, 7), &[(3, "s")], true),
+    ("no letter that falls", (1, 6), &[(1, "uUOx")], false),
+    (
+        "a fall that the status tells",
+        (4, 4),
+        &[(0, "suUd")],
+        false,
+    ),
+    ("the last letter doesn't fall", (3, 7), &[(3, "dDuU")], true),
+    (
+        "a fall in an early piece",
+        (3, 7),
+        &[(3, "d"), (4, "Du")],
+        true,
+    ),
+    ("a fall behind letters told", (3, 7), &[(1, "uUdDu")], true),
+];
+
+/// The name of the first row that isn't so. A status of the service leaves what fell.
+fn first_fallen_otherwise(alloc: Global) -> io::Result<Option<&'static str>> {
+    for (name, (number, code), pieces, fell) in FALLINGS.iter() {
+        let Some(mut watch) = watch_at(Want::Restarted, *number, *code) else {
+            return Ok(Some(*name));
+        };
+        for (first, text) in pieces.iter() {
+            give(alloc, &mut watch, *first, text)?;
+        }
+        let fallen = watch.fell();
+        watch.renew(Status {
+            number: watch.at(),
+            flags: Flags::none(),
+            closed: false,
+        });
+        if fallen != *fell || watch.fell() != *fell || watch.since() != *number {
+            return Ok(Some(*name));
+        }
+    }
+    Ok(None)
+}
+
 /// A watch at a number and the flags of a code gets the status of a second pair, and then letters from a number on; then
 /// it is at the third pair.
 type Renewal = (
@@ -243,6 +295,7 @@ fn first_judged_otherwise() -> Option<&'static str> {
 #[test]
 fn watches_follow_their_letters(rt: HostRuntime) -> Result<(), Fail> {
     none_is_unlike(&rt, first_unlike(rt.alloc())?);
+    none_is_unlike(&rt, first_fallen_otherwise(rt.alloc())?);
     Ok(())
 }
 

@@ -85,6 +85,14 @@ static GOOD: [(&str, &str); 27] = [
         "for 3 turns, until finished is each of web",
     ),
     (
+        "wait all restarted 5 web",
+        "for 5 turns, until up again is each of web",
+    ),
+    (
+        "wait any restarted-ready 30000 db web",
+        "for 30000 turns, until ready again is one of db web",
+    ),
+    (
         "wait any up 1 a b c d e f g h i j k l m n o p q r s t u v w x y z 1 2 3 4 5 6",
         "for 1 turns, until up is one of a b c d e f g h i j k l m n o p q r s t u v w x y z 1 2 3 4 5 6",
     ),
@@ -188,6 +196,12 @@ static BAD: [(&str, Bad); 79] = [
     ("wait all up 0 a  b", Bad::Form),
     ("wait both up 0 web", Bad::Form),
     ("wait all gone 0 web", Bad::Form),
+    ("wait all restart 5 web", Bad::Form),
+    ("wait all Restarted 5 web", Bad::Form),
+    ("wait all restarted-Ready 5 web", Bad::Form),
+    ("wait all restarted_ready 5 web", Bad::Form),
+    ("wait all restarted- 5 web", Bad::Form),
+    ("wait all restarted-ready", Bad::Form),
     ("wait up all 0 web", Bad::Form),
     ("wait all up 01 web", Bad::Form),
     (

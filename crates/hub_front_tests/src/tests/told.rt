@@ -80,6 +80,8 @@ fn told_wait(
         Want::Ready => "ready",
         Want::Down => "down",
         Want::Finished => "finished",
+        Want::Restarted => "up again",
+        Want::RestartedReady => "ready again",
     };
     let mut told = format!(in alloc; "for {turns} turns, until {want} is {span}")?;
     for name in names.items() {
