@@ -148,7 +148,7 @@ impl Fifodir {
             Want::Down => !self.flags.up,
             Want::Finished => !self.flags.up && self.flags.settled,
             // A wait of this hub looks once, so no fall comes after it began.
-            Want::Restarted | Want::RestartedReady => false,
+            Want::Again => false,
         }
     }
 

@@ -28,8 +28,7 @@ pub enum Want {
     Ready,
     Down,
     Finished,
-    Restarted,
-    RestartedReady,
+    Again,
 }
 
 const MOST_EVENTS: u64 = 1_000_000_000_000;
@@ -123,8 +122,7 @@ fn wait<'a>(
         "ready" => Want::Ready,
         "down" => Want::Down,
         "finished" => Want::Finished,
-        "restarted" => Want::Restarted,
-        "restarted-ready" => Want::RestartedReady,
+        "restarted" | "restarted-ready" => Want::Again,
         _ => return Err(Refusal::Word("form")),
     };
     let turns = numeral(turns)?;

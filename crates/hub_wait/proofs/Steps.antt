@@ -10,7 +10,7 @@ use Rattle.hub_letters.specs.Flags.{up_by, settled_by, flags_by, flags_of}
 use Rattle.hub_letters.specs.Falls.{falls, has_fall}
 use Rattle.hub_record.specs.declared.Status.{Status}
 use Rattle.hub_wait.specs.Watching.{Watching, flag_after, flags_after, flags_after_marks, watching_after_step, renewed_by}
-use Rattle.hub_wait.specs.Histories.{ShowsFlagsOf, ShowsFallsOf, MissesNoFall, has_fall_between, IsSlice, Step, Renew, End, is_end, BeginAtAnyStatus, FollowAnySlices}
+use Rattle.hub_wait.specs.Histories.{ShowsFlagsOf, ShowsFallsOf, MissesNoFall, has_fall_between, IsSlice, Move, Step, Renew, End, is_end, is_renewal, reach, furthest, HasMoved, BeginAtAnyStatus, FollowAnySlices}
 
 -- ---- flags after more letters
 
@@ -191,53 +191,46 @@ or_assoc : (a b c : Bool) → ((a || b) || c) ≡ (a || (b || c))
 or_assoc true b c = refl
 or_assoc false b c = refl
 
-pub follow_any_slices : FollowAnySlices
-follow_any_slices history [] w f g are = record { follows = f; falls = g; misses_no_fall = λ no none. none; since = refl; at = refl; want = refl; notifies = refl; ended = or_false w.ended }
+or_false : (a : Bool) → a ≡ (a || false)
+or_false true = refl
+or_false false = refl
+
+or_true : (a : Bool) → true ≡ (a || true)
+or_true true = refl
+or_true false = refl
+
+-- what moves have made of a watch, after one more move before them
+after_first : (history : List ℕ) (m : Move) (ms : List Move) (w v new : Watching) → HasMoved history ms v new
+    → (is_renewal m ≡ false → MissesNoFall w history → MissesNoFall v history) → v.since ≡ w.since → v.at ≡ reach w.at m → v.want ≡ w.want → v.notifies ≡ w.notifies
+    → v.ended ≡ (w.ended || is_end m) → HasMoved history (m ∷ ms) w new
+after_first history m ms w v new rest first since at want notifies ended = record {
+  follows = rest.follows;
+  falls = rest.falls;
+  misses_no_fall = λ kept none. rest.misses_no_fall (or_parts (is_renewal m) _ kept).1 (first (or_parts (is_renewal m) _ kept).0 none);
+  since = rest.since ∙ since;
+  at = rest.at ∙ ap (λ k. furthest k ms) at;
+  want = rest.want ∙ want;
+  notifies = rest.notifies ∙ notifies;
+  ended = rest.ended ∙ ap (λ e. e || list_any is_end ms) ended ∙ or_assoc w.ended (is_end m) (list_any is_end ms);
+}
   where
-    or_false : (a : Bool) → a ≡ (a || false)
-    or_false true = refl
-    or_false false = refl
+    or_parts : (a b : Bool) → (a || b) ≡ false → (a ≡ false) × (b ≡ false)
+    or_parts false b e = (refl, e)
+    or_parts true b e = absurd (let z = e in cc)
+
+pub follow_any_slices : FollowAnySlices
+follow_any_slices history [] w f g are = record { follows = f; falls = g; misses_no_fall = λ kept none. none; since = refl; at = refl; want = refl; notifies = refl; ended = or_false w.ended }
 follow_any_slices history (Step first letters ∷ ms) w f g are =
-    let new = watching_after_step w first letters in
     let follows = ShowsFlagsOf-stepped w history letters first are.0.0 f are.0.1 in
-    let rest = follow_any_slices history ms new follows (ShowsFallsOf-stepped w history letters first are.0.0 f.within g are.0.1) are.1 in
-    record {
-      follows = rest.follows;
-      falls = rest.falls;
-      misses_no_fall = λ no none. rest.misses_no_fall no (MissesNoFall-stepped w history letters first are.0.0 f.within g.begun are.0.1 none);
-      since = rest.since;
-      at = rest.at;
-      want = rest.want;
-      notifies = rest.notifies;
-      ended = rest.ended;
-    }
+    let rest = follow_any_slices history ms (watching_after_step w first letters) follows (ShowsFallsOf-stepped w history letters first are.0.0 f.within g are.0.1) are.1 in
+    after_first history (Step first letters) ms w (watching_after_step w first letters) _ rest
+    (λ kept none. MissesNoFall-stepped w history letters first are.0.0 f.within g.begun are.0.1 none) refl refl refl refl (or_false w.ended)
 follow_any_slices history (Renew status ∷ ms) w f g are =
     let follows : ShowsFlagsOf (renewed_by w status) history = record { within = are.0.1.within; flags = are.0.1.flags } in
     let rest = follow_any_slices history ms (renewed_by w status) follows (ShowsFallsOf-renewed w history status f.within are.0.0 g) are.1 in
-    record {
-      follows = rest.follows;
-      falls = rest.falls;
-      misses_no_fall = λ no none. absurd (let z = no in cc);
-      since = rest.since;
-      at = rest.at;
-      want = rest.want;
-      notifies = rest.notifies;
-      ended = rest.ended ∙ or_assoc w.ended status.closed (list_any is_end ms);
-    }
+    after_first history (Renew status) ms w (renewed_by w status) _ rest (λ kept. absurd (let z = kept in cc)) refl refl refl refl refl
 follow_any_slices history (End ∷ ms) w f g are =
-    let follows : ShowsFlagsOf (record w { ended = true }) history = record { within = f.within; flags = f.flags } in
-    let rest = follow_any_slices history ms (record w { ended = true }) follows (record { begun = g.begun; only = g.only }) are.1 in
-    record {
-      follows = rest.follows;
-      falls = rest.falls;
-      misses_no_fall = λ no none. rest.misses_no_fall no none;
-      since = rest.since;
-      at = rest.at;
-      want = rest.want;
-      notifies = rest.notifies;
-      ended = rest.ended ∙ by w.ended;
-    }
-  where
-    by : (e : Bool) → true ≡ (e || true)
-    by true = refl
-    by false = refl
+    let ended = record w { ended = true } in
+    let follows : ShowsFlagsOf ended history = record { within = f.within; flags = f.flags } in
+    let rest = follow_any_slices history ms ended follows (record { begun = g.begun; only = g.only }) are.1 in
+    after_first history End ms w ended _ rest (λ kept none. none) refl refl refl refl (or_true w.ended)

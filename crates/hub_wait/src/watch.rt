@@ -23,25 +23,9 @@ impl Model for Watch {
 
     ghost Value = { Watching };
 
-    ghost view = { λ w. record {
-      want = w.want;
-      notifies = w.notifies;
-      since = w.since;
-      at = w.at;
-      flags = w.flags;
-      fell = w.fell;
-      ended = w.ended;
-    } };
+    ghost view = { λ w. record { want = w.want; notifies = w.notifies; since = w.since; at = w.at; flags = w.flags; fell = w.fell; ended = w.ended } };
 
-    ghost inverse = { λ v. record {
-      want = v.want;
-      notifies = v.notifies;
-      since = v.since;
-      at = v.at;
-      flags = v.flags;
-      fell = v.fell;
-      ended = v.ended;
-    } };
+    ghost inverse = { λ v. record { want = v.want; notifies = v.notifies; since = v.since; at = v.at; flags = v.flags; fell = v.fell; ended = v.ended } };
 }
 
 impl Watch {
@@ -62,6 +46,13 @@ impl Watch {
             fell: false,
             ended: status.closed,
         }
+    }
+
+    /// How many events the service had when the watch began. What fell before doesn't count.
+    pub fn since(&self) -> u64
+        ensures { result ≡ self.now.since }
+    {
+        self.since
     }
 
     /// Follows letters that are numbered from `first`. Letters below `at()` are known already and are skipped.
@@ -90,13 +81,6 @@ impl Watch {
         self.ended = self.ended || status.closed;
     }
 
-    /// How many events the service had when the watch began. What fell before doesn't count.
-    pub fn since(&self) -> u64
-        ensures { result ≡ self.now.since }
-    {
-        self.since
-    }
-
     /// How many of the service's events the watch knows.
     pub fn at(&self) -> u64
         ensures { result ≡ self.now.at }
@@ -118,18 +102,18 @@ impl Watch {
         self.flags
     }
 
-    /// Whether a letter that falls was among those that it followed (`s`, `d` or `D`).
-    pub fn fell(&self) -> bool
-        ensures { result ≡ self.now.fell }
-    {
-        self.fell
-    }
-
     /// Whether what is wanted holds.
     pub fn met(&self) -> bool
         ensures { result ≡ is_met_at self.now }
     {
         self.want.met(self.flags, self.notifies, self.fell)
+    }
+
+    /// Whether a letter that falls was among those that it followed (`s`, `d` or `D`).
+    pub fn fell(&self) -> bool
+        ensures { result ≡ self.now.fell }
+    {
+        self.fell
     }
 
     /// Whether the service has failed for good, if that rules out what is wanted.

@@ -1,9 +1,11 @@
 //! Calls that take no memory. Whether they take none is counted by `tests/no-memory`, which runs this program over a
 //! `malloc` that counts (`tests/count.c`): it counts between two marks.
+ghost use Rattle.hub_fifodir.specs.Passes.{IsPublisherOf};
+
 use crate::tests::fixtures::word;
 use crate::tests::passes::{Sender, Shared, new_sender, open, open_with, publisher, ticket};
 use crate::tests::waits::{Deed, Doing, open_post};
-use hub_fifodir::{Fifodir, Locked};
+use hub_fifodir::{Fifodir, Locked, Publisher};
 use hub_letters::{Flags, Letter, Stage, Want};
 use hub_listen::{Feed, Listener, Mode};
 use hub_record::{
@@ -162,6 +164,20 @@ fn a_locked_is_used(alloc: Global) -> io::Result<bool> {
     )
 }
 
+/// Publishes the same letters twice.
+fn sent_twice<R: Wait>(
+    rt: &R,
+    fifodir: &Fifodir,
+    me: &mut Publisher,
+    ab: &[Letter],
+) -> (Result<u64, PubError>, Result<u64, PubError>)
+    requires { IsPublisherOf fifodir.now me.old }
+    ensures { IsPublisherOf fifodir.now me.new }
+{
+    let first = fifodir.publish(rt, me, ab);
+    (first, fifodir.publish(rt, me, ab))
+}
+
 /// Each call of a fifodir's two publishers and its ticket.
 fn passes_are_used<R: Abort + Wait>(rt: &R, fifodir: &Fifodir, ab: &[Letter]) -> bool {
     let mut one = publisher(rt, fifodir);
@@ -169,10 +185,7 @@ fn passes_are_used<R: Abort + Wait>(rt: &R, fifodir: &Fifodir, ab: &[Letter]) ->
     let mut reader = ticket(rt, fifodir);
     let mut out = [Event::FILLER; 4];
     mark();
-    let sent = (
-        fifodir.publish(rt, &mut one, ab),
-        fifodir.publish(rt, &mut one, ab),
-    );
+    let sent = sent_twice(rt, fifodir, &mut one, ab);
     fifodir.meet(rt, &mut one, &mut reader);
     let seen = (fifodir.status(&mut reader).number, fifodir.front(&mut one));
     let taken = fifodir.take_into(rt, &mut reader, &mut out);
@@ -199,10 +212,7 @@ fn a_ticket_is_evicted<R: Abort + Wait>(rt: &R, fifodir: &Fifodir, ab: &[Letter]
     let mut reader = ticket(rt, fifodir);
     let mut out = [Event::FILLER; 4];
     mark();
-    let sent = (
-        fifodir.publish(rt, &mut one, ab),
-        fifodir.publish(rt, &mut one, ab),
-    );
+    let sent = sent_twice(rt, fifodir, &mut one, ab);
     let taken = fifodir.take_into(rt, &mut reader, &mut out);
     let seen = (
         fifodir.status(&mut reader).number,

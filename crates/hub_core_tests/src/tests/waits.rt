@@ -224,104 +224,55 @@ impl Pause for Reports {
     }
 }
 
-/// A wait for a restart of a service that sent some letters before, and sends two messages in the first two pauses, for so
-/// many turns. Then the verdict, and the watch's number, code of flags and fall.
-struct Restart {
-    name: &'static str,
-    before: &'static str,
-    want: Want,
-    messages: [&'static str; 2],
-    turns: u64,
-    verdict: Verdict,
-    shown: (u64, u64, bool),
-}
+/// A wait for a restart: the letters before it, what is wanted, the messages of the first two pauses, and how many turns.
+type Course = (&'static str, Want, [&'static str; 2], u64);
 
-static RESTARTS: [Restart; 8] = [
-    Restart {
-        name: "up again in the first turn",
-        before: "su",
-        want: Want::Restarted,
-        messages: ["dDu", "U"],
-        turns: 1,
-        verdict: Verdict::Yes,
-        shown: (5, 5, true),
-    },
-    Restart {
-        name: "up again, and not ready yet",
-        before: "su",
-        want: Want::RestartedReady,
-        messages: ["dDu", "U"],
-        turns: 1,
-        verdict: Verdict::Late,
-        shown: (5, 5, true),
-    },
-    Restart {
-        name: "ready again in the second turn",
-        before: "su",
-        want: Want::RestartedReady,
-        messages: ["dDu", "U"],
-        turns: 2,
-        verdict: Verdict::Yes,
-        shown: (6, 7, true),
-    },
-    Restart {
-        name: "ready without a fall",
-        before: "su",
-        want: Want::Restarted,
-        messages: ["U", ""],
-        turns: 3,
-        verdict: Verdict::Late,
-        shown: (3, 7, false),
-    },
-    Restart {
-        name: "a new supervisor started it",
-        before: "su",
-        want: Want::Restarted,
-        messages: ["su", ""],
-        turns: 1,
-        verdict: Verdict::Yes,
-        shown: (4, 5, true),
-    },
-    Restart {
-        name: "it fell before the wait",
-        before: "suUdDu",
-        want: Want::RestartedReady,
-        messages: ["U", ""],
-        turns: 3,
-        verdict: Verdict::Late,
-        shown: (7, 7, false),
-    },
-    Restart {
-        name: "it fell, and is down",
-        before: "suU",
-        want: Want::Restarted,
-        messages: ["d", "D"],
-        turns: 3,
-        verdict: Verdict::Late,
-        shown: (5, 6, true),
-    },
-    Restart {
-        name: "it fell, and won't be restarted",
-        before: "suU",
-        want: Want::RestartedReady,
-        messages: ["dO", "D"],
-        turns: 3,
-        verdict: Verdict::Never,
-        shown: (5, 12, true),
-    },
+/// How the wait ends: the verdict, and the watch's number, code of flags and fall.
+type End = (Verdict, u64, u64, bool);
+
+const AGAIN: Want = Want::Restarted;
+
+const READY_AGAIN: Want = Want::RestartedReady;
+
+static RESTARTS: [(Course, End); 8] = [
+    (("su", AGAIN, ["dDu", "U"], 1), (Verdict::Yes, 5, 5, true)),
+    (
+        ("su", READY_AGAIN, ["dDu", "U"], 1),
+        (Verdict::Late, 5, 5, true),
+    ),
+    (
+        ("su", READY_AGAIN, ["dDu", "U"], 2),
+        (Verdict::Yes, 6, 7, true),
+    ),
+    // It doesn't fall.
+    (("su", AGAIN, ["U", ""], 3), (Verdict::Late, 3, 7, false)),
+    // A new supervisor starts it.
+    (("su", AGAIN, ["su", ""], 1), (Verdict::Yes, 4, 5, true)),
+    // It fell before the wait.
+    (
+        ("suUdDu", READY_AGAIN, ["U", ""], 3),
+        (Verdict::Late, 7, 7, false),
+    ),
+    // It stays down.
+    (("suU", AGAIN, ["d", "D"], 3), (Verdict::Late, 5, 6, true)),
+    // It won't be restarted.
+    (
+        ("suU", READY_AGAIN, ["dO", "D"], 3),
+        (Verdict::Never, 5, 12, true),
+    ),
 ];
 
-fn restarts_so<R: Abort + Wait>(rt: &R, alloc: Global, row: &Restart) -> Result<bool, Fail> {
-    let [first, second] = row.messages;
+fn waits_for<R: Abort + Wait>(rt: &R, alloc: Global, course: Course) -> Result<End, Fail> {
+    let (before, want, [first, second], turns) = course;
     let messages = [word(alloc, first)?, word(alloc, second)?];
-    let (fifodir, supervisor) = start_service(rt, alloc, row.before)?;
+    let (fifodir, supervisor) = start_service(rt, alloc, before)?;
     let mut pause = Reports {
         supervisor,
         messages,
         calls: 0,
     };
-    let mut posts = [open_post(rt, fifodir, row.want, true)];
-    let verdict = svwait(rt, &mut posts, Span::All, row.turns, &mut pause);
+    let mut posts = [open_post(rt, fifodir, want, true)];
+    let verdict = svwait(rt, &mut posts, Span::All, turns, &mut pause);
     let [post] = posts;
     let watch = *post.watch();
     post.end(rt);
@@ -331,17 +282,17 @@ fn restarts_so<R: Abort + Wait>(rt: &R, alloc: Global, row: &Restart) -> Result<
         calls: _,
     } = pause;
     supervisor.leave(rt);
-    Ok(verdict == row.verdict && (watch.at(), watch.flags().code(), watch.fell()) == row.shown)
+    Ok((verdict, watch.at(), watch.flags().code(), watch.fell()))
 }
 
-/// The name of the first row that goes otherwise.
+/// The place of the first row that goes otherwise.
 fn first_restarted_otherwise<R: Abort + Wait>(
     rt: &R,
     alloc: Global,
-) -> Result<Option<&'static str>, Fail> {
-    for row in RESTARTS.iter() {
-        if !restarts_so(rt, alloc, row)? {
-            return Ok(Some(row.name));
+) -> Result<Option<usize>, Fail> {
+    for (place, (course, end)) in RESTARTS.iter().enumerate() {
+        if waits_for(rt, alloc, *course)? != *end {
+            return Ok(Some(place));
         }
     }
     Ok(None)
@@ -421,16 +372,20 @@ fn room_comes_with_a_wait<R: Abort + Wait + Clock + Copy>(
 #[test]
 fn a_wait_goes_on_for_so_many_turns(rt: HostRuntime) -> Result<(), Fail> {
     none_is_unlike(&rt, first_unlike(&rt, rt.alloc())?);
-    assert!(rt;
-        an_evicted_wait_goes_on(&rt, rt.alloc())?,
-        "a wait whose subscription is evicted"
-    );
+    Ok(())
+}
+
+#[test]
+fn a_wait_goes_on_if_it_is_evicted(rt: HostRuntime) -> Result<(), Fail> {
+    let goes_on = an_evicted_wait_goes_on(&rt, rt.alloc())?;
+    assert!(rt; goes_on, "a wait whose subscription is evicted");
     Ok(())
 }
 
 #[test]
 fn waits_for_a_restart(rt: HostRuntime) -> Result<(), Fail> {
-    none_is_unlike(&rt, first_restarted_otherwise(&rt, rt.alloc())?);
+    let unlike = first_restarted_otherwise(&rt, rt.alloc())?;
+    assert_eq!(rt; unlike, None);
     Ok(())
 }
 

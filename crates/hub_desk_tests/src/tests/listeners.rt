@@ -57,7 +57,8 @@ fn hits_are_found(rt: HostRuntime) {
 static HELD: &str = "
     dir web 64 1000 -> ok
     listen web repeat u.*U -> ok 1
-    pub web suU -> ok 0
+    pub web su -> ok 0
+    pub web U -> ok 2
     poll 1 -> hit suU
     poll 1 -> none
 ";
