@@ -4,9 +4,8 @@ use Rattle.std.specs.Prelude.{if◌then◌else◌}
 use Rattle.hub_letters.specs.declared.bounds.TheConstants.{MOST_GATHERED}
 use Rattle.hub_requests.specs.declared.reply.Reply.{Reply}
 use Rattle.hub_requests.specs.declared.reply.Reply.TheVariants as answer
-use Rattle.hub_fifodir.specs.Passes.{got, ticket_sight, is_evicted_at}
+use Rattle.hub_fifodir.specs.Passes.{got, is_evicted_at}
 use Rattle.hub_fifodir.proofs.Logs.{letters-append}
-use Rattle.hub_fifodir.proofs.Meeting.{grows_self, grows_through}
 use Rattle.hub_listen.specs.Listening.{Listening, is_spent, spent_by, Feeds}
 use Rattle.hub_listen.specs.Pieces.{counted_from}
 use Rattle.hub_listen.specs.declared.feed.Feed.{Feed}
@@ -20,20 +19,9 @@ use Rattle.hub_handles.specs.declared.handles.Handles.{Handles}
 use Rattle.hub_handles.specs.declared.session_listener.SessionListener.{SessionListener}
 use Rattle.hub_handles.specs.declared.subscription.Subscription.{Subscription}
 use Rattle.hub_handles.specs.Taking.{HasLooked, IsSameTicket, TakesOne}
+use Rattle.hub_handles.proofs.Looks.{same_ticket, same_ticket_through}
 use Rattle.hub_handles.specs.Handles.{PollsAt, listener_of}
 use Rattle.hub_handles.specs.Hearings.{ends_by, held_letters, Comes, Hears, HearsQuietly, HasRoom, Stops, Gives, HearsOne, Polls}
-
-same_ticket : (s : Subscription) → IsSameTicket s s
-same_ticket s = record { named = refl; dir = refl; id = refl; mark = refl; seen = grows_self (ticket_sight s.ticket) }
-
-same_ticket_through : (a b c : Subscription) → IsSameTicket a b → IsSameTicket b c → IsSameTicket a c
-same_ticket_through a b c p q = record {
-  named = q.named ∙ p.named;
-  dir = q.dir ∙ p.dir;
-  id = q.id ∙ p.id;
-  mark = q.mark ∙ p.mark;
-  seen = grows_through (ticket_sight a.ticket) (ticket_sight b.ticket) (ticket_sight c.ticket) p.seen q.seen;
-}
 
 -- ---- letters come
 

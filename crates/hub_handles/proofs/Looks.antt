@@ -1,12 +1,34 @@
--- A look at the front word by a subscription's ticket.
-use Rattle.std.proofs.Common.{◌≡◌, ◌≢◌, ℕ, true, false, length, nat_eq, Option, None, Some, subst, ap, sym, ◌∙◌, Err, inl, inr}
+-- Looks at the front word by a subscription's ticket, and takes after them.
+use Rattle.std.proofs.Common.{◌≡◌, ◌≢◌, ℕ, ◌+◌, ◌-◌, ◌<◌, min, ◌++◌, true, false, length, refl, nat_eq, Option, None, Some, subst, ap, sym, ◌∙◌, Err, inl, inr}
 use Rattle.std.proofs.lemmas.Bool.{cases_Bool, eqb-true}
+use Rattle.hub_requests.specs.declared.reply.Reply.{Reply}
 use Rattle.hub_requests.specs.declared.reply.Reply.TheVariants as answer
-use Rattle.hub_fifodir.specs.Events.{is_closed}
-use Rattle.hub_fifodir.specs.Passes.{OnlyLooks, ticket_closed, ticket_next, ticket_seen, ticket_sight, ticket_view}
+use Rattle.hub_record.specs.declared.Taken.{Taken}
+use Rattle.hub_record.specs.declared.Taken.TheVariants.{Got, Nothing, End, Evicted}
+use Rattle.hub_record.specs.World.{letters}
+use Rattle.hub_fifodir.specs.declared.ticket.Ticket.{Ticket}
+use Rattle.hub_fifodir.specs.Events.{is_closed, slice}
+use Rattle.hub_fifodir.specs.Passes.{HasTaken, OnlyLooks, got, is_evicted_at, ticket_closed, ticket_next, ticket_seen, ticket_sight, ticket_view}
 use Rattle.hub_fifodir.specs.Steps.{Grows, got_of}
+use Rattle.hub_fifodir.proofs.Meeting.{grows_self, grows_through}
 use Rattle.hub_handles.specs.declared.subscription.Subscription.{Subscription}
-use Rattle.hub_handles.specs.Taking.{HasLooked, TakesOne, name_of}
+use Rattle.hub_handles.specs.Taking.{HasLooked, IsSameTicket, Shows, TakesFrom, TakesOne, name_of}
+
+-- ---- the same ticket
+
+pub same_ticket : (s : Subscription) → IsSameTicket s s
+same_ticket s = record { named = refl; dir = refl; id = refl; mark = refl; seen = grows_self (ticket_sight s.ticket) }
+
+pub same_ticket_through : (a b c : Subscription) → IsSameTicket a b → IsSameTicket b c → IsSameTicket a c
+same_ticket_through a b c p q = record {
+  named = q.named ∙ p.named;
+  dir = q.dir ∙ p.dir;
+  id = q.id ∙ p.id;
+  mark = q.mark ∙ p.mark;
+  seen = grows_through (ticket_sight a.ticket) (ticket_sight b.ticket) (ticket_sight c.ticket) p.seen q.seen;
+}
+
+-- ---- looks
 
 abbrev mark_at : Option (ℕ × ℕ) → ℕ
 mark_at None = 0
@@ -38,3 +60,39 @@ looked_end old new looks all e = record { same = looks.same; shows = (sym looks.
 
 pub looked_nothing : (old new : Subscription) → HasLooked old new → ticket_next new.ticket ≡ length (ticket_seen new.ticket) → false ≡ is_closed (ticket_closed new.ticket) → TakesOne old (Err answer.Nothing) new
 looked_nothing old new looks all e = record { same = looks.same; shows = (sym looks.next ∙ all, unshut _ e, looks.next, looks.got) }
+
+-- ---- a take after a look
+
+-- what a look answers is the answer of a take of any size
+pub takes_idle : (max : ℕ) (old new : Subscription) (reply : Reply) → TakesOne old (Err reply) new → TakesFrom max old reply new
+takes_idle max old new answer.Nothing takes = record { same = takes.same; shows = takes.shows }
+takes_idle max old new answer.End takes = record { same = takes.same; shows = takes.shows }
+takes_idle max old new answer.Evicted takes = record { same = takes.same; shows = takes.shows }
+takes_idle max old new reply takes = absurd takes
+
+-- what a ticket took after a look it took
+took_after_look : (old looked new : Ticket) (max : ℕ) (taken : Taken) → ticket_next looked ≡ ticket_next old → got looked ≡ got old → HasTaken looked max taken new → HasTaken old max taken new
+took_after_look old looked new max (Got n) next same took = (
+  subst (λ k. k < length (ticket_seen new)) next took.0,
+  took.1 ∙ ap (λ k. min max (length (ticket_seen new) - k)) next,
+  took.2 ∙ ap (λ k. k + n) next,
+  took.3 ∙ (λ i. same i ++ slice (next i) (next i + n) (ticket_seen new)),
+  ap (is_evicted_at new) (sym next) ∙ took.4,
+)
+took_after_look old looked new max Nothing next same took = (sym next ∙ took.0, took.1, took.2 ∙ next, took.3 ∙ same)
+took_after_look old looked new max End next same took = (sym next ∙ took.0, took.1, took.2 ∙ next, took.3 ∙ same)
+took_after_look old looked new max Evicted next same took = (ap (is_evicted_at new) (sym next) ∙ took.0, took.1 ∙ next, took.2 ∙ same)
+
+shows_after_look : (old looked new : Ticket) (max : ℕ) (reply : Reply) → ticket_next looked ≡ ticket_next old → got looked ≡ got old → Shows max looked reply new → Shows max old reply new
+shows_after_look old looked new max (answer.Got l) next same (n, took, are) =
+    (n, took_after_look old looked new max (Got n) next same took, are ∙ ap (λ k. letters (slice k (k + n) (ticket_seen new))) next)
+shows_after_look old looked new max answer.Nothing next same took = took_after_look old looked new max Nothing next same took
+shows_after_look old looked new max answer.End next same took = took_after_look old looked new max End next same took
+shows_after_look old looked new max answer.Evicted next same took = took_after_look old looked new max Evicted next same took
+shows_after_look old looked new max reply next same shows = absurd shows
+
+pub takes_after_look : (max : ℕ) (old looked new : Subscription) (reply : Reply) → HasLooked old looked → TakesFrom max looked reply new → TakesFrom max old reply new
+takes_after_look max old looked new reply looks takes = record {
+  same = same_ticket_through old looked new looks.same takes.same;
+  shows = shows_after_look old.ticket looked.ticket new.ticket max reply looks.next looks.got takes.shows;
+}

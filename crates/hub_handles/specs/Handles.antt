@@ -17,7 +17,7 @@ use Rattle.hub_requests.specs.declared.bounds.TheConstants.{MOST_HANDLES, MOST_N
 use Rattle.hub_handles.specs.declared.handles.Handles.{Handles}
 use Rattle.hub_handles.specs.declared.session_listener.SessionListener.{SessionListener}
 use Rattle.hub_handles.specs.declared.subscription.Subscription.{Subscription}
-use Rattle.hub_handles.specs.Taking.{Begins, TakesFrom}
+use Rattle.hub_handles.specs.Taking.{Begins, Takes}
 use Rattle.hub_handles.specs.Hearings.{Polls, ends_by}
 
 -- how many handles were given
@@ -117,16 +117,17 @@ pub record TakesHere (old : Handles) (id max : ℕ) (reply : Reply) (new : Handl
   pub before : Subscription
   pub after : Subscription
   pub held : subscription_of old id ≡ Some before
-  pub takes : TakesFrom max before reply after
+  pub takes : Takes max before reply after
   pub kept : subscription_of new id ≡ Some after
   pub others : (other : ℕ) → nat_eq id other ≡ false → subscription_of new other ≡ subscription_of old other
   pub listeners : new.listeners.entries ≡ old.listeners.entries
   pub given : new.given ≡ old.given
 
--- no subscription has the number, or there is no memory for the reply
+-- no subscription has the number
 pub record TakesNone (old : Handles) (id : ℕ) (reply : Reply) (new : Handles) : Type 0 where
   pub still : IsStill old new
-  pub refused : ((subscription_of old id ≡ None) × (reply ≡ No no.Id)) ⊎ ((is_some (subscription_of old id) ≡ true) × (reply ≡ No no.Memory))
+  pub unknown : subscription_of old id ≡ None
+  pub refused : reply ≡ No no.Id
 
 abbrev pub TakesAt : Handles → ℕ → ℕ → Reply → Handles → Type 0
 TakesAt old id max reply new = TakesHere old id max reply new ⊎ TakesNone old id reply new

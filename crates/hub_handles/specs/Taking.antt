@@ -1,11 +1,12 @@
 -- What a session takes by a ticket.
-use Rattle.std.specs.Prelude.{◌≡◌, ℕ, List, [], ◌∷◌, Result, Ok, Err}
+use Rattle.std.specs.Prelude.{◌≡◌, ◌≢◌, ◌⊎◌, ℕ, List, [], ◌∷◌, length, Result, Ok, Err}
 use Rattle.std.specs.Arc.{arc_value}
 use Rattle.hub_requests.specs.declared.reply.Reply.{Reply}
 use Rattle.hub_requests.specs.declared.reply.Reply.TheVariants as answer
+use Rattle.hub_requests.specs.declared.reply.Refusal.TheVariants as no
 use Rattle.hub_fifodir.specs.declared.fifodir.Fifodir.{Fifodir}
 use Rattle.hub_fifodir.specs.declared.ticket.Ticket.{Ticket}
-use Rattle.hub_fifodir.specs.Passes.{HasSubscribed, HasTaken, got, sent_on, ticket_id, ticket_mark, ticket_next, ticket_sight}
+use Rattle.hub_fifodir.specs.Passes.{HasSubscribed, HasTaken, got, sent_on, ticket_id, ticket_mark, ticket_next, ticket_seen, ticket_sight}
 use Rattle.hub_fifodir.specs.Steps.{Grows}
 use Rattle.hub_record.specs.declared.Taken.TheVariants.{Got, Nothing, End, Evicted}
 use Rattle.hub_handles.specs.declared.subscription.Subscription.{Subscription}
@@ -39,6 +40,15 @@ pub record HasLooked (old new : Subscription) : Type 0 where
 pub record TakesFrom (max : ℕ) (old : Subscription) (reply : Reply) (new : Subscription) : Type 0 where
   pub same : IsSameTicket old new
   pub shows : Shows max old.ticket reply new.ticket
+
+-- there is no memory for the reply: it only looked, and an event waits
+pub record LacksMemory (old : Subscription) (reply : Reply) (new : Subscription) : Type 0 where
+  pub looked : HasLooked old new
+  pub waits : ticket_next new.ticket ≢ length (ticket_seen new.ticket)
+  pub refused : reply ≡ answer.No no.Memory
+
+abbrev pub Takes : ℕ → Subscription → Reply → Subscription → Type 0
+Takes max old reply new = TakesFrom max old reply new ⊎ LacksMemory old reply new
 
 -- a letter, or the answer where there is none
 abbrev pub TakesOne : Subscription → Result ℕ Reply → Subscription → Type 0

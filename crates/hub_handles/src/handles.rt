@@ -148,10 +148,7 @@ impl Handles {
         let Some(subscription) = self.subscriptions.get_mut(&id) else {
             return Reply::No(Refusal::Id);
         };
-        match Vec::with_capacity(self.alloc, max as usize) {
-            Ok(letters) => subscription.take(rt, max as usize, &mut self.room, letters),
-            Err(_) => Reply::No(Refusal::Memory),
-        }
+        subscription.take(rt, self.alloc, max as usize, &mut self.room)
     }
 
     /// Looks for the next hit of a listener. After its hit in mode `Once` it is ended.

@@ -8,7 +8,7 @@ use crate::room::Room;
 use hub_fifodir::{Fifodir, Ticket};
 use hub_letters::Letter;
 use hub_record::{Event, SubError, Taken};
-use hub_requests::{Name, Reply, letters_of};
+use hub_requests::{Name, Refusal, Reply, letters_of};
 use std::alloc::Global;
 use std::snapshot::Snapshot;
 use std::sync::{Arc, Wait};
@@ -24,7 +24,7 @@ pub struct Subscription {
 }
 
 impl Subscription {
-    ghost use Rattle.hub_handles.specs.Taking.{Begins, HasLooked, TakesFrom, TakesOne};
+    ghost use Rattle.hub_handles.specs.Taking.{Begins, HasLooked, Takes, TakesFrom, TakesOne};
 
     pub fn new<H: Wait>(
         rt: &H,
@@ -41,22 +41,21 @@ impl Subscription {
         })
     }
 
-    /// Takes at most `max` events through the room, and answers their letters in a list that has room for them.
-    pub fn take<H: Wait>(
-        &mut self,
-        rt: &H,
-        max: usize,
-        room: &mut Room,
-        letters: Vec<Letter>,
-    ) -> Reply
-        requires few { max ≤ MOST_TAKEN }
-        requires empty { vec_len letters ≡ 0 }
-        requires fits { max ≤ vec_capacity letters }
-        ensures { TakesFrom max self.old result self.new }
+    /// Takes at most `max` events through the room, and answers their letters. If none waits, it takes no memory.
+    pub fn take<H: Wait>(&mut self, rt: &H, alloc: Global, max: usize, room: &mut Room) -> Reply
+        requires { max ≤ MOST_TAKEN }
+        ensures { Takes max self.old result self.new }
     {
-        self.take_through(rt, max, &mut room.events, letters)
+        if let Some(reply) = self.look() {
+            return reply;
+        }
+        match Vec::with_capacity(alloc, max) {
+            Ok(letters) => self.take_through(rt, max, &mut room.events, letters),
+            Err(_) => Reply::No(Refusal::Memory),
+        }
     }
 
+    /// Takes at most `max` events, and answers their letters in a list that has room for them.
     fn take_through<H: Wait>(
         &mut self,
         rt: &H,

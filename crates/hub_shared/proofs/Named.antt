@@ -24,7 +24,7 @@ use Rattle.hub_handles.specs.declared.session_listener.SessionListener.{SessionL
 use Rattle.hub_handles.specs.declared.subscription.Subscription.{Subscription}
 use Rattle.hub_handles.specs.Handles.{Cancels, HoldsNone, IsStill, PollsAt, TakesAt, listener_of, subscription_of}
 use Rattle.hub_handles.specs.Hearings.{Polls, ends_by}
-use Rattle.hub_handles.specs.Taking.{IsSameTicket, name_of}
+use Rattle.hub_handles.specs.Taking.{IsSameTicket, Takes, name_of}
 use Rattle.hub_shared.specs.Desks.{CarriesOut, ListensTo, SubscribesTo}
 use Rattle.hub_shared.specs.Named.{AreNamed, IsNamed, StaysNamed}
 
@@ -172,11 +172,16 @@ listened_named hub fs hs ks name mode pattern reply (inr (unfound, same)) n = su
 same_named : (fs : Fifodirs) (a b : Subscription) → IsSameTicket a b → IsNamed fs a → IsNamed fs b
 same_named fs a b same n = record { joined = n.joined; kept_is = ap (joined_at fs) same.named ∙ n.kept_is; dir = ap arc_value same.dir ∙ n.dir }
 
+-- whatever a take does, the ticket is the same
+still_that : (max : ℕ) (old new : Subscription) (reply : Reply) → Takes max old reply new → IsSameTicket old new
+still_that max old new reply (inl takes) = takes.same
+still_that max old new reply (inr lacks) = lacks.looked.same
+
 taken_named : (hub : Hub) (fs : Fifodirs) (hs ks : Handles) (id max : ℕ) (reply : Reply) → TakesAt hs id max reply ks → AreNamed hub fs hs → AreNamed hub fs ks
 taken_named hub fs hs ks id max reply (inl t) n = record {
   found = n.found;
   subscriptions = at_number (IsNamed fs) (subscription_of hs) (subscription_of ks) id (Some t.after) t.kept
-      (λ s is. subst (IsNamed fs) (one_of t.after s (Some t.after) refl is) (same_named fs t.before t.after t.takes.same (n.subscriptions id t.before t.held))) t.others n.subscriptions;
+      (λ s is. subst (IsNamed fs) (one_of t.after s (Some t.after) refl is) (same_named fs t.before t.after (still_that max t.before t.after reply t.takes) (n.subscriptions id t.before t.held))) t.others n.subscriptions;
   listeners = λ other h held. n.listeners other h (sym (ap (lookup (nat_eq other)) t.listeners) ∙ held);
 }
 taken_named hub fs hs ks id max reply (inr t) n = handles_still hub fs hs ks t.still n

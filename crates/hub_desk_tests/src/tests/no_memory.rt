@@ -1,11 +1,11 @@
-//! The end of a desk, and what lends the parts of a request, take no memory. It is counted by `tests/no-memory`, which
-//! runs this program over a `malloc` that counts (`tests/count.c`): it counts between two marks.
+//! The end of a desk, what lends the parts of a request, and a shared desk's `take` and `poll` where nothing waits take no
+//! memory. It is counted by `tests/no-memory`, which runs this program over a `malloc` that counts (`tests/count.c`): it
+//! counts between two marks.
 use crate::tests::desks::{alone, new_local};
 use crate::tests::rows::{name_of, run};
 use hub_letters::Letter;
-use hub_requests::{Desk, Excerpt, Name, Names, Numbers, PatternText};
-use std::alloc::{AllocError, AllocGlobal, Global};
-use std::process::Abort;
+use hub_requests::{Desk, Excerpt, Name, Names, Numbers, PatternText, Reply, Request};
+use std::alloc::{AllocError, Global};
 use std::sync::Wait;
 use std::test::Fail;
 use std::thread;
@@ -26,8 +26,18 @@ static HOLDS: &str = "
     poll 3 -> hit aab
 ";
 
-fn hold_and_end<H: AllocGlobal + Abort + Wait, D: Desk>(rt: &H, desk: &mut D) {
-    run(rt, desk, HOLDS);
+/// Whether a subscription and a listener for which nothing waits are told so.
+fn nothing_waits<H: Wait, D: Desk>(rt: &H, desk: &mut D) -> bool {
+    mark();
+    let replies = (
+        desk.ask(rt, &Request::Take { id: 2, max: 256 }),
+        desk.ask(rt, &Request::Poll { id: 3 }),
+    );
+    mark();
+    matches!(replies, (Reply::Nothing, Reply::Nothing))
+}
+
+fn end<H: Wait, D: Desk>(rt: &H, desk: &mut D) {
     mark();
     desk.end(rt);
     mark();
@@ -62,9 +72,14 @@ fn parts_are_lent(alloc: Global, name: Name) -> Result<bool, AllocError> {
 fn these_calls_take_no_memory(rt: HostRuntime) -> Result<(), Fail> {
     let name = name_of(&rt, rt.alloc(), "web")?;
     assert!(rt; parts_are_lent(rt.alloc(), name)?);
-    hold_and_end(&rt, &mut new_local(&rt));
-    let mut desk = alone(&rt);
-    hold_and_end(&rt, &mut desk);
-    desk.release(&rt);
+    let mut local = new_local(&rt);
+    run(&rt, &mut local, HOLDS);
+    end(&rt, &mut local);
+    let mut shared = alone(&rt);
+    run(&rt, &mut shared, HOLDS);
+    let nothing_waits = nothing_waits(&rt, &mut shared);
+    end(&rt, &mut shared);
+    shared.release(&rt);
+    assert!(rt; nothing_waits, "nothing waits");
     Ok(())
 }
