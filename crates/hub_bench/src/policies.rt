@@ -24,6 +24,7 @@ const BURSTS: u32 = 20_000;
 /// How many subscriptions are evicted beside the one that takes.
 const EVICTED: u64 = 1_000;
 
+/// Measures what it costs that a fifodir evicts.
 pub fn measure<R: Runtime + AllocGlobal + Wait>(rt: &R, alloc: Global) -> Result<()> {
     for listeners in LISTENERS {
         records(rt, alloc, listeners)?;

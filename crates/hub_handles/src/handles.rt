@@ -36,6 +36,7 @@ pub struct Handles {
 impl Handles {
     ghost use Rattle.hub_handles.specs.Handles.{Subscribes, Listens, TakesAt, PollsAt, Cancels, IsStill, IsRefusedSub, IsRefusedListener, HoldsNone, AddsSubscription, AddsListener, given_of, listener_of, refusal_of};
 
+    /// The handles of a new session: none is given.
     pub fn new(alloc: Global) -> Result<Handles, AllocError>
         ensures given { IfOk result (λ handles. given_of handles ≡ 0) }
         ensures none { IfOk result HoldsNone }

@@ -14,6 +14,7 @@ pub struct Room {
 }
 
 impl Room {
+    /// Room for the largest take.
     pub fn new(alloc: Global) -> Result<Room, AllocError> {
         let events = fillers(alloc, MOST_TAKEN as usize)?;
         Ok(Room { events })

@@ -24,6 +24,7 @@ pub struct SessionListener {
 impl SessionListener {
     ghost use Rattle.hub_handles.specs.Hearings.{BeginsHearing, Gives, HasMore, Hears, HearsOne, Polls, Stops, ends_by, mode_of};
 
+    /// A listener that has heard nothing, over a subscription that begins now.
     pub fn new(subscription: Subscription, listener: Listener, mode: Mode) -> SessionListener
         requires { listener.mode ≡ Repeat }
         ensures { BeginsHearing subscription listener mode result }
@@ -62,7 +63,7 @@ impl SessionListener {
         for _ in self.listener.text().len()..MOST_GATHERED {
             match self.hear(rt) {
                 Ok(false) => {}
-                Ok(true) => return Reply::Hit(copied(self.listener.hit(), room)),
+                Ok(true) => return Reply::Hit(excerpt_of(self.listener.hit(), room)),
                 Err(reply) => return reply,
             }
         }
@@ -125,7 +126,7 @@ impl SessionListener {
 }
 
 /// The letters again, in a list that has room for them.
-fn copied(letters: &[Letter], mut room: Vec<Letter>) -> Excerpt
+fn excerpt_of(letters: &[Letter], mut room: Vec<Letter>) -> Excerpt
     requires few { length letters.now ≤ MOST_GATHERED }
     requires empty { vec_len room ≡ 0 }
     requires fits { length letters.now ≤ vec_capacity room }

@@ -26,6 +26,7 @@ pub struct Subscription {
 impl Subscription {
     ghost use Rattle.hub_handles.specs.Taking.{Begins, HasLooked, Takes, TakesFrom, TakesOne};
 
+    /// Subscribes to the fifodir. An error says why it gave no ticket.
     pub fn new<H: Wait>(
         rt: &H,
         name: &Name,

@@ -24,6 +24,7 @@ pub struct Fifodirs {
 impl Fifodirs {
     ghost use Rattle.hub_names.specs.Fifodirs.{AsksByName, IsAsBefore, IsSilent, IsKeptAs, KeepsAll, KeepsNone, Joins, IsFinding, IsMissing, joined_at};
 
+    /// Those of a new session: it has found none.
     pub fn new(alloc: Global) -> Fifodirs
         ensures { KeepsNone result }
     {

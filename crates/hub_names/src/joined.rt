@@ -25,6 +25,7 @@ pub struct Joined {
 impl Joined {
     ghost use Rattle.hub_names.specs.Speaking.{AsksAsPublisher, IsSpeaker, fifodir_of, found_of, publisher_of};
 
+    /// A fifodir that a session found, and at which it has no publisher yet.
     pub fn new(found: Found) -> Joined
         ensures found { found_of result ≡ found }
         ensures silent { publisher_of result ≡ None }

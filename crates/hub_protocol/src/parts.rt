@@ -40,7 +40,7 @@ pub fn word_first<T: Spelled>(rest: &[u8]) -> Option<(T, &[u8])>
         (λ p. fields_of rest.now ≡ T.word p.0 ∷ fields_of p.1.now) }
 {
     let (word, rest) = split_at_space(rest)?;
-    Some((T::spelled(word)?, rest))
+    Some((T::of_word(word)?, rest))
 }
 
 /// A name, if it is the whole rest.

@@ -10,7 +10,7 @@ pub trait Spelled: Copy {
     ghost word: { Self → List ℕ };
 
     /// The value with this spelling.
-    fn spelled(text: &[u8]) -> Option<Self>
+    fn of_word(text: &[u8]) -> Option<Self>
         ensures { MatchOption result ((x : Self) → text.now ≢ Self.word x)
             (λ x. text.now ≡ Self.word x) };
 }
@@ -18,7 +18,7 @@ pub trait Spelled: Copy {
 impl Spelled for Mode {
     ghost word = { text_of_mode };
 
-    fn spelled(text: &[u8]) -> Option<Mode> {
+    fn of_word(text: &[u8]) -> Option<Mode> {
         match text {
             b"once" => Some(Mode::Once),
             b"repeat" => Some(Mode::Repeat),
@@ -30,7 +30,7 @@ impl Spelled for Mode {
 impl Spelled for Want {
     ghost word = { text_of_want };
 
-    fn spelled(text: &[u8]) -> Option<Want> {
+    fn of_word(text: &[u8]) -> Option<Want> {
         Some(match text {
             b"up" => Want::Up,
             b"ready" => Want::Ready,
@@ -46,7 +46,7 @@ impl Spelled for Want {
 impl Spelled for Span {
     ghost word = { text_of_span };
 
-    fn spelled(text: &[u8]) -> Option<Span> {
+    fn of_word(text: &[u8]) -> Option<Span> {
         match text {
             b"all" => Some(Span::All),
             b"any" => Some(Span::Any),

@@ -76,6 +76,12 @@ pub record HasCaughtUp (old new : Post) : Type 0 where
   pub ended_only : (watch_of new).ended ≡ true → (closed_of new ≢ 0) × ((watch_of new).at ≡ length (seen_of new))
   pub ended : closed_of new ≢ 0 → (slices : ℕ) → slices < SLICES → next_of new ≡ next_of old + SLICE * slices → (watch_of new).ended ≡ true
 
+-- it took nothing; if no event is pending it took all that was seen before, and it is ended if the close was seen
+pub record HasLooked (old : Post) (pending : Bool) (new : Post) : Type 0 where
+  pub next : next_of new ≡ next_of old
+  pub all : pending ≡ false → next_of new ≡ length (seen_of new)
+  pub ended : pending ≡ false → closed_of new ≢ 0 → (watch_of new).ended ≡ true
+
 -- the slice was full, or all that was seen is taken, or it is renewed; and it is ended if nothing was taken and the close
 -- was seen
 pub record HasTakenSlice (old : Post) (whole : Bool) (new : Post) : Type 0 where

@@ -38,7 +38,7 @@ impl Post {
     ghost use Rattle.hub_wait.specs.declared.tally.Verdict.{Verdict};
     ghost use Rattle.hub_wait.specs.Verdicts.{verdict};
     ghost use Rattle.hub_wait.specs.Waits.{HadStates, watches_of};
-    ghost use Rattle.hub_wait.specs.Posts.{HasOpened, IsKept, HasCaughtUp, HasTakenSlice, watch_of, mark_of};
+    ghost use Rattle.hub_wait.specs.Posts.{HasOpened, IsKept, HasCaughtUp, HasLooked, HasTakenSlice, watch_of, mark_of};
 
     /// Subscribes, and then reads the status by the new ticket: a change between the two is told by the status, and its
     /// letter is passed over when it is taken. The other way round it would be lost.
@@ -61,6 +61,7 @@ impl Post {
         })
     }
 
+    /// What is known of the service.
     pub fn watch(&self) -> &Watch
         ensures { result.now ≡ watch_of self.now }
     {
@@ -74,7 +75,8 @@ impl Post {
         self.ticket.mark()
     }
 
-    /// Takes what came meanwhile: slices of [`SLICE`] events, until one isn't whole or [`SLICES`] were taken. If the
+    /// Takes what came meanwhile: slices of [`SLICE`] events, until one isn't whole or [`SLICES`] were taken. If nothing
+    /// came, it only looks at the front word, and takes no lock. If the
     /// subscription is evicted, the watch goes on from the status: what it missed lies between two of its numbers, and a
     /// fall that it missed doesn't count.
     pub fn catch_up<R: Wait>(&mut self, rt: &R)
@@ -82,10 +84,28 @@ impl Post {
         ensures caught_up { HasCaughtUp self.old self.new }
     {
         for _ in 0..SLICES {
+            if !self.look() {
+                return;
+            }
             if !self.take_slice(rt) {
                 return;
             }
         }
+    }
+
+    /// Looks at the front word, and tells whether an event is pending. If none is, and the fifodir is closed, the watch ends.
+    fn look(&mut self) -> bool
+        ensures kept { IsKept self.old self.new }
+        ensures looked { HasLooked self.old result self.new }
+    {
+        let status = self.fifodir.status(&mut self.ticket);
+        if status.number != self.ticket.next() {
+            return true;
+        }
+        if status.closed {
+            self.watch.end();
+        }
+        false
     }
 
     /// Takes a slice of events, and tells whether it was whole.

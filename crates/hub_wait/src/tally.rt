@@ -53,7 +53,7 @@ impl Tally {
             → self.new ≡ tally_of span (watches ++ watch.now ∷ []) }
     {
         let met = watch.met();
-        let lost = watch.lost();
+        let lost = watch.is_lost();
         match self.span {
             Span::All => {
                 self.yes &= met;

@@ -131,7 +131,7 @@ impl Watch {
     }
 
     /// Whether no further event can bring what is wanted: it is hopeless or ended.
-    pub(crate) fn lost(&self) -> bool
+    pub(crate) fn is_lost(&self) -> bool
         ensures { result ≡ is_lost_at self.now }
     {
         self.hopeless() || self.ended

@@ -14,12 +14,12 @@ const GIVEN: u64 = 3000;
 type Given<E> = Result<(Vec<u64>, E), AllocError>;
 
 /// The numbers of the passes that are given until one is refused, and why it is.
-fn given<R: Wait, H: Held>(rt: &R, alloc: Global, fifodir: &Shared) -> Given<H::Refusal> {
+fn numbers_given<R: Wait, H: Held>(rt: &R, alloc: Global, fifodir: &Shared) -> Given<H::Refusal> {
     let mut numbers = Vec::new(alloc);
     for _ in rt.forever() {
-        match H::made(rt, Arc::try_clone(fifodir)?) {
+        match H::make(rt, Arc::try_clone(fifodir)?) {
             Ok(held) => {
-                let number = held.given();
+                let number = held.own_number();
                 held.end(rt);
                 numbers.push(number)?;
             }
@@ -52,14 +52,14 @@ fn two_threads_get_all<R: Threads + Wait + Sync>(
 ) -> Result<bool, AllocError> {
     let (one, other) = thread::join_mut(
         rt,
-        &mut || -> Given<SubError> { given::<R, Reader>(rt, alloc, fifodir) },
-        &mut || -> Given<SubError> { given::<R, Reader>(rt, alloc, fifodir) },
+        &mut || -> Given<SubError> { numbers_given::<R, Reader>(rt, alloc, fifodir) },
+        &mut || -> Given<SubError> { numbers_given::<R, Reader>(rt, alloc, fifodir) },
     );
     let (one, other) = (one?, other?);
     let (first, second) = thread::join_mut(
         rt,
-        &mut || -> Given<PassError> { given::<R, Sender>(rt, alloc, fifodir) },
-        &mut || -> Given<PassError> { given::<R, Sender>(rt, alloc, fifodir) },
+        &mut || -> Given<PassError> { numbers_given::<R, Sender>(rt, alloc, fifodir) },
+        &mut || -> Given<PassError> { numbers_given::<R, Sender>(rt, alloc, fifodir) },
     );
     let (first, second) = (first?, second?);
     Ok(

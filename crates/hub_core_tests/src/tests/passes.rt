@@ -35,10 +35,10 @@ pub(crate) trait Held {
     type Refusal: Copy;
 
     /// Makes a pass.
-    fn made<R: Wait>(rt: &R, fifodir: Shared) -> Result<Self, Self::Refusal>;
+    fn make<R: Wait>(rt: &R, fifodir: Shared) -> Result<Self, Self::Refusal>;
 
     /// The number that it was given.
-    fn given(&self) -> u64;
+    fn own_number(&self) -> u64;
 
     /// Gives it back.
     fn end<R: Wait>(self, rt: &R);
@@ -113,11 +113,11 @@ pub(crate) fn new_sender<R: Abort + Wait>(rt: &R, fifodir: &Shared) -> Sender {
 impl Held for Sender {
     type Refusal = PassError;
 
-    fn made<R: Wait>(rt: &R, fifodir: Shared) -> Result<Sender, PassError> {
+    fn make<R: Wait>(rt: &R, fifodir: Shared) -> Result<Sender, PassError> {
         Sender::of(rt, fifodir)
     }
 
-    fn given(&self) -> u64 {
+    fn own_number(&self) -> u64 {
         self.me.number()
     }
 
@@ -170,11 +170,11 @@ pub(crate) fn new_reader<R: Abort + Wait>(rt: &R, fifodir: &Shared) -> Reader {
 impl Held for Reader {
     type Refusal = SubError;
 
-    fn made<R: Wait>(rt: &R, fifodir: Shared) -> Result<Reader, SubError> {
+    fn make<R: Wait>(rt: &R, fifodir: Shared) -> Result<Reader, SubError> {
         Reader::of(rt, fifodir)
     }
 
-    fn given(&self) -> u64 {
+    fn own_number(&self) -> u64 {
         self.me.id()
     }
 

@@ -156,7 +156,7 @@ static RENEWALS: [Renewal; 3] = [
 ];
 
 /// A watch of the first pair after a status of the second one.
-fn renewed(old: (u64, u64), told: (u64, u64), closed: bool) -> Option<Watch> {
+fn watch_after_status(old: (u64, u64), told: (u64, u64), closed: bool) -> Option<Watch> {
     let mut watch = watch_at(Want::Ready, old.0, old.1)?;
     let flags = Flags::of_code(told.1)?;
     if told.0 < watch.at() {
@@ -173,7 +173,7 @@ fn renewed(old: (u64, u64), told: (u64, u64), closed: bool) -> Option<Watch> {
 /// The name of the first row that isn't so.
 fn first_renewed_otherwise(alloc: Global) -> io::Result<Option<&'static str>> {
     for (name, old, told, text, new) in RENEWALS.iter() {
-        let Some(mut watch) = renewed(*old, *told, false) else {
+        let Some(mut watch) = watch_after_status(*old, *told, false) else {
             return Ok(Some(*name));
         };
         give(alloc, &mut watch, text.0, text.1)?;
@@ -194,7 +194,7 @@ fn a_closed_status_ends_a_watch() -> bool {
     let mut ended = Watch::new(Want::Ready, true, status);
     ended.end();
     ended.renew(status);
-    let closed = renewed((1, 6), (3, 7), true);
+    let closed = watch_after_status((1, 6), (3, 7), true);
     ended.ended() && closed.is_some_and(|watch| watch.ended() && watch.at() == 3)
 }
 

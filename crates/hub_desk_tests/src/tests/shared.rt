@@ -76,7 +76,7 @@ fn a_session_keeps_its_publisher(rt: HostRuntime) -> Result<(), Fail> {
 }
 
 /// The kind of a name's fifodir, and whether its service reports readiness.
-fn found<H: AllocGlobal + Abort + Wait>(
+fn kind_in<H: AllocGlobal + Abort + Wait>(
     rt: &H,
     hub: &Hub,
     text: &str,
@@ -92,18 +92,18 @@ fn a_hub_finds_what_was_made_in_it(rt: HostRuntime) -> Result<(), Fail> {
     let limits = Limits::of(2, 100, 3).ok_or("no limits")?;
     let web = name_of(&rt, rt.alloc(), "web")?;
     let db = name_of(&rt, rt.alloc(), "db")?;
-    assert_eq!(rt; found(&rt, &hub, "web")?, None);
+    assert_eq!(rt; kind_in(&rt, &hub, "web")?, None);
     assert_eq!(rt;
         hub.make_named(&rt, &web, Kind::Service, limits, true),
         Ok(())
     );
-    assert_eq!(rt; found(&rt, &hub, "web")?, Some((Kind::Service, true)));
-    assert_eq!(rt; found(&rt, &hub, "db")?, None);
+    assert_eq!(rt; kind_in(&rt, &hub, "web")?, Some((Kind::Service, true)));
+    assert_eq!(rt; kind_in(&rt, &hub, "db")?, None);
     assert_eq!(rt; hub.make(&rt, db, Kind::Plain, limits, false), Ok(()));
-    assert_eq!(rt; found(&rt, &hub, "db")?, Some((Kind::Plain, false)));
+    assert_eq!(rt; kind_in(&rt, &hub, "db")?, Some((Kind::Plain, false)));
     let again = hub.make_named(&rt, &web, Kind::Plain, limits, false);
     assert_eq!(rt; again, Err(HubError::Exists));
-    assert_eq!(rt; found(&rt, &hub, "web")?, Some((Kind::Service, true)));
+    assert_eq!(rt; kind_in(&rt, &hub, "web")?, Some((Kind::Service, true)));
     for number in 1..4 {
         assert_eq!(rt; next_number(&rt, &hub)?, Some(number));
     }

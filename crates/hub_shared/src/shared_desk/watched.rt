@@ -18,6 +18,7 @@ pub struct Watched<'a, P> {
 }
 
 impl<P> Watched<'_, P> {
+    /// A pause that looks after the client, if there is one.
     pub fn new(pause: P, client: Option<&UnixStream>) -> Watched<'_, P> {
         Watched {
             pause,

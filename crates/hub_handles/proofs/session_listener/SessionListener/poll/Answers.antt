@@ -17,7 +17,7 @@ returns-in-Some g c =
 pub returns-in-Ok-true : goal.returns-in-Ok-true
 returns-in-Ok-true g c =
     let heard = subst (λ (hit : Bool). HearsOne c.loop.self hit c.hear.new.self) c.in-Ok-true.field-0-test c.in-Ok-true.ensures.heard in
-    hit_polls c.args.self.now c.loop.self c.hear.new.self c.loop.invariant.0.0 c.copied.result c.loop.invariant.0.1 heard (c.copied.ensures ∙ c.hit.ensures.value)
+    hit_polls c.args.self.now c.loop.self c.hear.new.self c.loop.invariant.0.0 c.excerpt_of.result c.loop.invariant.0.1 heard (c.excerpt_of.ensures ∙ c.hit.ensures.value)
 
 pub returns-in-Err : goal.returns-in-Err
 returns-in-Err g c =

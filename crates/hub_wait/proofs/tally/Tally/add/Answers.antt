@@ -11,4 +11,4 @@ returns-after-not-met c = λ span watches e.
 
 pub returns-in-Any : goal.returns-in-Any
 returns-in-Any c = λ span watches e.
-    rw (c.met-met.ensures, c.lost-lost.ensures) (any-push span watches _ c.args.watch.now c.in-Any.is (c.self.view_is ∙ e))
+    rw (c.met-met.ensures, c.is_lost-lost.ensures) (any-push span watches _ c.args.watch.now c.in-Any.is (c.self.view_is ∙ e))
