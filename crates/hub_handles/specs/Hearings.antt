@@ -20,6 +20,9 @@ use Rattle.hub_handles.specs.Taking.{IsSameTicket}
 abbrev pub mode_of : SessionListener → Mode
 mode_of h = h.mode
 
+abbrev pub subscription_in : SessionListener → Subscription
+subscription_in h = h.subscription
+
 -- a listener that hears this subscription from now on, and holds no letter
 pub record BeginsHearing (subscription : Subscription) (listener : Listening) (mode : Mode) (h : SessionListener) : Type 0 where
   pub subscription_is : h.subscription ≡ subscription

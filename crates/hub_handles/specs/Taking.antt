@@ -8,6 +8,7 @@ use Rattle.hub_fifodir.specs.declared.fifodir.Fifodir.{Fifodir}
 use Rattle.hub_fifodir.specs.declared.ticket.Ticket.{Ticket}
 use Rattle.hub_fifodir.specs.Passes.{HasSubscribed, HasTaken, got, sent_on, ticket_id, ticket_mark, ticket_next, ticket_seen, ticket_sight}
 use Rattle.hub_fifodir.specs.Steps.{Grows}
+use Rattle.hub_record.specs.declared.Event.{Event}
 use Rattle.hub_record.specs.declared.Taken.TheVariants.{Got, Nothing, End, Evicted}
 use Rattle.hub_handles.specs.declared.subscription.Subscription.{Subscription}
 
@@ -22,6 +23,18 @@ Shows max old _ new = ⊥
 -- the name that it was asked for by
 abbrev pub name_of : Subscription → List ℕ
 name_of s = s.name.value
+
+-- its fifodir
+abbrev pub fifodir_of : Subscription → Fifodir
+fifodir_of s = arc_value s.dir
+
+-- the record, as far as its ticket has seen it
+abbrev pub seen_of : Subscription → List Event
+seen_of s = ticket_seen s.ticket
+
+-- an event waits for it
+abbrev pub HasPending : Subscription → Type 0
+HasPending s = ticket_next s.ticket ≢ length (seen_of s)
 
 -- it is the same ticket, of the same fifodir by the same name, and has seen no less
 pub record IsSameTicket (old new : Subscription) : Type 0 where
@@ -44,7 +57,7 @@ pub record TakesFrom (max : ℕ) (old : Subscription) (reply : Reply) (new : Sub
 -- there is no memory for the reply: it only looked, and an event waits
 pub record LacksMemory (old : Subscription) (reply : Reply) (new : Subscription) : Type 0 where
   pub looked : HasLooked old new
-  pub waits : ticket_next new.ticket ≢ length (ticket_seen new.ticket)
+  pub waits : HasPending new
   pub refused : reply ≡ answer.No no.Memory
 
 abbrev pub Takes : ℕ → Subscription → Reply → Subscription → Type 0

@@ -1,7 +1,7 @@
 //! A session's subscriptions.
-ghost use Rattle.std.specs.Prelude.{◌≡◌, ◌≢◌, ◌≤◌, length, vec_len, vec_capacity, Err, IfOk, IfNone, IfSome};
+ghost use Rattle.std.specs.Prelude.{◌≡◌, ◌≤◌, length, vec_len, vec_capacity, Err, IfOk, IfNone, IfSome};
 ghost use Rattle.std.specs.Arc.{arc_value};
-ghost use Rattle.hub_fifodir.specs.Passes.{IsTicketOf, HasSoundSight, ticket_next, ticket_seen, ticket_view};
+ghost use Rattle.hub_fifodir.specs.Passes.{IsTicketOf, HasSoundSight, ticket_view};
 ghost use Rattle.hub_requests.specs.declared.bounds.TheConstants.{MOST_TAKEN};
 
 use crate::room::Room;
@@ -24,7 +24,7 @@ pub struct Subscription {
 }
 
 impl Subscription {
-    ghost use Rattle.hub_handles.specs.Taking.{Begins, HasLooked, Takes, TakesFrom, TakesOne};
+    ghost use Rattle.hub_handles.specs.Taking.{Begins, HasLooked, HasPending, Takes, TakesFrom, TakesOne};
 
     /// Subscribes to the fifodir. An error says why it gave no ticket.
     pub fn new<H: Wait>(
@@ -82,8 +82,7 @@ impl Subscription {
     pub fn look(&mut self) -> Option<Reply>
         ensures looked { HasLooked self.old self.new }
         ensures idle { IfSome result (λ reply. TakesOne self.old (Err reply) self.new) }
-        ensures waits { IfNone result (ticket_next self.new.ticket
-            ≢ length (ticket_seen self.new.ticket)) }
+        ensures waits { IfNone result (HasPending self.new) }
     {
         let status = self.dir.status(&mut self.ticket);
         if status.number != self.ticket.next() {
