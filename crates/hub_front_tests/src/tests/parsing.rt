@@ -14,7 +14,7 @@ fn read(alloc: Global, line: &[u8]) -> Result<Request, Bad> {
 }
 
 /// Lines, and the requests that they spell, in words.
-static GOOD: [(&str, &str); 27] = [
+static GOOD: [(&str, &str); 29] = [
     (
         "dir web 64 1000",
         "make web: 64 may wait, 1000 in all, evicts false",
@@ -116,7 +116,7 @@ fn good_lines_spell_requests(rt: HostRuntime) {
 }
 
 /// Lines, and the first rule that each breaks.
-static BAD: [(&str, Bad); 79] = [
+static BAD: [(&str, Bad); 85] = [
     ("dir web 0 10", Bad::Range),
     ("dir web 4097 10", Bad::Range),
     ("dir web 04 10", Bad::Form),
