@@ -19,7 +19,7 @@ use Rattle.hub_names.specs.declared.hub.Hub.{Hub}
 use Rattle.hub_names.specs.declared.hub.Made.{Made}
 use Rattle.hub_names.specs.declared.fifodirs.Fifodirs.{Fifodirs}
 use Rattle.hub_names.specs.Fifodirs.{IsKeptAs, KeepsAll}
-use Rattle.hub_shared.specs.Waits.{IsKnown, IsOfKind, AreSeen, IsPostRefused, IsWaitRefused, IsPostAt, ArePosts}
+use Rattle.hub_shared.specs.Waits.{IsKnown, IsOfKind, AreFound, AreOpened, AreSeen, IsPostRefused, IsWaitRefused, IsPostAt, ArePosts}
 
 Any-weaker : {X : Type 0} (P Q : X → Type 0) → ((x : X) → P x → Q x) → (xs : List X) → Any P xs → Any Q xs
 Any-weaker P Q f xs (k, x, within, at, p) = (k, x, within, at, f x p)
@@ -71,7 +71,7 @@ refused_by_post fs names refusal seen refused =
 
 -- ---- posts
 
-AllZip-push : {X Y : Type 0} (R : X → Y → Type 0) (xs : List X) (ys : List Y) (x : X) (y : Y) → AllZip R xs ys → R x y → AllZip R (xs ++ x ∷ []) (ys ++ y ∷ [])
+pub AllZip-push : {X Y : Type 0} (R : X → Y → Type 0) (xs : List X) (ys : List Y) (x : X) (y : Y) → AllZip R xs ys → R x y → AllZip R (xs ++ x ∷ []) (ys ++ y ∷ [])
 AllZip-push R [] [] x y each r = (r, tt)
 AllZip-push R [] (b ∷ ys) x y each r = absurd each
 AllZip-push R (a ∷ xs) [] x y each r = absurd each
@@ -83,22 +83,30 @@ AllZip-weaker R S f [] (y ∷ ys) each = absurd each
 AllZip-weaker R S f (x ∷ xs) [] each = absurd each
 AllZip-weaker R S f (x ∷ xs) (y ∷ ys) each = (f x y each.0, AllZip-weaker R S f xs ys each.1)
 
-post_still : (hub : Hub) (old new : Fifodirs) → KeepsAll hub old new → (want : Want) (name : List ℕ) (post : Post) → IsPostAt old want name post → IsPostAt new want name post
-post_still hub old new keeps want name post p = record { joined = p.joined; kept_is = keeps.each name p.joined p.kept_is; opened = p.opened }
+found_still : (hub : Hub) (old new : Fifodirs) → KeepsAll hub old new → (name : List ℕ) (made : Made) → IsKeptAs old name made → IsKeptAs new name made
+found_still hub old new keeps name made at = record { joined = at.joined; kept_is = keeps.each name at.joined at.kept_is; dir = at.dir; notifies = at.notifies }
 
--- a post at what was found by a name just now
-pub post_found : (fs : Fifodirs) (want : Want) (name : List ℕ) (found : Made) (post : Post) → IsKeptAs fs name found → HasOpened (arc_value found.dir) want found.notifies post → IsPostAt fs want name post
+-- one fifodir more
+found_more : (hub : Hub) (old new : Fifodirs) (names : List (List ℕ)) (found : List Made) (name : List ℕ) (made : Made)
+    → KeepsAll hub old new → AreFound old names found → IsKeptAs new name made → AreFound new (names ++ name ∷ []) (found ++ made ∷ [])
+found_more hub old new names found name made keeps each at =
+    AllZip-push (IsKeptAs new) names found name made (AllZip-weaker (IsKeptAs old) (IsKeptAs new) (found_still hub old new keeps) names found each) at
+
+-- a post at the fifodir that is kept under the name
+post_found : (fs : Fifodirs) (want : Want) (name : List ℕ) (found : Made) (post : Post) → IsKeptAs fs name found → HasOpened (arc_value found.dir) want found.notifies post → IsPostAt fs want name post
 post_found fs want name found post at opened = record {
   joined = at.joined;
   kept_is = at.kept_is;
   opened = subst (λ (b : Bool). HasOpened (arc_value at.joined.found.dir) want b post) at.notifies (subst (λ (dir : Fifodir). HasOpened dir want found.notifies post) at.dir opened);
 }
 
--- one post more
-posts_more : (hub : Hub) (old new : Fifodirs) (want : Want) (names : List (List ℕ)) (posts : List Post) (name : List ℕ) (post : Post)
-    → KeepsAll hub old new → ArePosts old want names posts → IsPostAt new want name post → ArePosts new want (names ++ name ∷ []) (posts ++ post ∷ [])
-posts_more hub old new want names posts name post keeps each p =
-    AllZip-push (IsPostAt new want) names posts name post (AllZip-weaker (IsPostAt old want) (IsPostAt new want) (post_still hub old new keeps want) names posts each) p
+pub posts_found : (fs : Fifodirs) (want : Want) (names : List (List ℕ)) (found : List Made) (posts : List Post) → AreFound fs names found → AreOpened want found posts → ArePosts fs want names posts
+posts_found fs want [] [] [] at opened = tt
+posts_found fs want [] [] (p ∷ ps) at opened = absurd opened
+posts_found fs want [] (f ∷ found) posts at opened = absurd at
+posts_found fs want (n ∷ names) [] posts at opened = absurd at
+posts_found fs want (n ∷ names) (f ∷ found) [] at opened = absurd opened
+posts_found fs want (n ∷ names) (f ∷ found) (p ∷ ps) at opened = (post_found fs want n f p at.0 opened.0, posts_found fs want names found ps at.1 opened.1)
 
 -- ---- the next name, which was found just now
 
@@ -114,7 +122,6 @@ module _ (hub : Hub) (old new : Fifodirs) (keeps : KeepsAll hub old new) (names 
   seen_service plain seen f = subst (λ (ns : List (List ℕ)). AreSeen new ns plain) with_next
       (service_more new (take i names) name plain (seen_still hub old new keeps (take i names) plain seen) f)
 
-  pub post_opened : (want : Want) (posts : List Post) (post : Post) → ArePosts old want (take i names) posts → IsPostAt new want name post
-      → ArePosts new want (take (i + 1) names) (posts ++ post ∷ [])
-  post_opened want posts post each p = subst (λ (ns : List (List ℕ)). ArePosts new want ns (posts ++ post ∷ [])) with_next
-      (posts_more hub old new want (take i names) posts name post keeps each p)
+  pub found_next : (found : List Made) (made : Made) → AreFound old (take i names) found → IsKeptAs new name made → AreFound new (take (i + 1) names) (found ++ made ∷ [])
+  found_next found made each at = subst (λ (ns : List (List ℕ)). AreFound new ns (found ++ made ∷ [])) with_next
+      (found_more hub old new (take i names) found name made keeps each at)

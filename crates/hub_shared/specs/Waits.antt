@@ -1,5 +1,6 @@
 -- What a wait is refused by, and what it shows of its posts.
 use Rattle.std.specs.Prelude.{◌≡◌, ℕ, List, Option, None, Some, ◌⊎◌, Bool, true, false, All, Any, map, if◌then◌else◌}
+use Rattle.std.specs.Arc.{arc_value}
 use Rattle.std.specs.List.{AllZip}
 use Rattle.hub_letters.specs.declared.want.Want.{Want}
 use Rattle.hub_record.specs.declared.Kind.{Kind}
@@ -16,8 +17,9 @@ use Rattle.hub_wait.specs.declared.post.Post.{Post}
 use Rattle.hub_wait.specs.Posts.{HasOpened, watch_of}
 use Rattle.hub_wait.specs.Watching.{is_met_at}
 use Rattle.hub_names.specs.declared.fifodirs.Fifodirs.{Fifodirs}
+use Rattle.hub_names.specs.declared.hub.Made.{Made}
 use Rattle.hub_names.specs.declared.joined.Joined.{Joined}
-use Rattle.hub_names.specs.Fifodirs.{joined_at}
+use Rattle.hub_names.specs.Fifodirs.{joined_at, IsKeptAs}
 use Rattle.hub_names.specs.Speaking.{fifodir_of, notifies_of}
 
 -- the name has a fifodir of this kind
@@ -37,6 +39,14 @@ AreSeen fs names false = All (IsOfKind fs Service) names
 -- why the names weren't all seen
 abbrev pub IsUnseen : Fifodirs → List (List ℕ) → Refusal → Type 0
 IsUnseen fs names refusal = ((refusal ≡ no.Name) × Any (λ name. joined_at fs name ≡ None) names) ⊎ (refusal ≡ no.Memory)
+
+-- the fifodir that is kept under each name, in their order
+abbrev pub AreFound : Fifodirs → List (List ℕ) → List Made → Type 0
+AreFound fs names found = AllZip (IsKeptAs fs) names found
+
+-- a post at each of them, in their order
+abbrev pub AreOpened : Want → List Made → List Post → Type 0
+AreOpened want found posts = AllZip (λ made post. HasOpened (arc_value made.dir) want made.notifies post) found posts
 
 -- why a fifodir gives no post
 abbrev pub IsPostRefused : Refusal → Type 0

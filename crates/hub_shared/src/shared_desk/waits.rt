@@ -2,10 +2,10 @@
 ghost use Rattle.std.specs.Prelude.{◌≡◌, ◌≤◌, ◌+◌, length, map, vec_len, vec_capacity, IfOk, IfErr, OnOk, false};
 ghost use Rattle.hub_requests.specs.declared.bounds.TheConstants.{MOST_SERVICES};
 ghost use Rattle.hub_names.specs.Fifodirs.{KeepsAll};
-ghost use Rattle.hub_shared.specs.Waits.{ArePosts, AreSeen, IsPostRefused, IsUnseen, number_met};
+ghost use Rattle.hub_shared.specs.Waits.{AreFound, AreOpened, ArePosts, AreSeen, IsPostRefused, IsUnseen, number_met};
 
 use hub_letters::Want;
-use hub_names::{Fifodirs, Hub};
+use hub_names::{Fifodirs, Hub, Made};
 use hub_record::Kind;
 use hub_requests::{Name, Numbers, Refusal, Reply};
 use hub_wait::{Pause, Post, Span, Verdict, svwait};
@@ -42,7 +42,10 @@ impl Posts {
         ensures refused { IfErr result (IsWaitRefused fifodirs.new names.now) }
         ensures kept { KeepsAll hub.now fifodirs.old fifodirs.new }
     {
-        if has_plain(rt, fifodirs, hub, names)? {
+        let Ok(mut found) = Vec::with_capacity(alloc, names.len()) else {
+            return Err(Refusal::Memory);
+        };
+        if find_each(rt, fifodirs, hub, names, &mut found)? {
             return Err(Refusal::Kind);
         }
         let Ok(numbers) = Vec::with_capacity(alloc, names.len()) else {
@@ -51,7 +54,7 @@ impl Posts {
         let Ok(mut posts) = Vec::with_capacity(alloc, names.len()) else {
             return Err(Refusal::Memory);
         };
-        match open_each(rt, fifodirs, hub, want, names, &mut posts) {
+        match open_each(rt, want, found, &mut posts) {
             Ok(()) => Ok(Posts { posts, numbers }),
             Err(refusal) => {
                 end_each(rt, posts);
@@ -81,48 +84,49 @@ impl Posts {
     }
 }
 
-/// Finds the fifodir of each name, and tells whether one of them is plain.
-fn has_plain<H: Wait>(
+/// Finds the fifodir of each name, in their order, and tells whether one of them is plain.
+fn find_each<H: Wait>(
     rt: &H,
     fifodirs: &mut Fifodirs,
     hub: &Hub,
     names: &[Name],
+    found: &mut Vec<Made>,
 ) -> Result<bool, Refusal>
+    requires empty { vec_len found.old ≡ 0 }
+    requires fits { length names.now ≤ vec_capacity found.old }
     ensures seen { IfOk result (AreSeen fifodirs.new names.now) }
+    ensures found { OnOk result (AreFound fifodirs.new names.now found.new.items) }
+    ensures few { vec_len found.new ≤ length names.now }
     ensures missing { IfErr result (IsUnseen fifodirs.new names.now) }
     ensures kept { KeepsAll hub.now fifodirs.old fifodirs.new }
 {
     let mut plain = false;
     for name in names {
-        let found = fifodirs.find(rt, hub, name)?;
-        match found.dir.kind() {
+        let made = fifodirs.find(rt, hub, name)?;
+        match made.dir.kind() {
             Kind::Plain => plain = true,
             Kind::Service => (),
         }
+        found.push_reserved(made);
     }
     Ok(plain)
 }
 
-/// Opens a post for each name until one is refused.
+/// Opens a post at each of the fifodirs, in their order, until one is refused.
 fn open_each<H: Wait>(
     rt: &H,
-    fifodirs: &mut Fifodirs,
-    hub: &Hub,
     want: Want,
-    names: &[Name],
+    found: Vec<Made>,
     posts: &mut Vec<Post>,
 ) -> Result<(), Refusal>
     requires empty { vec_len posts.old ≡ 0 }
-    requires fits { length names.now ≤ vec_capacity posts.old }
-    requires services { AreSeen fifodirs.old names.now false }
-    ensures kept { KeepsAll hub.now fifodirs.old fifodirs.new }
+    requires fits { vec_len found ≤ vec_capacity posts.old }
     ensures refused { IfErr result IsPostRefused }
-    ensures opened { OnOk result (ArePosts fifodirs.new want names.now posts.new.items) }
-    ensures few { vec_len posts.new ≤ length names.now }
+    ensures opened { OnOk result (AreOpened want found.items posts.new.items) }
+    ensures few { vec_len posts.new ≤ vec_len found }
 {
-    for name in names {
-        let found = fifodirs.find(rt, hub, name)?;
-        let post = Post::open(rt, found.dir, want, found.notifies)?;
+    for made in found {
+        let post = Post::open(rt, made.dir, want, made.notifies)?;
         posts.push_reserved(post);
     }
     Ok(())

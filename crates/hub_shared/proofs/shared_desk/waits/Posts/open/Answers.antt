@@ -1,16 +1,6 @@
-use Rattle.std.proofs.Common.{subst}
-use Rattle.hub_shared.specs.Waits.{AreSeen}
-use Rattle.hub_shared.proofs.WaitedNames.{seen_still, refused_by_post}
+use Rattle.hub_shared.proofs.WaitedNames.{posts_found}
 use Rattle.hub_shared.proofs.shared_desk.waits.Posts.open.Goals as goal
 
-pub returns-in-Ok-open_each-clause-services : goal.returns-in-Ok-open_each-clause-services
-returns-in-Ok-open_each-clause-services g c =
-    let names = c.args.names.now in
-    subst (AreSeen c.open_each.new.fifodirs names) c.if-branch.false
-    (seen_still c.args.hub.now c.has_plain.new.fifodirs c.open_each.new.fifodirs c.open_each.ensures.kept names c.in_ok-has_plain.field-0 c.in_ok-has_plain.ensures.seen)
-
-pub returns-in-Err-clause-refused : goal.returns-in-Err-clause-refused
-returns-in-Err-clause-refused g c =
-    let names = c.args.names.now in
-    let seen = seen_still c.args.hub.now c.has_plain.new.fifodirs c.open_each.new.fifodirs c.open_each.ensures.kept names c.in_ok-has_plain.field-0 c.in_ok-has_plain.ensures.seen in
-    refused_by_post c.open_each.new.fifodirs names c.in-Err.refusal (subst (AreSeen c.open_each.new.fifodirs names) c.if-branch.false seen) c.in-Err.ensures.refused
+pub returns-in-Ok-open_each-clause-opened : goal.returns-in-Ok-open_each-clause-opened
+returns-in-Ok-open_each-clause-opened g c =
+    posts_found c.find_each.new.fifodirs c.args.want c.args.names.now c.find_each.new.found.items c.open_each.new.posts.items c.in_ok-find_each.ensures.found c.in-Ok-open_each.ensures.opened
