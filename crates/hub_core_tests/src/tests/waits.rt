@@ -188,38 +188,34 @@ fn waits_for_no_service<R: Wait + Clock>(rt: &R, pause: &mut Backoff<R>) -> bool
         && pause.turns == 0
 }
 
-/// A pause that sends its messages at its first call.
-struct Bursts {
-    supervisor: Sender,
-    messages: [Vec<Letter>; 3],
-    sent: bool,
-}
-
-impl Pause for Bursts {
-    fn pause<R: Wait>(&mut self, rt: &R) -> Go {
-        if !self.sent {
-            self.sent = true;
-            for message in &self.messages {
-                let _ = self.supervisor.send(rt, message);
-            }
-        }
-        Go::Again
-    }
-}
-
-/// A pause that sends a message at its first call, and another one at its second.
+/// A pause that sends its messages, so many of them at each call.
 struct Reports {
     supervisor: Sender,
-    messages: [Vec<Letter>; 2],
-    calls: usize,
+    messages: [Vec<Letter>; 3],
+    at_once: usize,
+    sent: usize,
+}
+
+impl Reports {
+    fn end<R: Wait>(self, rt: &R) {
+        let Reports {
+            supervisor,
+            messages: _,
+            at_once: _,
+            sent: _,
+        } = self;
+        supervisor.leave(rt);
+    }
 }
 
 impl Pause for Reports {
     fn pause<R: Wait>(&mut self, rt: &R) -> Go {
-        if let Some(message) = self.messages.get(self.calls) {
-            let _ = self.supervisor.send(rt, message);
+        for _ in 0..self.at_once {
+            if let Some(message) = self.messages.get(self.sent) {
+                let _ = self.supervisor.send(rt, message);
+            }
+            self.sent = self.sent.wrapping_add(1);
         }
-        self.calls = self.calls.wrapping_add(1);
         Go::Again
     }
 }
@@ -264,24 +260,20 @@ static RESTARTS: [(Course, End); 8] = [
 
 fn waits_for<R: Abort + Wait>(rt: &R, alloc: Global, course: Course) -> Result<End, Fail> {
     let (before, want, [first, second], turns) = course;
-    let messages = [word(alloc, first)?, word(alloc, second)?];
+    let messages = [word(alloc, first)?, word(alloc, second)?, word(alloc, "")?];
     let (fifodir, supervisor) = start_service(rt, alloc, before)?;
     let mut pause = Reports {
         supervisor,
         messages,
-        calls: 0,
+        at_once: 1,
+        sent: 0,
     };
     let mut posts = [open_post(rt, fifodir, want, true)];
     let verdict = svwait(rt, &mut posts, Span::All, turns, &mut pause);
     let [post] = posts;
     let watch = *post.watch();
     post.end(rt);
-    let Reports {
-        supervisor,
-        messages: _,
-        calls: _,
-    } = pause;
-    supervisor.leave(rt);
+    pause.end(rt);
     Ok((verdict, watch.at(), watch.flags().code(), watch.fell()))
 }
 
@@ -306,21 +298,17 @@ fn an_evicted_wait_goes_on<R: Abort + Wait>(rt: &R, alloc: Global) -> Result<boo
     let mut supervisor = new_sender(rt, &fifodir);
     let is_begun = supervisor.send(rt, &first) == Ok(0);
     let mut posts = [open_post(rt, fifodir, Want::Ready, true)];
-    let mut pause = Bursts {
+    let mut pause = Reports {
         supervisor,
         messages,
-        sent: false,
+        at_once: 3,
+        sent: 0,
     };
     let verdict = svwait(rt, &mut posts, Span::All, 1, &mut pause);
     let [post] = posts;
     let (at, code, mark) = (post.watch().at(), post.watch().flags().code(), post.mark());
     post.end(rt);
-    let Bursts {
-        supervisor,
-        messages: _,
-        sent: _,
-    } = pause;
-    supervisor.leave(rt);
+    pause.end(rt);
     Ok(is_begun && (verdict, at, code, mark) == (Verdict::Yes, 7, 7, 1))
 }
 
