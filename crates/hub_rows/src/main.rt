@@ -6,12 +6,11 @@
 //! if a row of the folder isn't among the names.
 #![tactic(auto)]
 
-mod dripping;
 mod sharing;
 
 use anyhow::{Result, anyhow};
-use dripping::Dripping;
 use ftrighub::{Desk, LocalDesk, Source, serve};
+use hub_fakes::Dripping;
 use std::alloc::{AllocGlobal, Global};
 use std::process::ExitCode;
 use std::rt::Runtime;
@@ -92,7 +91,7 @@ impl Row {
             rt,
             alloc,
             &mut LocalDesk::new(alloc)?,
-            &mut Dripping::of(input),
+            &mut Dripping::new(input, 1, 0),
         )?;
         tell(name, "a local desk, one byte a read", dripping)?;
         let mut shared = sharing::alone(alloc)?;

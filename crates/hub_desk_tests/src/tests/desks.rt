@@ -1,24 +1,12 @@
 //! The two desks, and a table over each of them.
 use crate::tests::rows::{Step, go};
+use hub_fakes::Yielding;
 use hub_local::LocalDesk;
 use hub_requests::Desk;
 use hub_shared::{Hub, SharedDesk};
-use hub_wait::{Go, Pause};
 use std::alloc::{AllocError, AllocGlobal, Global};
 use std::process::Abort;
 use std::sync::{Arc, Wait};
-use std::thread;
-
-/// Lets other threads run.
-#[derive(Clone, Copy)]
-pub struct Yielding;
-
-impl Pause for Yielding {
-    fn pause<R: Wait>(&mut self, _rt: &R) -> Go {
-        thread::yield_now();
-        Go::Again
-    }
-}
 
 pub type Session = SharedDesk<Yielding>;
 
