@@ -1,9 +1,9 @@
-/* One request at a time: a line is written, its reply is waited for, and only then comes the next. Prints how many
- * requests there were in a second, in the best part of the run, of a thousand requests a client: what else the machine
- * does at the same time comes and goes. The program is started here, and has ended when this ends.
+/* So many requests at a time: lines are written, their replies are waited for, and only then come the next. Over a pipe it
+ * is one. Prints how many requests there were in a second, in the best part of the run, of some thousand requests a client:
+ * what else the machine does at the same time comes and goes. The program is started here, and has ended when this ends.
  *
  *     ask pipe KIND PARTS PROGRAM [WORD ..]
- *     ask socket KIND CLIENTS PARTS PATH PROGRAM [WORD ..]
+ *     ask socket KIND CLIENTS DEPTH PARTS PATH PROGRAM [WORD ..]
  */
 #define _GNU_SOURCE
 #include "common.h"
@@ -16,14 +16,17 @@
 #include <string.h>
 #include <unistd.h>
 
-enum { MOST_CLIENTS = 64, PART = 1000 };
+/* A part is so many requests: more of them if they are sent many at a time. */
+enum { MOST_CLIENTS = 64, PART = 1024, DEEP_PART = 16 * PART };
 
 struct client {
     pthread_t thread;
     pthread_barrier_t *begin;
     struct load load;
-    long parts;
+    long depth, parts;
     int stream;
+    /* When its last part began and ended. */
+    double begun, ended;
 };
 
 static double max(double a, double b)
@@ -59,14 +62,30 @@ static void *run_client(void *of)
     send_setup(client->stream, client->stream, &client->load);
     for (long part = 0; part < client->parts; part++) {
         pthread_barrier_wait(client->begin);
-        send_circle(client->stream, client->stream, &client->load, PART);
+        client->begun = now();
+        if (client->depth == 1)
+            send_circle(client->stream, client->stream, &client->load, PART);
+        else
+            send_deep(client->stream, client->stream, &client->load, client->depth, DEEP_PART);
+        client->ended = now();
         pthread_barrier_wait(client->begin);
     }
     close(client->stream);
     return NULL;
 }
 
-static void ask_over_socket(const char *kind, int clients, long parts, const char *path, char **program)
+/* From the first client's beginning of a part to the last one's end. */
+static double time_of_part(const struct client *all, int clients)
+{
+    double begun = all[0].begun, ended = all[0].ended;
+    for (int i = 1; i < clients; i++) {
+        begun = -max(-begun, -all[i].begun);
+        ended = max(ended, all[i].ended);
+    }
+    return ended - begun;
+}
+
+static void ask_over_socket(const char *kind, int clients, long depth, long parts, const char *path, char **program)
 {
     static struct client all[MOST_CLIENTS];
     pthread_barrier_t begin;
@@ -79,15 +98,14 @@ static void ask_over_socket(const char *kind, int clients, long parts, const cha
     for (int i = 0; i < clients; i++) {
         char fifodir[16];
         snprintf(fifodir, sizeof fifodir, "hub%d", i);
-        all[i] = (struct client){ 0, &begin, load_of(kind, fifodir), parts, connect_to(path, child) };
+        all[i] = (struct client){ 0, &begin, load_of(kind, fifodir), depth, parts, connect_to(path, child), 0, 0 };
         if (pthread_create(&all[i].thread, NULL, run_client, &all[i]) != 0)
             die("no thread");
     }
     for (long part = 0; part < parts; part++) {
         pthread_barrier_wait(&begin);
-        double begun = now();
         pthread_barrier_wait(&begin);
-        best = max(best, clients * PART / (now() - begun));
+        best = max(best, clients * (depth == 1 ? PART : DEEP_PART) / time_of_part(all, clients));
     }
     for (int i = 0; i < clients; i++)
         pthread_join(all[i].thread, NULL);
@@ -100,13 +118,13 @@ static void ask_over_socket(const char *kind, int clients, long parts, const cha
 
 int main(int count, char **words)
 {
-    static const char usage[] = "usage: ask pipe KIND PARTS PROGRAM .. | ask socket KIND CLIENTS PARTS PATH PROGRAM ..";
+    static const char usage[] = "usage: ask pipe KIND PARTS PROGRAM .. | ask socket KIND CLIENTS DEPTH PARTS PATH PROGRAM ..";
     begin_program(count, 5, usage);
     signal(SIGPIPE, SIG_IGN);
     if (strcmp(words[1], "pipe") == 0) {
         ask_over_pipes(words[2], number_of(words[3]), words + 4);
-    } else if (count > 6 && strcmp(words[1], "socket") == 0 && number_of(words[3]) <= MOST_CLIENTS) {
-        ask_over_socket(words[2], (int)number_of(words[3]), number_of(words[4]), words[5], words + 6);
+    } else if (count > 7 && strcmp(words[1], "socket") == 0 && number_of(words[3]) <= MOST_CLIENTS) {
+        ask_over_socket(words[2], (int)number_of(words[3]), number_of(words[4]), number_of(words[5]), words[6], words + 7);
     } else {
         die(usage);
     }

@@ -114,10 +114,11 @@ struct load load_of(const char *kind, const char *fifodir)
     } else if (strcmp(kind, "mixed") == 0) {
         circle(&load, line_of("pub %s ab\n", fifodir), status, 2);
         load.circle[1] = line_of("take 1 10\n", "");
-    } else if (strcmp(kind, "shared") == 0) {
-        /* Many sessions publish to one fifodir, to which nobody has subscribed. */
-        hub_setup(&load, "hub", 1);
-        one = line_of("pub %s a\n", "hub");
+    } else if (strcmp(kind, "own") == 0 || strcmp(kind, "shared") == 0) {
+        /* Each session publishes to a fifodir of its own, or all to one. Nobody has subscribed. */
+        const char *where = strcmp(kind, "own") == 0 ? fifodir : "hub";
+        hub_setup(&load, where, 1);
+        one = line_of("pub %s a\n", where);
         circle(&load, one, one, 1);
     } else if (strcmp(kind, "redis") == 0) {
         load.setup_count = 0;
@@ -174,6 +175,44 @@ void send_circle(int from, int to, struct load *load, long count)
     }
 }
 
+/* Reads so many lines, and dies where one of them refuses. */
+static void read_replies(int from, long count)
+{
+    char bytes[LONGEST_REPLY];
+    /* (how much of "\nno " came last) */
+    int seen = 1, refused = 0;
+    while (count > 0) {
+        ssize_t more = read(from, bytes, sizeof bytes);
+        if (more <= 0)
+            die("no reply came");
+        for (ssize_t i = 0; i < more; i++) {
+            refused |= (seen == 3 && bytes[i] == ' ') || (seen == 1 && bytes[i] == '-');
+            seen = bytes[i] == '\n' ? 1 : seen > 0 && seen < 3 && bytes[i] == "\nno"[seen] ? seen + 1 : 0;
+            count -= bytes[i] == '\n';
+        }
+    }
+    if (refused)
+        die("a line was refused");
+}
+
+void send_deep(int from, int to, struct load *load, long depth, long count)
+{
+    static _Thread_local char lines[1 << 16];
+    for (long sent = 0; sent < count; sent += depth) {
+        size_t length = 0;
+        for (long i = 0; i < depth; i++) {
+            struct line line = load->circle[load->place];
+            if (length + line.length > sizeof lines)
+                die("the lines are too long for this depth");
+            memcpy(lines + length, line.text, line.length);
+            length += line.length;
+            load->place = (load->place + 1) % load->circle_count;
+        }
+        write_all(to, lines, length);
+        read_replies(from, depth);
+    }
+}
+
 void stay_on_one_processor(void)
 {
     cpu_set_t set;
@@ -196,6 +235,22 @@ pid_t start(char **program, int input, int output)
         _exit(127);
     execvp(program[0], program);
     _exit(127);
+}
+
+double processor_time(pid_t process)
+{
+    clockid_t clock;
+    struct timespec time;
+    if (clock_getcpuclockid(process, &clock) != 0 || clock_gettime(clock, &time) != 0)
+        die("no processor time");
+    return (double)time.tv_sec + (double)time.tv_nsec / 1e9;
+}
+
+void stop(pid_t program)
+{
+    kill(program, SIGKILL);
+    waitpid(program, NULL, 0);
+    running = 0;
 }
 
 void wait_for(pid_t program)

@@ -22,7 +22,7 @@ struct load {
     size_t place;
 };
 
-/* The load of one kind (pub, take, status, mixed, shared, redis) over a fifodir with this name. */
+/* The load of one kind (pub, take, status, mixed, own, shared, redis) over a fifodir with this name. */
 struct load load_of(const char *kind, const char *fifodir);
 
 /* Writes a message to standard error, kills what was started, and ends with status 1. */
@@ -49,12 +49,21 @@ void send_setup(int from, int to, const struct load *load);
 /* Sends the next lines of the circle, so many, each answered before the next; dies where one is refused. */
 void send_circle(int from, int to, struct load *load, long count);
 
+/* Sends the next lines of the circle, so many, always `depth` of them at once, whose replies come before the next. */
+void send_deep(int from, int to, struct load *load, long depth, long count);
+
 /* Keeps this process, and what it starts, on the processor that it runs on. Who asks and who answers take turns, so one
  * is enough; on two, most of the time of a request is that of waking the other, which is the machine's. */
 void stay_on_one_processor(void);
 
 /* Starts a program on these descriptors. It is killed when its starter ends. */
 pid_t start(char **program, int input, int output);
+
+/* Seconds of processor time that all threads of a process have used. */
+double processor_time(pid_t process);
+
+/* Kills the program. */
+void stop(pid_t program);
 
 /* Waits until the program has ended; dies where it failed. */
 void wait_for(pid_t program);

@@ -9,18 +9,7 @@
 #include <fcntl.h>
 #include <stdio.h>
 #include <string.h>
-#include <time.h>
 #include <unistd.h>
-
-/* Seconds of processor time that all threads of a process have used. */
-static double processor_time(pid_t process)
-{
-    clockid_t clock;
-    struct timespec time;
-    if (clock_getcpuclockid(process, &clock) != 0 || clock_gettime(clock, &time) != 0)
-        die("no processor time");
-    return (double)time.tv_sec + (double)time.tv_nsec / 1e9;
-}
 
 int main(int count, char **words)
 {
