@@ -6,6 +6,7 @@
 //! | keep numbered events without threads | [`Record`] |
 //! | search letters for a pattern | [`Listener`] |
 //! | wait for services | [`Post`], [`svwait`], [`svlisten`] |
+//! | wait for events | [`receive`] |
 //! | answer requests | [`LocalDesk`], or a [`Hub`] and a [`SharedDesk`] for each session |
 //! | serve lines | [`serve`] for one session, [`serve_all`] for many |
 //! | send lines to a server | [`relay`] |
@@ -27,5 +28,5 @@ pub use hub_record::{
 };
 pub use hub_server::{Gate, Next, Report, ServeError};
 pub use hub_wait::{
-    BRIEF_TURNS, Backoff, Go, Pause, Post, Tally, Verdict, Watch, svlisten, svwait,
+    BRIEF_TURNS, Backoff, Go, Pause, Post, Tally, Verdict, Watch, receive, svlisten, svwait,
 };

@@ -8,6 +8,7 @@ mod no_memory;
 mod passes;
 mod pauses;
 mod posts;
+mod receives;
 mod records;
 mod restarts;
 mod sizes;

@@ -13,15 +13,19 @@
 //! again, for a given number of turns. [`svlisten`] first runs the action that is to bring the change about, when the
 //! posts are subscribed already.
 //!
+//! [`receive`] takes events by a ticket, and waits if there are none.
+//!
 //! Each watch has a number of its own, so a yes for all doesn't say that all services were as wanted at one moment.
 #![tactic(auto)]
 
+mod blocking;
 mod pause;
 mod post;
 mod tally;
 mod wait;
 mod watch;
 
+pub use blocking::receive;
 pub use hub_letters::Span;
 pub use pause::{BRIEF_TURNS, Backoff, Go, Pause};
 pub use post::{Post, SLICE, SLICES};

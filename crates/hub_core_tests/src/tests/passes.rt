@@ -7,6 +7,7 @@ ghost use Rattle.hub_fifodir.specs.Passes.{HasTaken, IsPublisherOf, IsTicketOf, 
 use hub_fifodir::{Fifodir, PassError, Publisher, Ticket};
 use hub_letters::Letter;
 use hub_record::{Closed, Event, Kind, Limits, Policy, PubError, Status, SubError, Taken};
+use hub_wait::{Pause, receive};
 use std::alloc::{AllocError, Global};
 use std::process::Abort;
 use std::sync::{Arc, Wait};
@@ -142,6 +143,16 @@ impl Reader {
         ensures { HasTaken self.old.me (length out.old) result self.new.me }
     {
         self.fifodir.take_into(rt, &mut self.me, out)
+    }
+
+    pub(crate) fn receive<R: Wait, P: Pause>(
+        &mut self,
+        rt: &R,
+        out: &mut [Event],
+        turns: u64,
+        pause: &mut P,
+    ) -> Taken {
+        receive(rt, &self.fifodir, &mut self.me, out, turns, pause)
     }
 
     pub(crate) fn status(&mut self) -> Status {

@@ -152,7 +152,8 @@ pub(crate) fn open_post<R: Abort + Wait>(
     Post::open(rt, fifodir, want, notifies).expect(rt, "a post")
 }
 
-fn letters_of(alloc: Global, deed: Deed) -> Result<Vec<Letter>, Fail> {
+/// The letters that the deed sends.
+pub(crate) fn letters_of(alloc: Global, deed: Deed) -> Result<Vec<Letter>, Fail> {
     let text = match deed {
         Deed::Send(text) => text,
         Deed::Close | Deed::Expire => "",

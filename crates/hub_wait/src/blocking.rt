@@ -1,0 +1,45 @@
+//! A receive that waits until something comes.
+ghost use Rattle.std.specs.Prelude.{◌≡◌, length};
+ghost use Rattle.hub_fifodir.specs.Passes.{HasTaken, IsTicketOf, OnlyLooks, Remains, slice_after_take, ticket_mark, ticket_view};
+
+use crate::{Go, Pause};
+use hub_fifodir::{Fifodir, Ticket};
+use hub_record::{Event, Taken};
+use std::sync::Wait;
+
+/// Takes what waits behind the ticket's cursor, as far as the slice goes. If nothing waits, it first pauses, until an event
+/// comes, the fifodir is closed or the ticket is evicted. It gives up after so many turns, or if the pause has expired: only
+/// then it returns `Nothing`.
+///
+/// Each look is one load of the front word. It takes the lock once, at the end.
+pub fn receive<R: Wait, P: Pause>(
+    rt: &R,
+    fifodir: &Fifodir,
+    ticket: &mut Ticket,
+    out: &mut [Event],
+    turns: u64,
+    pause: &mut P,
+) -> Taken
+    requires { IsTicketOf fifodir.now ticket.old }
+    ensures remains { Remains fifodir.now (ticket_view ticket.old) (ticket_view ticket.new) }
+    ensures mark { ticket_mark ticket.new ≡ ticket_mark ticket.old }
+    ensures took { HasTaken ticket.old (length out.old) result ticket.new }
+    ensures filled { out.new ≡ slice_after_take ticket.old result ticket.new out.old }
+{
+    for _ in 0..turns {
+        if has_come(fifodir, ticket) || pause.pause(rt) == Go::Expired {
+            break;
+        }
+    }
+    fifodir.take_into(rt, ticket, out)
+}
+
+/// Looks at the front word, and tells whether a take has something to report.
+fn has_come(fifodir: &Fifodir, ticket: &mut Ticket) -> bool
+    requires { IsTicketOf fifodir.now ticket.old }
+    ensures remains { Remains fifodir.now (ticket_view ticket.old) (ticket_view ticket.new) }
+    ensures looks { OnlyLooks (ticket_view ticket.old) (ticket_view ticket.new) }
+{
+    let status = fifodir.status(ticket);
+    status.closed || status.number != ticket.next()
+}
