@@ -1,6 +1,9 @@
 -- What is copied out of two slices that represent one list.
-use Rattle.std.proofs.Common.{ℕ, ◌≡◌, ◌+◌, ◌-◌, ◌<◌, ◌≤◌, min, List, ◌++◌, length, take, drop, sym, ap, ◌∙◌, inl, inr, append_assoc, arith}
-use Rattle.std.proofs.lemmas.List.{length-take-le, drop-drop, drop_at, drop-append-le, drop_all, take_at, take-append-le}
+use Rattle.std.proofs.Common.{ℕ, zero, suc, [], ◌∷◌, Some, get_or, slice_get, slice_set, ◌≡◌, ◌+◌, ◌-◌, ◌<◌, ◌≤◌, min, List, ◌++◌, length, take, drop, sym, ap, ◌∙◌, inl, inr, append_assoc, arith}
+use Rattle.circular_buffer.specs.Buffer.{Buffer, buffer, keep_last}
+use Rattle.hub_record.specs.World.{as_events}
+use Rattle.std.proofs.lemmas.List.{length_push, length-take-le, drop-drop, drop_at, drop-append-le, drop_all, take_at, take-append-le}
+use Rattle.std.proofs.lemmas.Option.{slice_get_within, get_or_from_slice_get}
 use Rattle.std.proofs.lemmas.Bool.{cases_lt}
 use Rattle.std.proofs.Math.Seq.{take-add, drop-append-add}
 use Rattle.hub_record.specs.declared.Event.{Event}
@@ -36,3 +39,25 @@ copied_out front back slice one two f b within whole is_one is_two =
     (λ i. (take_at one (drop f slice) f long ∙ is_one) i ++ (is_two i ++ ((λ j. drop (less j) (drop_at one (drop f slice) f long j)) ∙ drop-drop b f slice) i))
     ∙ sym (append_assoc (take f front) (take b back) (drop (f + b) slice))
     ∙ ap (λ l. l ++ drop (f + b) slice) (sym (take-add f b (front ++ back) ∙ (λ i. take-append-le f front back within i ++ later i)))
+
+take_one : {X : Type 0} (xs : List X) (i : ℕ) (x : X) → i < length xs → get_or xs i x ≡ x → take 1 (drop i xs) ≡ x ∷ []
+take_one [] i x inside at = absurd (omega arith)
+take_one (y ∷ ys) zero x inside at = ap (λ z. z ∷ []) at
+take_one (y ∷ ys) (suc i) x inside at = take_one ys i x (omega arith) at
+
+-- one item is copied
+pub copied_one : {X : Type 0} (xs out : List X) (i : ℕ) (x : X) → slice_get xs i ≡ Some x → 0 < length out → slice_set out 0 x ≡ take 1 (drop i xs) ++ drop 1 out
+copied_one xs [] i x at some = absurd (omega arith)
+copied_one xs (o ∷ os) i x at some = ap (λ ys. ys ++ os) (sym (take_one xs i x (slice_get_within xs i x at) (get_or_from_slice_get xs i x x at)))
+
+-- one letter is appended as one event
+pub appended_one : (items : List Event) (capacity over who l : ℕ) (letters : List ℕ) (now : Buffer Event) → over ≡ 0 → length letters ≡ 1 → l ≡ get_or letters 0 l → length items + 1 ≤ capacity
+    → now ≡ buffer (keep_last capacity (items ++ record { who = who; letter = l } ∷ [])) capacity → now ≡ buffer (drop over items ++ as_events who letters) capacity
+appended_one items capacity over who l [] now none one at fits is = absurd (omega arith)
+appended_one items capacity over who l (m ∷ []) now none one at fits is =
+    let long = length_push items (record { who = who; letter = l }) in
+    let all : length (items ++ record { who = who; letter = l } ∷ []) - capacity ≡ 0 = omega arith in
+    is ∙ ap (λ n. buffer (drop n (items ++ record { who = who; letter = l } ∷ [])) capacity) all
+    ∙ ap (λ z. buffer (items ++ record { who = who; letter = z } ∷ []) capacity) at
+    ∙ sym (ap (λ n. buffer (drop n items ++ as_events who (m ∷ [])) capacity) none)
+appended_one items capacity over who l (m ∷ k ∷ ks) now none one at fits is = absurd (omega arith)

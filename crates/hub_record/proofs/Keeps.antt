@@ -1,15 +1,12 @@
 -- What a backlog keeps to find the least cursor, after each change.
 use Rattle.std.proofs.Common.{ℕ, zero, suc, ◌≡◌, ◌↔◌, ◌+◌, ◌-◌, ◌<◌, ◌≤◌, ◌⊎◌, Bool, true, false, IsTrue, nat_lt, nat_le, if◌then◌else◌, List, [], ◌∷◌, ◌++◌, Some, None, Ok, min, length, take, drop, replicate, get_or, All, nat_eq, refl, sym, ap, subst, ◌∙◌, inl, inr, arith}
-use Rattle.std.proofs.lemmas.Bool.{ne_eqb, cases_Bool, cases_lt, lt-ltb, le-ltb, ltb-true, ltb-false, leb-true, le-leb}
+use Rattle.std.proofs.lemmas.Bool.{cases_Bool, cases_lt, lt-ltb, le-ltb, ltb-true, ltb-false, leb-true, le-leb}
 use Rattle.std.proofs.lemmas.List.{get_or_past, nil_from_length, drop-drop, drop-append-le, drop_all, length-append, length-drop, length-replicate, length-set, length_push, map-append}
-use Rattle.std.proofs.lemmas.List.Elements.{All-head, All-tail, All-push, All-weaker}
+use Rattle.std.proofs.lemmas.List.Elements.{All-push, All-weaker}
 use Rattle.std.proofs.lemmas.Map.Views.{All-values-set_value, All-map-remove_entry, IfSome-lookup_from_All}
 use Rattle.std.proofs.lemmas.Map.{keys-set_value, length-set_value}
-use Rattle.std.proofs.lemmas.Map.Steps.{set_value_same}
 use Rattle.std.specs.Option.{IfSome, is_some}
 use Rattle.std.specs.Map.{lookup, set_value, remove_entry, keys_of, values_of}
-use Rattle.indexmap.specs.IndexMap.{IndexMap, insert_entry}
-use Rattle.indexmap.proofs.CallerLemmas.{insert_entry-new}
 use Rattle.circular_buffer.specs.Buffer.{Buffer, buffer}
 use Rattle.hub_record.specs.declared.limits.TheConstants.{MOST_EVENTS, MOST_PASSES}
 use Rattle.hub_record.specs.declared.limits.Policy.{Policy}
@@ -21,19 +18,9 @@ use Rattle.hub_record.proofs.Standing.{standing_at-le-length}
 use Rattle.hub_record.proofs.Slow.{standing_in-behind, standing_in-remove_slow, standing_at-standing_in, lowest_near, lowest-push, lowest_bound_at, lowest-set_value, lowest-remove_entry, lowest_grown, slow_stay, none_stand}
 use Rattle.hub_record.proofs.Counted.{Counts, get_or-one_less, some_at_place, counts_lengthen, counts_push, counts_set_value, counts_remove_entry, counts_remove_below, counts_standing, counts_drop, base_told}
 
--- an id above those given has no cursor
-lookup_unknown : (given id : ℕ) (cs : List (ℕ × ℕ)) → given < id → All (λ id. id ≤ given) (keys_of cs) → lookup (nat_eq id) cs ≡ None
-lookup_unknown given id [] l h = refl
-lookup_unknown given id (c ∷ cs) l h =
-    let here = All-head (λ id. id ≤ given) c.0 (keys_of cs) h in
-    let no : nat_eq id c.0 ≡ false = ne_eqb id c.0 (λ e. omega arith) in
-    simp no (lookup_unknown given id cs l (All-tail (λ id. id ≤ given) c.0 (keys_of cs) h))
-
--- its cursor comes last
-pub new_id_last : {S : Type 0} (room base end given v : ℕ) (counts : Buffer ℕ) (cursors : IndexMap ℕ ℕ S) (after : List (ℕ × ℕ)) → IsKept room base counts end given cursors.entries
-    → after ≡ insert_entry nat_eq cursors.entries (given + 1) v → v ≡ end → after ≡ cursors.entries ++ (given + 1, end) ∷ []
-new_id_last room base end given v counts cursors after k is at =
-    is ∙ insert_entry-new nat_eq cursors _ _ (lookup_unknown given (given + 1) cursors.entries (omega arith) k.known) ∙ ap (λ n. cursors.entries ++ (given + 1, n) ∷ []) at
+-- a new id is above all others
+pub new_id_above : (room base end given id : ℕ) (counts : Buffer ℕ) (cs : List (ℕ × ℕ)) → IsKept room base counts end given cs → id ≡ given + 1 → All (λ k. k < id) (keys_of cs)
+new_id_above room base end given id counts cs k is = All-weaker (λ k. k ≤ given) (λ k. k < id) (λ k l. omega arith) (keys_of cs) k.known
 
 lookup_bound : (end v : ℕ) (test : ℕ → Bool) (cs : List (ℕ × ℕ)) → All (λ n. n ≤ end) (values_of cs) → lookup test cs ≡ Some v → v ≤ end
 lookup_bound end v test cs h e = subst (λ o. IfSome o (λ n. n ≤ end)) e (IfSome-lookup_from_All (λ n. n ≤ end) test cs h)
@@ -359,13 +346,11 @@ pending_near inside now id next n is found near end =
 
 -- ---- take
 
-pub takes_nothing : (before now : Held) (id next : ℕ) (cursors : List (ℕ × ℕ)) (slice : List Event) → before ≡ now → lookup (nat_eq id) before.cursors ≡ Some next → next ≡ now.end → cursors ≡ set_value (nat_eq id) before.cursors next → TakesBy now (record before { cursors = cursors }) id slice slice (Ok Nothing)
-takes_nothing before now id next cursors slice is found at set =
-    (ap (λ (h : Held). next_of h id) (sym is) ∙ found ∙ ap Some at, ap (λ cs. record before { cursors = cs }) (set ∙ set_value_same (nat_eq id) before.cursors next found) ∙ is, refl)
+pub takes_nothing : (before now : Held) (id next : ℕ) (slice : List Event) → before ≡ now → lookup (nat_eq id) before.cursors ≡ Some next → next ≡ now.end → TakesBy now now id slice slice (Ok Nothing)
+takes_nothing before now id next slice is found at = (ap (λ (h : Held). next_of h id) (sym is) ∙ found ∙ ap Some at, refl, refl)
 
-pub takes_lost : (before now : Held) (id next : ℕ) (cursors : List (ℕ × ℕ)) (slice : List Event) → before ≡ now → lookup (nat_eq id) before.cursors ≡ Some next → before.room < before.end - next → cursors ≡ set_value (nat_eq id) before.cursors next → TakesBy now (record before { cursors = cursors }) id slice slice (Ok Lost)
-takes_lost before now id next cursors slice is found slow set =
-    (subst (λ h. IsSlow h id) is (next, found, slow), ap (λ cs. record before { cursors = cs }) (set ∙ set_value_same (nat_eq id) before.cursors next found) ∙ is, refl)
+pub takes_lost : (before now : Held) (id next : ℕ) (slice : List Event) → before ≡ now → lookup (nat_eq id) before.cursors ≡ Some next → before.room < before.end - next → TakesBy now now id slice slice (Ok Lost)
+takes_lost before now id next slice is found slow = (subst (λ h. IsSlow h id) is (next, found, slow), refl, refl)
 
 pub takes_some : (before now after : Held) (id next n base given : ℕ) (counts : Buffer ℕ) (slice filled : List Event) → before ≡ now → lookup (nat_eq id) before.cursors ≡ Some next → IsKept before.room base counts before.end given before.cursors → base ≤ next → (next ≡ now.end → ⊥) → before.end ≡ base + length before.events → n ≡ min (length slice) (length before.events - (next - base)) → filled ≡ take n (drop (next - base) before.events) ++ drop n slice → after ≡ with_cursors before (set_value (nat_eq id) before.cursors (next + n)) → Takes now after id n slice filled
 takes_some before now after id next n base given counts slice filled is found k above apart end count copied moved =

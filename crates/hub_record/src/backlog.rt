@@ -1,5 +1,5 @@
 //! The pending events, and the cursors into them.
-ghost use Rattle.std.specs.Prelude.{◌≡◌, ◌≤◌, ◌<◌, ◌↔◌, ◌+◌, ◌-◌, ◌⊎◌, length, min, IfOk, OnErr, IsTrue, drop};
+ghost use Rattle.std.specs.Prelude.{◌≡◌, ◌≤◌, ◌<◌, ◌↔◌, ◌+◌, ◌-◌, ◌++◌, ◌⊎◌, length, replicate, min, IfOk, OnErr, IsTrue, drop};
 ghost use Rattle.circular_buffer.specs.Buffer.{buffer};
 ghost use Rattle.hub_record.specs.declared.limits.TheConstants.{MOST_EVENTS, MOST_IDS, MOST_PASSES};
 ghost use Rattle.hub_record.specs.World.{as_events};
@@ -7,11 +7,11 @@ ghost use Rattle.hub_record.specs.Backlog.{Held, nothing_held, lowest, pending, 
 ghost use Rattle.hub_record.specs.Backlog.{with_new_id, with_events, IsStill, HasRoomFor, TakesBy, RemovesBy};
 
 use crate::counts::{first_place, has_first, lengthen, one_less, one_more};
+use crate::cursor_list::CursorList;
 use crate::ring::{copy_out, cut, push_in};
 use crate::{Event, NoId, Policy};
 use circular_buffer::HeapCircularBuffer;
 use hub_letters::Letter;
-use indexmap::IndexMap;
 use std::alloc::{AllocError, Global};
 use std::marker::Model;
 
@@ -39,8 +39,8 @@ pub struct Backlog {
     base: u64,
     /// How many ids were given so far.
     given: u64,
-    /// The number of the event that each current id takes next, in the order of the ids.
-    cursors: IndexMap<u64, u64>,
+    /// The number of the event that each current id takes next.
+    cursors: CursorList,
 }
 
 impl Model for Backlog {
@@ -54,11 +54,11 @@ impl Model for Backlog {
       end = b.base + length b.ring.items;
       events = b.ring.items;
       given = b.given;
-      cursors = b.cursors.entries;
+      cursors = b.cursors;
     } };
 
     ghost invariant = { λ b. IsKept b.ring.capacity b.base b.counts
-        (b.base + length b.ring.items) b.given b.cursors.entries };
+        (b.base + length b.ring.items) b.given b.cursors };
 }
 
 impl Backlog {
@@ -74,7 +74,7 @@ impl Backlog {
             counts,
             base: 0,
             given: 0,
-            cursors: IndexMap::new(alloc),
+            cursors: CursorList::new(alloc),
         })
     }
 
@@ -111,7 +111,7 @@ impl Backlog {
     pub fn waiting(&self, id: u64) -> Option<u64>
         ensures { result ≡ pending self.now id }
     {
-        let next = *self.cursors.get(&id)?;
+        let next = self.cursors.get(id)?;
         if next < self.base {
             return None;
         }
@@ -142,7 +142,7 @@ impl Backlog {
     {
         let id = self.given + 1;
         let end = self.end();
-        let Ok(_) = self.cursors.insert(id, end) else {
+        let Ok(()) = self.cursors.push(id, end) else {
             return Err(AllocError);
         };
         self.given = id;
@@ -163,10 +163,7 @@ impl Backlog {
             return;
         }
         let over = (self.ring.len() + letters.len()).saturating_sub(self.ring.capacity());
-        cut(&mut self.ring, over);
-        cut(&mut self.counts, over);
-        push_in(&mut self.ring, who, letters);
-        lengthen(&mut self.counts, letters.len());
+        append(&mut self.ring, &mut self.counts, over, who, letters);
         self.base += (over + release(&mut self.ring, &mut self.counts)) as u64;
     }
 
@@ -175,10 +172,9 @@ impl Backlog {
         ensures { TakesBy self.old self.new id out.old out.new result }
     {
         let end = self.end();
-        let Some(next) = self.cursors.get_mut(&id) else {
+        let Some((listed, from)) = self.cursors.find(id) else {
             return Err(NoId);
         };
-        let from = *next;
         if from < self.base {
             return Ok(Found::Lost);
         }
@@ -187,7 +183,7 @@ impl Backlog {
         }
         let place = (from - self.base) as usize;
         let count = copy_out(&self.ring, place, out);
-        *next = from + count as u64;
+        self.cursors.set(listed, from + count as u64);
         one_less(&mut self.counts, place);
         one_more(&mut self.counts, place + count);
         self.base += release(&mut self.ring, &mut self.counts) as u64;
@@ -198,7 +194,7 @@ impl Backlog {
     pub fn remove(&mut self, id: u64) -> Result<(), NoId>
         ensures { RemovesBy self.old self.new id result }
     {
-        let Some(next) = self.cursors.shift_remove(&id) else {
+        let Some(next) = self.cursors.remove(id) else {
             return Err(NoId);
         };
         if next < self.base {
@@ -210,8 +206,51 @@ impl Backlog {
     }
 }
 
-/// Releases the events before the first cursor, with their counts. Returns how many there were.
+/// Releases the first events, with their counts, and adds the letters as events, at which there is no cursor.
+fn append(
+    ring: &mut HeapCircularBuffer<Event>,
+    counts: &mut HeapCircularBuffer<u64>,
+    over: usize,
+    who: u64,
+    letters: &[Letter],
+)
+    requires over { (over ≤ length ring.old.items) × (over ≤ length counts.old.items) }
+    requires events { length ring.old.items - over + length letters.now ≤ ring.old.capacity }
+    requires counts { length counts.old.items - over + length letters.now ≤ counts.old.capacity }
+    ensures events { ring.new ≡ buffer (drop over ring.old.items ++ as_events who letters.now) ring.old.capacity }
+    ensures counts { counts.new ≡ buffer (drop over counts.old.items ++ replicate (length letters.now) 0) counts.old.capacity }
+{
+    // Many messages have one letter that fits.
+    if over == 0 && letters.len() == 1 {
+        ring.push_back(Event {
+            who,
+            letter: letters[0],
+        });
+        counts.push_back(0);
+        return;
+    }
+    cut(ring, over);
+    cut(counts, over);
+    push_in(ring, who, letters);
+    lengthen(counts, letters.len());
+}
+
+/// Releases the events before the first cursor, with their counts. Returns how many there were. After most calls a cursor
+/// is at the first event, so this look is inline.
+#[inline(always)]
 fn release(ring: &mut HeapCircularBuffer<Event>, counts: &mut HeapCircularBuffer<u64>) -> usize
+    ensures count { result ≡ min (first_place counts.old.items) (length ring.old.items) }
+    ensures events { ring.new ≡ buffer (drop result ring.old.items) ring.old.capacity }
+    ensures counts { counts.new ≡ buffer (drop result counts.old.items) counts.old.capacity }
+{
+    if has_first(counts) {
+        return 0;
+    }
+    release_some(ring, counts)
+}
+
+#[inline(never)]
+fn release_some(ring: &mut HeapCircularBuffer<Event>, counts: &mut HeapCircularBuffer<u64>) -> usize
     ensures count { result ≡ min (first_place counts.old.items) (length ring.old.items) }
     ensures events { ring.new ≡ buffer (drop result ring.old.items) ring.old.capacity }
     ensures counts { counts.new ≡ buffer (drop result counts.old.items) counts.old.capacity }

@@ -54,9 +54,6 @@ pub fn one_less(counts: &mut HeapCircularBuffer<u64>, place: usize)
 pub fn first_place(counts: &HeapCircularBuffer<u64>) -> usize
     ensures { result ≡ first_place counts.now.items }
 {
-    if has_first(counts) {
-        return 0;
-    }
     let (front, back) = counts.as_slices();
     if let Some(place) = first_counted(front) {
         return place;
@@ -70,7 +67,7 @@ fn first_counted(counts: &[u64]) -> Option<usize>
     counts.iter().position(|count| *count > 0)
 }
 
-/// Whether a cursor is at the first place. Most takes leave one at the base, so this look is often enough.
+/// Whether a cursor is at the first place.
 pub fn has_first(counts: &HeapCircularBuffer<u64>) -> bool
     ensures { result ≡ nat_lt 0 (get_or counts.now.items 0 0) }
 {

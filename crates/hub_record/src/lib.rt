@@ -24,6 +24,7 @@
 
 mod backlog;
 mod counts;
+mod cursor_list;
 pub mod laws;
 mod letters;
 mod limits;

@@ -1,4 +1,4 @@
-use Rattle.std.proofs.Common.{ℕ, [], ◌∷◌, true, refl, get_or, ◌≡◌, ◌+◌, ◌<◌, ◌≤◌, List, ◌++◌, Option, Some, None, length, cond, not, nat_lt, ap, sym, ◌∙◌, inl, inr, arith, ne_eqb, eq-eqb, eqb}
+use Rattle.std.proofs.Common.{ℕ, ◌≡◌, ◌+◌, ◌<◌, ◌≤◌, List, ◌++◌, Option, Some, None, length, cond, not, nat_lt, ap, sym, ◌∙◌, inl, inr, arith, ne_eqb, eq-eqb, eqb}
 use Rattle.std.specs.Option.{unwrap_or}
 use Rattle.std.specs.List.{position}
 use Rattle.std.proofs.lemmas.Bool.{cases_lt, lt-ltb, le-ltb}
@@ -43,13 +43,6 @@ module _ (front back : List ℕ) where
       let all = found_none (first_place front) (length front) (prefix_len-le-length (λ n. not (nat_lt 0 n)) front) none in
       ap (λ n. length front + n) (or_all (first_place back) (length back) (prefix_len-le-length (λ n. not (nat_lt 0 n)) back))
       ∙ sym (split ∙ ap (λ b. cond b (length front + first_place back) (first_place front)) (eq-eqb (first_place front) (length front) all))
-
-first_is : (counts : List ℕ) → nat_lt 0 (get_or counts 0 0) ≡ true → 0 ≡ first_place counts
-first_is [] some = refl
-first_is (n ∷ counts) some = ap (λ b. cond (not b) (1 + first_place counts) 0) (sym some)
-
-pub returns-then-has_first : goal.returns-then-has_first
-returns-then-has_first c = first_is c.args.counts.now.items (sym c.has_first.ensures ∙ c.if-has_first.true)
 
 pub returns-in-Some : goal.returns-in-Some
 returns-in-Some c =

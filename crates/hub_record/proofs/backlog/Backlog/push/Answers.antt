@@ -1,6 +1,6 @@
-use Rattle.std.proofs.Common.{◌+◌, length, ap, ◌∙◌, refl, arith}
+use Rattle.std.proofs.Common.{◌+◌, length, drop, ap, ◌∙◌, refl, arith}
 use Rattle.std.proofs.lemmas.List.{length-append, length-drop}
-use Rattle.circular_buffer.specs.Buffer.{Buffer}
+use Rattle.circular_buffer.specs.Buffer.{Buffer, buffer}
 use Rattle.hub_record.specs.declared.Event.{Event}
 use Rattle.hub_record.specs.World.{least, as_events}
 use Rattle.hub_record.specs.Backlog.{Held}
@@ -19,32 +19,24 @@ returns-then-not-has_first c =
     let still = is_still _ _ _ _ _ _ _ c.self.invariant c.has_first.ensures c.if-not-has_first.true in
     let end = c.self.inside.base + length c.self.inside.ring.items in
     pushed_still _ _ _ _ (length c.args.letters.now) (as_events c.args.who c.args.letters.now) c.self.view_is refl c.self.invariant.lowest still (length_stamped c.args.who c.args.letters.now) refl
-    (ap (least (end + length c.args.letters.now)) (slow_stay c.self.inside.ring.capacity end (end + length c.args.letters.now) c.self.inside.cursors.entries still (omega arith)))
+    (ap (least (end + length c.args.letters.now)) (slow_stay c.self.inside.ring.capacity end (end + length c.args.letters.now) c.self.inside.cursors still (omega arith)))
 
-pub cut-requires : goal.cut-requires
-cut-requires c =
+pub append-requires-clause-over : goal.append-requires-clause-over
+append-requires-clause-over c =
+    let k = fits_if _ _ _ _ _ _ (length c.args.letters.now) c.self.view_is c.self.invariant c.has_first.ensures c.if-not-has_first.false c.requires.fits in (
+      omega (arith, k, c.saturating_sub-over.ensures, c.len.ensures.len, c.capacity.ensures.capacity),
+      omega (arith, k, c.saturating_sub-over.ensures, c.len.ensures.len, c.capacity.ensures.capacity, c.self.invariant.to_end),
+    )
+
+pub append-requires-clause-events : goal.append-requires-clause-events
+append-requires-clause-events c =
     let k = fits_if _ _ _ _ _ _ (length c.args.letters.now) c.self.view_is c.self.invariant c.has_first.ensures c.if-not-has_first.false c.requires.fits in
     omega (arith, k, c.saturating_sub-over.ensures, c.len.ensures.len, c.capacity.ensures.capacity)
 
-pub cut-requires-2 : goal.cut-requires-2
-cut-requires-2 c =
+pub append-requires-clause-counts : goal.append-requires-clause-counts
+append-requires-clause-counts c =
     let k = fits_if _ _ _ _ _ _ (length c.args.letters.now) c.self.view_is c.self.invariant c.has_first.ensures c.if-not-has_first.false c.requires.fits in
-    omega (arith, k, c.saturating_sub-over.ensures, c.len.ensures.len, c.capacity.ensures.capacity, c.self.invariant.to_end)
-
-pub push_in-requires : goal.push_in-requires
-push_in-requires c =
-    let k = fits_if _ _ _ _ _ _ (length c.args.letters.now) c.self.view_is c.self.invariant c.has_first.ensures c.if-not-has_first.false c.requires.fits in
-    let capacity = ap (λ (b : Buffer Event). b.capacity) c.cut.ensures in
-    let left = ap (λ (b : Buffer Event). length b.items) c.cut.ensures in
-    omega (arith, k, c.saturating_sub-over.ensures, c.len.ensures.len, c.capacity.ensures.capacity, capacity, left, length-drop c.saturating_sub-over.result c.self.inside.ring.items)
-
-pub lengthen-requires : goal.lengthen-requires
-lengthen-requires c =
-    let k = fits_if _ _ _ _ _ _ (length c.args.letters.now) c.self.view_is c.self.invariant c.has_first.ensures c.if-not-has_first.false c.requires.fits in
-    let all = c.self.invariant.fits in
-    let capacity = ap (λ b. b.capacity) c.cut-2.ensures in
-    let left = ap (λ b. length b.items) c.cut-2.ensures in
-    omega (arith, k, c.saturating_sub-over.ensures, c.len.ensures.len, c.capacity.ensures.capacity, c.self.invariant.to_end, all, capacity, left, length-drop c.saturating_sub-over.result c.self.inside.counts.items)
+    omega (arith, k, c.saturating_sub-over.ensures, c.len.ensures.len, c.capacity.ensures.capacity, c.self.invariant.to_end, c.self.invariant.fits)
 
 pub invariant_of-self-2 : goal.invariant_of-self-2
 invariant_of-self-2 c =
@@ -55,20 +47,19 @@ invariant_of-self-2 c =
     let small = c.requires.small in
     let size = length_stamped c.args.who c.args.letters.now in
     let d = length-drop c.saturating_sub-over.result c.self.inside.ring.items in
-    let a = length-append c.cut.new.ring.items (as_events c.args.who c.args.letters.now) in
-    let left = ap (λ (b : Buffer Event). length b.items) c.cut.ensures in
-    let grown = ap (λ (b : Buffer Event). length b.items) c.push_in.ensures in
-    let rest = length-drop c.release.result c.push_in.new.ring.items in
+    let a = length-append (drop c.saturating_sub-over.result c.self.inside.ring.items) (as_events c.args.who c.args.letters.now) in
+    let grown = ap (λ (b : Buffer Event). length b.items) c.append.ensures.events in
+    let rest = length-drop c.release.result c.append.new.ring.items in
     let last = ap (λ (b : Buffer Event). length b.items) c.release.ensures.events in
-    let capacity = ap (λ (b : Buffer Event). b.capacity) c.release.ensures.events ∙ ap (λ (b : Buffer Event). b.capacity) c.push_in.ensures ∙ ap (λ (b : Buffer Event). b.capacity) c.cut.ensures in
+    let capacity = ap (λ (b : Buffer Event). b.capacity) c.release.ensures.events ∙ ap (λ (b : Buffer Event). b.capacity) c.append.ensures.events in
     kept_pushed c.self.inside.ring.capacity c.self.inside.base (c.self.inside.base + length c.self.inside.ring.items) _ (length c.self.inside.ring.items) (length c.args.letters.now) c.saturating_sub-over.result c.release.result _ _
-    c.self.inside.counts c.cut-2.new.ring c.lengthen.new.counts c.release.new.counts _ c.self.invariant refl k
-    (omega arith) c.cut-2.ensures c.lengthen.ensures (omega arith) c.release.ensures.counts capacity (omega arith) (omega arith)
+    c.self.inside.counts (buffer (drop c.saturating_sub-over.result c.self.inside.counts.items) c.self.inside.counts.capacity) c.append.new.counts c.release.new.counts _ c.self.invariant refl k
+    (omega arith) refl c.append.ensures.counts (omega arith) c.release.ensures.counts capacity (omega arith) (omega arith)
 
 pub returns : goal.returns
 returns c =
     let k = fits_if _ _ _ _ _ _ (length c.args.letters.now) c.self.view_is c.self.invariant c.has_first.ensures c.if-not-has_first.false c.requires.fits in
     let over = c.saturating_sub-over.ensures in let long = c.len.ensures.len in let room = c.capacity.ensures.capacity in
     let told = c.release.ensures.count in
-    pushed_held _ _ c.self.inside.base c.saturating_sub-over.result c.release.result (as_events c.args.who c.args.letters.now) c.cut.new.ring c.push_in.new.ring c.release.new.ring c.self.view_is refl c.self.invariant.lowest (omega arith)
-    c.cut.ensures c.push_in.ensures c.release.ensures.events (omega arith) (invariant_of-self-2 c).lowest
+    pushed_held _ _ c.self.inside.base c.saturating_sub-over.result c.release.result (as_events c.args.who c.args.letters.now) (buffer (drop c.saturating_sub-over.result c.self.inside.ring.items) c.self.inside.ring.capacity) c.append.new.ring c.release.new.ring c.self.view_is refl c.self.invariant.lowest (omega arith)
+    refl c.append.ensures.events c.release.ensures.events (omega arith) (invariant_of-self-2 c).lowest

@@ -6,12 +6,12 @@ use Rattle.hub_record.proofs.Keeps.{cursor_within, slow_below, kept_remove_entry
 use Rattle.hub_record.proofs.backlog.Backlog.remove.Goals as goal
 
 pub invariant_of-self-then-next-self : goal.invariant_of-self-then-next-self
-invariant_of-self-then-next-self c = kept_remove_slow _ _ _ _ _ (nat_eq c.args.id) _ _ _ c.self.invariant (sym c.in-Some.ensures.value) c.shift_remove.ensures.entries c.if-next-self.true
+invariant_of-self-then-next-self c = kept_remove_slow _ _ _ _ _ (nat_eq c.args.id) _ _ _ c.self.invariant (sym c.in-Some.ensures.value) c.remove.ensures.entries c.if-next-self.true
 
 pub returns-then-next-self : goal.returns-then-next-self
 returns-then-next-self c =
     let found = sym c.in-Some.ensures.value in
-    removes_slow _ _ c.args.id _ _ c.self.view_is found (slow_below _ _ _ _ c.in-Some.next (nat_eq c.args.id) _ _ c.self.invariant found c.if-next-self.true) c.shift_remove.ensures.entries
+    removes_slow _ _ c.args.id _ _ c.self.view_is found (slow_below _ _ _ _ c.in-Some.next (nat_eq c.args.id) _ _ c.self.invariant found c.if-next-self.true) c.remove.ensures.entries
 
 pub one_less-requires-clause-place : goal.one_less-requires-clause-place
 one_less-requires-clause-place c =
@@ -29,7 +29,7 @@ pub invariant_of-self-2 : goal.invariant_of-self-2
 invariant_of-self-2 c =
     let above = c.if-next-self.false in
     let told = c.release.ensures.count in
-    kept_remove_entry _ _ _ _ (length c.self.inside.ring.items) _ (c.in-Some.next - c.self.inside.base) _ _ _ (nat_eq c.args.id) _ _ _ _ _ c.self.invariant refl (sym c.in-Some.ensures.value) c.shift_remove.ensures.entries (omega arith)
+    kept_remove_entry _ _ _ _ (length c.self.inside.ring.items) _ (c.in-Some.next - c.self.inside.base) _ _ _ (nat_eq c.args.id) _ _ _ _ _ c.self.invariant refl (sym c.in-Some.ensures.value) c.remove.ensures.entries (omega arith)
     c.one_less.ensures told c.release.ensures.counts (ap (λ (b : Buffer Event). b.capacity) c.release.ensures.events)
     (end_after_cut _ _ _ _ _ (omega arith) c.release.ensures.events)
 
@@ -37,4 +37,4 @@ pub returns : goal.returns
 returns c =
     let told = c.release.ensures.count in
     removes _ _ _ c.args.id _ c.self.view_is (sym c.in-Some.ensures.value)
-    (cut_held _ _ _ c.self.inside.given _ _ _ _ _ c.self.invariant.lowest (invariant_of-self-2 c).lowest (omega arith) c.shift_remove.ensures.entries c.release.ensures.events)
+    (cut_held _ _ _ c.self.inside.given _ _ _ _ _ c.self.invariant.lowest (invariant_of-self-2 c).lowest (omega arith) c.remove.ensures.entries c.release.ensures.events)

@@ -1,6 +1,6 @@
 use Rattle.std.proofs.Common.{not, nat_lt, arith}
 use Rattle.std.proofs.lemmas.List.Sums.{prefix_len-le-length}
-use Rattle.hub_record.proofs.backlog.release.Goals as goal
+use Rattle.hub_record.proofs.backlog.release_some.Goals as goal
 
 pub cut-requires-2 : goal.cut-requires-2
 cut-requires-2 c =
