@@ -27,6 +27,4 @@ pub use hub_record::{
     Closed, Event, Kind, Letters, Limits, NoId, PubError, Record, Status, SubError, Taken,
 };
 pub use hub_server::{Gate, Next, Report, ServeError};
-pub use hub_wait::{
-    BRIEF_TURNS, Backoff, Go, Pause, Post, Tally, Verdict, Watch, receive, svlisten, svwait,
-};
+pub use hub_wait::{Go, Patience, Pause, Post, Tally, Verdict, Watch, receive, svlisten, svwait};

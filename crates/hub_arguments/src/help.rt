@@ -54,6 +54,9 @@ Each line of standard input is a request, and each gets one reply line, in order
                  listen db once u.*U    ok 2
   poll ID        look for a listener's next hit: the letters since the last one, up to where the pattern first matches
                  poll 2                 hit suU, or none, or end, or evicted
+  await ID TURNS sleep until the next `take` or `poll` of a handle has something to do, for at most TURNS turns (0 to
+                 1000000); it takes nothing
+                 await 1 5000           ok, or late
   wait SPAN WANT TURNS N1 .. Nk
                  wait until all or any (SPAN) of 1 to 32 services are up, ready, down, finished, restarted or
                  restarted-ready (WANT: the last two are to be up, or ready, again), for at most TURNS turns (0 to
@@ -66,8 +69,8 @@ name, exists, kind (a wait for a fifodir that isn't a service's), id, many, spen
 (not a regular expression, or too large), overlong (4096 letters came since the last hit: cancel the listener),
 memory. The session goes on.
 
-In `script` nothing can change during a wait, so it answers `late` immediately if there is no verdict. In a session of
-`serve` a turn takes about a millisecond after the first 32, but this isn't promised.
+In `script` nothing can change during a `wait` or an `await`, so each answers immediately. In a session of `serve` a
+turn takes about a millisecond after the first 32, but this isn't promised.
 
 Exit status: 0 all went well, 1 a fault while running (one line on standard error), 2 the command line was refused.";
 

@@ -11,15 +11,15 @@ mod shared;
 
 use anyhow::{Result, anyhow};
 use hub_letters::Letter;
-use hub_record::{Event, Kind, Limits, Policy, Record};
+use hub_record::{Event, Kind, Limits, NoId, Policy, Record};
 use std::alloc::{AllocGlobal, Global};
-use std::env;
 use std::io::{Read, Write};
 use std::process::ExitCode;
 use std::rt::{Clock, Runtime};
 use std::sync::Wait;
 use std::thread::Threads;
 use std::time::{Duration, Instant};
+use std::{env, result};
 
 /// How many events may be pending.
 const WAITING: usize = 4096;
@@ -151,7 +151,7 @@ impl Crowd {
     }
 
     /// Takes with each listener.
-    fn take(&mut self) -> Result<()> {
+    fn take(&mut self) -> result::Result<(), NoId> {
         for id in &self.ids {
             self.record.take_into(*id, &mut self.out)?;
         }

@@ -9,7 +9,7 @@ ghost use Rattle.hub_server.specs.Reports.{IsReport};
 ghost use Rattle.hub_server.specs.declared.door.Door.{Door as door};
 ghost use Rattle.hub_names.specs.declared.hub.Hub.{Hub as hub};
 ghost use Rattle.hub_shared.specs.Desks.{IsNewDesk};
-ghost use Rattle.hub_wait.specs.declared.pause.Backoff.{Backoff as backoff};
+ghost use Rattle.hub_wait.specs.declared.pause.Patience.{Patience as patience};
 
 use crate::desks::serve_all;
 use crate::fault::Fault;
@@ -17,7 +17,7 @@ use hub_io::{FrontError, Sink, Source};
 use hub_requests::Desk;
 use hub_server::{Door, Gate, Report};
 use hub_shared::{Hub, SharedDesk};
-use hub_wait::Backoff;
+use hub_wait::Patience;
 use std::alloc::Global;
 use std::fs::Files;
 use std::io;
@@ -45,10 +45,10 @@ pub fn serve<H>(rt: &H, alloc: Global, socket: &str, sessions: u64) -> Result<Re
 where
     H: Files + Net + Clock + Threads + Wait + Copy + Send + 'static,
     // An open door was asked for this many connections. The report is that of `serve_all`, over one hub.
-    ensures report { IfOk result (λ report. (one : hub) × (pause : backoff H)
+    ensures report { IfOk result (λ report. (one : hub) × (pause : patience H)
         × (opened closed : door)
         × IsSome opened.listener × IsReport (IsNewDesk one pause)
-        ⟦<SharedDesk<Backoff<H>> as Desk>⟧.asks ⟦<SharedDesk<Backoff<H>> as Desk>⟧.ends
+        ⟦<SharedDesk<Patience<H>> as Desk>⟧.asks ⟦<SharedDesk<Patience<H>> as Desk>⟧.ends
         (record {
           remaining = ⟦<UnixStream as Read>⟧.remaining;
           reads = ⟦<UnixStream as Source>⟧.reads;
@@ -76,7 +76,7 @@ where
     let mut door = Door {
         listener: Some(listen(rt, socket)?),
     };
-    let pause = Backoff::new(*rt);
+    let pause = Patience::new(*rt);
     Ok(serve_all(rt, alloc, hub, &mut door, sessions, pause)?)
 }
 

@@ -1,3 +1,4 @@
+mod awaits;
 mod desks;
 mod ended;
 mod listeners;

@@ -1,5 +1,5 @@
 // crates.txt: YOURS: ftrighub
-use ftrighub::{Backoff, Gate, Hub, Report, ServeError, serve_all};
+use ftrighub::{Gate, Hub, Patience, Report, ServeError, serve_all};
 use std::alloc::Global;
 use std::os::unix::net::UnixStream;
 use std::rt::Clock;
@@ -15,7 +15,7 @@ where
     let Ok(hub) = Arc::new(alloc, Hub::new(alloc)?) else {
         return Err(ServeError::Memory);
     };
-    // A wait of a session looks again after each pause.
-    let pause = Backoff::new(*rt);
+    // A wait of a session sleeps until something changes, or until its time is over.
+    let pause = Patience::new(*rt);
     serve_all(rt, alloc, hub, gate, 8, pause)
 }

@@ -2,17 +2,17 @@
 use hub_fifodir::Fifodir;
 use hub_letters::Want;
 use hub_record::SubError;
-use hub_wait::{Backoff, Post, Span, Verdict, svwait};
+use hub_wait::{Patience, Post, Span, Verdict, svwait};
 use std::alloc::Global;
 use std::rt::Clock;
 use std::sync::{Arc, Wait};
 
-/// Waits until a service is ready, for at most 5,000 turns. After the first 32, a turn takes about a millisecond.
+/// Waits until a service is ready, for about five seconds: at most 5,000 turns, of a millisecond each.
 pub fn wait_until_ready<H: Clock + Wait + Copy>(
     rt: &H,
     service: Arc<Fifodir, Global>,
 ) -> Result<Verdict, SubError> {
-    let mut pause = Backoff::new(*rt);
+    let mut pause = Patience::new(*rt);
     let mut posts = [Post::open(rt, service, Want::Ready, true)?];
     let verdict = svwait(rt, &mut posts, Span::All, 5_000, &mut pause);
     let [post] = posts;

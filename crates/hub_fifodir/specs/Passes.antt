@@ -1,5 +1,5 @@
 -- What contracts say about a fifodir and its passes.
-use Rattle.std.specs.Prelude.{◌≡◌, ◌≢◌, ℕ, ◌+◌, ◌-◌, ◌<◌, ◌≤◌, ◌++◌, ◌&&◌, Bool, true, false, min, length, drop, List, [], Option, Some, None, Err}
+use Rattle.std.specs.Prelude.{◌≡◌, ◌≢◌, ℕ, ◌+◌, ◌-◌, ◌<◌, ◌≤◌, ◌++◌, ◌⊎◌, ◌&&◌, Bool, true, false, min, length, drop, List, [], Option, Some, None, Err}
 use Rattle.atomic_table.specs.Seated.{TableId}
 use Rattle.hub_letters.specs.Flags.{flags_of}
 use Rattle.hub_record.specs.declared.Event.{Event}
@@ -189,6 +189,14 @@ HasTaken old most (Got n) new = (ticket_next old < length (ticket_seen new)) × 
 HasTaken old most Nothing new = (ticket_next old ≡ length (ticket_seen new)) × (ticket_closed new ≡ 0) × (ticket_next new ≡ ticket_next old) × (got new ≡ got old)
 HasTaken old most End new = (ticket_next old ≡ length (ticket_seen new)) × (ticket_closed new ≢ 0) × (ticket_next new ≡ ticket_next old) × (got new ≡ got old)
 HasTaken old most Evicted new = (is_evicted_at new (ticket_next old) ≡ true) × (ticket_next new ≡ ticket_next old) × (got new ≡ got old)
+
+-- a take has something to report: an event is pending, or the record is closed. An evicted ticket always has events pending.
+abbrev pub HasMore : Ticket → Type 0
+HasMore t = (ticket_next t ≢ length (ticket_seen t)) ⊎ (ticket_closed t ≢ 0)
+
+-- a take has nothing to report
+abbrev pub IsQuiet : Ticket → Type 0
+IsQuiet t = (ticket_next t ≡ length (ticket_seen t)) × (ticket_closed t ≡ 0)
 
 -- the slice after that take
 abbrev pub slice_after_take : Ticket → Taken → Ticket → List Event → List Event

@@ -2,6 +2,7 @@
 ghost use Rattle.std.specs.Prelude.{◌≡◌, length, IfOk};
 ghost use Rattle.hub_fifodir.specs.Notes.{IsSized};
 
+use crate::bell::{Bell, Waiter, Waiters};
 use crate::locked::Locked;
 use crate::pass::{Pass, Seated};
 use crate::rule::{Board, OneHistory};
@@ -10,8 +11,8 @@ use crate::word;
 use atomic_table::{Refused, Table};
 use hub_record::{Kind, Limits, Status};
 use std::alloc::{AllocError, Global};
-use std::sync::Wait;
 use std::sync::atomic::AtomicU64;
+use std::sync::{Arc, Wait};
 
 /// A record that threads share. Publishers and tickets are its passes, and each call takes the pass of its caller.
 #[derive(Drop)]
@@ -20,6 +21,7 @@ pub struct Fifodir {
     rules: Rules,
     /// How many threads may be asleep, waiting for the lock.
     sleepers: AtomicU64,
+    waiters: Waiters,
     ghost sized: { IsSized table.shared.table_id },
     ghost ruled: { table.shared.key ≡ rules },
 }
@@ -27,8 +29,23 @@ pub struct Fifodir {
 impl Fifodir {
     ghost use Rattle.hub_fifodir.specs.Passes.{IsOf, IsStatusOf, OnlyLooks, Remains, table_of, rules_of, kind_of, limits_of};
 
-    /// An open fifodir without events and passes.
+    /// An open fifodir without events and passes, with a bell of its own.
     pub fn new(alloc: Global, kind: Kind, limits: Limits) -> Result<Fifodir, AllocError>
+        ensures { IfOk result (λ f. (kind_of f ≡ kind) × (limits_of f ≡ limits)) }
+    {
+        let Ok(bell) = Arc::new(alloc, Bell::new()) else {
+            return Err(AllocError);
+        };
+        Fifodir::with_bell(alloc, kind, limits, bell)
+    }
+
+    /// The same, with a bell that other fifodirs may share.
+    pub fn with_bell(
+        alloc: Global,
+        kind: Kind,
+        limits: Limits,
+        bell: Arc<Bell, Global>,
+    ) -> Result<Fifodir, AllocError>
         ensures { IfOk result (λ f. (kind_of f ≡ kind) × (limits_of f ≡ limits)) }
     {
         let rules = Rules { kind, limits };
@@ -39,6 +56,7 @@ impl Fifodir {
                 table,
                 rules,
                 sleepers: AtomicU64::new(0),
+                waiters: Waiters::new(bell),
             }),
             Err(Refused { slots: _ }) => Err(AllocError),
         }
@@ -60,6 +78,25 @@ impl Fifodir {
 
     pub(crate) fn sleepers(&self) -> &AtomicU64 {
         &self.sleepers
+    }
+
+    pub(crate) fn waiters(&self) -> &Waiters {
+        &self.waiters
+    }
+
+    /// The bell that rings after each change, if somebody waits for one. A change is an event more, or the close.
+    pub fn bell(&self) -> &Bell {
+        self.waiters.bell()
+    }
+
+    /// Somebody waits for changes from now on. It changes nothing that a pass could see.
+    pub fn admit(&self) -> Waiter {
+        self.waiters.admit()
+    }
+
+    /// A waiter of this fifodir waits no more.
+    pub fn dismiss(&self, waiter: Waiter) {
+        self.waiters.dismiss(waiter);
     }
 
     /// The number of events, the flags and whether it is closed, all of one moment. It is one load of the front word,

@@ -10,12 +10,18 @@
 //! that a take reports `End`.
 //!
 //! `status` and `front` read one word without the lock, so a reader of the status never waits for a publisher.
+//!
+//! Who waits for a change is counted as a [`Waiter`], and sleeps at the fifodir's [`Bell`], which rings after each change. If
+//! nobody waits, a publish asks the kernel for nothing. Of waking nothing is proved, so a waiter also looks by itself at times.
 #![tactic(auto)]
 
+mod awaiting;
+mod bell;
 mod fifodir;
 pub mod laws;
 mod locked;
 mod pass;
+mod pause;
 mod publisher;
 mod rule;
 mod steps;
@@ -24,10 +30,12 @@ pub mod together;
 mod views;
 pub mod word;
 
+pub use bell::{Bell, Waiter};
 pub use fifodir::Fifodir;
 pub use hub_record::Status;
 pub use locked::Locked;
 pub use pass::Pass;
+pub use pause::{Go, Pause};
 pub use publisher::Publisher;
 use thiserror::Error;
 pub use ticket::Ticket;

@@ -74,6 +74,7 @@ impl Fifodir {
                 let word = word::pack(held.locked.status());
                 steps::write_message(board, &mut me.seat, word, letters);
                 steps::rest(board, &mut me.seat, held);
+                self.waiters().tell();
                 Ok(first)
             }
             Err(refusal) => {
@@ -99,6 +100,7 @@ impl Fifodir {
                 let word = word::pack(held.locked.status());
                 steps::write_mark(board, &mut me.seat, word);
                 steps::rest(board, &mut me.seat, held);
+                self.waiters().tell();
                 Ok(())
             }
             Err(refusal) => {

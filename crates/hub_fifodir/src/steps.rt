@@ -10,9 +10,13 @@ use crate::fifodir::Fifodir;
 use crate::locked::Locked;
 use crate::rule::{Board, Enter, Lock, Look, Notes, Seat, Unlock, ViewAfter, Write};
 use hub_letters::Letter;
+use std::hint;
 use std::marker::Brand;
 use std::sync::Wait;
 use std::sync::atomic::{AtomicU64, Ordering};
+
+// How often a thread looks at a lock that is taken before it sleeps.
+const LOOKS: u32 = 64;
 
 // This type has no `Drop`, so the compiler finds each path that doesn't release the lock.
 struct LockGuard<'a> {
@@ -52,12 +56,27 @@ impl Fifodir {
                     guard: LockGuard { sleepers },
                 };
             }
-            sleepers.fetch_add(1, Ordering::SeqCst);
-            board.park(rt, 1, 1);
-            sleepers.fetch_sub(1, Ordering::SeqCst);
+            if !is_free_soon(board) {
+                sleepers.fetch_add(1, Ordering::SeqCst);
+                board.park(rt, 1, 1);
+                sleepers.fetch_sub(1, Ordering::SeqCst);
+            }
         }
         unreachable!()
     }
+}
+
+// Looks at the lock some times, and tells whether it was free. A holder keeps it for less time than a sleep takes.
+fn is_free_soon(board: &Board) -> bool
+    requires { IsSized board.now.table_id }
+{
+    for _ in 0..LOOKS {
+        if board.peek(1) == 0 {
+            return true;
+        }
+        hint::spin_loop();
+    }
+    false
 }
 
 // Puts the value back into the slot, and releases the lock. `N` is the view afterwards; `_taken`, the number of events

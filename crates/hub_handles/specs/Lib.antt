@@ -1,3 +1,4 @@
 pub mod Taking
 pub mod Hearings
 pub mod Handles
+pub mod Awaiting

@@ -1,16 +1,17 @@
 //! What a session holds, by handle.
-ghost use Rattle.std.specs.Prelude.{◌≡◌, ◌<◌, ◌⊎◌, ℕ, None, Some, false, nat_eq, IfOk, IfErr, OnOk, OnErr};
+ghost use Rattle.std.specs.Prelude.{◌≡◌, ◌<◌, ◌⊎◌, ℕ, None, Some, false, nat_eq, IfOk, IfErr, OnOk, OnErr, if◌then◌else◌};
 ghost use Rattle.std.specs.Arc.{arc_value};
 ghost use Rattle.std.specs.Map.{lookup};
 ghost use Rattle.hub_letters.specs.declared.mode.Mode.TheVariants.{Repeat};
 ghost use Rattle.hub_listen.specs.Listening.{new_listening};
 ghost use Rattle.hub_requests.specs.Ranges.{IsTake};
+ghost use Rattle.hub_requests.specs.declared.reply.Reply.TheVariants.{Done, Late};
 ghost use Rattle.hub_requests.specs.declared.reply.Refusal.TheVariants as no;
 
 use crate::room::Room;
 use crate::session_listener::SessionListener;
 use crate::subscription::Subscription;
-use hub_fifodir::Fifodir;
+use hub_fifodir::{Fifodir, Pause};
 use hub_listen::{ListenError, Listener, Mode};
 use hub_requests::{Name, PatternText, Refusal, Reply, refusal_of_handle};
 use indexmap::IndexMap;
@@ -34,6 +35,7 @@ pub struct Handles {
 }
 
 impl Handles {
+    ghost use Rattle.hub_handles.specs.Awaiting.{AwaitsAt};
     ghost use Rattle.hub_handles.specs.Handles.{Subscribes, Listens, TakesAt, PollsAt, Cancels, IsStill, IsRefusedSub, IsRefusedListener, HoldsNone, AddsSubscription, AddsListener, given_of, listener_of, refusal_of};
 
     /// The handles of a new session: none is given.
@@ -166,6 +168,26 @@ impl Handles {
         reply
     }
 
+    /// Waits until the next `take` or `poll` of a handle has something to do, for at most so many turns. It takes nothing, and
+    /// needs no memory.
+    pub fn await_more<H: Wait, P: Pause>(
+        &mut self,
+        rt: &H,
+        id: u64,
+        turns: u64,
+        pause: &mut P,
+    ) -> Reply
+        ensures { AwaitsAt self.old id result self.new }
+    {
+        if let Some(subscription) = self.subscriptions.get_mut(&id) {
+            return reply_of(subscription.await_more(rt, turns, pause));
+        }
+        let Some(listener) = self.listeners.get_mut(&id) else {
+            return Reply::No(Refusal::Id);
+        };
+        reply_of(listener.await_more(rt, turns, pause))
+    }
+
     /// Ends a listener that is current.
     fn end_listener<H: Wait>(&mut self, rt: &H, id: u64)
         ensures gone { listener_of self.new id ≡ None }
@@ -218,6 +240,13 @@ impl Handles {
         subscriptions.destroy_empty();
         listeners.destroy_empty();
     }
+}
+
+/// What an await is answered that has found something to do, or hasn't.
+fn reply_of(more: bool) -> Reply
+    ensures { result ≡ (if more then Done else Late) }
+{
+    if more { Reply::Done } else { Reply::Late }
 }
 
 /// A listener for this pattern that has heard nothing.

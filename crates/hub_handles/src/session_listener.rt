@@ -1,9 +1,10 @@
 //! A session's listeners.
-ghost use Rattle.std.specs.Prelude.{◌≡◌, ◌≤◌, ◌<◌, [], Ok, length, vec_len, vec_capacity, IfOk, IfErr, IfNone, IfSome};
+ghost use Rattle.std.specs.Prelude.{◌≡◌, ◌≤◌, ◌<◌, [], Ok, length, vec_len, vec_capacity, IfOk, IfErr, IfNone, IfSome, MatchBool};
 ghost use Rattle.hub_listen.specs.declared.feed.Feed.TheVariants.{Quiet};
 ghost use Rattle.hub_letters.specs.declared.mode.Mode.TheVariants.{Repeat};
 
 use crate::subscription::Subscription;
+use hub_fifodir::Pause;
 use hub_letters::{Letter, MOST_GATHERED};
 use hub_listen::{Feed, FeedError, Listener, Mode};
 use hub_requests::{Excerpt, Refusal, Reply};
@@ -22,6 +23,7 @@ pub struct SessionListener {
 }
 
 impl SessionListener {
+    ghost use Rattle.hub_handles.specs.Awaiting.{HasMoreToHear, HasNoneToHear, HasOnlyLooked};
     ghost use Rattle.hub_handles.specs.Hearings.{BeginsHearing, Gives, HasMore, Hears, HearsOne, Polls, Stops, ends_by, mode_of};
 
     /// A listener that has heard nothing, over a subscription that begins now.
@@ -81,6 +83,14 @@ impl SessionListener {
             return None;
         }
         self.subscription.look()
+    }
+
+    /// Waits until the next poll has something to do, for at most so many turns. Tells whether it has.
+    pub fn await_more<H: Wait, P: Pause>(&mut self, rt: &H, turns: u64, pause: &mut P) -> bool
+        ensures looked { HasOnlyLooked self.old self.new }
+        ensures more { MatchBool result (HasMoreToHear self.new) (HasNoneToHear self.new) }
+    {
+        self.held.is_some() || self.subscription.await_more(rt, turns, pause)
     }
 
     /// Hears one letter more, and tells whether it completes a hit; or what to answer where none can be heard.

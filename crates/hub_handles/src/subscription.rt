@@ -1,11 +1,11 @@
 //! A session's subscriptions.
-ghost use Rattle.std.specs.Prelude.{◌≡◌, ◌≤◌, length, vec_len, vec_capacity, Err, IfOk, IfNone, IfSome};
+ghost use Rattle.std.specs.Prelude.{◌≡◌, ◌≤◌, length, vec_len, vec_capacity, Err, IfOk, IfNone, IfSome, MatchBool};
 ghost use Rattle.std.specs.Arc.{arc_value};
 ghost use Rattle.hub_fifodir.specs.Passes.{IsTicketOf, HasSoundSight, ticket_view};
 ghost use Rattle.hub_requests.specs.declared.bounds.TheConstants.{MOST_TAKEN};
 
 use crate::room::Room;
-use hub_fifodir::{Fifodir, Ticket};
+use hub_fifodir::{Fifodir, Pause, Ticket};
 use hub_letters::Letter;
 use hub_record::{Event, SubError, Taken};
 use hub_requests::{Name, Refusal, Reply, letters_of};
@@ -24,6 +24,7 @@ pub struct Subscription {
 }
 
 impl Subscription {
+    ghost use Rattle.hub_handles.specs.Awaiting.{HasMoreToTake, HasNoneToTake};
     ghost use Rattle.hub_handles.specs.Taking.{Begins, HasLooked, HasPending, Takes, TakesFrom, TakesOne};
 
     /// Subscribes to the fifodir. An error says why it gave no ticket.
@@ -92,6 +93,14 @@ impl Subscription {
             return Some(Reply::End);
         }
         Some(Reply::Nothing)
+    }
+
+    /// Waits until the next take has something to do, for at most so many turns. Tells whether it has.
+    pub fn await_more<H: Wait, P: Pause>(&mut self, rt: &H, turns: u64, pause: &mut P) -> bool
+        ensures looked { HasLooked self.old self.new }
+        ensures more { MatchBool result (HasMoreToTake self.new) (HasNoneToTake self.new) }
+    {
+        self.dir.await_more(rt, &mut self.ticket, turns, pause)
     }
 
     /// Takes the next letter, or tells what to answer where there is none.

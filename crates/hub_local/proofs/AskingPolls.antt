@@ -12,7 +12,7 @@ use Rattle.hub_letters.specs.declared.mode.Mode.TheVariants.{Once, Repeat}
 use Rattle.hub_listen.proofs.Lengths.{length_is_hit, no_length_is_no_hit}
 use Rattle.hub_record.specs.Kept.{Kept, StandsFor}
 use Rattle.hub_record.specs.World.{World, Subscription, subscription_in, after_take}
-use Rattle.hub_local.specs.DeskAnswers.{in_world, for_holding, for_hearing, refusal_to_poll, cancel_answer, request_answer, answer_by, refusal_to_cancel}
+use Rattle.hub_local.specs.DeskAnswers.{in_world, for_holding, for_hearing, refusal_to_poll, cancel_answer, request_answer, answer_by, refusal_by_handle}
 use Rattle.hub_local.specs.Desks.{Desk, Answer, standing, holding_at, world_of, with_world, without_handle, AreHeld, AreApart, GoesOn, AllGoOn}
 use Rattle.hub_local.specs.Hearings.{IsAt, Hears}
 use Rattle.hub_local.specs.Polls.{is_out, quiet_reply, to_hear, taken_from, heard_to_hit, heard_quietly, heard_on, ended_by, hear_answer, poll_answer}
@@ -278,7 +278,7 @@ module _ (old new : Local) (n : ℕ) (h : Holding) (g hearing : LocalListener) (
             unrefused = allowed d st;
             done_is = hit_done Once ends d st;
             said = refl;
-            stands = subst (StandsForDesk over) (ap (λ (o : Option Holding). (answer_by a.after (refusal_to_cancel o) (for_holding a.after (cancel_answer a.after n) o)).desk) a.held_is) ended.stands;
+            stands = subst (StandsForDesk over) (ap (λ (o : Option Holding). (answer_by a.after (refusal_by_handle o) (for_holding a.after (cancel_answer a.after n) o)).desk) a.held_is) ended.stands;
           })
 
       -- with another expression for the desk

@@ -14,5 +14,7 @@ pub mod AskingServices
 mod UsedIds
 pub mod OtherHoldings
 pub mod AskingPolls
+pub mod AskingAwaits
+pub mod AwaitLaws
 pub mod Running
 pub mod TakingWhatWaits

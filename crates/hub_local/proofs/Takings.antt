@@ -18,7 +18,7 @@ drop-none : {X : Type 0} (xs : List X) → drop (length xs) xs ≡ []
 drop-none [] = refl
 drop-none (x ∷ xs) = drop-none xs
 
-drop-all : {X : Type 0} (xs : List X) (n : ℕ) → length xs ≤ n → drop n xs ≡ []
+pub drop-all : {X : Type 0} (xs : List X) (n : ℕ) → length xs ≤ n → drop n xs ≡ []
 drop-all [] zero le = refl
 drop-all [] (suc n) le = refl
 drop-all (x ∷ xs) zero le = absurd (let no : ⊥ = omega arith in no)

@@ -22,6 +22,7 @@ use Rattle.hub_record.specs.declared.Closed.{Closed}
 use Rattle.hub_requests.specs.declared.bounds.TheConstants.{MOST_NAMES}
 use Rattle.hub_local.specs.Desks.{Desk, Answer, world_of, reports_of, with_world, standing, holding_at, without_handle, refusal_answer}
 use Rattle.hub_local.specs.Polls.{poll_answer, LeftByPoll}
+use Rattle.hub_local.specs.Awaits.{await_answer}
 use Rattle.hub_local.specs.Replies.{subscribe_reply, publish_reply}
 use Rattle.hub_requests.specs.Refusals.{refusal_of_sub, refusal_of_pub}
 use Rattle.hub_requests.specs.Room.{policy_of, refusal_of_handle}
@@ -29,7 +30,7 @@ use Rattle.hub_local.specs.Waits.{wait_answer, LeftByWait}
 use Rattle.hub_local.specs.declared.local_desk.LocalListener.{LocalListener}
 use Rattle.hub_local.specs.declared.local_desk.Holding.{Holding}
 use Rattle.hub_requests.specs.declared.request.Request.{Request}
-use Rattle.hub_requests.specs.declared.request.Request.TheVariants.{Dir, Svc, Sub, Pub, Take, Cancel, Close, Status, Listen, Poll, Wait}
+use Rattle.hub_requests.specs.declared.request.Request.TheVariants.{Dir, Svc, Sub, Pub, Take, Cancel, Close, Status, Listen, Poll, Await, Wait}
 use Rattle.hub_requests.specs.declared.reply.Reply.{Reply}
 use Rattle.hub_requests.specs.declared.reply.Reply.TheVariants.{Done, Number, State, Got, Nothing, End, Evicted, No}
 use Rattle.hub_requests.specs.declared.reply.Refusal.{Refusal}
@@ -73,9 +74,10 @@ abbrev pub refusal_to_poll : Option Holding → Option Refusal
 refusal_to_poll None = Some no.Id
 refusal_to_poll (Some h) = refusal_to_hear h.hearing
 
-abbrev pub refusal_to_cancel : Option Holding → Option Refusal
-refusal_to_cancel None = Some no.Id
-refusal_to_cancel (Some h) = None
+-- a cancel and an await need a handle of either sort
+abbrev pub refusal_by_handle : Option Holding → Option Refusal
+refusal_by_handle None = Some no.Id
+refusal_by_handle (Some h) = None
 
 -- all names are looked up before any kind is checked
 abbrev pub refusal_to_wait : Desk → List (List ℕ) → Option Refusal
@@ -91,11 +93,12 @@ own_refusal d read (Svc name waiting total notifies evict) = refusal_to_make d n
 own_refusal d read (Sub name) = refusal_to_hold d name
 own_refusal d read (Pub name letters) = refusal_by_name d name
 own_refusal d read (Take id max) = refusal_to_take (holding_at d id)
-own_refusal d read (Cancel id) = refusal_to_cancel (holding_at d id)
+own_refusal d read (Cancel id) = refusal_by_handle (holding_at d id)
 own_refusal d read (Close name) = refusal_by_name d name
 own_refusal d read (Status name) = refusal_by_name d name
 own_refusal d read (Listen name mode pattern) = refusal_to_listen read (refusal_to_hold d name)
 own_refusal d read (Poll id) = refusal_to_poll (holding_at d id)
+own_refusal d read (Await id turns) = refusal_by_handle (holding_at d id)
 own_refusal d read (Wait span want turns names) = refusal_to_wait d names
 
 -- ---- what it does otherwise
@@ -178,6 +181,7 @@ request_answer d (Close name) = in_world d (λ w. close_answer d name w (close_r
 request_answer d (Status name) = in_world d (status_answer d) (world_of d.fifodirs name)
 request_answer d (Listen name mode pattern) = in_world d (λ w. subscribe_answer d name (Some (new_hearing pattern mode)) w (subscribe_reply w)) (world_of d.fifodirs name)
 request_answer d (Poll id) = for_holding d (λ h. for_hearing d (λ g. in_world d (poll_answer d id h g) (world_of d.fifodirs h.name)) h.hearing) (holding_at d id)
+request_answer d (Await id turns) = for_holding d (λ h. in_world d (await_answer d h) (world_of d.fifodirs h.name)) (holding_at d id)
 request_answer d (Wait span want turns names) = wait_answer d span want names
 
 -- ---- answers

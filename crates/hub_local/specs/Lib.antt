@@ -1,8 +1,10 @@
 pub mod Replies
 pub mod Desks
 pub mod Polls
+pub mod Awaits
 pub mod Waits
 pub mod DeskAnswers
+pub mod AwaitLaws
 pub mod Hearings
 pub mod Standing
 pub mod Opening

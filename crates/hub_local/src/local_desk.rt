@@ -11,6 +11,7 @@ use std::alloc::{AllocError, Global};
 use std::marker::Model;
 use std::sync::Wait;
 
+mod awaits;
 mod fifodirs;
 mod laws;
 mod listeners;
@@ -130,6 +131,7 @@ impl Desk for LocalDesk {
                 pattern,
             } => self.listen(name, *mode, pattern),
             Request::Poll { id } => self.poll(*id),
+            Request::Await { id, turns: _ } => self.look(*id),
             Request::Wait {
                 span,
                 want,

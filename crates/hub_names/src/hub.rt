@@ -5,7 +5,7 @@ ghost use Rattle.std.specs.Str.{bytes_eq};
 ghost use Rattle.indexmap.specs.IndexMap.{get, index_map_len};
 ghost use Rattle.hub_requests.specs.declared.bounds.TheConstants.{MOST_NAMES};
 
-use hub_fifodir::Fifodir;
+use hub_fifodir::{Bell, Fifodir};
 use hub_record::{Kind, Limits};
 use hub_requests::{MOST_NAMES, Name};
 use indexmap::IndexMap;
@@ -111,6 +111,8 @@ impl Found {
 #[derive(Drop)]
 struct Named {
     alloc: Global,
+    /// Shared by all fifodirs, so that a wait for several of them sleeps until one changes.
+    bell: Arc<Bell, Global>,
     fifodirs: IndexMap<Name, Made>,
     ghost few: { index_map_len fifodirs ≤ MOST_NAMES },
 }
@@ -146,7 +148,8 @@ impl Named {
             return Err(HubError::Many);
         }
         let key = name.copy()?;
-        let fifodir = Fifodir::new(self.alloc, kind, limits)?;
+        let bell = Arc::try_clone(&self.bell)?;
+        let fifodir = Fifodir::with_bell(self.alloc, kind, limits, bell)?;
         let Ok(dir) = Arc::new(self.alloc, fifodir) else {
             return Err(HubError::Memory);
         };
@@ -180,8 +183,12 @@ impl Hub {
 
     /// A hub without a name.
     pub fn new(alloc: Global) -> Result<Hub, AllocError> {
+        let Ok(bell) = Arc::new(alloc, Bell::new()) else {
+            return Err(AllocError);
+        };
         let named = Named {
             alloc,
+            bell,
             fifodirs: IndexMap::new(alloc),
         };
         Ok(Hub {

@@ -10,7 +10,7 @@ use Rattle.hub_requests.specs.declared.request.Request.TheVariants as request
 use Rattle.hub_requests.specs.declared.reply.Refusal.{Refusal}
 use Rattle.hub_requests.specs.declared.reply.Refusal.TheVariants.{Long, Text, Word, Range, Memory}
 use Rattle.hub_requests.specs.declared.reply.Refusal.TheVariants as no
-use Rattle.hub_protocol.specs.Spelling.{Form, Dir, Svc, Sub, Pub, Take, Cancel, Close, Status, Listen, Poll, Wait, IsForm, IsWithin, IsWord, form_of, digit_of, word_of, text_of_mode, text_of_span, text_of_want, fields_of, fields_of_evict, fields_behind, fields_in}
+use Rattle.hub_protocol.specs.Spelling.{Form, Dir, Svc, Sub, Pub, Take, Cancel, Close, Status, Listen, Poll, Await, Wait, IsForm, IsWithin, IsWord, form_of, digit_of, word_of, text_of_mode, text_of_span, text_of_want, fields_of, fields_of_evict, fields_behind, fields_in}
 use Rattle.hub_protocol.specs.Reading.{first_word, IsTextByte, IsText, HasForm, Spells, IsReading}
 use Rattle.hub_protocol.proofs.Numerals.{same_number}
 use Rattle.hub_protocol.proofs.Splits.{same_text}
@@ -59,6 +59,14 @@ same_cancel i j h k e = let first : decimal i ≡ decimal j = cc in ap Cancel (s
 same_poll : (i j : ℕ) → IsForm (Poll i) → IsForm (Poll j) → fields_behind (Poll i) ≡ fields_behind (Poll j) → Poll i ≡ Poll j
 same_poll i j h k e = let first : decimal i ≡ decimal j = cc in ap Poll (same_number i j h k first)
 
+same_await : (i x j y : ℕ) → IsForm (Await i x) → IsForm (Await j y) → fields_behind (Await i x) ≡ fields_behind (Await j y) → Await i x ≡ Await j y
+same_await i x j y h k e =
+    let first : decimal i ≡ decimal j = cc in
+    let second : decimal x ≡ decimal y = cc in
+    let id = same_number i j h.0 k.0 first in
+    let turns = same_number x y h.1 k.1 second in
+    cc
+
 same_listen : (n m : List ℕ) (o r : Mode) (p q : List ℕ) → fields_behind (Listen n o p) ≡ fields_behind (Listen m r q) → Listen n o p ≡ Listen m r q
 same_listen n m o r p q e =
     let names : n ≡ m = cc in
@@ -90,6 +98,7 @@ same_form (Close n) (Close m) h k words e = cc
 same_form (Status n) (Status m) h k words e = cc
 same_form (Listen n o p) (Listen m r q) h k words e = same_listen n m o r p q e
 same_form (Poll i) (Poll j) h k words e = same_poll i j h k e
+same_form (Await i x) (Await j y) h k words e = same_await i x j y h k e
 same_form (Wait s w x n) (Wait t v y m) h k words e = same_wait s t w v x y n m h k e
 same_form a b h k words e = absurd (apart (word_of a) (word_of b) refl words)
 
@@ -117,6 +126,7 @@ same_request (request.Close n) (request.Close m) e = cc
 same_request (request.Status n) (request.Status m) e = cc
 same_request (request.Listen n o p) (request.Listen m r q) e = cc
 same_request (request.Poll i) (request.Poll j) e = cc
+same_request (request.Await i x) (request.Await j y) e = cc
 same_request (request.Wait s w x n) (request.Wait t v y m) e = cc
 same_request a b e = cc
 

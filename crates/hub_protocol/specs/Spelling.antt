@@ -26,6 +26,7 @@ pub data Form : Type 0 where
   Status : (name : List ℕ) → Form
   Listen : (name : List ℕ) (mode : Mode) (pattern : List ℕ) → Form
   Poll : (id : ℕ) → Form
+  Await : (id turns : ℕ) → Form
   Wait : (span : Span) (want : Want) (turns : ℕ) (names : List (List ℕ)) → Form
 
 -- a numeral has at most 13 digits
@@ -64,6 +65,7 @@ IsForm (Close name) = IsName name
 IsForm (Status name) = IsName name
 IsForm (Listen name mode pattern) = IsName name × IsPatternText pattern
 IsForm (Poll id) = IsNumeral id
+IsForm (Await id turns) = IsNumeral id × IsNumeral turns
 IsForm (Wait span want turns names) = IsNumeral turns × AreNames names
 
 -- whether a listener goes on after a hit
@@ -96,6 +98,7 @@ word_of (Close name) = codes "close"
 word_of (Status name) = codes "status"
 word_of (Listen name mode pattern) = codes "listen"
 word_of (Poll id) = codes "poll"
+word_of (Await id turns) = codes "await"
 word_of (Wait span want turns names) = codes "wait"
 
 abbrev pub is_space : ℕ → Bool
@@ -122,6 +125,7 @@ fields_behind (Close name) = name ∷ []
 fields_behind (Status name) = name ∷ []
 fields_behind (Listen name mode pattern) = name ∷ text_of_mode mode ∷ fields_of pattern
 fields_behind (Poll id) = decimal id ∷ []
+fields_behind (Await id turns) = decimal id ∷ decimal turns ∷ []
 fields_behind (Wait span want turns names) = text_of_span span ∷ text_of_want want ∷ decimal turns ∷ names
 
 -- the fields of a form's line
@@ -148,6 +152,7 @@ form_of (request.Close name) = Close name
 form_of (request.Status name) = Status name
 form_of (request.Listen name mode pattern) = Listen name mode pattern
 form_of (request.Poll id) = Poll id
+form_of (request.Await id turns) = Await id turns
 form_of (request.Wait span want turns names) = Wait span want turns names
 
 -- a request whose numbers are in their ranges has the form

@@ -63,6 +63,11 @@ pub enum BorrowedForm<'a> {
     Poll {
         id: u64,
     },
+    /// `await ID TURNS`
+    Await {
+        id: u64,
+        turns: u64,
+    },
     /// `wait SPAN WANT TURNS N1 .. Nk`. The names are as in the line, with one space between two.
     Wait {
         span: Span,
@@ -153,6 +158,9 @@ pub fn form_of_word<'a>(word: &[u8], rest: &'a [u8]) -> Result<Option<BorrowedFo
         b"status" => Ok(last_name(rest).map(|name| BorrowedForm::Status { name })),
         b"listen" => Ok(listen(rest)),
         b"poll" => Ok(last_numeral(rest).map(|id| BorrowedForm::Poll { id })),
+        b"await" => {
+            Ok(last_two_numerals(rest).map(|(id, turns)| BorrowedForm::Await { id, turns }))
+        }
         b"wait" => Ok(wait(rest)),
         _ => Err(Refusal::Word),
     }

@@ -31,6 +31,7 @@ pub fn is_within(form: &BorrowedForm<'_>) -> bool
             ..
         } => *reports <= 1 && are_limits(*waiting, *total),
         BorrowedForm::Take { max, .. } => *max >= 1 && *max <= MOST_TAKEN,
+        BorrowedForm::Await { turns, .. } => *turns <= MOST_TURNS,
         BorrowedForm::Wait { turns, .. } => *turns <= MOST_TURNS,
         _ => true,
     }
@@ -130,6 +131,7 @@ pub fn request_of(alloc: Global, form: BorrowedForm<'_>) -> Result<Request, Allo
             pattern: pattern_of(alloc, pattern)?,
         },
         BorrowedForm::Poll { id } => Request::Poll { id },
+        BorrowedForm::Await { id, turns } => Request::Await { id, turns },
         BorrowedForm::Wait {
             span,
             want,

@@ -63,6 +63,12 @@ pub enum Request {
     Poll {
         id: u64,
     },
+    /// Sleeps for at most `turns` turns (0 to 1,000,000) until the next `take` or `poll` of a handle has something to do. It
+    /// takes nothing.
+    Await {
+        id: u64,
+        turns: u64,
+    },
     /// Waits for at most `turns` turns (0 to 1,000,000) until all of the named services (1 to 32), or any of them, are
     /// as wanted.
     Wait {

@@ -8,7 +8,7 @@ use Rattle.std.specs.Map.{lookup}
 use Rattle.std.specs.Option.{is_some}
 use Rattle.std.specs.Str.{bytes_eq}
 use Rattle.hub_requests.specs.declared.request.Request.{Request}
-use Rattle.hub_requests.specs.declared.request.Request.TheVariants.{Dir, Svc, Sub, Pub, Take, Cancel, Close, Status, Listen, Poll, Wait}
+use Rattle.hub_requests.specs.declared.request.Request.TheVariants.{Dir, Svc, Sub, Pub, Take, Cancel, Close, Status, Listen, Poll, Await, Wait}
 use Rattle.hub_requests.specs.declared.reply.Reply.{Reply}
 use Rattle.hub_requests.specs.declared.reply.Reply.TheVariants as answer
 use Rattle.hub_letters.specs.declared.mode.Mode.{Mode}
@@ -22,6 +22,7 @@ use Rattle.hub_names.specs.Speaking.{AsksAsPublisher, fifodir_of}
 use Rattle.hub_handles.specs.declared.handles.Handles.{Handles}
 use Rattle.hub_handles.specs.declared.session_listener.SessionListener.{SessionListener}
 use Rattle.hub_handles.specs.declared.subscription.Subscription.{Subscription}
+use Rattle.hub_handles.specs.Awaiting.{AwaitsAt}
 use Rattle.hub_handles.specs.Handles.{Cancels, HoldsNone, IsStill, PollsAt, TakesAt, listener_of, subscription_of}
 use Rattle.hub_handles.specs.Hearings.{Polls, ends_by}
 use Rattle.hub_handles.specs.Taking.{IsSameTicket, Takes, name_of}
@@ -215,6 +216,22 @@ polled_named hub fs hs ks id reply (inl p) n = record {
 }
 polled_named hub fs hs ks id reply (inr p) n = handles_still hub fs hs ks p.still n
 
+awaited_named : (hub : Hub) (fs : Fifodirs) (hs ks : Handles) (id : ℕ) (reply : Reply) → AwaitsAt hs id reply ks → AreNamed hub fs hs → AreNamed hub fs ks
+awaited_named hub fs hs ks id reply (inl a) n = record {
+  found = n.found;
+  subscriptions = at_number (IsNamed fs) (subscription_of hs) (subscription_of ks) id (Some a.after) a.kept
+      (λ s is. subst (IsNamed fs) (one_of a.after s (Some a.after) refl is) (same_named fs a.before a.after a.looked.same (n.subscriptions id a.before a.held))) a.others n.subscriptions;
+  listeners = λ other h held. n.listeners other h (sym (ap (lookup (nat_eq other)) a.listeners) ∙ held);
+}
+awaited_named hub fs hs ks id reply (inr (inl a)) n = record {
+  found = n.found;
+  subscriptions = λ other s held. n.subscriptions other s (sym (ap (lookup (nat_eq other)) a.subscriptions) ∙ held);
+  listeners = at_number (λ h. IsNamed fs h.subscription) (listener_of hs) (listener_of ks) id (Some a.after) a.kept
+      (λ h is. subst (λ (h : SessionListener). IsNamed fs h.subscription) (one_of a.after h (Some a.after) refl is) (same_named fs a.before.subscription a.after.subscription a.looked.looked.same (n.listeners id a.before a.held)))
+      a.others n.listeners;
+}
+awaited_named hub fs hs ks id reply (inr (inr a)) n = handles_still hub fs hs ks a.still n
+
 cancelled_named : (hub : Hub) (fs : Fifodirs) (hs ks : Handles) (id : ℕ) (reply : Reply) → Cancels hs id reply ks → AreNamed hub fs hs → AreNamed hub fs ks
 cancelled_named hub fs hs ks id reply c n = record {
   found = n.found;
@@ -242,6 +259,7 @@ asked_named hub fs gs hs ks (Close name) reply n (a, f) = subst (AreNamed hub gs
 asked_named hub fs gs hs ks (Status name) reply n (a, f) = subst (AreNamed hub gs) (sym f) (spoken_named hub _ fs gs hs name reply a n)
 asked_named hub fs gs hs ks (Listen name mode pattern) reply n (keeps, a) = listened_named hub gs hs ks name _ _ reply a (all_still hub fs gs hs keeps n)
 asked_named hub fs gs hs ks (Poll id) reply n (e, a) = subst (λ (z : Fifodirs). AreNamed hub z ks) (sym e) (polled_named hub fs hs ks id reply a n)
+asked_named hub fs gs hs ks (Await id turns) reply n (e, a) = subst (λ (z : Fifodirs). AreNamed hub z ks) (sym e) (awaited_named hub fs hs ks id reply a n)
 asked_named hub fs gs hs ks (Wait span want turns names) reply n (keeps, why, f) = subst (AreNamed hub gs) (sym f) (all_still hub fs gs hs keeps n)
 
 new_named : (hub : Hub) (fs : Fifodirs) (hs : Handles) → KeepsNone fs → HoldsNone hs → AreNamed hub fs hs

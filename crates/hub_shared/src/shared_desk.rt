@@ -150,6 +150,12 @@ impl<P: Pause + Copy> Desk for SharedDesk<P> {
                 Err(refusal) => Reply::No(refusal),
             },
             Request::Poll { id } => self.handles.poll(rt, *id),
+            Request::Await { id, turns } => self.handles.await_more(
+                rt,
+                *id,
+                *turns,
+                &mut Watched::new(self.pause, self.client.as_ref()),
+            ),
             Request::Wait {
                 span,
                 want,

@@ -1,8 +1,8 @@
 //! A receive that waits until something comes.
 ghost use Rattle.std.specs.Prelude.{◌≡◌, length};
-ghost use Rattle.hub_fifodir.specs.Passes.{HasTaken, IsTicketOf, OnlyLooks, Remains, slice_after_take, ticket_mark, ticket_view};
+ghost use Rattle.hub_fifodir.specs.Passes.{HasTaken, IsTicketOf, Remains, slice_after_take, ticket_mark, ticket_view};
 
-use crate::{Go, Pause};
+use crate::Pause;
 use hub_fifodir::{Fifodir, Ticket};
 use hub_record::{Event, Taken};
 use std::sync::Wait;
@@ -26,20 +26,6 @@ pub fn receive<R: Wait, P: Pause>(
     ensures took { HasTaken ticket.old (length out.old) result ticket.new }
     ensures filled { out.new ≡ slice_after_take ticket.old result ticket.new out.old }
 {
-    for _ in 0..turns {
-        if has_come(fifodir, ticket) || pause.pause(rt) == Go::Expired {
-            break;
-        }
-    }
+    fifodir.await_more(rt, ticket, turns, pause);
     fifodir.take_into(rt, ticket, out)
-}
-
-/// Looks at the front word, and tells whether a take has something to report.
-fn has_come(fifodir: &Fifodir, ticket: &mut Ticket) -> bool
-    requires { IsTicketOf fifodir.now ticket.old }
-    ensures remains { Remains fifodir.now (ticket_view ticket.old) (ticket_view ticket.new) }
-    ensures looks { OnlyLooks (ticket_view ticket.old) (ticket_view ticket.new) }
-{
-    let status = fifodir.status(ticket);
-    status.closed || status.number != ticket.next()
 }

@@ -15,6 +15,9 @@
 //!
 //! [`receive`] takes events by a ticket, and waits if there are none.
 //!
+//! Between two looks a wait pauses by a [`Pause`]. A [`Patience`] sleeps until a fifodir's bell rings, which it does after
+//! each change that somebody waits for. Of waking nothing is proved: a pause may also end for no reason, or late.
+//!
 //! Each watch has a number of its own, so a yes for all doesn't say that all services were as wanted at one moment.
 #![tactic(auto)]
 
@@ -26,8 +29,9 @@ mod wait;
 mod watch;
 
 pub use blocking::receive;
+pub use hub_fifodir::{Go, Pause};
 pub use hub_letters::Span;
-pub use pause::{BRIEF_TURNS, Backoff, Go, Pause};
+pub use pause::Patience;
 pub use post::{Post, SLICE, SLICES};
 pub use tally::{Tally, Verdict};
 pub use wait::{svlisten, svwait};

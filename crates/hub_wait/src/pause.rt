@@ -1,61 +1,97 @@
-//! What a wait does between two looks.
-ghost use Rattle.std.specs.Prelude.{◌≡◌, ◌+◌, ◌<◌};
+//! A pause by the clock.
+ghost use Rattle.std.specs.Prelude.{◌≡◌};
 
+use hub_fifodir::{Bell, Go, Pause};
 use std::rt::Clock;
 use std::sync::Wait;
 use std::thread;
-use std::time::Duration;
+use std::time::{Duration, Instant};
 
-/// Whether a wait goes on after a pause.
-#[derive(Clone, Copy, Debug, PartialEq, Eq, Hash)]
-pub enum Go {
-    /// It takes what has come meanwhile, and looks again.
-    Again,
-    /// It ends now, since its time is over.
-    Expired,
-}
+/// How many milliseconds a turn is, as far as patience goes.
+const TURN: u64 = 1;
 
-/// What a wait does between two looks. A pause with a deadline returns `Expired` once the deadline has passed.
-pub trait Pause {
-    /// Pauses, and says whether the wait goes on.
-    fn pause<R: Wait>(&mut self, rt: &R) -> Go;
-}
+/// How many milliseconds the longest sleep without a look is. A ring that nobody heard costs no more than this.
+const LONGEST_SLEEP: u64 = 250;
 
-/// How many turns of a wait a `Backoff` makes before it sleeps.
-pub const BRIEF_TURNS: u32 = 32;
+/// How many looks may be ahead of their time, which is a turn each, if the bell rings so often.
+const LOOKS_AHEAD: u64 = 16;
 
-/// A pause without a deadline. At first it only lets other threads run, since the change may be about to happen. After
-/// `BRIEF_TURNS` turns it also sleeps about a millisecond in each turn, so a long wait uses hardly any processor time.
+/// A pause by the clock. It sleeps until the bell rings, and at times ends by itself. It has the time of all turns of its wait,
+/// a millisecond each: then it ends the wait, after a last look.
+///
+/// A bell that rings all the time doesn't shorten the wait. After `LOOKS_AHEAD` looks at once, or an eighth of the turns
+/// that are left if that is less, further ones come a turn apart.
+///
 /// Each wait starts with a copy of a new one.
 #[derive(Clone, Copy, Debug)]
-pub struct Backoff<C> {
+pub struct Patience<C> {
     /// The clock by which it sleeps.
     pub clock: C,
-    /// The number of turns so far, up to `BRIEF_TURNS`.
-    pub turns: u32,
+    /// When its first pause began, and how many turns were left then.
+    begun: Option<(Instant, u64)>,
+    /// When the next look is due, from the beginning on.
+    due: Duration,
 }
 
-impl<C> Backoff<C> {
-    /// A pause that has made no turn.
-    pub fn new(clock: C) -> Backoff<C>
-        ensures { result ≡ record { clock = clock; turns = 0 } }
+impl<C> Patience<C> {
+    /// A pause for a wait that begins with its first pause.
+    pub fn new(clock: C) -> Patience<C>
+        ensures { result.clock ≡ clock }
     {
-        Backoff { clock, turns: 0 }
+        Patience {
+            clock,
+            begun: None,
+            due: Duration::ZERO,
+        }
     }
 }
 
-impl<C: Clock> Pause for Backoff<C> {
+impl<C: Clock> Patience<C> {
+    /// How long ago it began, and how long its wait may take. None if the clock can't be read.
+    fn times(&mut self, left: u64) -> Option<(Duration, Duration)>
+        ensures { self.new.clock ≡ self.old.clock }
+    {
+        let now = Instant::now(&self.clock).ok()?;
+        let (begin, turns) = *self.begun.get_or_insert((now, left));
+        Some((now.duration_since(begin), Duration::from_millis(turns)))
+    }
+
+    /// Sleeps until the next look is due.
+    fn keep_pace(&mut self, elapsed: Duration, left: u64)
+        ensures { self.new.clock ≡ self.old.clock }
+    {
+        let ahead = Duration::from_millis((left / 8).min(LOOKS_AHEAD));
+        self.due = self
+            .due
+            .max(elapsed)
+            .saturating_add(Duration::from_millis(TURN));
+        let early = self.due.saturating_sub(elapsed).saturating_sub(ahead);
+        if !early.is_zero() {
+            thread::sleep(&self.clock, early);
+        }
+    }
+}
+
+impl<C: Clock> Pause for Patience<C> {
     fn pause<R: Wait>(&mut self, _rt: &R) -> Go
         ensures again { result ≡ Go.Again }
-        ensures clock { self.new.clock ≡ self.old.clock }
-        ensures turns { self.old.turns < BRIEF_TURNS → self.new.turns ≡ self.old.turns + 1 }
+        ensures still { self.new ≡ self.old }
     {
-        thread::yield_now();
-        if self.turns < BRIEF_TURNS {
-            self.turns += 1;
-        } else {
-            thread::sleep(&self.clock, Duration::from_millis(1));
-        }
+        thread::sleep(&self.clock, Duration::from_millis(TURN));
+        Go::Again
+    }
+
+    fn pause_at<R: Wait>(&mut self, rt: &R, bell: &Bell, heard: u64, left: u64) -> Go
+        ensures { self.new.clock ≡ self.old.clock }
+    {
+        let Some((elapsed, time)) = self.times(left) else {
+            return self.pause(rt);
+        };
+        let Some(rest) = time.checked_sub(elapsed) else {
+            return Go::Expired;
+        };
+        self.keep_pace(elapsed, left);
+        bell.sleep(rt, heard, rest.min(Duration::from_millis(LONGEST_SLEEP)));
         Go::Again
     }
 }

@@ -8,7 +8,7 @@ ghost use Rattle.hub_wait.specs.Reading.{Reads};
 ghost use Rattle.hub_wait.specs.Watching.{watching_after_step};
 
 use crate::Watch;
-use hub_fifodir::{Fifodir, Ticket};
+use hub_fifodir::{Bell, Fifodir, Ticket, Waiter};
 use hub_letters::{Letter, Want};
 use hub_record::{Event, SubError, Taken};
 use std::alloc::Global;
@@ -27,6 +27,9 @@ pub struct Post {
     fifodir: Arc<Fifodir, Global>,
     ticket: Ticket,
     watch: Watch,
+    waiter: Waiter,
+    /// How often the fifodir's bell had rung before the last look.
+    heard: u64,
     ghost of: { IsTicketOf (arc_value fifodir) ticket },
     ghost sound: { ∥ HasSoundSight (ticket_view ticket) ∥₁ },
     ghost reads: { Reads ticket watch },
@@ -52,12 +55,16 @@ impl Post {
         ensures refused { IfErr result (MayRefuseTicket (arc_value fifodir)) }
     {
         let mut ticket = fifodir.subscribe(rt)?;
+        let waiter = fifodir.admit();
+        let heard = fifodir.bell().rings();
         let status = fifodir.status(&mut ticket);
         let watch = Watch::new(want, notifies, status);
         Ok(Post {
             fifodir,
             ticket,
             watch,
+            waiter,
+            heard,
         })
     }
 
@@ -75,6 +82,16 @@ impl Post {
         self.ticket.mark()
     }
 
+    /// The bell that rings after each change of the fifodir.
+    pub(crate) fn bell(&self) -> &Bell {
+        self.fifodir.bell()
+    }
+
+    /// How often that bell had rung before the last look.
+    pub(crate) fn heard(&self) -> u64 {
+        self.heard
+    }
+
     /// Takes what came meanwhile: slices of [`SLICE`] events, until one isn't whole or [`SLICES`] were taken. If nothing
     /// came, it only looks at the front word, and takes no lock. If the
     /// subscription is evicted, the watch goes on from the status: what it missed lies between two of its numbers, and a
@@ -83,6 +100,7 @@ impl Post {
         ensures kept { IsKept self.old self.new }
         ensures caught_up { HasCaughtUp self.old self.new }
     {
+        self.heard = self.bell().rings();
         for _ in 0..SLICES {
             if !self.look() {
                 return;
@@ -138,7 +156,10 @@ impl Post {
             fifodir,
             ticket,
             watch: _,
+            waiter,
+            heard: _,
         } = self;
+        fifodir.dismiss(waiter);
         fifodir.cancel(rt, ticket);
     }
 

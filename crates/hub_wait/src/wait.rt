@@ -22,11 +22,11 @@ pub fn svwait<R: Wait, P: Pause>(
     ensures caught_up { AreCaughtUp posts.old posts.new }
     ensures still { turns ≡ 0 → posts.new ≡ posts.old }
 {
-    for _ in 0..turns {
+    for turn in 0..turns {
         if let Some(verdict) = look(span, posts) {
             return verdict;
         }
-        if pause.pause(rt) == Go::Expired {
+        if pause_at(rt, posts, turns - turn, pause) == Go::Expired {
             return Verdict::Late;
         }
         catch_up_all(rt, posts);
@@ -65,6 +65,15 @@ fn look(span: Span, posts: &[Post]) -> Option<Verdict>
         tally.add(post.watch());
     }
     tally.answer()
+}
+
+/// Pauses until the bell rings, with so many turns left. The first post looked before the others, so it has heard the bell
+/// before any of them looked. The bell is that of its fifodir, which the others are expected to share.
+fn pause_at<R: Wait, P: Pause>(rt: &R, posts: &[Post], left: u64, pause: &mut P) -> Go {
+    match posts.first() {
+        Some(post) => pause.pause_at(rt, post.bell(), post.heard(), left),
+        None => pause.pause(rt),
+    }
 }
 
 fn catch_up_all<R: Wait>(rt: &R, posts: &mut [Post])

@@ -1,5 +1,6 @@
-//! The pause of a wait, over a clock that counts how often and for how long it slept.
-use hub_wait::{Backoff, Go, Pause};
+//! The pause of a wait, over a clock whose time passes only while somebody sleeps.
+use hub_fifodir::Bell;
+use hub_wait::{Go, Patience, Pause};
 use std::io;
 use std::process::Abort;
 use std::rt::Clock;
@@ -7,69 +8,115 @@ use std::sync::Wait;
 use std::sync::atomic::{AtomicU64, Ordering};
 use std::time::Duration;
 
-/// A clock that returns at once, and adds up what it was asked for.
+/// A clock that returns at once, and is then as much later as was slept. One that is broken tells no time.
 #[derive(Drop)]
-struct Counting {
-    sleeps: AtomicU64,
+struct Slept {
     microseconds: AtomicU64,
+    broken: bool,
 }
 
-impl Clock for Counting {
+impl Slept {
+    fn new(broken: bool) -> Slept {
+        Slept {
+            microseconds: AtomicU64::new(0),
+            broken,
+        }
+    }
+
+    fn pass(&self, microseconds: u64) {
+        self.microseconds.fetch_add(microseconds, Ordering::SeqCst);
+    }
+
+    fn microseconds(&self) -> u64 {
+        self.microseconds.load(Ordering::SeqCst)
+    }
+}
+
+impl Clock for Slept {
     fn monotonic(&self) -> io::Result<Duration> {
-        Ok(Duration::from_millis(0))
+        if self.broken {
+            return Err(io::Error::from(io::ErrorKind::Unsupported));
+        }
+        Ok(Duration::from_micros(self.microseconds()))
     }
 
     fn since_1970(&self) -> io::Result<Duration> {
-        Ok(Duration::from_millis(0))
+        self.monotonic()
     }
 
     fn sleep(&self, duration: Duration) {
-        self.sleeps.fetch_add(1, Ordering::SeqCst);
-        let asked = u64::try_from(duration.as_micros()).unwrap_or(u64::MAX);
-        self.microseconds.fetch_add(asked, Ordering::SeqCst);
+        self.pass(u64::try_from(duration.as_micros()).unwrap_or(u64::MAX));
     }
 }
 
-/// After how many turns a pause has slept how often, a millisecond each.
-static SLEPT: [(u64, u64); 7] = [
-    (0, 0),
-    (1, 0),
-    (31, 0),
-    (32, 0),
-    (33, 1),
-    (34, 2),
-    (1000, 968),
+/// So many looks of a wait with so many turns, while the bell rings before each; then how many milliseconds they took.
+static RINGING: [(u64, u64, u64); 12] = [
+    (1, 1, 1),
+    (7, 1, 1),
+    (8, 1, 0),
+    (8, 2, 2),
+    (8, 8, 8),
+    (5_000, 1, 0),
+    (5_000, 16, 0),
+    (5_000, 17, 1),
+    (5_000, 1_016, 1_000),
+    (5_000, 4_900, 4_888),
+    (5_000, 5_000, 5_000),
+    (1_000_000, 100_000, 99_984),
 ];
 
-/// How often and for how many microseconds a new pause sleeps in so many turns. None if it expires.
-fn slept_in(rt: &impl Wait, turns: u64) -> Option<(u64, u64)> {
-    let clock = Counting {
-        sleeps: AtomicU64::new(0),
-        microseconds: AtomicU64::new(0),
-    };
-    let mut pause = Backoff::new(&clock);
-    for _ in 0..turns {
-        if pause.pause(rt) != Go::Again {
+/// How many milliseconds the first looks of a wait with so many turns take, while the bell rings before each. None if it
+/// expires.
+fn time_of_looks(rt: &impl Wait, turns: u64, looks: u64, broken: bool) -> Option<u64> {
+    let clock = Slept::new(broken);
+    let bell = Bell::new();
+    let mut pause = Patience::new(&clock);
+    for look in 0..looks {
+        let left = turns.saturating_sub(look);
+        if pause.pause_at(rt, &bell, 1, left) != Go::Again {
             return None;
         }
     }
-    Some((
-        clock.sleeps.load(Ordering::SeqCst),
-        clock.microseconds.load(Ordering::SeqCst),
-    ))
+    Some(clock.microseconds() / 1000)
 }
 
-/// How many turns the first row has that goes otherwise.
-fn turns_unlike(rt: &impl Wait) -> Option<u64> {
-    for (turns, sleeps) in SLEPT.iter() {
-        if slept_in(rt, *turns) != Some((*sleeps, sleeps.wrapping_mul(1000))) {
-            return Some(*turns);
+/// The first row that goes otherwise, with the time that it takes.
+fn row_unlike(rt: &impl Wait) -> Option<((u64, u64, u64), Option<u64>)> {
+    for (turns, looks, milliseconds) in RINGING.iter() {
+        let took = time_of_looks(rt, *turns, *looks, false);
+        if took != Some(*milliseconds) {
+            return Some(((*turns, *looks, *milliseconds), took));
         }
     }
     None
 }
 
+/// Whether a wait of 50 turns goes on at its first look, then so many microseconds later, and then so many more.
+fn goes_on_at(rt: &impl Wait, first: u64, second: u64) -> (bool, bool, bool) {
+    let clock = Slept::new(false);
+    let bell = Bell::new();
+    let mut pause = Patience::new(&clock);
+    let at_once = pause.pause_at(rt, &bell, 1, 50) == Go::Again;
+    clock.pass(first);
+    let later = pause.pause_at(rt, &bell, 1, 49) == Go::Again;
+    clock.pass(second);
+    let last = pause.pause_at(rt, &bell, 1, 48) == Go::Again;
+    (at_once, later, last)
+}
+
 #[test]
-fn a_backoff_sleeps_a_millisecond_after_its_brief_turns(rt: HostRuntime) {
-    assert_eq!(rt; turns_unlike(&rt), None);
+fn looks_are_a_turn_apart_if_the_bell_rings_all_the_time(rt: HostRuntime) {
+    assert_eq!(rt; row_unlike(&rt), None);
+}
+
+#[test]
+fn a_wait_has_a_millisecond_for_each_turn(rt: HostRuntime) {
+    assert_eq!(rt; goes_on_at(&rt, 49_999, 0), (true, true, true));
+    assert_eq!(rt; goes_on_at(&rt, 50_001, 0), (true, false, false));
+    assert_eq!(rt; goes_on_at(&rt, 49_000, 1_001), (true, true, false));
+}
+
+#[test]
+fn a_pause_without_a_clock_sleeps_a_turn(rt: HostRuntime) {
+    assert_eq!(rt; time_of_looks(&rt, 5_000, 7, true), Some(7));
 }

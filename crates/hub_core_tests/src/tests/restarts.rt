@@ -4,7 +4,7 @@ use crate::tests::passes::{Sender, Shared, new_sender, open};
 use crate::tests::waits::open_post;
 use hub_letters::{Letter, Want};
 use hub_record::{Kind, PubError};
-use hub_wait::{Backoff, Span, Verdict, svwait};
+use hub_wait::{Patience, Span, Verdict, svwait};
 use std::process::Abort;
 use std::rt::Clock;
 use std::sync::{Arc, Wait};
@@ -46,7 +46,7 @@ fn waits_beside<R: Abort + Threads + Wait + Clock + Sync + Copy>(
     number: u64,
 ) -> (Verdict, u64) {
     let mut posts = [open_post(rt, fifodir, Want::RestartedReady, true)];
-    let mut pause = Backoff::new(*rt);
+    let mut pause = Patience::new(*rt);
     let (_reported, verdict) = thread::join_mut(
         rt,
         &mut || -> Result<u64, PubError> { restart(rt, supervisor, number) },

@@ -2,7 +2,7 @@ use crate::tests::fixtures::{none_is_unlike, word};
 use crate::tests::passes::{Sender, Shared, new_sender, open, open_with};
 use hub_letters::{Letter, Want};
 use hub_record::{Kind, Policy, PubError};
-use hub_wait::{Backoff, Go, Pause, Post, Span, Verdict, svlisten, svwait};
+use hub_wait::{Go, Patience, Pause, Post, Span, Verdict, svlisten, svwait};
 use std::alloc::Global;
 use std::process::Abort;
 use std::rt::Clock;
@@ -183,10 +183,9 @@ fn first_unlike<R: Abort + Wait>(rt: &R, alloc: Global) -> Result<Option<&'stati
     Ok(None)
 }
 
-fn waits_for_no_service<R: Wait + Clock>(rt: &R, pause: &mut Backoff<R>) -> bool {
+fn waits_for_no_service<R: Wait + Clock>(rt: &R, pause: &mut Patience<R>) -> bool {
     svwait(rt, &mut [], Span::All, 3, pause) == Verdict::Yes
         && svwait(rt, &mut [], Span::Any, 3, pause) == Verdict::Never
-        && pause.turns == 0
 }
 
 /// A pause that sends its messages, so many of them at each call.
@@ -323,7 +322,7 @@ fn act_is_heard<R: Abort + Wait + Clock + Copy>(
     let up = word(alloc, "u")?;
     let (fifodir, mut supervisor) = start_service(rt, alloc, "s")?;
     let mut posts = [open_post(rt, fifodir, Want::Up, true)];
-    let mut pause = Backoff::new(*rt);
+    let mut pause = Patience::new(*rt);
     let (acted, verdict) = svlisten(rt, &mut posts, Span::All, turns, &mut pause, |_posts| {
         supervisor.send(rt, &up)
     });
@@ -347,7 +346,7 @@ fn room_comes_with_a_wait<R: Abort + Wait + Clock + Copy>(
     let fifodir = open(alloc, Kind::Plain, (2, 100, 10))?;
     let mut supervisor = new_sender(rt, &fifodir);
     let mut posts = [open_post(rt, fifodir, Want::Up, false)];
-    let mut pause = Backoff::new(*rt);
+    let mut pause = Patience::new(*rt);
     let was_full = sends_one_of_two(rt, &mut supervisor, &two, 0);
     let verdict = svwait(rt, &mut posts, Span::Any, 40, &mut pause);
     let is_full = sends_one_of_two(rt, &mut supervisor, &two, 2);
@@ -355,7 +354,7 @@ fn room_comes_with_a_wait<R: Abort + Wait + Clock + Copy>(
     post.end(rt);
     let is_sent = supervisor.send(rt, &two) == Ok(4);
     supervisor.leave(rt);
-    Ok(was_full && verdict == Verdict::Late && pause.turns == 32 && is_full && is_sent)
+    Ok(was_full && verdict == Verdict::Late && is_full && is_sent)
 }
 
 #[test]
@@ -379,9 +378,9 @@ fn waits_for_a_restart(rt: HostRuntime) -> Result<(), Fail> {
 }
 
 #[test]
-fn waits_with_a_backoff(rt: HostRuntime) -> Result<(), Fail> {
+fn waits_by_the_clock(rt: HostRuntime) -> Result<(), Fail> {
     assert!(rt;
-        waits_for_no_service(&rt, &mut Backoff::new(rt)),
+        waits_for_no_service(&rt, &mut Patience::new(rt)),
         "a wait for no service"
     );
     let heard = act_is_heard(&rt, rt.alloc(), 1, (Verdict::Yes, 2))?;

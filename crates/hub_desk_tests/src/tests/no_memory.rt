@@ -1,5 +1,5 @@
-//! The end of a desk, what lends the parts of a request, and a shared desk's `take` and `poll` where nothing waits take no
-//! memory. It is counted by `tests/no-memory`, which runs this program over a `malloc` that counts (`tests/count.c`): it
+//! The end of a desk, an `await`, what lends the parts of a request, and a shared desk's `take` and `poll` where nothing waits
+//! take no memory. It is counted by `tests/no-memory`, which runs this program over a `malloc` that counts (`tests/count.c`): it
 //! counts between two marks.
 use crate::tests::desks::{alone, new_local};
 use crate::tests::rows::{name_of, run};
@@ -35,6 +35,18 @@ fn nothing_waits<H: Wait, D: Desk>(rt: &H, desk: &mut D) -> bool {
     );
     mark();
     matches!(replies, (Reply::Nothing, Reply::Nothing))
+}
+
+/// Whether a subscription with events is told so, and one without and a listener without too.
+fn awaits<H: Wait, D: Desk>(rt: &H, desk: &mut D) -> bool {
+    mark();
+    let replies = (
+        desk.ask(rt, &Request::Await { id: 1, turns: 0 }),
+        desk.ask(rt, &Request::Await { id: 2, turns: 0 }),
+        desk.ask(rt, &Request::Await { id: 3, turns: 0 }),
+    );
+    mark();
+    matches!(replies, (Reply::Done, Reply::Late, Reply::Late))
 }
 
 fn end<H: Wait, D: Desk>(rt: &H, desk: &mut D) {
@@ -74,12 +86,15 @@ fn these_calls_take_no_memory(rt: HostRuntime) -> Result<(), Fail> {
     assert!(rt; parts_are_lent(rt.alloc(), name)?);
     let mut local = new_local(&rt);
     run(&rt, &mut local, HOLDS);
+    assert!(rt; awaits(&rt, &mut local), "awaits of a local desk");
     end(&rt, &mut local);
     let mut shared = alone(&rt);
     run(&rt, &mut shared, HOLDS);
     let nothing_waits = nothing_waits(&rt, &mut shared);
+    let awaits = awaits(&rt, &mut shared);
     end(&rt, &mut shared);
     shared.release(&rt);
     assert!(rt; nothing_waits, "nothing waits");
+    assert!(rt; awaits, "awaits of a shared desk");
     Ok(())
 }

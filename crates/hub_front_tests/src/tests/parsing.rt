@@ -14,7 +14,7 @@ fn read(alloc: Global, line: &[u8]) -> Result<Request, Bad> {
 }
 
 /// Lines, and the requests that they spell, in words.
-static GOOD: [(&str, &str); 29] = [
+static GOOD: [(&str, &str); 32] = [
     (
         "dir web 64 1000",
         "make web: 64 may wait, 1000 in all, evicts false",
@@ -68,6 +68,15 @@ static GOOD: [(&str, &str); 29] = [
     ),
     ("poll 1", "look after 1"),
     ("poll 9999999999999", "look after 9999999999999"),
+    ("await 1 0", "for 0 turns, until something comes for 1"),
+    (
+        "await 0 1000000",
+        "for 1000000 turns, until something comes for 0",
+    ),
+    (
+        "await 9999999999999 5000",
+        "for 5000 turns, until something comes for 9999999999999",
+    ),
     (
         "wait all up 0 web web",
         "for 0 turns, until up is each of web web",
@@ -116,7 +125,7 @@ fn good_lines_spell_requests(rt: HostRuntime) {
 }
 
 /// Lines, and the first rule that each breaks.
-static BAD: [(&str, Bad); 85] = [
+static BAD: [(&str, Bad); 101] = [
     ("dir web 0 10", Bad::Range),
     ("dir web 4097 10", Bad::Range),
     ("dir web 04 10", Bad::Form),
@@ -188,6 +197,23 @@ static BAD: [(&str, Bad); 85] = [
     ("poll", Bad::Form),
     ("poll 1 1", Bad::Form),
     ("poll 10000000000000", Bad::Form),
+    // Sleeping for a handle.
+    ("await", Bad::Form),
+    ("await ", Bad::Form),
+    ("await 1", Bad::Form),
+    ("await 1 ", Bad::Form),
+    ("await 1 2 3", Bad::Form),
+    ("await 1  2", Bad::Form),
+    ("await 1 02", Bad::Form),
+    ("await 01 2", Bad::Form),
+    ("await web 2", Bad::Form),
+    ("await 10000000000000 2", Bad::Form),
+    ("await 1 10000000000000", Bad::Form),
+    ("await 1000001 0 ", Bad::Form),
+    ("await 1 1000001", Bad::Range),
+    ("await 9999999999999 9999999999999", Bad::Range),
+    ("awaits 1 2", Bad::Word),
+    ("awai 1 2", Bad::Word),
     // Waits.
     ("wait all up 0", Bad::Form),
     ("wait all up 0 ", Bad::Form),

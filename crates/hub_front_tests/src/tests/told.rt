@@ -55,6 +55,9 @@ pub fn words_of(alloc: Global, request: &Request) -> Result<String, AllocError> 
             format!(in alloc; "listen to {name} {again}, for [{pattern}]")
         }
         Request::Poll { id } => format!(in alloc; "look after {id}"),
+        Request::Await { id, turns } => {
+            format!(in alloc; "for {turns} turns, until something comes for {id}")
+        }
         Request::Wait {
             span,
             want,

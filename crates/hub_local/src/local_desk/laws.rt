@@ -1,4 +1,5 @@
 //! Laws of a desk: each is the contract of a function that does nothing.
+ghost use Rattle.hub_local.specs.AwaitLaws.{AwaitsTellPolls, AwaitsTellTakes};
 ghost use Rattle.hub_local.specs.Replies.{PublishIsOf, SubscribeIsOf};
 ghost use Rattle.hub_local.specs.Standing.{RunsAnswer};
 ghost use Rattle.hub_local.specs.Waits.{WaitsUseIds};
@@ -15,6 +16,12 @@ impl LocalDesk {
     pub fn asks_the_record()
         ensures subscribe { SubscribeIsOf }
         ensures publish { PublishIsOf }
+    {}
+
+    /// If an await is late, a take or a poll answers `none`; and if a take answers `none`, an await is late.
+    pub fn awaits_tell_what_comes()
+        ensures takes { AwaitsTellTakes }
+        ensures polls { AwaitsTellPolls }
     {}
 
     /// Whatever a wait answers, it leaves each fifodir as it was, except for ids that are used.

@@ -7,7 +7,7 @@ use hub_fakes::Dripping;
 use hub_io::{FrontError, Sink, Source};
 use hub_server::{Gate, Report};
 use hub_shared::Hub;
-use hub_wait::Backoff;
+use hub_wait::Patience;
 use std::alloc::{AllocError, Global};
 use std::io::{ErrorKind, Write};
 use std::rt::Clock;
@@ -31,7 +31,7 @@ where
     G: Gate<R, W>,
 {
     let hub = Arc::new(alloc, Hub::new(alloc)?)?;
-    let report = serve_all(rt, alloc, hub, gate, sessions, Backoff::new(*rt))?;
+    let report = serve_all(rt, alloc, hub, gate, sessions, Patience::new(*rt))?;
     Ok(report)
 }
 

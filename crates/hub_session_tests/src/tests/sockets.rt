@@ -4,7 +4,7 @@ use crate::tests::gates::Door;
 use hub_commands::serve_all;
 use hub_server::Report;
 use hub_shared::Hub;
-use hub_wait::Backoff;
+use hub_wait::Patience;
 use std::alloc::Global;
 use std::fs::Files;
 use std::net::Net;
@@ -40,7 +40,7 @@ where
     H: Clock + Threads + Wait + Copy + Send + 'static,
 {
     let hub = Arc::new(alloc, Hub::new(alloc)?)?;
-    match serve_all(rt, alloc, hub, &mut door, sessions, Backoff::new(*rt)) {
+    match serve_all(rt, alloc, hub, &mut door, sessions, Patience::new(*rt)) {
         Ok(report) => Ok(report),
         Err(_) => Err(io::Error::from(io::ErrorKind::Other)),
     }

@@ -1,53 +1,38 @@
 //! A wait that ends if its client is gone.
 
+use hub_fifodir::Bell;
 use hub_wait::{Go, Pause};
 use std::io::{ErrorKind, Write};
 use std::os::unix::net::UnixStream;
 use std::sync::Wait;
 
-/// How many turns of a wait pass from one look at the client to the next. A turn takes about a millisecond.
-const TURNS: u32 = 256;
-
-/// A pause that has no more patience if the client is gone.
+/// A pause that has no more patience if the client is gone. It looks before each pause of its own.
 #[derive(Drop)]
 pub struct Watched<'a, P> {
     pause: P,
     client: Option<&'a UnixStream>,
-    /// How many turns pass before the next look.
-    left: u32,
 }
 
 impl<P> Watched<'_, P> {
     /// A pause that looks after the client, if there is one.
     pub fn new(pause: P, client: Option<&UnixStream>) -> Watched<'_, P> {
-        Watched {
-            pause,
-            client,
-            left: TURNS,
-        }
-    }
-
-    /// Whether this turn looks at the client and finds it gone.
-    fn finds_it_gone(&mut self) -> bool {
-        match self.left.checked_sub(1) {
-            Some(left) => {
-                self.left = left;
-                false
-            }
-            None => {
-                self.left = TURNS;
-                self.client.is_some_and(is_gone)
-            }
-        }
+        Watched { pause, client }
     }
 }
 
 impl<P: Pause> Pause for Watched<'_, P> {
     fn pause<R: Wait>(&mut self, rt: &R) -> Go {
-        if self.finds_it_gone() {
+        if self.client.is_some_and(is_gone) {
             return Go::Expired;
         }
         self.pause.pause(rt)
+    }
+
+    fn pause_at<R: Wait>(&mut self, rt: &R, bell: &Bell, heard: u64, left: u64) -> Go {
+        if self.client.is_some_and(is_gone) {
+            return Go::Expired;
+        }
+        self.pause.pause_at(rt, bell, heard, left)
     }
 }
 

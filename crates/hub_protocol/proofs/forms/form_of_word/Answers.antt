@@ -3,7 +3,7 @@ use Rattle.std.proofs.lemmas.Slice.Eq.{HasBytesAt, text_from_reads}
 use Rattle.hub_letters.specs.declared.mode.Mode.TheVariants.{Once}
 use Rattle.hub_letters.specs.declared.span.Span.TheVariants.{All}
 use Rattle.hub_letters.specs.declared.want.Want.TheVariants.{Up}
-use Rattle.hub_protocol.specs.Spelling.{Form, Dir, Svc, Sub, Pub, Take, Cancel, Close, Status, Listen, Poll, Wait, IsWord, word_of}
+use Rattle.hub_protocol.specs.Spelling.{Form, Dir, Svc, Sub, Pub, Take, Cancel, Close, Status, Listen, Poll, Await, Wait, IsWord, word_of}
 use Rattle.hub_protocol.specs.Forms.{Finds}
 use Rattle.hub_protocol.specs.declared.forms.BorrowedForm.{BorrowedForm}
 use Rattle.hub_protocol.proofs.forms.form_of_word.Goals as goal
@@ -44,6 +44,9 @@ returns-in-listen c = found_at c.args.word.now c.args.rest.now (Listen [] Once [
 
 pub returns-in-poll : goal.returns-in-poll
 returns-in-poll c = found_at c.args.word.now c.args.rest.now (Poll 0) c.map-in-poll.result (omega arith) (search rules) (search rules)
+
+pub returns-in-await : goal.returns-in-await
+returns-in-await c = found_at c.args.word.now c.args.rest.now (Await 0 0) c.map-in-await.result (omega arith) (search rules) (search rules)
 
 pub returns-in-wait : goal.returns-in-wait
 returns-in-wait c = found_at c.args.word.now c.args.rest.now (Wait All Up 0 []) c.wait.result (omega arith) (search rules) c.wait.ensures

@@ -1,4 +1,4 @@
-use Rattle.std.proofs.Common.{◌≡◌, MatchBool, nat_le, refl, sym, ap, ◌∙◌, arith, rules}
+use Rattle.std.proofs.Common.{◌≡◌, ◌≤◌, MatchBool, nat_le, refl, sym, ap, ◌∙◌, arith, rules}
 use Rattle.hub_requests.specs.Ranges.{IsTake, IsWait}
 use Rattle.hub_requests.specs.declared.bounds.TheConstants.{MOST_TAKEN, MOST_TURNS}
 use Rattle.hub_requests.specs.declared.request.Request.TheVariants as request
@@ -27,6 +27,12 @@ returns-then-max-ge1 c =
     let told : MatchBool (nat_le t.max MOST_TAKEN) (IsTake t.max) (IsTake t.max → ⊥) = search rules in
     within_by (request.Take t.id t.max) (form_shown c.args.form.now) (nat_le t.max MOST_TAKEN) (sym (ap form_shown t.is)) told
 
+pub returns-in-Await : goal.returns-in-Await
+returns-in-Await c =
+    let a = c.in-Await in
+    let told : MatchBool (nat_le a.turns MOST_TURNS) (a.turns ≤ MOST_TURNS) (a.turns ≤ MOST_TURNS → ⊥) = search rules in
+    within_by (request.Await a.id a.turns) (form_shown c.args.form.now) (nat_le a.turns MOST_TURNS) (sym (ap form_shown a.is)) told
+
 pub returns-in-Wait : goal.returns-in-Wait
 returns-in-Wait c =
     let w = c.in-Wait in
@@ -39,6 +45,7 @@ no_range : (c : goal.In_default) (form : BorrowedForm) → c.args.form.now ≡ f
 no_range c (borrowed.Dir name waiting total evict) e = absurd (c.in_default.not-Dir name waiting total evict e)
 no_range c (borrowed.Svc name waiting total reports evict) e = absurd (c.in_default.not-Svc name waiting total reports evict e)
 no_range c (borrowed.Take id max) e = absurd (c.in_default.not-Take id max e)
+no_range c (borrowed.Await id turns) e = absurd (c.in_default.not-Await id turns e)
 no_range c (borrowed.Wait span want turns names) e = absurd (c.in_default.not-Wait span want turns names e)
 no_range c (borrowed.Sub name) e = (request.Sub name.now, refl, tt)
 no_range c (borrowed.Pub name letters) e = (request.Pub name.now letters.now, refl, tt)

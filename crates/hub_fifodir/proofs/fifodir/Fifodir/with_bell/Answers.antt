@@ -4,7 +4,7 @@ use Rattle.hub_fifodir.specs.declared.locked.Locked.{Locked}
 use Rattle.hub_fifodir.specs.declared.views.Rules.{Rules}
 use Rattle.hub_fifodir.specs.Rule.{RuleHolds, visitor}
 use Rattle.hub_fifodir.proofs.Opening.{opens}
-use Rattle.hub_fifodir.proofs.fifodir.Fifodir.new.Goals as goal
+use Rattle.hub_fifodir.proofs.fifodir.Fifodir.with_bell.Goals as goal
 
 one_slot : (none slots : List (Option Locked)) (b : Locked) → none ≡ [] → slots ≡ none ++ Some b ∷ [] → slots ≡ Some b ∷ []
 one_slot none slots b e is = is ∙ ap (λ (l : List (Option Locked)). l ++ Some b ∷ []) e

@@ -1,0 +1,49 @@
+//! Waits for the next change of a fifodir, by a ticket.
+ghost use Rattle.std.specs.Prelude.{◌≡◌, MatchBool};
+ghost use Rattle.hub_fifodir.specs.Passes.{IsTicketOf, OnlyLooks, Remains, HasMore, IsQuiet, ticket_view};
+
+use crate::fifodir::Fifodir;
+use crate::pause::{Go, Pause};
+use crate::ticket::Ticket;
+use std::sync::Wait;
+
+impl Fifodir {
+    /// Looks at the front word, and tells whether a take has something to report: an event is pending, the ticket is
+    /// evicted, or the fifodir is closed.
+    pub fn has_more(&self, me: &mut Ticket) -> bool
+        requires { IsTicketOf self.now me.old }
+        ensures remains { Remains self.now (ticket_view me.old) (ticket_view me.new) }
+        ensures looks { OnlyLooks (ticket_view me.old) (ticket_view me.new) }
+        ensures more { MatchBool result (HasMore me.new) (IsQuiet me.new) }
+    {
+        let status = self.status(me);
+        status.closed || status.number != me.next()
+    }
+
+    /// Waits until a take has something to report. It gives up after so many turns, or if the pause has expired. Each look is
+    /// one load of the front word, the last one too, whose result it returns.
+    pub fn await_more<R: Wait, P: Pause>(
+        &self,
+        rt: &R,
+        me: &mut Ticket,
+        turns: u64,
+        pause: &mut P,
+    ) -> bool
+        requires { IsTicketOf self.now me.old }
+        ensures remains { Remains self.now (ticket_view me.old) (ticket_view me.new) }
+        ensures looks { OnlyLooks (ticket_view me.old) (ticket_view me.new) }
+        ensures more { MatchBool result (HasMore me.new) (IsQuiet me.new) }
+    {
+        let waiter = self.admit();
+        for turn in 0..turns {
+            let heard = self.bell().rings();
+            if self.has_more(me)
+                || pause.pause_at(rt, self.bell(), heard, turns - turn) == Go::Expired
+            {
+                break;
+            }
+        }
+        self.dismiss(waiter);
+        self.has_more(me)
+    }
+}

@@ -1,0 +1,107 @@
+//! How a fifodir wakes those who wait for it.
+
+use std::alloc::Global;
+use std::sync::atomic::{AtomicU64, Ordering};
+use std::sync::{Arc, Wait};
+use std::time::Duration;
+
+/// How many sleepers a ring wakes by itself.
+const FIRST_WOKEN: u64 = 4;
+
+/// Wakes those who sleep until a fifodir changes. Several fifodirs may share one, so that a wait for several sleeps until
+/// one of them changes.
+///
+/// A waiter reads [`Bell::rings`] first, then looks for what it waits for, and sleeps with the number that it read. If the bell
+/// rings between the look and the sleep, the number is another one, and the sleep ends at once.
+#[derive(Drop)]
+pub struct Bell {
+    /// How often it rang so far.
+    rings: AtomicU64,
+    /// How many threads may be asleep.
+    sleepers: AtomicU64,
+}
+
+impl Bell {
+    /// A bell that hasn't rung.
+    pub fn new() -> Bell {
+        Bell {
+            rings: AtomicU64::new(0),
+            sleepers: AtomicU64::new(0),
+        }
+    }
+
+    /// How often it rang so far.
+    pub fn rings(&self) -> u64 {
+        self.rings.load(Ordering::SeqCst)
+    }
+
+    /// Sleeps until it has rung once more than `heard` says, but for no longer than this. It may also return for no reason.
+    ///
+    /// Whoever hears a ring wakes the next sleeper. So the one who rings doesn't wake them all, and they wake on several
+    /// processors at once.
+    pub fn sleep<R: Wait>(&self, rt: &R, heard: u64, most: Duration) {
+        self.sleepers.fetch_add(1, Ordering::SeqCst);
+        self.rings
+            .park_timeout(rt, (heard & 0xffff_ffff) as u32, most);
+        let others = self.sleepers.fetch_sub(1, Ordering::SeqCst);
+        if others > 1 && self.rings() != heard {
+            self.rings.wake_one();
+        }
+    }
+
+    /// Wakes the first sleepers. It asks the kernel only if somebody may be asleep: a sleeper is counted before the kernel
+    /// compares the number that it read, and here the number goes up before the count is read.
+    pub(crate) fn ring(&self) {
+        self.rings.fetch_add(1, Ordering::SeqCst);
+        let sleepers = self.sleepers.load(Ordering::SeqCst);
+        for _ in 0..sleepers.min(FIRST_WOKEN) {
+            self.rings.wake_one();
+        }
+    }
+}
+
+/// Says that somebody waits for changes of a fifodir. While it is there, each change rings the fifodir's bell. If one were
+/// dropped, the bell would ring for nobody from then on. So it is neither `Copy` nor `Drop`, and only `Fifodir::dismiss`
+/// takes it.
+pub struct Waiter {
+    one: (),
+}
+
+/// How many wait for changes of one fifodir, and the bell that wakes them.
+#[derive(Drop)]
+pub(crate) struct Waiters {
+    count: AtomicU64,
+    bell: Arc<Bell, Global>,
+}
+
+impl Waiters {
+    /// None waits.
+    pub(crate) fn new(bell: Arc<Bell, Global>) -> Waiters {
+        Waiters {
+            count: AtomicU64::new(0),
+            bell,
+        }
+    }
+
+    pub(crate) fn bell(&self) -> &Bell {
+        &self.bell
+    }
+
+    pub(crate) fn admit(&self) -> Waiter {
+        self.count.fetch_add(1, Ordering::SeqCst);
+        Waiter { one: () }
+    }
+
+    pub(crate) fn dismiss(&self, waiter: Waiter) {
+        let Waiter { one: () } = waiter;
+        self.count.fetch_sub(1, Ordering::SeqCst);
+    }
+
+    /// Rings if somebody waits. The change comes before this, and a waiter is counted before it looks: either it sees the
+    /// change, or it is seen here.
+    pub(crate) fn tell(&self) {
+        if self.count.load(Ordering::SeqCst) > 0 {
+            self.bell.ring();
+        }
+    }
+}

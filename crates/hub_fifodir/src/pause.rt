@@ -1,0 +1,26 @@
+//! What a wait does between two looks.
+
+use crate::bell::Bell;
+use std::sync::Wait;
+
+/// Whether a wait goes on after a pause.
+#[derive(Clone, Copy, Debug, PartialEq, Eq, Hash)]
+pub enum Go {
+    /// It takes what has come meanwhile, and looks again.
+    Again,
+    /// It ends now, since its time is over.
+    Expired,
+}
+
+/// What a wait does between two looks.
+pub trait Pause {
+    /// Pauses, and says whether the wait goes on.
+    fn pause<R: Wait>(&mut self, rt: &R) -> Go;
+
+    /// The same for a wait that has so many turns left, over fifodirs that ring this bell. `heard` is how often it had rung
+    /// before the last look. So the pause may end as soon as the bell rings. A pause that doesn't listen needs no more than
+    /// `pause`.
+    fn pause_at<R: Wait>(&mut self, rt: &R, _bell: &Bell, _heard: u64, _left: u64) -> Go {
+        self.pause(rt)
+    }
+}
