@@ -2,6 +2,7 @@
  * all rounds and all who wait.
  *
  *     wake hub WAITERS ROUNDS PATH PROGRAM [WORD ..]      sessions in a `wait`, until they have its reply
+ *     wake await WAITERS ROUNDS PATH PROGRAM [WORD ..]    sessions in an `await`, until they have the reply of a `poll` after it
  *     wake redis WAITERS ROUNDS PATH PROGRAM [WORD ..]    subscribers of a channel, until they have the message
  *     wake call ROUNDS PATH PROGRAM [WORD ..]             a process `PROGRAM call PATH` in a `wait`, until it has ended
  *     wake ftrig ROUNDS FIFODIR                           a process `s6-ftrig-wait FIFODIR u`, until it has ended
@@ -22,24 +23,30 @@
 /* `SETTLED` microseconds after who waits has begun, the message is sent. */
 enum { MOST_WAITERS = 63, MOST_ROUNDS = 1000, SETTLED = 50000 };
 
-/* What is sent to a server: by who waits, once and in each round; by who publishes, before all, in each round, and after it.
- * An empty line isn't sent. */
+/* What is sent to a server: by who waits, once, in each round, and when the event has come; by who publishes, before all, in
+ * each round, and after it. An empty line isn't sent. */
 struct talk {
-    const char *once, *wait;
+    const char *once, *wait, *then;
     const char *setup[2], *event, *back;
-    const char *end_of_event;
+    const char *end_of_once, *end_of_event;
 };
 
 static const struct talk HUB = {
-    "", "wait all up 1000000 db\n",
+    "", "wait all up 1000000 db\n", "",
     { "svc db 4096 1000000000000 0\n", "pub db s\n" }, "pub db u\n", "pub db dD\n",
-    "\n",
+    "\n", "\n",
+};
+
+static const struct talk AWAIT = {
+    "listen db repeat u\n", "await 1 1000000\n", "poll 1\n",
+    { "dir db 4096 1000000000000\n", "" }, "pub db u\n", "",
+    "ok 1\n", "ok\n",
 };
 
 static const struct talk REDIS = {
-    "*2\r\n$9\r\nSUBSCRIBE\r\n$3\r\nhub\r\n", "",
+    "*2\r\n$9\r\nSUBSCRIBE\r\n$3\r\nhub\r\n", "", "",
     { "", "" }, "*3\r\n$7\r\nPUBLISH\r\n$3\r\nhub\r\n$1\r\na\r\n", "",
-    "\r\na\r\n",
+    ":1\r\n", "\r\na\r\n",
 };
 
 struct waiter {
@@ -101,12 +108,13 @@ static void *run_waiter(void *of)
     struct waiter *waiter = of;
     if (*waiter->talk->once != '\0') {
         send_text(waiter->stream, waiter->talk->once);
-        read_until(waiter->stream, ":1\r\n");
+        read_until(waiter->stream, waiter->talk->end_of_once);
     }
     for (long round = 0; round < waiter->rounds; round++) {
         pthread_barrier_wait(waiter->turn);
         send_text(waiter->stream, waiter->talk->wait);
         read_until(waiter->stream, waiter->talk->end_of_event);
+        send_line(waiter->stream, waiter->talk->then);
         waiter->came[round] = now();
         pthread_barrier_wait(waiter->turn);
     }
@@ -226,7 +234,7 @@ static void wake_listeners(long rounds, char *fifodir)
 
 int main(int count, char **words)
 {
-    static const char usage[] = "usage: wake hub|redis WAITERS ROUNDS PATH PROGRAM .. | wake call ROUNDS PATH PROGRAM .. | "
+    static const char usage[] = "usage: wake hub|await|redis WAITERS ROUNDS PATH PROGRAM .. | wake call ROUNDS PATH PROGRAM .. | "
                                 "wake ftrig ROUNDS FIFODIR";
     begin_program(count, 4, usage);
     signal(SIGPIPE, SIG_IGN);
@@ -235,7 +243,9 @@ int main(int count, char **words)
     } else if (count > 4 && strcmp(words[1], "call") == 0 && number_of(words[2]) <= MOST_ROUNDS) {
         wake_calls(number_of(words[2]), words[3], words + 4);
     } else if (count > 5 && number_of(words[2]) <= MOST_WAITERS && number_of(words[3]) <= MOST_ROUNDS) {
-        const struct talk *talk = strcmp(words[1], "hub") == 0 ? &HUB : strcmp(words[1], "redis") == 0 ? &REDIS : NULL;
+        const struct talk *talk = strcmp(words[1], "hub") == 0 ? &HUB
+            : strcmp(words[1], "await") == 0 ? &AWAIT
+            : strcmp(words[1], "redis") == 0 ? &REDIS : NULL;
         if (talk == NULL)
             die(usage);
         wake_sessions(talk, (int)number_of(words[2]), number_of(words[3]), words[4], words + 5);

@@ -114,6 +114,11 @@ impl Fifodir {
         letters
     }
 
+    /// Whether an event is behind a cursor.
+    pub fn has_pending(&self, id: u64) -> bool {
+        self.cursors.get(&id).is_some_and(|next| *next < self.number())
+    }
+
     pub fn is_evicted(&self, id: u64) -> bool {
         self.evicted.contains(&id)
     }

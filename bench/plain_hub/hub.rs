@@ -63,6 +63,7 @@ impl Hub {
             }
             Request::Listen { name, once, pattern } => self.subscribe(name, Some((once, pattern))),
             Request::Poll { id } => self.poll(id),
+            Request::Await { id } => self.has_something(id),
             Request::Wait { all, want, names } => self.wait(all, want, &names),
         }
     }
@@ -139,6 +140,14 @@ impl Hub {
             }
         }
         Ok(Reply::Nothing)
+    }
+
+    /// One client has nobody to wait for here either. No listener holds a letter.
+    fn has_something(&self, id: u64) -> Result<Reply, Refusal> {
+        let handle = self.handles.get(&id).ok_or(Refusal::Word("id"))?;
+        let fifodir = self.fifodirs.get(&handle.name).ok_or(Refusal::Word("name"))?;
+        let comes = fifodir.closed || fifodir.is_evicted(handle.id) || fifodir.has_pending(handle.id);
+        Ok(if comes { Reply::Done } else { Reply::Late })
     }
 
     /// One client has nobody to wait for, so the answer is that of the services as they stand.

@@ -13,6 +13,7 @@ pub enum Request<'a> {
     Status { name: &'a str },
     Listen { name: &'a str, once: bool, pattern: &'a str },
     Poll { id: u64 },
+    Await { id: u64 },
     Wait { all: bool, want: Want, names: Vec<&'a str> },
 }
 
@@ -32,8 +33,9 @@ pub enum Want {
 }
 
 const MOST_EVENTS: u64 = 1_000_000_000_000;
-const WORDS: [&str; 11] =
-    ["dir", "svc", "sub", "pub", "take", "cancel", "close", "status", "listen", "poll", "wait"];
+const WORDS: [&str; 12] = [
+    "dir", "svc", "sub", "pub", "take", "cancel", "close", "status", "listen", "poll", "await", "wait",
+];
 
 /// The request that a line spells.
 pub fn parse(line: &[u8]) -> Result<Request<'_>, Refusal> {
@@ -67,6 +69,11 @@ pub fn parse(line: &[u8]) -> Result<Request<'_>, Refusal> {
         ("close", [n]) => Ok(Request::Close { name: name(n)? }),
         ("status", [n]) => Ok(Request::Status { name: name(n)? }),
         ("poll", [id]) => Ok(Request::Poll { id: numeral(id)? }),
+        ("await", [id, turns]) => {
+            let (id, turns) = (numeral(id)?, numeral(turns)?);
+            within(turns, 0..=1_000_000)?;
+            Ok(Request::Await { id })
+        }
         ("wait", [span, want, turns, names @ ..]) => wait(span, want, turns, names),
         _ => Err(Refusal::Word("form")),
     }
