@@ -92,11 +92,11 @@ impl Post {
         self.heard
     }
 
-    /// Takes what came meanwhile: slices of [`SLICE`] events, until one isn't whole or [`SLICES`] were taken. If nothing
-    /// came, it only looks at the front word, and takes no lock. If the
-    /// subscription is evicted, the watch goes on from the status: what it missed lies between two of its numbers, and a
-    /// fall that it missed doesn't count.
-    pub fn catch_up<R: Wait>(&mut self, rt: &R)
+    /// Takes what came meanwhile: slices of [`SLICE`] events, until one isn't whole or [`SLICES`] were taken. Each slice is put
+    /// into `room`, and what it held before doesn't matter. If nothing came, it only looks at the front word, and takes no
+    /// lock. If the subscription is evicted, the watch goes on from the status: what it missed lies between two of its numbers,
+    /// and a fall that it missed doesn't count.
+    pub fn catch_up<R: Wait>(&mut self, rt: &R, room: &mut [Event; SLICE])
         ensures kept { IsKept self.old self.new }
         ensures caught_up { HasCaughtUp self.old self.new }
     {
@@ -105,7 +105,7 @@ impl Post {
             if !self.look() {
                 return;
             }
-            if !self.take_slice(rt) {
+            if !self.take_slice(rt, room) {
                 return;
             }
         }
@@ -127,15 +127,14 @@ impl Post {
     }
 
     /// Takes a slice of events, and tells whether it was whole.
-    fn take_slice<R: Wait>(&mut self, rt: &R) -> bool
+    fn take_slice<R: Wait>(&mut self, rt: &R, room: &mut [Event; SLICE]) -> bool
         ensures kept { IsKept self.old self.new }
         ensures took { HasTakenSlice self.old result self.new }
     {
-        let mut events = [Event::FILLER; SLICE];
         let first = self.ticket.next();
-        match self.fifodir.take_into(rt, &mut self.ticket, &mut events) {
+        match self.fifodir.take_into(rt, &mut self.ticket, room) {
             Taken::Got(count) => {
-                step_by_events(&mut self.watch, first, &events[..count]);
+                step_by_events(&mut self.watch, first, &room[..count]);
                 count == SLICE
             }
             Taken::Nothing => false,

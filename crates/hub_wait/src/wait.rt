@@ -4,7 +4,8 @@ ghost use Rattle.std.specs.Fn.{FnOnceReturnsAt};
 ghost use Rattle.hub_wait.specs.Verdicts.{verdict};
 ghost use Rattle.hub_wait.specs.Waits.{AreCaughtUp, AreKept, HaveCaughtUp, IsAnswer, watches_of};
 
-use crate::{Go, Pause, Post, Span, Tally, Verdict};
+use crate::{Go, Pause, Post, SLICE, Span, Tally, Verdict};
+use hub_record::Event;
 use std::sync::Wait;
 
 /// Waits for the services of the posts, as `s6-svwait` does. In each turn it pauses, and then each post takes what has
@@ -22,6 +23,7 @@ pub fn svwait<R: Wait, P: Pause>(
     ensures caught_up { AreCaughtUp posts.old posts.new }
     ensures still { turns ≡ 0 → posts.new ≡ posts.old }
 {
+    let mut room = [Event::FILLER; SLICE];
     for turn in 0..turns {
         if let Some(verdict) = look(span, posts) {
             return verdict;
@@ -29,7 +31,7 @@ pub fn svwait<R: Wait, P: Pause>(
         if pause_at(rt, posts, turns - turn, pause) == Go::Expired {
             return Verdict::Late;
         }
-        catch_up_all(rt, posts);
+        catch_up_all(rt, posts, &mut room);
     }
     look(span, posts).unwrap_or(Verdict::Late)
 }
@@ -76,11 +78,11 @@ fn pause_at<R: Wait, P: Pause>(rt: &R, posts: &[Post], left: u64, pause: &mut P)
     }
 }
 
-fn catch_up_all<R: Wait>(rt: &R, posts: &mut [Post])
+fn catch_up_all<R: Wait>(rt: &R, posts: &mut [Post], room: &mut [Event; SLICE])
     ensures kept { AreKept posts.old posts.new }
     ensures caught_up { HaveCaughtUp posts.old posts.new }
 {
     for i in 0..posts.len() {
-        posts[i].catch_up(rt);
+        posts[i].catch_up(rt, room);
     }
 }

@@ -11,7 +11,7 @@ use hub_listen::{Feed, Listener, Mode};
 use hub_record::{
     Closed, Event, Kind, Letters, Limits, NoId, Policy, PubError, Record, Status, SubError, Taken,
 };
-use hub_wait::{Span, Tally, Verdict, Watch, svlisten, svwait};
+use hub_wait::{SLICE, Span, Tally, Verdict, Watch, svlisten, svwait};
 use std::alloc::Global;
 use std::process::Abort;
 use std::sync::Wait;
@@ -305,7 +305,7 @@ fn posts_are_used<R: Abort + Wait>(
     let verdict = svwait(rt, &mut posts, Span::All, 1, &mut pause);
     let seen = (posts[0].watch().at(), posts[0].mark());
     let [mut post] = posts;
-    post.catch_up(rt);
+    post.catch_up(rt, &mut [Event::FILLER; SLICE]);
     post.end(rt);
     mark();
     let calls = pause.end(rt);

@@ -3,8 +3,8 @@ use crate::tests::fixtures::{run_of, word};
 use crate::tests::passes::{Shared, new_sender, open};
 use crate::tests::waits::{Deed, Doing, open_post};
 use hub_letters::{Letter, Want};
-use hub_record::{Kind, SubError};
-use hub_wait::{Post, Span, Verdict, svwait};
+use hub_record::{Event, Kind, SubError};
+use hub_wait::{Post, SLICE, Span, Verdict, svwait};
 use std::alloc::{AllocError, Global};
 use std::process::Abort;
 use std::sync::{Arc, Wait};
@@ -71,7 +71,7 @@ fn uses_one_id<R: Abort + Wait>(rt: &R, alloc: Global) -> Result<bool, Fail> {
     let shared = Arc::try_clone(&fifodir)?;
     let mut supervisor = new_sender(rt, &fifodir);
     let mut post = open_post(rt, shared, Want::Up, true);
-    post.catch_up(rt);
+    post.catch_up(rt, &mut [Event::FILLER; SLICE]);
     post.end(rt);
     let sent = supervisor.send(rt, &letters);
     supervisor.leave(rt);
@@ -105,7 +105,7 @@ fn catches_up<R: Abort + Wait>(rt: &R, alloc: Global, count: usize) -> Result<bo
     let began = supervisor.send(rt, &first);
     let mut post = open_post(rt, fifodir, Want::Up, true);
     let sent = supervisor.send(rt, &letters);
-    post.catch_up(rt);
+    post.catch_up(rt, &mut [Event::FILLER; SLICE]);
     let watch = *post.watch();
     let mark = post.mark();
     post.end(rt);
