@@ -4,6 +4,7 @@
  *
  *     ask pipe KIND PARTS PROGRAM [WORD ..]
  *     ask socket KIND CLIENTS DEPTH PARTS PATH PROGRAM [WORD ..]
+ *     ask beside KIND WAITS DEPTH PARTS PATH PROGRAM [WORD ..]    one client, while so many other sessions wait for a service
  */
 #define _GNU_SOURCE
 #include "common.h"
@@ -17,7 +18,7 @@
 #include <unistd.h>
 
 /* A part is so many requests: more of them if they are sent many at a time. */
-enum { MOST_CLIENTS = 64, PART = 1024, DEEP_PART = 16 * PART };
+enum { MOST_CLIENTS = 64, MOST_WAITS = 63, PART = 1024, DEEP_PART = 16 * PART };
 
 struct client {
     pthread_t thread;
@@ -85,15 +86,30 @@ static double time_of_part(const struct client *all, int clients)
     return ended - begun;
 }
 
-static void ask_over_socket(const char *kind, int clients, long depth, long parts, const char *path, char **program)
+/* Opens so many sessions, each of which waits for a service that never gets up. */
+static void begin_waits(int *streams, int waits, const char *path, pid_t child)
+{
+    static char service[] = "svc idle 64 1000 0\n", wait[] = "wait all up 1000000 idle\n";
+    char reply[LONGEST_REPLY];
+    for (int i = 0; i < waits; i++) {
+        streams[i] = connect_to(path, child);
+        if (i == 0)
+            request(streams[i], streams[i], (struct line){ service, sizeof service - 1 }, reply);
+        write_all(streams[i], wait, sizeof wait - 1);
+    }
+}
+
+static void ask_over_socket(const char *kind, int clients, int waits, long depth, long parts, const char *path, char **program)
 {
     static struct client all[MOST_CLIENTS];
+    int waiting[MOST_WAITS];
     pthread_barrier_t begin;
     double best = 0;
     int nothing = open("/dev/null", O_RDWR | O_CLOEXEC);
     if (clients == 1)
         stay_on_one_processor();
     pid_t child = start(program, nothing, nothing);
+    begin_waits(waiting, waits, path, child);
     pthread_barrier_init(&begin, NULL, (unsigned)clients + 1);
     for (int i = 0; i < clients; i++) {
         char fifodir[16];
@@ -109,6 +125,8 @@ static void ask_over_socket(const char *kind, int clients, long depth, long part
     }
     for (int i = 0; i < clients; i++)
         pthread_join(all[i].thread, NULL);
+    for (int i = 0; i < waits; i++)
+        close(waiting[i]);
     if (strcmp(kind, "redis") == 0)
         kill(child, SIGTERM);
     wait_for(child);
@@ -118,13 +136,16 @@ static void ask_over_socket(const char *kind, int clients, long depth, long part
 
 int main(int count, char **words)
 {
-    static const char usage[] = "usage: ask pipe KIND PARTS PROGRAM .. | ask socket KIND CLIENTS DEPTH PARTS PATH PROGRAM ..";
+    static const char usage[] = "usage: ask pipe KIND PARTS PROGRAM .. | ask socket KIND CLIENTS DEPTH PARTS PATH PROGRAM .. | "
+                                "ask beside KIND WAITS DEPTH PARTS PATH PROGRAM ..";
     begin_program(count, 5, usage);
     signal(SIGPIPE, SIG_IGN);
     if (strcmp(words[1], "pipe") == 0) {
         ask_over_pipes(words[2], number_of(words[3]), words + 4);
     } else if (count > 7 && strcmp(words[1], "socket") == 0 && number_of(words[3]) <= MOST_CLIENTS) {
-        ask_over_socket(words[2], (int)number_of(words[3]), number_of(words[4]), number_of(words[5]), words[6], words + 7);
+        ask_over_socket(words[2], (int)number_of(words[3]), 0, number_of(words[4]), number_of(words[5]), words[6], words + 7);
+    } else if (count > 7 && strcmp(words[1], "beside") == 0 && number_of(words[3]) <= MOST_WAITS) {
+        ask_over_socket(words[2], 1, (int)number_of(words[3]), number_of(words[4]), number_of(words[5]), words[6], words + 7);
     } else {
         die(usage);
     }

@@ -18,13 +18,13 @@ pub use hub_desk::{
     Desk, Found, Hub, HubError, LocalDesk, Name, Names, Numbers, PatternText, Refusal, Reply,
     Request, SharedDesk,
 };
-pub use hub_fifodir::{Fifodir, Pass, PassError, Publisher, Ticket};
+pub use hub_fifodir::{Bell, Fifodir, Pass, PassError, Publisher, Ticket, Waiter};
 pub use hub_front::{parse, serve, write_reply};
 pub use hub_io::{FrontError, Sink, Source};
 pub use hub_letters::{Flags, Letter, Mode, Span, Stage, Want};
 pub use hub_listen::{Feed, FeedError, ListenError, Listener};
 pub use hub_record::{
-    Closed, Event, Kind, Letters, Limits, NoId, PubError, Record, Status, SubError, Taken,
+    Closed, Event, Kind, Letters, Limits, NoId, Policy, PubError, Record, Status, SubError, Taken,
 };
 pub use hub_server::{Gate, Next, Report, ServeError};
 pub use hub_wait::{Go, Patience, Pause, Post, Tally, Verdict, Watch, receive, svlisten, svwait};

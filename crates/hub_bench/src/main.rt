@@ -1,13 +1,14 @@
 //! Measures the layers of the hub and plain forms of the same work, so that the ratios hold on any machine.
 //!
-//! `record` measures how many letters a second pass through a record, `fifodir` looks and publishing among threads, and
-//! `policies` what it costs that slow subscriptions are evicted. `echo` isn't a measure but a contender: a program built like
-//! the hub that only writes each line back.
+//! `record` measures how many letters a second pass through a record, `fifodir` looks and publishing among threads,
+//! `policies` what it costs that slow subscriptions are evicted, and `turns` how long a letter and its answer take between
+//! two threads. `echo` isn't a measure but a contender: a program built like the hub that only writes each line back.
 #![tactic(auto)]
 
 mod echo;
 mod policies;
 mod shared;
+mod turns;
 
 use anyhow::{Result, anyhow};
 use hub_letters::Letter;
@@ -53,7 +54,7 @@ fn main(rt: HostRuntime) -> ExitCode {
 }
 
 fn run<R: Read + Drop, W: Write>(
-    rt: &(impl Runtime + AllocGlobal + Wait + Threads + Sync + Send + 'static),
+    rt: &(impl Runtime + AllocGlobal + Wait + Threads + Copy + Sync + Send + 'static),
     alloc: Global,
     input: R,
     output: &mut W,
@@ -63,9 +64,10 @@ fn run<R: Read + Drop, W: Write>(
         Some("record") => measure_record(rt, alloc),
         Some("fifodir") => measure_fifodir(rt, alloc),
         Some("policies") => policies::measure(rt, alloc),
+        Some("turns") => turns::measure(rt, alloc),
         Some("echo") => echo::echo(alloc, input, output),
         _ => {
-            println!(rt; "usage: hub_bench record|fifodir|policies|echo")?;
+            println!(rt; "usage: hub_bench record|fifodir|policies|turns|echo")?;
             Ok(())
         }
     }
