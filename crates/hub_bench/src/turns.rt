@@ -9,7 +9,7 @@ use hub_letters::Letter;
 use hub_record::{Event, Kind, Policy, Taken};
 use hub_wait::{Patience, receive};
 use std::alloc::Global;
-use std::rt::Runtime;
+use std::rt::{Clock, Runtime};
 use std::sync::{Arc, Wait};
 use std::thread;
 use std::thread::Threads;
@@ -58,14 +58,14 @@ fn play<R: Runtime + Wait + Threads + Copy + Send + 'static>(
 }
 
 /// Says that it is there, and answers each letter.
-fn answer<R: Runtime + Wait + Copy>(rt: &R, told: Shared, heard: Shared) -> Result<()> {
+fn answer<R: Clock + Wait + Copy>(rt: &R, told: Shared, heard: Shared) -> Result<()> {
     let mut player = Player::open(rt, told, heard)?;
     let answered = answer_all(rt, &mut player);
     player.end(rt);
     answered
 }
 
-fn answer_all<R: Runtime + Wait + Copy>(rt: &R, player: &mut Player) -> Result<()> {
+fn answer_all<R: Clock + Wait + Copy>(rt: &R, player: &mut Player) -> Result<()> {
     player.tell(rt)?;
     for _ in 0..ROUNDS {
         player.hear(rt)?;
@@ -110,7 +110,7 @@ impl Player {
     }
 
     /// Sleeps until a letter comes, and takes it.
-    fn hear<R: Runtime + Wait + Copy>(&mut self, rt: &R) -> Result<()> {
+    fn hear<R: Clock + Wait + Copy>(&mut self, rt: &R) -> Result<()> {
         let mut pause = Patience::new(*rt);
         let mut out = [Event::FILLER];
         match receive(
