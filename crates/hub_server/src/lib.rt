@@ -10,6 +10,8 @@
 mod desks;
 mod door;
 mod gate;
+mod journal;
+mod lasting;
 mod promise;
 mod report;
 mod started;
@@ -18,5 +20,8 @@ mod together;
 pub use desks::Desks;
 pub use door::Door;
 pub use gate::{Gate, Next};
+pub use journal::Journal;
+pub use lasting::serve_on;
+pub use promise::Session;
 pub use report::{Report, ServeError};
 pub use together::{STACK_SIZE, serve_each};

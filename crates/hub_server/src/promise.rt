@@ -8,10 +8,10 @@ use std::thread::Promise;
 
 /// What a session began with.
 #[derive(Drop)]
-pub(crate) struct Session<R, W, O> {
-    pub(crate) desks: Snapshot<O>,
-    pub(crate) reader: Snapshot<R>,
-    pub(crate) writer: Snapshot<W>,
+pub struct Session<R, W, O> {
+    pub desks: Snapshot<O>,
+    pub reader: Snapshot<R>,
+    pub writer: Snapshot<W>,
 }
 
 impl<R: Source, W: Sink, O: Desks> Promise<Result<u64, FrontError>> for Session<R, W, O> {

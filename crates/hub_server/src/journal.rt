@@ -1,0 +1,28 @@
+//! What learns of sessions that end while others go on.
+
+use crate::desks::Desks;
+use crate::promise::Session;
+use hub_io::{FrontError, Sink, Source};
+use std::alloc::AllocError;
+use std::thread::Promise;
+
+/// Learns of sessions, each when it ends. The thread that serves them has a share of it.
+pub trait Journal {
+    /// A share for another thread.
+    fn share(&self) -> Result<Self, AllocError>;
+
+    /// A session begins. Returns its number.
+    fn begins(&mut self) -> u64;
+
+    /// The session with this number ended so. The result is one of serving exactly its reader and its writer.
+    fn ended<R: Source, W: Sink, O: Desks>(
+        &mut self,
+        number: u64,
+        session: &Session<R, W, O>,
+        ended: Result<u64, FrontError>,
+    )
+        requires { ⟦<Session<R, W, O> as Promise<Result<u64, FrontError>>>⟧.kept_by session.now ended };
+
+    /// The gate failed. It is asked again when this returns.
+    fn failed(&mut self);
+}
