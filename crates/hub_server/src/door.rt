@@ -1,12 +1,13 @@
-//! The gate of a listening Unix socket.
-ghost use Rattle.std.specs.Prelude.{◌≡◌, None};
+//! The gates of a listening Unix socket.
+ghost use Rattle.std.specs.Prelude.{◌≡◌, ◌≢◌, None};
 ghost use Rattle.hub_server.specs.declared.gate.Next.TheVariants.{Over};
 
 use crate::gate::{Gate, Next};
+use std::alloc::{AllocError, Global};
 use std::io;
 use std::io::ErrorKind;
 use std::os::unix::net::{UnixListener, UnixStream};
-use std::sync::Wait;
+use std::sync::{Arc, Wait};
 
 /// The gate of a listening socket: it accepts connections, each a session, until it is closed.
 #[derive(Drop)]
@@ -30,26 +31,65 @@ fn passes(fault: &io::Error) -> bool {
     )
 }
 
+// Waits for the next connection.
+fn wait_at<H: Wait>(rt: &H, listener: &UnixListener) -> Next<UnixStream, UnixStream>
+    ensures { result ≢ Over }
+{
+    for _ in rt.forever() {
+        match accept(listener) {
+            Ok((receive, send)) => return Next::Session(receive, send),
+            Err(fault) if passes(&fault) => {}
+            Err(_) => return Next::Failed,
+        }
+    }
+    unreachable!()
+}
+
 impl Gate<UnixStream, UnixStream> for Door {
     ghost gives = { λ old next new. (new ≡ old) × (next ≡ Over → old.listener ≡ None) };
 
     ghost closes = { λ _ new. new.listener ≡ None };
 
     fn next<H: Wait>(&mut self, rt: &H) -> Next<UnixStream, UnixStream> {
-        let Some(listener) = &self.listener else {
-            return Next::Over;
-        };
-        for _ in rt.forever() {
-            match accept(listener) {
-                Ok((receive, send)) => return Next::Session(receive, send),
-                Err(fault) if passes(&fault) => {}
-                Err(_) => return Next::Failed,
-            }
+        match &self.listener {
+            Some(listener) => wait_at(rt, listener),
+            None => Next::Over,
         }
-        unreachable!()
     }
 
     fn close(&mut self) {
         self.listener = None;
     }
+}
+
+/// The gate of a listening socket that several threads share. It is never over: closing it does nothing.
+#[derive(Drop)]
+pub struct SharedDoor {
+    listener: Arc<UnixListener, Global>,
+}
+
+impl SharedDoor {
+    /// A door at this socket.
+    pub fn new(alloc: Global, listener: UnixListener) -> Result<SharedDoor, AllocError> {
+        let listener = Arc::new(alloc, listener)?;
+        Ok(SharedDoor { listener })
+    }
+
+    /// The same door for another thread.
+    pub fn share(&self) -> Result<SharedDoor, AllocError> {
+        let listener = Arc::try_clone(&self.listener)?;
+        Ok(SharedDoor { listener })
+    }
+}
+
+impl Gate<UnixStream, UnixStream> for SharedDoor {
+    ghost gives = { λ old next new. (new ≡ old) × (next ≢ Over) };
+
+    ghost closes = { λ old new. new ≡ old };
+
+    fn next<H: Wait>(&mut self, rt: &H) -> Next<UnixStream, UnixStream> {
+        wait_at(rt, &self.listener)
+    }
+
+    fn close(&mut self) {}
 }

@@ -4,9 +4,10 @@ use crate::desks::Desks;
 use crate::promise::Session;
 use hub_io::{FrontError, Sink, Source};
 use std::alloc::AllocError;
+use std::sync::Wait;
 use std::thread::Promise;
 
-/// Learns of sessions, each when it ends. The thread that serves them has a share of it.
+/// Learns of sessions, each when it ends. Each thread that serves sessions has a share of it.
 pub trait Journal {
     /// A share for another thread.
     fn share(&self) -> Result<Self, AllocError>;
@@ -15,14 +16,15 @@ pub trait Journal {
     fn begins(&mut self) -> u64;
 
     /// The session with this number ended so. The result is one of serving exactly its reader and its writer.
-    fn ended<R: Source, W: Sink, O: Desks>(
+    fn ended<H: Wait, R: Source, W: Sink, O: Desks>(
         &mut self,
+        rt: &H,
         number: u64,
         session: &Session<R, W, O>,
         ended: Result<u64, FrontError>,
     )
         requires { ⟦<Session<R, W, O> as Promise<Result<u64, FrontError>>>⟧.kept_by session.now ended };
 
-    /// The gate failed. It is asked again when this returns.
-    fn failed(&mut self);
+    /// The gate failed. It is asked again when this returns, so it waits for a moment.
+    fn failed<H: Wait>(&mut self, rt: &H);
 }

@@ -1,33 +1,92 @@
 //! Sessions one after the other, without end.
 
 use crate::desks::Desks;
+use crate::door::SharedDoor;
 use crate::gate::{Gate, Next};
 use crate::journal::Journal;
 use crate::promise::Session;
+use crate::report::ServeError;
+use crate::together::STACK_SIZE;
 use hub_io::{Sink, Source};
 use std::alloc::Global;
+use std::os::unix::net::UnixStream;
 use std::snapshot::Snapshot;
 use std::sync::Wait;
+use std::thread::{Builder, JoinHandle, Threads};
+
+/// Starts so many threads, each of which serves one session of the door after the other, for as long as the program runs.
+/// Each session has a desk of its own, and the journal learns how it ended.
+///
+/// If a thread couldn't be started, those before it serve nevertheless.
+pub fn start_workers<H, O, J>(
+    rt: &H,
+    alloc: Global,
+    desks: &O,
+    door: &SharedDoor,
+    journal: &J,
+    count: u64,
+) -> Result<Vec<JoinHandle<()>>, ServeError>
+where
+    H: Threads + Wait + Copy + Send + 'static,
+    O: Desks + Send + Drop + 'static,
+    J: Journal + Send + Drop + 'static,
+{
+    let mut workers = Vec::new(alloc);
+    for _ in 0..count {
+        workers.reserve(1)?;
+        let (desks, door, journal) = (desks.share()?, door.share()?, journal.share()?);
+        let worker = start_worker(*rt, alloc, desks, door, journal).ok_or(ServeError::Spawn)?;
+        workers.push_reserved(worker);
+    }
+    Ok(workers)
+}
+
+fn start_worker<H, O, J>(
+    rt: H,
+    alloc: Global,
+    desks: O,
+    mut door: SharedDoor,
+    mut journal: J,
+) -> Option<JoinHandle<()>>
+where
+    H: Threads + Wait + Copy + Send + 'static,
+    O: Desks + Send + Drop + 'static,
+    J: Journal + Send + Drop + 'static,
+{
+    Builder::new()
+        .stack_size(STACK_SIZE)
+        .spawn(&rt, move || {
+            serve_on::<H, UnixStream, UnixStream, SharedDoor, O, J>(
+                &rt,
+                alloc,
+                &desks,
+                &mut door,
+                &mut journal,
+            )
+        })
+        .ok()
+}
 
 /// Serves the sessions of a gate, each after the one before it has ended, until the gate is over.
 pub fn serve_on<H, R, W, G, O, J>(rt: &H, alloc: Global, desks: &O, gate: &mut G, journal: &mut J)
 where
-    H: Wait + Copy + Drop,
+    H: Wait,
     R: Source + Drop,
     W: Sink + Drop,
     G: Gate<R, W>,
-    O: Desks + Drop,
+    O: Desks,
     J: Journal,
 {
     'sessions: for _ in rt.forever() {
         match gate.next(rt) {
             Next::Session(reader, writer) => serve_next(rt, alloc, desks, journal, reader, writer),
-            Next::Failed => journal.failed(),
+            Next::Failed => journal.failed(rt),
             Next::Over => break,
         }
     }
 }
 
+// Serves one session. Its reader and its writer are dropped here.
 fn serve_next<H, R, W, O, J>(
     rt: &H,
     alloc: Global,
@@ -35,11 +94,12 @@ fn serve_next<H, R, W, O, J>(
     journal: &mut J,
     mut reader: R,
     mut writer: W,
-) where
+)
+where
     H: Wait,
     R: Source + Drop,
     W: Sink + Drop,
-    O: Desks + Drop,
+    O: Desks,
     J: Journal,
 {
     let number = journal.begins();
@@ -48,6 +108,6 @@ fn serve_next<H, R, W, O, J>(
         reader: Snapshot::of(&reader),
         writer: Snapshot::of(&writer),
     };
-    let result = desks.serve(rt, alloc, &mut reader, &mut writer);
-    journal.ended(number, &session, result);
+    let ended = desks.serve(rt, alloc, &mut reader, &mut writer);
+    journal.ended(rt, number, &session, ended);
 }

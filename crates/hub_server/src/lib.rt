@@ -18,10 +18,10 @@ mod started;
 mod together;
 
 pub use desks::Desks;
-pub use door::Door;
+pub use door::{Door, SharedDoor};
 pub use gate::{Gate, Next};
 pub use journal::Journal;
-pub use lasting::serve_on;
+pub use lasting::{serve_on, start_workers};
 pub use promise::Session;
 pub use report::{Report, ServeError};
 pub use together::{STACK_SIZE, serve_each};
