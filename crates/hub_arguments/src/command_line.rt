@@ -7,7 +7,7 @@ use crate::help::{
     SERVE_LINES,
 };
 use clap::error::ErrorKind;
-use clap::{Arg, Command, Error, value_parser};
+use clap::{Arg, ArgAction, Command, Error, value_parser};
 use hub_io::FrontError;
 use std::alloc::{AllocError, AllocGlobal, Global};
 use std::rt::Runtime;
@@ -23,15 +23,37 @@ const SOCKET: &str = "socket";
 
 const SESSIONS: &str = "sessions";
 
+const FOREVER: &str = "forever";
+
+const READY: &str = "ready-fd";
+
+const MODE: &str = "mode";
+
+/// The modes that a socket may be given: those who may connect need the right to write.
+static MODES: [&str; 5] = ["0600", "0620", "0622", "0660", "0666"];
+
 /// What the program is to do.
 #[derive(Clone, Copy, Debug, PartialEq, Eq)]
 pub enum Plan<'a> {
     /// Serves standard input to standard output, as one local session.
     Script,
     /// Accepts this many connections at the socket (1 to 64), and serves each as a session.
-    Serve { socket: &'a str, sessions: u64 },
+    Serve {
+        socket: &'a str,
+        sessions: u64,
+    },
+    /// Serves sessions at the socket for as long as the program runs, at most so many at the same time (1 to 1024). Gives the
+    /// socket's file these permission bits, and writes a newline to this descriptor once it listens.
+    ServeForever {
+        socket: &'a str,
+        sessions: u64,
+        mode: Option<u32>,
+        ready: Option<u64>,
+    },
     /// Sends standard input to the server at the socket, and writes its replies to standard output.
-    Call { socket: &'a str },
+    Call {
+        socket: &'a str,
+    },
 }
 
 fn socket<'a>(alloc: Global) -> Arg<'a> {
@@ -41,13 +63,47 @@ fn socket<'a>(alloc: Global) -> Arg<'a> {
         .required(true)
 }
 
-fn sessions<'a>(alloc: Global) -> Arg<'a> {
-    Arg::new(alloc, SESSIONS)
-        .long("sessions")
-        .value_name("N")
-        .help("How many connections to accept, from 1 to 64")
-        .value_parser(value_parser!(u64).range(1..65))
-        .default_value("1")
+// With `--forever` there may be more sessions.
+fn sessions<'a>(alloc: Global, forever: bool) -> Arg<'a> {
+    let argument = Arg::new(alloc, SESSIONS).long("sessions").value_name("N");
+    if forever {
+        argument
+            .help("How many sessions there may be at the same time, from 1 to 1024")
+            .value_parser(value_parser!(u64).range(1..1025))
+            .default_value("64")
+    } else {
+        argument
+            .help("How many connections to accept, from 1 to 64")
+            .value_parser(value_parser!(u64).range(1..65))
+            .default_value("1")
+    }
+}
+
+fn forever<'a>(alloc: Global) -> Arg<'a> {
+    Arg::new(alloc, FOREVER)
+        .long(FOREVER)
+        .action(ArgAction::SetTrue)
+        .help(
+            "Serve for as long as the program runs, at most N (1 to 1024, or else 64) sessions at the same time",
+        )
+}
+
+fn ready<'a>(alloc: Global) -> Result<Arg<'a>, AllocError> {
+    Arg::new(alloc, READY)
+        .long(READY)
+        .value_name("D")
+        .help("With --forever: write a newline to descriptor D once the hub listens")
+        .value_parser(value_parser!(u64).range(0..65536))
+        .requires_arg(FOREVER)
+}
+
+fn mode<'a>(alloc: Global) -> Result<Arg<'a>, AllocError> {
+    Arg::new(alloc, MODE)
+        .long(MODE)
+        .value_name("MODE")
+        .help("With --forever: the mode of the socket's file")
+        .value_parser(MODES.as_slice())
+        .requires_arg(FOREVER)
 }
 
 fn script_command<'a>(alloc: Global) -> Command<'a> {
@@ -56,12 +112,15 @@ fn script_command<'a>(alloc: Global) -> Command<'a> {
         .after_help(SCRIPT_LINES)
 }
 
-fn serve_command<'a>(alloc: Global) -> Result<Command<'a>, AllocError> {
+fn serve_command<'a>(alloc: Global, is_forever: bool) -> Result<Command<'a>, AllocError> {
     Command::new(alloc, "serve")
         .about(SERVE_ABOUT)
         .after_help(SERVE_LINES)
         .arg(socket(alloc))?
-        .arg(sessions(alloc))
+        .arg(sessions(alloc, is_forever))?
+        .arg(forever(alloc))?
+        .arg(ready(alloc)?)?
+        .arg(mode(alloc)?)
 }
 
 fn call_command<'a>(alloc: Global) -> Result<Command<'a>, AllocError> {
@@ -81,18 +140,27 @@ fn program<'a>(alloc: Global) -> Command<'a> {
         .subcommand_required(true)
 }
 
-fn command<'a>(alloc: Global) -> Result<Command<'a>, AllocError> {
+fn command<'a>(alloc: Global, is_forever: bool) -> Result<Command<'a>, AllocError> {
     program(alloc)
         .subcommand(script_command(alloc))?
-        .subcommand(serve_command(alloc)?)?
+        .subcommand(serve_command(alloc, is_forever)?)?
         .subcommand(call_command(alloc)?)
 }
 
 /// Reads the words. The first word is the program's name, which the usage lines print. An error has the text to print:
 /// help, the version, or what is wrong with the words; `OutOfMemory` if memory ran out.
 pub fn read_words<'a>(alloc: Global, words: &'a [String]) -> Result<Plan<'a>, Error> {
-    let matches = command(alloc)?.try_get_matches_from(words)?;
+    let is_forever = words.iter().any(|word| word.as_str() == "--forever");
+    let matches = command(alloc, is_forever)?.try_get_matches_from(words)?;
     Ok(match matches.subcommand() {
+        Some(("serve", found)) if found.get_flag(FOREVER) => Plan::ServeForever {
+            socket: found.get_str(SOCKET).unwrap_or(""),
+            sessions: found.get_one::<u64>(SESSIONS).unwrap_or(64),
+            mode: found
+                .get_str(MODE)
+                .and_then(|it| u32::from_str_radix(it, 8).ok()),
+            ready: found.get_one::<u64>(READY),
+        },
         Some(("serve", found)) => Plan::Serve {
             socket: found.get_str(SOCKET).unwrap_or(""),
             sessions: found.get_one::<u64>(SESSIONS).unwrap_or(1),

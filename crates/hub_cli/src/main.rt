@@ -2,10 +2,11 @@
 #![tactic(auto)]
 
 use hub_arguments::{Plan, Start, begin, own_words};
-use hub_commands::{Fault, call, serve, tell_faults};
+use hub_commands::{Fault, Standing, call, serve, serve_forever, tell_faults};
 use hub_io::{Sink, Source};
 use hub_script::script;
 use std::alloc::{AllocGlobal, Global};
+use std::fs::{File, Files};
 use std::io;
 use std::io::Write;
 use std::net::Net;
@@ -41,7 +42,7 @@ fn run<H, R: Source, W: Sink, F: Write>(
     faults: &mut F,
 ) -> Result<u8, Fault>
 where
-    H: Runtime + AllocGlobal + Net + Threads + Wait + Copy + Send + 'static,
+    H: Runtime + Files<File = File> + AllocGlobal + Net + Threads + Wait + Copy + Send + 'static,
 {
     let words = match own_words(rt, alloc) {
         Ok(words) => words,
@@ -67,7 +68,7 @@ fn carry_out<H, R: Source, W: Sink, F: Write>(
     faults: &mut F,
 ) -> Result<u8, Fault>
 where
-    H: Runtime + AllocGlobal + Net + Threads + Wait + Copy + Send + 'static,
+    H: Runtime + Files<File = File> + AllocGlobal + Net + Threads + Wait + Copy + Send + 'static,
 {
     match plan {
         Plan::Script => {
@@ -75,6 +76,21 @@ where
             Ok(0)
         }
         Plan::Serve { socket, sessions } => serve_all(rt, alloc, socket, sessions, faults),
+        Plan::ServeForever {
+            socket,
+            sessions,
+            mode,
+            ready,
+        } => {
+            let standing = Standing {
+                socket,
+                sessions,
+                mode,
+                ready,
+            };
+            serve_forever(rt, alloc, standing, faults)?;
+            Ok(0)
+        }
         Plan::Call { socket } => {
             call(rt, alloc, socket, input, output)?;
             Ok(0)
@@ -91,7 +107,7 @@ fn serve_all<H, F: Write>(
     faults: &mut F,
 ) -> Result<u8, Fault>
 where
-    H: Runtime + AllocGlobal + Net + Threads + Wait + Copy + Send + 'static,
+    H: Runtime + Files<File = File> + AllocGlobal + Net + Threads + Wait + Copy + Send + 'static,
 {
     let report = serve(rt, alloc, socket, sessions)?;
     let _: io::Result<()> = tell_faults(alloc, &report, faults);

@@ -3,7 +3,7 @@ use Rattle.std.specs.Prelude.{ℕ, suc, List, [], ◌∷◌, ◌++◌, codes, Bo
 use Rattle.std.specs.Fmt.{decimal}
 use Rattle.hub_client.specs.Faults.{relay_text}
 use Rattle.hub_commands.specs.declared.fault.Fault.{Fault}
-use Rattle.hub_commands.specs.declared.fault.Fault.TheVariants.{Listen, Accept, Connect, Memory, Script, Serve, Session, Relay}
+use Rattle.hub_commands.specs.declared.fault.Fault.TheVariants.{Listen, Taken, Notify, Accept, Connect, Memory, Script, Serve, Session, Relay}
 use Rattle.hub_io.specs.Faults.{fault_text}
 use Rattle.hub_io.specs.declared.fault.FrontError.{FrontError}
 use Rattle.hub_io.specs.declared.fault.FrontError.TheVariants as passing
@@ -12,6 +12,8 @@ use Rattle.hub_server.specs.Reports.{serve_text}
 -- the text of a fault
 abbrev pub text_of : Fault → List ℕ
 text_of Listen = codes "cannot listen"
+text_of Taken = codes "another server listens there"
+text_of Notify = codes "cannot notify"
 text_of Accept = codes "cannot accept"
 text_of Connect = codes "cannot connect"
 text_of Memory = fault_text passing.Memory

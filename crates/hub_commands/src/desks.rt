@@ -19,9 +19,9 @@ use std::thread::Threads;
 
 // Opens a desk over the hub for each session, with a copy of the pause for its waits.
 #[derive(Drop)]
-struct HubDesks<P: Pause + Copy> {
-    hub: Arc<Hub, Global>,
-    pause: P,
+pub(crate) struct HubDesks<P: Pause + Copy> {
+    pub(crate) hub: Arc<Hub, Global>,
+    pub(crate) pause: P,
 }
 
 impl<P: Pause + Copy> HubDesks<P> {

@@ -17,6 +17,10 @@ use std::{fmt, io};
 pub enum Fault {
     /// The socket couldn't be made at its path.
     Listen,
+    /// Another server listens at the socket.
+    Taken,
+    /// The descriptor that is told when the hub listens couldn't be written to.
+    Notify,
     /// A connection was expected, and accepting it failed.
     Accept,
     /// The connection to a server at the socket couldn't be made.
@@ -41,6 +45,8 @@ impl fmt::Display for Fault {
     fn fmt<W: fmt::Write>(&self, f: &mut fmt::Formatter<W>) -> fmt::Result {
         match self {
             Fault::Listen => f.write_str("cannot listen"),
+            Fault::Taken => f.write_str("another server listens there"),
+            Fault::Notify => f.write_str("cannot notify"),
             Fault::Accept => f.write_str("cannot accept"),
             Fault::Connect => f.write_str("cannot connect"),
             Fault::Memory => write!(f, "{}", FrontError::Memory),

@@ -7,9 +7,13 @@
 mod calling;
 mod desks;
 mod fault;
+mod living;
+mod place;
 mod serving;
+mod watching;
 
 pub use calling::call;
 pub use desks::serve_all;
 pub use fault::Fault;
+pub use living::{Standing, serve_forever};
 pub use serving::{serve, tell_faults};

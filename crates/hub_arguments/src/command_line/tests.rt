@@ -36,6 +36,17 @@ static WRONG: &str = "
     ftrighub serve s --sessions 65
     ftrighub serve s --sessions many
     ftrighub serve --sessions 2
+    ftrighub serve s --forever now
+    ftrighub serve s --forever --sessions 0
+    ftrighub serve s --forever --sessions 1025
+    ftrighub serve s --forever --ready-fd
+    ftrighub serve s --forever --ready-fd one
+    ftrighub serve s --forever --mode 660
+    ftrighub serve s --forever --mode 0888
+    ftrighub serve s --ready-fd 3
+    ftrighub serve s --mode 0660
+    ftrighub serve --forever
+    ftrighub script --forever
     ftrighub call
     ftrighub call s t
     ftrighub call s --sessions 2
@@ -47,6 +58,8 @@ static RUN: &str = "
     ftrighub serve s
     ftrighub serve s --sessions 1
     ftrighub serve s --sessions 64
+    ftrighub serve s --forever
+    ftrighub serve s --sessions 1024 --forever
     ftrighub call s
 ";
 
@@ -88,6 +101,24 @@ fn plans(rt: HostRuntime) -> Result<(), Fail> {
             Plan::Serve {
                 socket: "hub",
                 sessions: 64,
+            },
+        ),
+        (
+            "ftrighub serve --forever hub",
+            Plan::ServeForever {
+                socket: "hub",
+                sessions: 64,
+                mode: None,
+                ready: None,
+            },
+        ),
+        (
+            "ftrighub serve hub --ready-fd 3 --mode 0660 --sessions 1024 --forever",
+            Plan::ServeForever {
+                socket: "hub",
+                sessions: 1024,
+                mode: Some(0o660),
+                ready: Some(3),
             },
         ),
         ("ftrighub call hub", Plan::Call { socket: "hub" }),

@@ -1,0 +1,129 @@
+//! What the operator of a hub learns of its sessions.
+
+use crate::fault::Fault;
+use hub_io::{FrontError, Sink, Source};
+use hub_server::{Desks, Journal, Session};
+use std::alloc::{AllocError, Global};
+use std::rt::Clock;
+use std::sync::atomic::{AtomicBool, AtomicU64, Ordering};
+use std::sync::{Arc, Condvar, Mutex, Wait};
+use std::thread;
+use std::thread::Promise;
+use std::time::Duration;
+
+/// How many faults are told at once. The rest are counted.
+const MOST_TOLD: usize = 5;
+
+/// How many milliseconds a thread waits after a failed accept.
+const RETRY: u64 = 100;
+
+/// Faults that weren't told yet.
+#[derive(Clone, Copy, Drop)]
+pub(crate) struct Pending {
+    pub(crate) faults: [Option<Fault>; MOST_TOLD],
+    /// How many came when there was no more room.
+    pub(crate) more: u64,
+}
+
+impl Pending {
+    const NONE: Pending = Pending {
+        faults: [None; MOST_TOLD],
+        more: 0,
+    };
+
+    fn put(&mut self, fault: Fault) {
+        for place in 0..MOST_TOLD {
+            if self.faults[place].is_none() {
+                self.faults[place] = Some(fault);
+                return;
+            }
+        }
+        self.more = self.more.saturating_add(1);
+    }
+}
+
+/// What the threads of a hub share.
+#[derive(Drop)]
+struct Shared {
+    begun: AtomicU64,
+    /// Whether the last accept failed.
+    fails: AtomicBool,
+    pending: Mutex<Pending>,
+    came: Condvar,
+}
+
+/// Numbers sessions from 1, and keeps their faults until somebody tells them.
+#[derive(Drop)]
+pub(crate) struct Watcher<C> {
+    clock: C,
+    shared: Arc<Shared, Global>,
+}
+
+impl<C: Clock + Copy> Watcher<C> {
+    pub(crate) fn new(alloc: Global, clock: C) -> Result<Watcher<C>, AllocError> {
+        let shared = Arc::new(
+            alloc,
+            Shared {
+                begun: AtomicU64::new(0),
+                fails: AtomicBool::new(false),
+                pending: Mutex::new(Pending::NONE),
+                came: Condvar::new(),
+            },
+        )?;
+        Ok(Watcher { clock, shared })
+    }
+
+    fn put<H: Wait>(&self, rt: &H, fault: Fault) {
+        self.shared.pending.lock(rt).put(fault);
+        self.shared.came.notify_one();
+    }
+
+    /// Waits until there are faults, and takes them.
+    pub(crate) fn take<H: Wait>(&self, rt: &H) -> Pending {
+        let mut pending = self.shared.pending.lock(rt);
+        'faults: for _ in rt.forever() {
+            if pending.faults[0].is_some() {
+                break;
+            }
+            pending = self.shared.came.wait(rt, pending);
+        }
+        let taken = *pending;
+        *pending = Pending::NONE;
+        taken
+    }
+}
+
+impl<C: Clock + Copy> Journal for Watcher<C> {
+    fn share(&self) -> Result<Watcher<C>, AllocError> {
+        let shared = Arc::try_clone(&self.shared)?;
+        Ok(Watcher {
+            clock: self.clock,
+            shared,
+        })
+    }
+
+    fn begins(&mut self) -> u64 {
+        self.shared.fails.store(false, Ordering::Relaxed);
+        let before = self.shared.begun.fetch_add(1, Ordering::Relaxed);
+        before.saturating_add(1)
+    }
+
+    fn ended<H: Wait, R: Source, W: Sink, O: Desks>(
+        &mut self,
+        rt: &H,
+        number: u64,
+        _session: &Session<R, W, O>,
+        ended: Result<u64, FrontError>,
+    ) {
+        if let Err(fault) = ended {
+            self.put(rt, Fault::Session { number, fault });
+        }
+    }
+
+    fn failed<H: Wait>(&mut self, rt: &H) {
+        if !self.shared.fails.swap(true, Ordering::Relaxed) {
+            self.put(rt, Fault::Accept);
+        }
+        thread::sleep(&self.clock, Duration::from_millis(RETRY));
+    }
+}
