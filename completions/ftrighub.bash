@@ -5,11 +5,17 @@ _ftrighub() {
     ((COMP_CWORD == 1)) || command=${COMP_WORDS[1]}
     case $command:$word in
     :-*) words="-h --help -V --version" ;;
-    serve:-*) words="-h --help --sessions" ;;
+    serve:-*) words="-h --help --forever --mode --ready-fd --sessions" ;;
     call:-* | script:-*) words="-h --help" ;;
     :* | help:*) words="script serve call help" ;;
     serve:* | call:*)
-        [[ ${COMP_WORDS[COMP_CWORD - 1]} != --sessions ]] || return 0
+        case ${COMP_WORDS[COMP_CWORD - 1]} in
+        --sessions | --ready-fd) return 0 ;;
+        --mode)
+            mapfile -t COMPREPLY < <(compgen -W "0600 0620 0622 0660 0666" -- "$word")
+            return 0
+            ;;
+        esac
         compopt -o filenames 2>/dev/null
         mapfile -t COMPREPLY < <(compgen -f -- "$word")
         return 0

@@ -8,5 +8,8 @@ complete -c ftrighub -n __fish_use_subcommand -a help -d 'Print this message or 
 complete -c ftrighub -n __fish_use_subcommand -s V -l version -d 'Print version'
 complete -c ftrighub -n 'not __fish_seen_subcommand_from help' -s h -l help -d 'Print help'
 complete -c ftrighub -n '__fish_seen_subcommand_from serve' -l sessions -x -d 'How many connections to accept, from 1 to 64'
+complete -c ftrighub -n '__fish_seen_subcommand_from serve' -l forever -d 'Serve for as long as the program runs, at most N (1 to 1024, or else 64) sessions at the same time'
+complete -c ftrighub -n '__fish_seen_subcommand_from serve' -l ready-fd -x -d 'With --forever: write a newline to descriptor D once the hub listens'
+complete -c ftrighub -n '__fish_seen_subcommand_from serve' -l mode -x -a '0600 0620 0622 0660 0666' -d "With --forever: the mode of the socket's file"
 complete -c ftrighub -n '__fish_seen_subcommand_from serve call; and not __fish_seen_subcommand_from help' -F
 complete -c ftrighub -n '__fish_seen_subcommand_from help' -a 'script serve call help'

@@ -94,9 +94,15 @@ The file SOCKET stays. If it exists before, the server can't listen: remove it f
 
   rm -f /run/hub.sock
 
+With --forever it serves connections for as long as it runs, at most N at the same time; one more waits until a session
+ends. Then a file SOCKET that an earlier server left is no obstacle, and each session that stops gets its line at once.
+The file SOCKET.lock says that a server runs. As a service of s6, with a notification-fd of 3:
+
+  ftrighub serve /run/hub.sock --forever --ready-fd 3 --mode 0660
+
 Exit status: 0 all went well, 2 the command line was refused, 1 a fault while running, with a line on standard error:
-`cannot listen`, `cannot accept`, `cannot start a session`, `out of memory`. When all sessions have ended, each that
-stopped gets a line such as `session 2: read failed` (write failed, too many reads, out of memory).";
+`cannot listen`, `another server listens there`, `cannot notify`, `cannot accept`, `cannot start a session`, `out of
+memory`. When all sessions have ended, each that stopped gets a line such as `session 2: read failed` (write failed, too many reads, out of memory).";
 
 /// The subcommand `call` in one line.
 pub const CALL_ABOUT: &str = "Send the lines of standard input to a server, and write its replies";
