@@ -23,6 +23,28 @@ pub(crate) fn take_place<'a, H: Files<File = File> + Net>(
     alloc: Global,
     socket: &'a str,
 ) -> Result<Place<'a>, Fault> {
+    has_socket(rt, socket)?;
+    let lock = lock_beside(rt, alloc, socket)?;
+    if has_socket(rt, socket)? && answers(rt, socket) {
+        return Err(Fault::Taken);
+    }
+    Ok(Place {
+        socket,
+        _lock: lock,
+    })
+}
+
+/// Whether a socket is at the path. An error is `Listen` if another file is there, or if it can't be known.
+fn has_socket<H: Files>(rt: &H, path: &str) -> Result<bool, Fault> {
+    match fs::symlink_metadata(rt, path) {
+        Ok(found) if found.file_type().is_socket() => Ok(true),
+        Err(fault) if fault.kind() == ErrorKind::NotFound && !path.is_empty() => Ok(false),
+        Ok(_) | Err(_) => Err(Fault::Listen),
+    }
+}
+
+/// Opens the file SOCKET.lock, and locks it.
+fn lock_beside<H: Files<File = File>>(rt: &H, alloc: Global, socket: &str) -> Result<File, Fault> {
     let path = format!(in alloc; "{socket}.lock")?;
     let lock = OpenOptions::new()
         .write(true)
@@ -30,30 +52,17 @@ pub(crate) fn take_place<'a, H: Files<File = File> + Net>(
         .open(rt, path.as_str())
         .map_err(|_| Fault::Listen)?;
     match lock.try_lock() {
-        Ok(()) => {}
-        Err(TryLockError::WouldBlock) => return Err(Fault::Taken),
-        Err(TryLockError::Error(_)) => return Err(Fault::Listen),
-    }
-    if is_free(rt, socket)? {
-        Ok(Place {
-            socket,
-            _lock: lock,
-        })
-    } else {
-        Err(Fault::Taken)
+        Ok(()) => Ok(lock),
+        Err(TryLockError::WouldBlock) => Err(Fault::Taken),
+        Err(TryLockError::Error(_)) => Err(Fault::Listen),
     }
 }
 
-/// Whether nobody listens at the socket. An error is `Listen` if another file is there.
-fn is_free<H: Files + Net>(rt: &H, socket: &str) -> Result<bool, Fault> {
-    match fs::symlink_metadata(rt, socket) {
-        Ok(found) if found.file_type().is_socket() => {}
-        Err(fault) if fault.kind() == ErrorKind::NotFound => return Ok(true),
-        Ok(_) | Err(_) => return Err(Fault::Listen),
-    }
+/// Whether a server listens at the socket. A socket that nobody listens at refuses a connection.
+fn answers<H: Net>(rt: &H, socket: &str) -> bool {
     match UnixStream::connect(rt, socket) {
-        Err(fault) if fault.kind() == ErrorKind::ConnectionRefused => Ok(true),
-        Ok(_) | Err(_) => Ok(false),
+        Ok(_) => true,
+        Err(fault) => fault.kind() != ErrorKind::ConnectionRefused,
     }
 }
 
@@ -86,7 +95,7 @@ impl Place<'_> {
     }
 }
 
-/// Writes a newline to a descriptor of the program, as s6's `notification-fd` wants it, and closes it.
+/// Writes a newline to a descriptor of the program, as s6 wants it at its `notification-fd`. The descriptor stays open.
 pub(crate) fn notify<H: Files>(rt: &H, alloc: Global, descriptor: u64) -> Result<(), Fault> {
     let path = format!(in alloc; "/dev/fd/{descriptor}")?;
     let told = OpenOptions::new()
