@@ -22,7 +22,7 @@ one_at-shift base k p v at = elim (cases_eq p k) [
   | inr not ↦ none (base + k) v (λ e. not (omega arith)) ∙ sym (none k p not)
 ]
 
-get_or-one_more : (counts : List ℕ) (p k : ℕ) → p < length counts → get_or (with_one_more counts p) k 0 ≡ get_or counts k 0 + one_at k p
+pub get_or-one_more : (counts : List ℕ) (p k : ℕ) → p < length counts → get_or (with_one_more counts p) k 0 ≡ get_or counts k 0 + one_at k p
 get_or-one_more counts p k inside = elim (cases_eq p k) [
   | inl is ↦ (let o = one k p is in
       let at = ap (λ j. get_or (with_one_more counts p) j 0) is in

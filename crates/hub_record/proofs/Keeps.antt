@@ -1,6 +1,6 @@
 -- What a backlog keeps to find the least cursor, after each change.
 use Rattle.std.proofs.Common.{ℕ, zero, suc, ◌≡◌, ◌↔◌, ◌+◌, ◌-◌, ◌<◌, ◌≤◌, ◌⊎◌, Bool, true, false, IsTrue, nat_lt, nat_le, if◌then◌else◌, List, [], ◌∷◌, ◌++◌, Some, None, Ok, min, length, take, drop, replicate, get_or, All, nat_eq, refl, sym, ap, subst, ◌∙◌, inl, inr, arith}
-use Rattle.std.proofs.lemmas.Bool.{cases_Bool, cases_lt, lt-ltb, le-ltb, ltb-true, ltb-false, leb-true, le-leb}
+use Rattle.std.proofs.lemmas.Bool.{cases_Bool, cases_eq, cases_lt, lt-ltb, le-ltb, ltb-true, ltb-false, leb-true, le-leb}
 use Rattle.std.proofs.lemmas.List.{get_or_past, nil_from_length, drop-drop, drop-append-le, drop_all, length-append, length-drop, length-replicate, length-set, length_push, map-append}
 use Rattle.std.proofs.lemmas.List.Elements.{All-push, All-weaker}
 use Rattle.std.proofs.lemmas.Map.Views.{All-values-set_value, All-map-remove_entry, IfSome-lookup_from_All}
@@ -14,9 +14,9 @@ use Rattle.hub_record.specs.declared.Event.{Event}
 use Rattle.hub_record.specs.World.{least, is_slow, as_events}
 use Rattle.hub_record.specs.Backlog.{Held, IsKept, IsStill, IsSlow, HasRoomFor, room_for, pending, pending_if, Takes, TakesBy, RemovesBy, next_of, lowest, lowest_in, standing_in, standing_at, first_place, with_one_more, with_one_less, with_new_id, with_events, with_cursors}
 use Rattle.hub_record.specs.declared.backlog.Found.TheVariants.{Nothing, Lost}
-use Rattle.hub_record.proofs.Standing.{standing_at-le-length}
+use Rattle.hub_record.proofs.Standing.{one, none, standing_at-le-length}
 use Rattle.hub_record.proofs.Slow.{standing_in-behind, standing_in-remove_slow, standing_at-standing_in, lowest_near, lowest-push, lowest_bound_at, lowest-set_value, lowest-remove_entry, lowest_grown, slow_stay, none_stand}
-use Rattle.hub_record.proofs.Counted.{Counts, get_or-one_less, some_at_place, counts_lengthen, counts_push, counts_set_value, counts_remove_entry, counts_remove_below, counts_standing, counts_drop, base_told}
+use Rattle.hub_record.proofs.Counted.{Counts, get_or-one_less, get_or-one_more, some_at_place, counts_lengthen, counts_push, counts_set_value, counts_remove_entry, counts_remove_below, counts_standing, counts_drop, base_told}
 
 -- a new id is above all others
 pub new_id_above : (room base end given id : ℕ) (counts : Buffer ℕ) (cs : List (ℕ × ℕ)) → IsKept room base counts end given cs → id ≡ given + 1 → All (λ k. k < id) (keys_of cs)
@@ -150,6 +150,30 @@ some_near room base end given counts cs k some none =
     let all = standing_at-standing_in room end base cs near in
     let zero = ap (standing_at base) none in
     absurd (omega arith)
+
+-- so a cursor is at the base, if events are pending behind one that isn't slow
+some_at_base : (room base end given v : ℕ) (counts : Buffer ℕ) (cs : List (ℕ × ℕ)) → IsKept room base counts end given cs → base ≤ v → v < end → 0 < get_or counts.items 0 0
+some_at_base room base end given v counts cs k above waits = elim (cases_lt 0 (get_or counts.items 0 0)) [
+  | inl some ↦ some
+  | inr none ↦ (let low = k.lowest in
+      let last = ap (least end) (none_near room base end given counts cs k (omega arith)) in absurd (omega arith))
+]
+
+-- and one stays there, if the one that moves on was elsewhere or wasn't alone
+pub one_stays : (room base end given v p q left : ℕ) (test : ℕ → Bool) (counts less more : Buffer ℕ) (cs : List (ℕ × ℕ)) → IsKept room base counts end given cs → lookup test cs ≡ Some v → v ≡ base + p → v < end → q < length less.items
+    → less ≡ buffer (with_one_less counts.items p) counts.capacity → more ≡ buffer (with_one_more less.items q) less.capacity → left ≡ get_or counts.items p 0 - 1 → (0 < p) ⊎ (0 < left) → 0 < get_or more.items 0 0
+one_stays room base end given v p q left test counts less more cs k e from waits inside is_less is_more is_left some =
+    let here = some_at_base room base end given v counts cs k (omega arith) waits in
+    let before = get_or-one_less counts.items p 0 (some_at_place base v p test counts.items cs k.counted e from) in
+    let after = get_or-one_more less.items q 0 inside in
+    let l = ap (λ (b : Buffer ℕ). get_or b.items 0 0) is_less in
+    let m = ap (λ (b : Buffer ℕ). get_or b.items 0 0) is_more in
+    elim (cases_eq p 0) [
+      | inl at ↦ (let o = one 0 p at in
+          let same = ap (λ n. get_or counts.items n 0) at in
+          elim some [ inl past ↦ absurd (omega arith) | inr others ↦ omega arith ])
+      | inr not ↦ (let z = none 0 p not in omega arith)
+    ]
 
 nothing_at : (counts : List ℕ) (n : ℕ) → length counts ≡ 1 → get_or counts 0 0 ≡ 0 → get_or counts n 0 ≡ 0
 nothing_at counts zero one none = none

@@ -1,5 +1,5 @@
 //! The pending events, and the cursors into them.
-ghost use Rattle.std.specs.Prelude.{◌≡◌, ◌≤◌, ◌<◌, ◌↔◌, ◌+◌, ◌-◌, ◌++◌, ◌⊎◌, length, replicate, min, IfOk, OnErr, IsTrue, drop};
+ghost use Rattle.std.specs.Prelude.{◌≡◌, ◌≤◌, ◌<◌, ◌↔◌, ◌+◌, ◌-◌, ◌++◌, ◌⊎◌, length, get_or, replicate, min, IfOk, OnErr, IsTrue, drop};
 ghost use Rattle.circular_buffer.specs.Buffer.{buffer};
 ghost use Rattle.hub_record.specs.declared.limits.TheConstants.{MOST_EVENTS, MOST_IDS, MOST_PASSES};
 ghost use Rattle.hub_record.specs.World.{as_events};
@@ -164,7 +164,7 @@ impl Backlog {
         }
         let over = (self.ring.len() + letters.len()).saturating_sub(self.ring.capacity());
         append(&mut self.ring, &mut self.counts, over, who, letters);
-        self.base += (over + release(&mut self.ring, &mut self.counts)) as u64;
+        self.base += (over + release(&mut self.ring, &mut self.counts, over == 0)) as u64;
     }
 
     /// Moves what is pending behind a cursor into the slice, as far as it fits.
@@ -184,9 +184,10 @@ impl Backlog {
         let place = (from - self.base) as usize;
         let count = copy_out(&self.ring, place, out);
         self.cursors.set(listed, from + count as u64);
-        one_less(&mut self.counts, place);
+        let left = one_less(&mut self.counts, place);
         one_more(&mut self.counts, place + count);
-        self.base += release(&mut self.ring, &mut self.counts) as u64;
+        let stays = stays_after(place, left);
+        self.base += release(&mut self.ring, &mut self.counts, stays) as u64;
         Ok(Found::Moved(count))
     }
 
@@ -201,7 +202,7 @@ impl Backlog {
             return Ok(());
         }
         one_less(&mut self.counts, (next - self.base) as usize);
-        self.base += release(&mut self.ring, &mut self.counts) as u64;
+        self.base += release(&mut self.ring, &mut self.counts, false) as u64;
         Ok(())
     }
 }
@@ -235,15 +236,27 @@ fn append(
     lengthen(counts, letters.len());
 }
 
+/// Whether a cursor is still at the base, after one left this place and so many are left there.
+fn stays_after(place: usize, left: u64) -> bool
+    ensures { IsTrue result → (0 < place) ⊎ (0 < left) }
+{
+    place > 0 || left > 0
+}
+
 /// Releases the events before the first cursor, with their counts. Returns how many there were. After most calls a cursor
-/// is at the first event, so this look is inline.
+/// is known to stay at the first event, so this look is inline.
 #[inline(always)]
-fn release(ring: &mut HeapCircularBuffer<Event>, counts: &mut HeapCircularBuffer<u64>) -> usize
+fn release(
+    ring: &mut HeapCircularBuffer<Event>,
+    counts: &mut HeapCircularBuffer<u64>,
+    stays: bool,
+) -> usize
+    requires { IsTrue stays → 0 < get_or counts.old.items 0 0 }
     ensures count { result ≡ min (first_place counts.old.items) (length ring.old.items) }
     ensures events { ring.new ≡ buffer (drop result ring.old.items) ring.old.capacity }
     ensures counts { counts.new ≡ buffer (drop result counts.old.items) counts.old.capacity }
 {
-    if has_first(counts) {
+    if stays {
         return 0;
     }
     release_some(ring, counts)

@@ -1,5 +1,5 @@
 //! The counts of a record: how many cursors are at each number from the base to the end.
-ghost use Rattle.std.specs.Prelude.{◌≡◌, ◌≤◌, ◌<◌, ◌+◌, ◌*◌, ◌++◌, length, get_or, replicate, position, nat_lt};
+ghost use Rattle.std.specs.Prelude.{◌≡◌, ◌≤◌, ◌<◌, ◌+◌, ◌-◌, ◌*◌, ◌++◌, length, get_or, replicate, position, nat_lt};
 ghost use Rattle.circular_buffer.specs.Buffer.{buffer};
 ghost use Rattle.hub_record.specs.declared.limits.TheConstants.{MOST_PASSES};
 ghost use Rattle.hub_record.specs.Backlog.{first_place, with_one_more, with_one_less};
@@ -34,20 +34,24 @@ pub fn one_more(counts: &mut HeapCircularBuffer<u64>, place: usize)
     requires few { get_or counts.old.items place 0 ≤ MOST_PASSES }
     ensures { counts.new ≡ buffer (with_one_more counts.old.items place) counts.old.capacity }
 {
-    if let Some(count) = counts.get_mut(place) {
-        *count += 1;
-    }
+    let Some(count) = counts.get_mut(place) else {
+        unreachable!()
+    };
+    *count += 1;
 }
 
-/// Counts one cursor less at a place.
-pub fn one_less(counts: &mut HeapCircularBuffer<u64>, place: usize)
+/// Counts one cursor less at a place, and returns how many are left there.
+pub fn one_less(counts: &mut HeapCircularBuffer<u64>, place: usize) -> u64
     requires place { place < length counts.old.items }
     requires some { 0 < get_or counts.old.items place 0 }
-    ensures { counts.new ≡ buffer (with_one_less counts.old.items place) counts.old.capacity }
+    ensures left { result ≡ get_or counts.old.items place 0 - 1 }
+    ensures counts { counts.new ≡ buffer (with_one_less counts.old.items place) counts.old.capacity }
 {
-    if let Some(count) = counts.get_mut(place) {
-        *count -= 1;
-    }
+    let Some(count) = counts.get_mut(place) else {
+        unreachable!()
+    };
+    *count -= 1;
+    *count
 }
 
 /// The first place at which there is a cursor, or the number of places.

@@ -30,7 +30,7 @@ invariant_of-self-2 c =
     let above = c.if-next-self.false in
     let told = c.release.ensures.count in
     kept_remove_entry _ _ _ _ (length c.self.inside.ring.items) _ (c.in-Some.next - c.self.inside.base) _ _ _ (nat_eq c.args.id) _ _ _ _ _ c.self.invariant refl (sym c.in-Some.ensures.value) c.remove.ensures.entries (omega arith)
-    c.one_less.ensures told c.release.ensures.counts (ap (λ (b : Buffer Event). b.capacity) c.release.ensures.events)
+    c.one_less.ensures.counts told c.release.ensures.counts (ap (λ (b : Buffer Event). b.capacity) c.release.ensures.events)
     (end_after_cut _ _ _ _ _ (omega arith) c.release.ensures.events)
 
 pub returns : goal.returns

@@ -1,10 +1,11 @@
-use Rattle.std.proofs.Common.{ℕ, ◌+◌, ◌-◌, length, get_or, nat_eq, refl, sym, ap, ◌∙◌, arith}
+use Rattle.std.proofs.Common.{ℕ, ◌≡◌, ◌+◌, ◌-◌, length, get_or, nat_eq, refl, sym, ap, ◌∙◌, arith}
 use Rattle.std.proofs.lemmas.Option.{slice_get_within}
 use Rattle.std.proofs.lemmas.List.{length-set}
 use Rattle.circular_buffer.specs.Buffer.{Buffer}
 use Rattle.hub_record.specs.declared.Event.{Event}
+use Rattle.hub_record.specs.Backlog.{Held}
 use Rattle.hub_record.proofs.Counted.{some_at_place}
-use Rattle.hub_record.proofs.Keeps.{cursor_within, slow_below, few_at_place, kept_set_value, end_after_cut, cut_held, takes_nothing, takes_lost, takes_some}
+use Rattle.hub_record.proofs.Keeps.{cursor_within, slow_below, few_at_place, one_stays, kept_set_value, end_after_cut, cut_held, takes_nothing, takes_lost, takes_some}
 use Rattle.hub_record.proofs.Rising.{moved_to}
 use Rattle.hub_record.proofs.backlog.Backlog.take.Goals as goal
 
@@ -24,15 +25,15 @@ copy_out-count-requires c =
 pub set-requires : goal.set-requires
 set-requires c = slice_get_within c.self.inside.cursors c.in-Some.listed (c.args.id, c.in-Some.from) c.in-Some.ensures.place
 
-pub one_less-requires-clause-place : goal.one_less-requires-clause-place
-one_less-requires-clause-place c =
+pub one_less-left-requires-clause-place : goal.one_less-left-requires-clause-place
+one_less-left-requires-clause-place c =
     let inside = cursor_within _ _ _ _ c.in-Some.from (nat_eq c.args.id) _ _ c.self.invariant (sym c.in-Some.ensures.next) in
     let to = c.self.invariant.to_end in
     let above = c.if-from-self.false in
     omega arith
 
-pub one_less-requires-clause-some : goal.one_less-requires-clause-some
-one_less-requires-clause-some c =
+pub one_less-left-requires-clause-some : goal.one_less-left-requires-clause-some
+one_less-left-requires-clause-some c =
     let found = sym c.in-Some.ensures.next in
     let above = c.if-from-self.false in
     some_at_place c.self.inside.base c.in-Some.from (c.in-Some.from - c.self.inside.base) (nat_eq c.args.id) _ _ c.self.invariant.counted found (omega arith)
@@ -44,7 +45,7 @@ one_more-requires-clause-place c =
     let to = c.self.invariant.to_end in
     let above = c.if-from-self.false in
     let count = c.copy_out-count.ensures.count in
-    let less = ap (λ (b : Buffer ℕ). length b.items) c.one_less.ensures in
+    let less = ap (λ (b : Buffer ℕ). length b.items) c.one_less-left.ensures.counts in
     let long = length-set c.self.inside.counts.items place (get_or c.self.inside.counts.items place 0 - 1) in
     omega arith
 
@@ -52,7 +53,21 @@ pub one_more-requires-clause-few : goal.one_more-requires-clause-few
 one_more-requires-clause-few c =
     let found = sym c.in-Some.ensures.next in
     let above = c.if-from-self.false in
-    few_at_place _ _ _ _ c.in-Some.from _ _ (nat_eq c.args.id) _ _ _ c.self.invariant found (omega arith) c.one_less.ensures
+    few_at_place _ _ _ _ c.in-Some.from _ _ (nat_eq c.args.id) _ _ _ c.self.invariant found (omega arith) c.one_less-left.ensures.counts
+
+pub release-requires : goal.release-requires
+release-requires c t =
+    let found = sym c.in-Some.ensures.next in
+    let above = c.if-from-self.false in
+    let inside = cursor_within _ _ _ _ c.in-Some.from (nat_eq c.args.id) _ _ c.self.invariant found in
+    let place = c.in-Some.from - c.self.inside.base in
+    let to = c.self.invariant.to_end in
+    let count = c.copy_out-count.ensures.count in
+    let apart : (c.in-Some.from ≡ c.self.inside.base + length c.self.inside.ring.items → ⊥) = λ e. c.if-from-end.false (e ∙ ap (λ (h : Held). h.end) c.self.view_is ∙ sym c.end-end.ensures.end) in
+    let less = ap (λ (b : Buffer ℕ). length b.items) c.one_less-left.ensures.counts in
+    let long = length-set c.self.inside.counts.items place (get_or c.self.inside.counts.items place 0 - 1) in
+    one_stays _ _ _ _ c.in-Some.from place (place + c.copy_out-count.result) _ (nat_eq c.args.id) _ _ _ _ c.self.invariant found (omega arith) (omega arith) (omega arith)
+    c.one_less-left.ensures.counts c.one_more.ensures c.one_less-left.ensures.left (c.stays_after-stays.ensures t)
 
 pub invariant_of-self : goal.invariant_of-self
 invariant_of-self c =
@@ -65,7 +80,7 @@ invariant_of-self c =
     let moved = moved_to _ _ c.in-Some.listed c.args.id c.in-Some.from _ c.in-Some.ensures.place c.set.ensures in
     kept_set_value _ _ _ _ (length c.self.inside.ring.items) _ (c.in-Some.from + c.copy_out-count.result) place (place + c.copy_out-count.result) _ _ _ (nat_eq c.args.id) _ _ _ _ _ _ c.self.invariant refl
     found moved (omega arith) (omega arith) (omega arith) (omega arith)
-    c.one_less.ensures c.one_more.ensures told c.release.ensures.counts (ap (λ (b : Buffer Event). b.capacity) c.release.ensures.events)
+    c.one_less-left.ensures.counts c.one_more.ensures told c.release.ensures.counts (ap (λ (b : Buffer Event). b.capacity) c.release.ensures.events)
     (end_after_cut _ _ _ _ _ (omega arith) c.release.ensures.events)
 
 pub returns : goal.returns
