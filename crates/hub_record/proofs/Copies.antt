@@ -1,8 +1,8 @@
 -- What is copied out of two slices that represent one list.
 use Rattle.std.proofs.Common.{ℕ, zero, suc, [], ◌∷◌, Some, get_or, slice_get, slice_set, ◌≡◌, ◌+◌, ◌-◌, ◌<◌, ◌≤◌, min, List, ◌++◌, length, take, drop, sym, ap, ◌∙◌, inl, inr, append_assoc, arith}
-use Rattle.circular_buffer.specs.Buffer.{Buffer, buffer, keep_last}
+use Rattle.circular_buffer.specs.Buffer.{Buffer, buffer}
 use Rattle.hub_record.specs.World.{as_events}
-use Rattle.std.proofs.lemmas.List.{length_push, length-take-le, drop-drop, drop_at, drop-append-le, drop_all, take_at, take-append-le}
+use Rattle.std.proofs.lemmas.List.{length-take-le, drop-drop, drop_at, drop-append-le, drop_all, take_at, take-append-le}
 use Rattle.std.proofs.lemmas.Option.{slice_get_within, get_or_from_slice_get}
 use Rattle.std.proofs.lemmas.Bool.{cases_lt}
 use Rattle.std.proofs.Math.Seq.{take-add, drop-append-add}
@@ -51,13 +51,10 @@ copied_one xs [] i x at some = absurd (omega arith)
 copied_one xs (o ∷ os) i x at some = ap (λ ys. ys ++ os) (sym (take_one xs i x (slice_get_within xs i x at) (get_or_from_slice_get xs i x x at)))
 
 -- one letter is appended as one event
-pub appended_one : (items : List Event) (capacity over who l : ℕ) (letters : List ℕ) (now : Buffer Event) → over ≡ 0 → length letters ≡ 1 → l ≡ get_or letters 0 l → length items + 1 ≤ capacity
-    → now ≡ buffer (keep_last capacity (items ++ record { who = who; letter = l } ∷ [])) capacity → now ≡ buffer (drop over items ++ as_events who letters) capacity
-appended_one items capacity over who l [] now none one at fits is = absurd (omega arith)
-appended_one items capacity over who l (m ∷ []) now none one at fits is =
-    let long = length_push items (record { who = who; letter = l }) in
-    let all : length (items ++ record { who = who; letter = l } ∷ []) - capacity ≡ 0 = omega arith in
-    is ∙ ap (λ n. buffer (drop n (items ++ record { who = who; letter = l } ∷ [])) capacity) all
-    ∙ ap (λ z. buffer (items ++ record { who = who; letter = z } ∷ []) capacity) at
+pub appended_one : (items : List Event) (capacity over who l : ℕ) (letters : List ℕ) (now : Buffer Event) → over ≡ 0 → length letters ≡ 1 → l ≡ get_or letters 0 l
+    → now ≡ buffer (items ++ record { who = who; letter = l } ∷ []) capacity → now ≡ buffer (drop over items ++ as_events who letters) capacity
+appended_one items capacity over who l [] now none one at is = absurd (omega arith)
+appended_one items capacity over who l (m ∷ []) now none one at is =
+    is ∙ ap (λ z. buffer (items ++ record { who = who; letter = z } ∷ []) capacity) at
     ∙ sym (ap (λ n. buffer (drop n items ++ as_events who (m ∷ [])) capacity) none)
-appended_one items capacity over who l (m ∷ k ∷ ks) now none one at fits is = absurd (omega arith)
+appended_one items capacity over who l (m ∷ k ∷ ks) now none one at is = absurd (omega arith)

@@ -6,7 +6,7 @@ use Rattle.std.proofs.lemmas.List.Sums.{fails_before_first, passes_at_first}
 use Rattle.std.specs.Map.{lookup, set_value, remove_entry}
 use Rattle.hub_record.specs.World.{least}
 use Rattle.hub_record.specs.Backlog.{standing_at, standing_in, with_one_more, with_one_less, first_place}
-use Rattle.hub_record.proofs.Standing.{one, none, one_at, standing_at-push, standing_at-set_value, standing_at-remove_entry, standing_at-some}
+use Rattle.hub_record.proofs.Standing.{one, none, one_at, standing_at-push, standing_at-set_value, standing_at-remove_entry, standing_at-some, standing_at-two}
 use Rattle.hub_record.proofs.Least.{least_bound, least_bound_standing, least_met}
 use Rattle.hub_record.proofs.Slow.{standing_at-standing_in}
 
@@ -136,4 +136,38 @@ base_told base end size r counts cs low h to long is =
     elim (cases_lt (first_place counts) size) [
       | inl inside ↦ (let below = some_at_first base end r counts cs h (omega arith) (omega arith) in omega arith)
       | inr all ↦ (let below = least_bound end cs in omega arith)
+    ]
+
+-- ---- the first place
+
+-- it is 0 if a cursor is there
+pub first_at_base : (counts : List ℕ) → 0 < get_or counts 0 0 → 0 ≡ first_place counts
+first_at_base counts some = elim (cases_lt 0 (first_place counts)) [
+  | inl later ↦ (let none = ltb-false 0 (get_or counts 0 0) (fails_before_first (λ n. nat_lt 0 n) counts 0 0 later) in absurd (omega arith))
+  | inr at ↦ omega arith
+]
+
+-- also with more places
+pub first_stays : (over n : ℕ) (counts longer : List ℕ) → over ≡ 0 → longer ≡ drop over counts ++ replicate n 0 → 0 < get_or counts 0 0 → 0 ≡ first_place longer
+first_stays over n counts longer none is some =
+    let l = ap (λ (c : List ℕ). get_or c 0 0) is in
+    let z = get_or-lengthen (drop over counts) n 0 in
+    let d = get_or-drop over counts 0 0 in
+    let at_zero : over + 0 ≡ 0 = omega arith in
+    let at = ap (λ k. get_or counts k 0) at_zero in
+    first_at_base longer (omega arith)
+
+-- and the place at which all cursors are
+pub first_of_all : (base q : ℕ) (counts : List ℕ) (cs : List (ℕ × ℕ)) → Counts base counts cs → 0 < get_or counts q 0 → get_or counts q 0 ≡ length cs → q ≡ first_place counts
+first_of_all base q counts cs h some all =
+    let inside = inside_from_some counts q some in
+    let here = h q in
+    let first = h (first_place counts) in
+    elim (cases_lt (first_place counts) q) [
+      | inl before ↦ (let other = ltb-true 0 (get_or counts (first_place counts) 0) (passes_at_first (λ n. nat_lt 0 n) counts 0 (omega arith)) in
+          let both = standing_at-two (base + first_place counts) (base + q) cs (λ e. absurd (omega arith)) in absurd (omega arith))
+      | inr above ↦ elim (cases_lt q (first_place counts)) [
+        | inl later ↦ (let none = ltb-false 0 (get_or counts q 0) (fails_before_first (λ n. nat_lt 0 n) counts q 0 later) in absurd (omega arith))
+        | inr at ↦ omega arith
+      ]
     ]

@@ -5,6 +5,7 @@ use Rattle.std.proofs.lemmas.List.{get_or_past, nil_from_length, drop-drop, drop
 use Rattle.std.proofs.lemmas.List.Elements.{All-push, All-weaker}
 use Rattle.std.proofs.lemmas.Map.Views.{All-values-set_value, All-map-remove_entry, IfSome-lookup_from_All}
 use Rattle.std.proofs.lemmas.Map.{keys-set_value, length-set_value}
+use Rattle.std.specs.Bool.{then_some}
 use Rattle.std.specs.Option.{IfSome, is_some}
 use Rattle.std.specs.Map.{lookup, set_value, remove_entry, keys_of, values_of}
 use Rattle.circular_buffer.specs.Buffer.{Buffer, buffer}
@@ -16,7 +17,7 @@ use Rattle.hub_record.specs.Backlog.{Held, IsKept, IsStill, IsSlow, HasRoomFor, 
 use Rattle.hub_record.specs.declared.backlog.Found.TheVariants.{Nothing, Lost}
 use Rattle.hub_record.proofs.Standing.{one, none, standing_at-le-length}
 use Rattle.hub_record.proofs.Slow.{standing_in-behind, standing_in-remove_slow, standing_at-standing_in, lowest_near, lowest-push, lowest_bound_at, lowest-set_value, lowest-remove_entry, lowest_grown, slow_stay, none_stand}
-use Rattle.hub_record.proofs.Counted.{Counts, get_or-one_less, get_or-one_more, some_at_place, counts_lengthen, counts_push, counts_set_value, counts_remove_entry, counts_remove_below, counts_standing, counts_drop, base_told}
+use Rattle.hub_record.proofs.Counted.{Counts, get_or-one_less, get_or-one_more, some_at_place, counts_lengthen, counts_push, counts_set_value, counts_remove_entry, counts_remove_below, counts_standing, counts_drop, base_told, first_at_base, first_stays, first_of_all}
 
 -- a new id is above all others
 pub new_id_above : (room base end given id : ℕ) (counts : Buffer ℕ) (cs : List (ℕ × ℕ)) → IsKept room base counts end given cs → id ≡ given + 1 → All (λ k. k < id) (keys_of cs)
@@ -132,6 +133,16 @@ kept_pushed room base end given size more over r room' end' counts cut longer no
     (kept_released room (base + over) end' given (size - over + more) r room' end' longer now cs (omega arith) counted (omega arith) (omega arith) told is_now same_room refl
     bound (omega arith) small (All-weaker (λ n. n ≤ end) (λ n. n ≤ end') (λ n h. omega arith) (values_of cs) k.behind) k.known k.few)
 
+-- more events, and nothing gives way
+pub kept_more : (room base end given size more over room' end' : ℕ) (some : Bool) (counts longer : Buffer ℕ) (cs : List (ℕ × ℕ)) → IsKept room base counts end given cs → end ≡ base + size → more ≤ room
+    → over ≡ size + more - room → over ≡ 0 → longer ≡ buffer (drop over counts.items ++ replicate more 0) counts.capacity → some ≡ nat_lt 0 (get_or counts.items 0 0) → some ≡ true
+    → room' ≡ room → end' ≡ end + more → end' ≤ MOST_EVENTS → IsKept room' base longer end' given cs
+kept_more room base end given size more over room' end' some counts longer cs k at fits is_over none is_longer is so same_room same small =
+    let stays = first_stays over more counts.items longer.items none (ap (λ (b : Buffer ℕ). b.items) is_longer) (ltb-true 0 (get_or counts.items 0 0) (sym is ∙ so)) in
+    let same_base : base + (over + 0) ≡ base = omega arith in
+    subst (λ b. IsKept room' b longer end' given cs) same_base
+    (kept_pushed room base end given size more over 0 room' end' counts (buffer (drop over counts.items) counts.capacity) longer longer cs k at fits is_over refl is_longer (omega arith) refl same_room same small)
+
 -- if no cursor is at the base, each is slow
 pub none_near : (room base end given : ℕ) (counts : Buffer ℕ) (cs : List (ℕ × ℕ)) → IsKept room base counts end given cs → get_or counts.items 0 0 ≡ 0 → standing_in room end cs ≡ []
 none_near room base end given counts cs k none =
@@ -161,19 +172,42 @@ some_at_base room base end given v counts cs k above waits = elim (cases_lt 0 (g
 
 -- and one stays there, if the one that moves on was elsewhere or wasn't alone
 pub one_stays : (room base end given v p q left : ℕ) (test : ℕ → Bool) (counts less more : Buffer ℕ) (cs : List (ℕ × ℕ)) → IsKept room base counts end given cs → lookup test cs ≡ Some v → v ≡ base + p → v < end → q < length less.items
-    → less ≡ buffer (with_one_less counts.items p) counts.capacity → more ≡ buffer (with_one_more less.items q) less.capacity → left ≡ get_or counts.items p 0 - 1 → (0 < p) ⊎ (0 < left) → 0 < get_or more.items 0 0
+    → less ≡ buffer (with_one_less counts.items p) counts.capacity → more ≡ buffer (with_one_more less.items q) less.capacity → left ≡ get_or counts.items p 0 - 1 → (0 < p) ⊎ (0 < left) → 0 ≡ first_place more.items
 one_stays room base end given v p q left test counts less more cs k e from waits inside is_less is_more is_left some =
     let here = some_at_base room base end given v counts cs k (omega arith) waits in
     let before = get_or-one_less counts.items p 0 (some_at_place base v p test counts.items cs k.counted e from) in
     let after = get_or-one_more less.items q 0 inside in
     let l = ap (λ (b : Buffer ℕ). get_or b.items 0 0) is_less in
     let m = ap (λ (b : Buffer ℕ). get_or b.items 0 0) is_more in
-    elim (cases_eq p 0) [
+    first_at_base more.items (elim (cases_eq p 0) [
       | inl at ↦ (let o = one 0 p at in
           let same = ap (λ n. get_or counts.items n 0) at in
           elim some [ inl past ↦ absurd (omega arith) | inr others ↦ omega arith ])
       | inr not ↦ (let z = none 0 p not in omega arith)
-    ]
+    ])
+
+-- the counts after a cursor has moved on
+counts_moved : (room base end given v w p q : ℕ) (test : ℕ → Bool) (counts less more : Buffer ℕ) (cs after : List (ℕ × ℕ)) → IsKept room base counts end given cs → lookup test cs ≡ Some v → after ≡ set_value test cs w
+    → v ≡ base + p → w ≡ base + q → q < length counts.items → less ≡ buffer (with_one_less counts.items p) counts.capacity → more ≡ buffer (with_one_more less.items q) less.capacity → Counts base more.items after
+counts_moved room base end given v w p q test counts less more cs after k e is from into inside is_less is_more =
+    let items : more.items ≡ with_one_more (with_one_less counts.items p) q = ap (λ (b : Buffer ℕ). b.items) is_more ∙ ap (λ (b : Buffer ℕ). with_one_more b.items q) is_less in
+    subst (λ (z : List ℕ × List (ℕ × ℕ)). Counts base z.0 z.1) (λ i. (sym items i, sym is i)) (counts_set_value base v w p q test counts.items cs k.counted e from into inside)
+
+pub IfSome-then_some : (b : Bool) (n : ℕ) (P : ℕ → Type 0) → (IsTrue b → P n) → IfSome (then_some b n) P
+IfSome-then_some true n P h = h refl
+IfSome-then_some false n P h = tt
+
+-- they tell the first place with a cursor, if all are there now
+pub first_known : (room base end given v w p q there : ℕ) (test : ℕ → Bool) (counts less more : Buffer ℕ) (cs after : List (ℕ × ℕ)) → IsKept room base counts end given cs → lookup test cs ≡ Some v → after ≡ set_value test cs w
+    → v ≡ base + p → w ≡ base + q → q < length counts.items → less ≡ buffer (with_one_less counts.items p) counts.capacity → more ≡ buffer (with_one_more less.items q) less.capacity
+    → there ≡ get_or less.items q 0 + 1 → there ≡ length after → q ≡ first_place more.items
+first_known room base end given v w p q there test counts less more cs after k e is from into inside is_less is_more is_there all =
+    let l = ap (λ (b : Buffer ℕ). length b.items) is_less in
+    let long = length-set counts.items p (get_or counts.items p 0 - 1) in
+    let m = ap (λ (b : Buffer ℕ). get_or b.items q 0) is_more in
+    let now = get_or-one_more less.items q q (omega arith) in
+    let o = one q q refl in
+    first_of_all base q more.items after (counts_moved room base end given v w p q test counts less more cs after k e is from into inside is_less is_more) (omega arith) (omega arith)
 
 nothing_at : (counts : List ℕ) (n : ℕ) → length counts ≡ 1 → get_or counts 0 0 ≡ 0 → get_or counts n 0 ≡ 0
 nothing_at counts zero one none = none
@@ -249,13 +283,22 @@ kept_set_value room base end given size v w p q r room' end' test counts less mo
     let same_lowest = ap (lowest_in room end) is in
     let n = ap length is in
     let o = length-set_value test cs w in
-    let items : more.items ≡ with_one_more (with_one_less counts.items p) q = ap (λ (b : Buffer ℕ). b.items) is_more ∙ ap (λ (b : Buffer ℕ). with_one_more b.items q) is_less in
     kept_released room base end given size r room' end' more now after at
-    (subst (λ (z : List ℕ × List (ℕ × ℕ)). Counts base z.0 z.1) (λ i. (sym items i, sym is i)) (counts_set_value base v w p q test counts.items cs k.counted e from into (omega arith)))
+    (counts_moved room base end given v w p q test counts less more cs after k e is from into (omega arith) is_less is_more)
     (omega arith) (omega arith) told is_now same_room same (omega arith) (kept_near room base end given counts cs k) k.small
     (subst (λ z. All (λ n. n ≤ end) (values_of z)) (sym is) (All-values-set_value test (λ n. n ≤ end) cs w k.behind inside))
     (subst (All (λ id. id ≤ given)) (sym (ap keys_of is ∙ keys-set_value test cs w)) k.known)
     (omega arith)
+
+-- a cursor moves on, and one stays at the base
+pub kept_stays : (room base end given size v w p q : ℕ) (test : ℕ → Bool) (counts less more : Buffer ℕ) (cs after : List (ℕ × ℕ)) → IsKept room base counts end given cs → end ≡ base + size
+    → lookup test cs ≡ Some v → after ≡ set_value test cs w → v ≡ base + p → w ≡ base + q → v ≤ w → w ≤ end
+    → less ≡ buffer (with_one_less counts.items p) counts.capacity → more ≡ buffer (with_one_more less.items q) less.capacity → 0 ≡ first_place more.items
+    → IsKept room base more end given after
+kept_stays room base end given size v w p q test counts less more cs after k at e is from into on inside is_less is_more first =
+    let same : base + 0 ≡ base = omega arith in
+    subst (λ b. IsKept room b more end given after) same
+    (kept_set_value room base end given size v w p q 0 room end test counts less more more cs after k at e is from into on inside is_less is_more (omega arith) refl refl refl)
 
 -- a cursor is removed
 pub kept_remove_entry : (room base end given size v p r room' end' : ℕ) (test : ℕ → Bool) (counts less now : Buffer ℕ) (cs after : List (ℕ × ℕ)) → IsKept room base counts end given cs → end ≡ base + size
@@ -313,6 +356,14 @@ cut_held base r room given items cs cs' entries ring low now inside is cut =
     let events : ring.items ≡ drop (lowest_in room (base + length items) cs' - lowest_in room (base + length items) cs) items = ap (λ (b : Buffer Event). b.items) cut ∙ ap (λ n. drop n items) apart in
     (λ i. record { room = (cut i).capacity; end = end i; events = events i; given = given; cursors = is i })
 
+-- nothing is cut, if the base stays
+pub still_held : (base room given : ℕ) (items : List Event) (cs cs' entries : List (ℕ × ℕ)) → base ≡ lowest_in room (base + length items) cs → base ≡ lowest_in room (base + length items) entries → entries ≡ cs'
+    → record { room = room; end = base + length items; events = items; given = given; cursors = entries } ≡ with_cursors (record { room = room; end = base + length items; events = items; given = given; cursors = cs }) cs'
+still_held base room given items cs cs' entries low now is =
+    let at : base ≡ lowest_in room (base + length items) cs' = now ∙ ap (lowest_in room (base + length items)) is in
+    let apart : 0 ≡ lowest_in room (base + length items) cs' - lowest_in room (base + length items) cs = omega arith in
+    (λ i. record { room = room; end = base + length items; events = drop (apart i) items; given = given; cursors = is i })
+
 -- a new id has its cursor
 pub stood : (inside now : Held) (cursors : List (ℕ × ℕ)) → inside ≡ now → cursors ≡ inside.cursors ++ (inside.given + 1, inside.end) ∷ [] → record inside { given = inside.given + 1; cursors = cursors } ≡ with_new_id now
 stood inside now cursors is at = ap (λ cs. record inside { given = inside.given + 1; cursors = cs }) at ∙ ap with_new_id is
@@ -342,6 +393,16 @@ pushed_held inside now base over r more cut grown ring is at low inside_over is_
     let events : ring.items ≡ drop (lowest_in inside.room (inside.end + length more) inside.cursors - lowest inside) (inside.events ++ more) =
     ap (λ (b : Buffer Event). b.items) is_ring ∙ ap (drop r) (items ∙ sym (drop-append-le over inside.events more inside_over)) ∙ drop-drop r over (inside.events ++ more) ∙ ap (λ n. drop n (inside.events ++ more)) apart in
     (λ i. record { room = capacity i; end = end i; events = events i; given = inside.given; cursors = inside.cursors }) ∙ ap (λ h. with_events h more) is
+
+-- nothing gives way
+pub pushed_all : (inside now : Held) (base over : ℕ) (more : List Event) (ring : Buffer Event) → inside ≡ now → inside.end ≡ base + length inside.events → base ≡ lowest inside → over ≡ 0
+    → ring ≡ buffer (drop over inside.events ++ more) inside.room → base ≡ lowest_in ring.capacity (base + length ring.items) inside.cursors
+    → record { room = ring.capacity; end = base + length ring.items; events = ring.items; given = inside.given; cursors = inside.cursors } ≡ with_events now more
+pushed_all inside now base over more ring is at low none is_ring moved =
+    let same : base + (over + 0) ≡ base = omega arith in
+    (λ i. record { room = ring.capacity; end = sym same i + length ring.items; events = ring.items; given = inside.given; cursors = inside.cursors })
+    ∙ pushed_held inside now base over 0 more (buffer (drop over inside.events) inside.room) ring ring is at low (omega arith) refl is_ring refl (omega arith)
+    (same ∙ moved ∙ (λ i. lowest_in ring.capacity (sym same i + length ring.items) inside.cursors))
 
 -- nothing is held
 pub pushed_still : (inside now : Held) (base base' more : ℕ) (added : List Event) → inside ≡ now → inside.end ≡ base + length inside.events → base ≡ lowest inside → IsStill inside → length added ≡ more → base' ≡ base + more

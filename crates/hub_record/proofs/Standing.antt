@@ -1,6 +1,6 @@
 -- How many cursors are at a number, after a change of one cursor.
-use Rattle.std.proofs.Common.{ℕ, ◌≡◌, ◌==◌, ◌+◌, ◌<◌, ◌≤◌, Bool, cond, List, [], ◌∷◌, ◌++◌, Some, length, count_by, ap, ◌∙◌, arith}
-use Rattle.std.proofs.lemmas.Bool.{eq-eqb, ne_eqb}
+use Rattle.std.proofs.Common.{ℕ, ◌≡◌, ◌==◌, ◌+◌, ◌<◌, ◌≤◌, Bool, cond, List, [], ◌∷◌, ◌++◌, Some, length, count_by, ap, ◌∙◌, inl, inr, arith}
+use Rattle.std.proofs.lemmas.Bool.{cases_eq, eq-eqb, ne_eqb}
 use Rattle.std.proofs.lemmas.List.{map-append}
 use Rattle.std.proofs.lemmas.List.Sums.{sum_by-cons, sum_by_push, count_by-le-length}
 use Rattle.std.proofs.lemmas.Map.Entries.{length-values_of, sum_by-set_value, sum_by-remove_entry}
@@ -39,3 +39,16 @@ standing_at-some test cs v n e at = let s = standing_at-remove_entry n test cs v
 
 pub standing_at-le-length : (n : ℕ) (cs : List (ℕ × ℕ)) → standing_at n cs ≤ length cs
 standing_at-le-length n cs = let k = count_by-le-length (λ v. v == n) (values_of cs) in let l = length-values_of cs in omega arith
+
+-- at two numbers there are no more than all
+pub standing_at-two : (m n : ℕ) (cs : List (ℕ × ℕ)) → (m ≡ n → ⊥) → standing_at m cs + standing_at n cs ≤ length cs
+standing_at-two m n [] apart = omega arith
+standing_at-two m n (c ∷ cs) apart =
+    let ih = standing_at-two m n cs apart in
+    let a = standing_at-cons m c cs in
+    let b = standing_at-cons n c cs in
+    elim (cases_eq c.1 m) [
+      | inl is ↦ (let o = one m c.1 is in let z = none n c.1 (λ e. apart (omega arith)) in omega arith)
+      | inr not ↦ (let z = none m c.1 not in
+          elim (cases_eq c.1 n) [ inl is ↦ (let o = one n c.1 is in omega arith) | inr other ↦ (let y = none n c.1 other in omega arith) ])
+    ]

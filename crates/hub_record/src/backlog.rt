@@ -1,5 +1,5 @@
 //! The pending events, and the cursors into them.
-ghost use Rattle.std.specs.Prelude.{◌≡◌, ◌≤◌, ◌<◌, ◌↔◌, ◌+◌, ◌-◌, ◌++◌, ◌⊎◌, length, get_or, replicate, min, IfOk, OnErr, IsTrue, drop};
+ghost use Rattle.std.specs.Prelude.{◌≡◌, ◌≤◌, ◌<◌, ◌↔◌, ◌+◌, ◌-◌, ◌++◌, ◌⊎◌, length, replicate, min, IfOk, IfSome, OnErr, IsTrue, drop};
 ghost use Rattle.circular_buffer.specs.Buffer.{buffer};
 ghost use Rattle.hub_record.specs.declared.limits.TheConstants.{MOST_EVENTS, MOST_IDS, MOST_PASSES};
 ghost use Rattle.hub_record.specs.World.{as_events};
@@ -8,7 +8,7 @@ ghost use Rattle.hub_record.specs.Backlog.{with_new_id, with_events, IsStill, Ha
 
 use crate::counts::{first_place, has_first, lengthen, one_less, one_more};
 use crate::cursor_list::CursorList;
-use crate::ring::{copy_out, cut, push_in};
+use crate::ring::{add, copy_out, cut, push_in};
 use crate::{Event, NoId, Policy};
 use circular_buffer::HeapCircularBuffer;
 use hub_letters::Letter;
@@ -153,6 +153,7 @@ impl Backlog {
 
     /// Adds the letters as events of a publisher. The first events give way to them as far as needed, and the cursors at
     /// these are slow then. If each cursor is slow nothing is kept.
+    #[inline(always)]
     pub fn push(&mut self, who: u64, letters: &[Letter])
         requires fits { IsStill self.old ⊎ (length letters.now ≤ self.old.room) }
         requires small { self.old.end + length letters.now ≤ MOST_EVENTS }
@@ -164,10 +165,15 @@ impl Backlog {
         }
         let over = (self.ring.len() + letters.len()).saturating_sub(self.ring.capacity());
         append(&mut self.ring, &mut self.counts, over, who, letters);
-        self.base += (over + release(&mut self.ring, &mut self.counts, over == 0)) as u64;
+        // If no event gave way, a cursor is still at the first one.
+        if over == 0 {
+            return;
+        }
+        self.base += (over + release(&mut self.ring, &mut self.counts, None)) as u64;
     }
 
     /// Moves what is pending behind a cursor into the slice, as far as it fits.
+    #[inline(always)]
     pub fn take(&mut self, id: u64, out: &mut [Event]) -> Result<Found, NoId>
         ensures { TakesBy self.old self.new id out.old out.new result }
     {
@@ -185,9 +191,13 @@ impl Backlog {
         let count = copy_out(&self.ring, place, out);
         self.cursors.set(listed, from + count as u64);
         let left = one_less(&mut self.counts, place);
-        one_more(&mut self.counts, place + count);
-        let stays = stays_after(place, left);
-        self.base += release(&mut self.ring, &mut self.counts, stays) as u64;
+        let there = one_more(&mut self.counts, place + count);
+        // After most moves a cursor is still at the base, so that nothing is released.
+        if one_stays(place, left) {
+            return Ok(Found::Moved(count));
+        }
+        let known = (there == self.cursors.len() as u64).then_some(place + count);
+        self.base += release(&mut self.ring, &mut self.counts, known) as u64;
         Ok(Found::Moved(count))
     }
 
@@ -202,12 +212,13 @@ impl Backlog {
             return Ok(());
         }
         one_less(&mut self.counts, (next - self.base) as usize);
-        self.base += release(&mut self.ring, &mut self.counts, false) as u64;
+        self.base += release(&mut self.ring, &mut self.counts, None) as u64;
         Ok(())
     }
 }
 
 /// Releases the first events, with their counts, and adds the letters as events, at which there is no cursor.
+#[inline(always)]
 fn append(
     ring: &mut HeapCircularBuffer<Event>,
     counts: &mut HeapCircularBuffer<u64>,
@@ -223,11 +234,12 @@ fn append(
 {
     // Many messages have one letter that fits.
     if over == 0 && letters.len() == 1 {
-        ring.push_back(Event {
+        let event = Event {
             who,
             letter: letters[0],
-        });
-        counts.push_back(0);
+        };
+        add(ring, event);
+        add(counts, 0);
         return;
     }
     cut(ring, over);
@@ -236,40 +248,39 @@ fn append(
     lengthen(counts, letters.len());
 }
 
-/// Whether a cursor is still at the base, after one left this place and so many are left there.
-fn stays_after(place: usize, left: u64) -> bool
+/// Whether a cursor is still at the base, after one left a place where so many are left.
+fn one_stays(place: usize, left: u64) -> bool
     ensures { IsTrue result → (0 < place) ⊎ (0 < left) }
 {
     place > 0 || left > 0
 }
 
-/// Releases the events before the first cursor, with their counts. Returns how many there were. After most calls a cursor
-/// is known to stay at the first event, so this look is inline.
-#[inline(always)]
+/// Releases the events before the first cursor, with their counts. Returns how many there were. The place of the first cursor
+/// may be known; else it is looked for.
+#[cold]
+#[inline(never)]
 fn release(
     ring: &mut HeapCircularBuffer<Event>,
     counts: &mut HeapCircularBuffer<u64>,
-    stays: bool,
+    known: Option<usize>,
 ) -> usize
-    requires { IsTrue stays → 0 < get_or counts.old.items 0 0 }
+    requires { IfSome known (λ first. first ≡ first_place counts.old.items) }
     ensures count { result ≡ min (first_place counts.old.items) (length ring.old.items) }
     ensures events { ring.new ≡ buffer (drop result ring.old.items) ring.old.capacity }
     ensures counts { counts.new ≡ buffer (drop result counts.old.items) counts.old.capacity }
 {
-    if stays {
-        return 0;
-    }
-    release_some(ring, counts)
-}
-
-#[inline(never)]
-fn release_some(ring: &mut HeapCircularBuffer<Event>, counts: &mut HeapCircularBuffer<u64>) -> usize
-    ensures count { result ≡ min (first_place counts.old.items) (length ring.old.items) }
-    ensures events { ring.new ≡ buffer (drop result ring.old.items) ring.old.capacity }
-    ensures counts { counts.new ≡ buffer (drop result counts.old.items) counts.old.capacity }
-{
-    let count = first_place(counts).min(ring.len());
+    let count = first_or_search(counts, known).min(ring.len());
     cut(ring, count);
     cut(counts, count);
     count
+}
+
+fn first_or_search(counts: &HeapCircularBuffer<u64>, known: Option<usize>) -> usize
+    requires { IfSome known (λ first. first ≡ first_place counts.now.items) }
+    ensures { result ≡ first_place counts.now.items }
+{
+    match known {
+        Some(first) => first,
+        None => first_place(counts),
+    }
 }

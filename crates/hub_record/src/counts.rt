@@ -4,6 +4,7 @@ ghost use Rattle.circular_buffer.specs.Buffer.{buffer};
 ghost use Rattle.hub_record.specs.declared.limits.TheConstants.{MOST_PASSES};
 ghost use Rattle.hub_record.specs.Backlog.{first_place, with_one_more, with_one_less};
 
+use crate::ring::add;
 use circular_buffer::HeapCircularBuffer;
 
 /// Adds this many places, at which there is no cursor.
@@ -12,7 +13,7 @@ pub fn lengthen(counts: &mut HeapCircularBuffer<u64>, more: usize)
     ensures { counts.new ≡ buffer (counts.old.items ++ replicate more 0) counts.old.capacity }
 {
     for _ in 0..more % 32 {
-        counts.push_back(0);
+        add(counts, 0);
     }
     add_blocks(counts, more / 32);
 }
@@ -28,16 +29,18 @@ fn add_blocks(counts: &mut HeapCircularBuffer<u64>, blocks: usize)
     }
 }
 
-/// Counts one cursor more at a place.
-pub fn one_more(counts: &mut HeapCircularBuffer<u64>, place: usize)
+/// Counts one cursor more at a place, and returns how many are there now.
+pub fn one_more(counts: &mut HeapCircularBuffer<u64>, place: usize) -> u64
     requires place { place < length counts.old.items }
     requires few { get_or counts.old.items place 0 ≤ MOST_PASSES }
-    ensures { counts.new ≡ buffer (with_one_more counts.old.items place) counts.old.capacity }
+    ensures there { result ≡ get_or counts.old.items place 0 + 1 }
+    ensures counts { counts.new ≡ buffer (with_one_more counts.old.items place) counts.old.capacity }
 {
     let Some(count) = counts.get_mut(place) else {
         unreachable!()
     };
     *count += 1;
+    *count
 }
 
 /// Counts one cursor less at a place, and returns how many are left there.
@@ -55,6 +58,7 @@ pub fn one_less(counts: &mut HeapCircularBuffer<u64>, place: usize) -> u64
 }
 
 /// The first place at which there is a cursor, or the number of places.
+#[inline(never)]
 pub fn first_place(counts: &HeapCircularBuffer<u64>) -> usize
     ensures { result ≡ first_place counts.now.items }
 {

@@ -1,6 +1,8 @@
 //! The cursors of the current ids, in the order of the ids.
-ghost use Rattle.std.specs.Prelude.{◌≡◌, ◌<◌, ◌++◌, ℕ, [], ◌∷◌, All, length, slice_get, nat_eq, IsSome, IfSome, IfNone, OnOk, OnErr, Some};
+ghost use Rattle.std.specs.Prelude.{◌≡◌, ◌<◌, ◌++◌, ℕ, [], ◌∷◌, All, length, slice_get, nat_eq, nat_lt, true, false, IsSome, IfSome, IfNone, OnOk, OnErr, Some};
 ghost use Rattle.std.specs.Option.{option_map};
+ghost use Rattle.std.specs.List.Sorted.{IsPartitionPoint};
+ghost use Rattle.hub_record.specs.CursorList.{IsRising};
 ghost use Rattle.std.specs.Map.{lookup, set_value, remove_entry, keys_of};
 
 use std::alloc::{AllocError, Global};
@@ -52,7 +54,7 @@ impl CursorList {
         if let Some(next) = self.at(told, id) {
             return Some((told, next));
         }
-        let place = list.partition_point(|cursor| cursor.0 < id);
+        let place = search(list, id);
         let next = self.at(place, id)?;
         Some((place, next))
     }
@@ -108,4 +110,15 @@ impl CursorList {
         let _removed = self.list.remove(place);
         Some(next)
     }
+}
+
+/// The place of the first id that isn't below this one, or the number of cursors. Most ids are at the place that they tell,
+/// so this isn't inline.
+#[cold]
+#[inline(never)]
+fn search(list: &[(u64, u64)], id: u64) -> usize
+    requires { IsRising list.now }
+    ensures { IsPartitionPoint (λ c. nat_lt c.0 id ≡ true) (λ c. nat_lt c.0 id ≡ false) list.now result }
+{
+    list.partition_point(|cursor| cursor.0 < id)
 }

@@ -1,4 +1,3 @@
-use Rattle.std.proofs.Common.{arith}
 use Rattle.hub_record.proofs.Copies.{appended_one}
 use Rattle.hub_record.proofs.backlog.append.Goals as goal
 
@@ -6,5 +5,4 @@ pub returns-then-letters-eq1-clause-events : goal.returns-then-letters-eq1-claus
 returns-then-letters-eq1-clause-events c =
     let over = c.if-over-eq0.true in
     let one = c.if-letters-eq1.true in
-    let fits = c.requires.events in
-    appended_one c.args.ring.now.items c.args.ring.now.capacity c.args.over c.args.who c.index-letters-0.result c.args.letters.now _ over one c.index-letters-0.is (omega arith) c.push_back.ensures.items
+    appended_one c.args.ring.now.items c.args.ring.now.capacity c.args.over c.args.who c.index-letters-0.result c.args.letters.now _ over one c.index-letters-0.is c.add.ensures

@@ -5,7 +5,7 @@ use Rattle.hub_record.specs.declared.Event.{Event}
 use Rattle.hub_record.specs.World.{least, as_events}
 use Rattle.hub_record.specs.Backlog.{Held}
 use Rattle.hub_record.proofs.Slow.{slow_stay}
-use Rattle.hub_record.proofs.Keeps.{is_still, fits_if, none_at_base, kept_still, kept_pushed, pushed_held, pushed_still, length_stamped}
+use Rattle.hub_record.proofs.Keeps.{is_still, fits_if, none_at_base, kept_still, kept_pushed, kept_more, pushed_all, pushed_held, pushed_still, length_stamped}
 use Rattle.hub_record.proofs.backlog.Backlog.push.Goals as goal
 
 pub invariant_of-self : goal.invariant_of-self
@@ -37,6 +37,25 @@ pub append-requires-clause-counts : goal.append-requires-clause-counts
 append-requires-clause-counts c =
     let k = fits_if _ _ _ _ _ _ (length c.args.letters.now) c.self.view_is c.self.invariant c.has_first.ensures c.if-not-has_first.false c.requires.fits in
     omega (arith, k, c.saturating_sub-over.ensures, c.len.ensures.len, c.capacity.ensures.capacity, c.self.invariant.to_end, c.self.invariant.fits)
+
+pub invariant_of-self-then-over-eq0 : goal.invariant_of-self-then-over-eq0
+invariant_of-self-then-over-eq0 c =
+    let k = fits_if _ _ _ _ _ _ (length c.args.letters.now) c.self.view_is c.self.invariant c.has_first.ensures c.if-not-has_first.false c.requires.fits in
+    let end = ap (λ (h : Held). h.end) c.self.view_is in
+    let over = c.saturating_sub-over.ensures in let long = c.len.ensures.len in let room = c.capacity.ensures.capacity in
+    let none = c.if-over-eq0.true in
+    let small = c.requires.small in
+    let size = length_stamped c.args.who c.args.letters.now in
+    let d = length-drop c.saturating_sub-over.result c.self.inside.ring.items in
+    let a = length-append (drop c.saturating_sub-over.result c.self.inside.ring.items) (as_events c.args.who c.args.letters.now) in
+    let grown = ap (λ (b : Buffer Event). length b.items) c.append.ensures.events in
+    kept_more c.self.inside.ring.capacity c.self.inside.base (c.self.inside.base + length c.self.inside.ring.items) _ (length c.self.inside.ring.items) (length c.args.letters.now) c.saturating_sub-over.result _ _ _
+    c.self.inside.counts c.append.new.counts _ c.self.invariant refl k (omega arith) none c.append.ensures.counts c.has_first.ensures c.if-not-has_first.false (ap (λ (b : Buffer Event). b.capacity) c.append.ensures.events) (omega arith) (omega arith)
+
+pub returns-then-over-eq0 : goal.returns-then-over-eq0
+returns-then-over-eq0 c =
+    pushed_all _ _ c.self.inside.base c.saturating_sub-over.result (as_events c.args.who c.args.letters.now) c.append.new.ring c.self.view_is refl c.self.invariant.lowest c.if-over-eq0.true
+    c.append.ensures.events (invariant_of-self-then-over-eq0 c).lowest
 
 pub invariant_of-self-2 : goal.invariant_of-self-2
 invariant_of-self-2 c =

@@ -12,7 +12,7 @@ invariant_of-self-2 c =
     let size = c.len-last.ensures.len in
     let end = c.end-end.ensures.end ∙ ap (λ (h : Held). h.end) (sym c.self.view_is) in
     kept_stand _ _ _ _ c.len-last.result _ _ _ _ c.self.invariant (omega arith) (subst (λ (h : Held). length h.cursors < MOST_PASSES) (sym c.self.view_is) c.requires.few)
-    (c.in-Ok.ensures.ok ∙ ap (λ n. c.self.inside.cursors ++ (c.self.inside.given + 1, n) ∷ []) end) c.one_more.ensures
+    (c.in-Ok.ensures.ok ∙ ap (λ n. c.self.inside.cursors ++ (c.self.inside.given + 1, n) ∷ []) end) c.one_more.ensures.counts
 
 pub returns-clause-begun : goal.returns-clause-begun
 returns-clause-begun c =

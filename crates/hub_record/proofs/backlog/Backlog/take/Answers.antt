@@ -1,11 +1,13 @@
-use Rattle.std.proofs.Common.{ℕ, ◌≡◌, ◌+◌, ◌-◌, length, get_or, nat_eq, refl, sym, ap, ◌∙◌, arith}
+use Rattle.std.proofs.Common.{ℕ, ◌≡◌, ◌+◌, ◌-◌, length, get_or, nat_eq, refl, sym, ap, subst, ◌∙◌, arith}
+use Rattle.std.proofs.lemmas.Bool.{eqb-true}
 use Rattle.std.proofs.lemmas.Option.{slice_get_within}
 use Rattle.std.proofs.lemmas.List.{length-set}
+use Rattle.std.specs.Option.{IfSome}
 use Rattle.circular_buffer.specs.Buffer.{Buffer}
 use Rattle.hub_record.specs.declared.Event.{Event}
-use Rattle.hub_record.specs.Backlog.{Held}
+use Rattle.hub_record.specs.Backlog.{Held, first_place}
 use Rattle.hub_record.proofs.Counted.{some_at_place}
-use Rattle.hub_record.proofs.Keeps.{cursor_within, slow_below, few_at_place, one_stays, kept_set_value, end_after_cut, cut_held, takes_nothing, takes_lost, takes_some}
+use Rattle.hub_record.proofs.Keeps.{cursor_within, slow_below, few_at_place, one_stays, first_known, IfSome-then_some, kept_set_value, kept_stays, end_after_cut, cut_held, still_held, takes_nothing, takes_lost, takes_some}
 use Rattle.hub_record.proofs.Rising.{moved_to}
 use Rattle.hub_record.proofs.backlog.Backlog.take.Goals as goal
 
@@ -38,8 +40,8 @@ one_less-left-requires-clause-some c =
     let above = c.if-from-self.false in
     some_at_place c.self.inside.base c.in-Some.from (c.in-Some.from - c.self.inside.base) (nat_eq c.args.id) _ _ c.self.invariant.counted found (omega arith)
 
-pub one_more-requires-clause-place : goal.one_more-requires-clause-place
-one_more-requires-clause-place c =
+pub one_more-there-requires-clause-place : goal.one_more-there-requires-clause-place
+one_more-there-requires-clause-place c =
     let inside = cursor_within _ _ _ _ c.in-Some.from (nat_eq c.args.id) _ _ c.self.invariant (sym c.in-Some.ensures.next) in
     let place = c.in-Some.from - c.self.inside.base in
     let to = c.self.invariant.to_end in
@@ -49,14 +51,14 @@ one_more-requires-clause-place c =
     let long = length-set c.self.inside.counts.items place (get_or c.self.inside.counts.items place 0 - 1) in
     omega arith
 
-pub one_more-requires-clause-few : goal.one_more-requires-clause-few
-one_more-requires-clause-few c =
+pub one_more-there-requires-clause-few : goal.one_more-there-requires-clause-few
+one_more-there-requires-clause-few c =
     let found = sym c.in-Some.ensures.next in
     let above = c.if-from-self.false in
     few_at_place _ _ _ _ c.in-Some.from _ _ (nat_eq c.args.id) _ _ _ c.self.invariant found (omega arith) c.one_less-left.ensures.counts
 
-pub release-requires : goal.release-requires
-release-requires c t =
+pub invariant_of-self : goal.invariant_of-self
+invariant_of-self c =
     let found = sym c.in-Some.ensures.next in
     let above = c.if-from-self.false in
     let inside = cursor_within _ _ _ _ c.in-Some.from (nat_eq c.args.id) _ _ c.self.invariant found in
@@ -66,11 +68,34 @@ release-requires c t =
     let apart : (c.in-Some.from ≡ c.self.inside.base + length c.self.inside.ring.items → ⊥) = λ e. c.if-from-end.false (e ∙ ap (λ (h : Held). h.end) c.self.view_is ∙ sym c.end-end.ensures.end) in
     let less = ap (λ (b : Buffer ℕ). length b.items) c.one_less-left.ensures.counts in
     let long = length-set c.self.inside.counts.items place (get_or c.self.inside.counts.items place 0 - 1) in
-    one_stays _ _ _ _ c.in-Some.from place (place + c.copy_out-count.result) _ (nat_eq c.args.id) _ _ _ _ c.self.invariant found (omega arith) (omega arith) (omega arith)
-    c.one_less-left.ensures.counts c.one_more.ensures c.one_less-left.ensures.left (c.stays_after-stays.ensures t)
+    let moved = moved_to _ _ c.in-Some.listed c.args.id c.in-Some.from _ c.in-Some.ensures.place c.set.ensures in
+    kept_stays _ _ _ _ (length c.self.inside.ring.items) c.in-Some.from (c.in-Some.from + c.copy_out-count.result) place (place + c.copy_out-count.result) (nat_eq c.args.id) _ _ _ _ _ c.self.invariant refl found moved
+    (omega arith) (omega arith) (omega arith) (omega arith) c.one_less-left.ensures.counts c.one_more-there.ensures.counts
+    (one_stays _ _ _ _ c.in-Some.from place (place + c.copy_out-count.result) _ (nat_eq c.args.id) _ _ _ _ c.self.invariant found (omega arith) (omega arith) (omega arith)
+    c.one_less-left.ensures.counts c.one_more-there.ensures.counts c.one_less-left.ensures.left (c.one_stays.ensures c.if-one_stays.true))
 
-pub invariant_of-self : goal.invariant_of-self
-invariant_of-self c =
+pub returns-then-one_stays : goal.returns-then-one_stays
+returns-then-one_stays c =
+    let found = sym c.in-Some.ensures.next in
+    let is = moved_to _ _ c.in-Some.listed c.args.id c.in-Some.from _ c.in-Some.ensures.place c.set.ensures in
+    takes_some _ _ _ c.args.id _ c.copy_out-count.result _ _ _ _ _ c.self.view_is found c.self.invariant c.if-from-self.false (λ e. c.if-from-end.false (e ∙ sym c.end-end.ensures.end)) refl c.copy_out-count.ensures.count c.copy_out-count.ensures.copied
+    (still_held _ _ c.self.inside.given _ _ _ _ c.self.invariant.lowest (invariant_of-self c).lowest is)
+
+pub release-requires : goal.release-requires
+release-requires c =
+    let found = sym c.in-Some.ensures.next in
+    let above = c.if-from-self.false in
+    let inside = cursor_within _ _ _ _ c.in-Some.from (nat_eq c.args.id) _ _ c.self.invariant found in
+    let place = c.in-Some.from - c.self.inside.base in
+    let to = c.self.invariant.to_end in
+    let count = c.copy_out-count.ensures.count in
+    let moved = moved_to _ _ c.in-Some.listed c.args.id c.in-Some.from _ c.in-Some.ensures.place c.set.ensures in
+    subst (λ o. IfSome o (λ first. first ≡ first_place c.one_more-there.new.counts.items)) (sym c.then_some-known.ensures) (IfSome-then_some _ _ (λ first. first ≡ first_place c.one_more-there.new.counts.items) (λ t.
+    first_known _ _ _ _ c.in-Some.from (c.in-Some.from + c.copy_out-count.result) place (place + c.copy_out-count.result) _ (nat_eq c.args.id) _ _ _ _ _ c.self.invariant found moved
+    (omega arith) (omega arith) (omega arith) c.one_less-left.ensures.counts c.one_more-there.ensures.counts c.one_more-there.ensures.there (eqb-true _ _ t ∙ c.len.ensures)))
+
+pub invariant_of-self-2 : goal.invariant_of-self-2
+invariant_of-self-2 c =
     let found = sym c.in-Some.ensures.next in
     let above = c.if-from-self.false in
     let inside = cursor_within _ _ _ _ c.in-Some.from (nat_eq c.args.id) _ _ c.self.invariant found in
@@ -80,7 +105,7 @@ invariant_of-self c =
     let moved = moved_to _ _ c.in-Some.listed c.args.id c.in-Some.from _ c.in-Some.ensures.place c.set.ensures in
     kept_set_value _ _ _ _ (length c.self.inside.ring.items) _ (c.in-Some.from + c.copy_out-count.result) place (place + c.copy_out-count.result) _ _ _ (nat_eq c.args.id) _ _ _ _ _ _ c.self.invariant refl
     found moved (omega arith) (omega arith) (omega arith) (omega arith)
-    c.one_less-left.ensures.counts c.one_more.ensures told c.release.ensures.counts (ap (λ (b : Buffer Event). b.capacity) c.release.ensures.events)
+    c.one_less-left.ensures.counts c.one_more-there.ensures.counts told c.release.ensures.counts (ap (λ (b : Buffer Event). b.capacity) c.release.ensures.events)
     (end_after_cut _ _ _ _ _ (omega arith) c.release.ensures.events)
 
 pub returns : goal.returns
@@ -89,4 +114,4 @@ returns c =
     let told = c.release.ensures.count in
     let is = moved_to _ _ c.in-Some.listed c.args.id c.in-Some.from _ c.in-Some.ensures.place c.set.ensures in
     takes_some _ _ _ c.args.id _ c.copy_out-count.result _ _ _ _ _ c.self.view_is found c.self.invariant c.if-from-self.false (λ e. c.if-from-end.false (e ∙ sym c.end-end.ensures.end)) refl c.copy_out-count.ensures.count c.copy_out-count.ensures.copied
-    (cut_held _ _ _ c.self.inside.given _ _ _ _ _ c.self.invariant.lowest (invariant_of-self c).lowest (omega arith) is c.release.ensures.events)
+    (cut_held _ _ _ c.self.inside.given _ _ _ _ _ c.self.invariant.lowest (invariant_of-self-2 c).lowest (omega arith) is c.release.ensures.events)
