@@ -1,5 +1,5 @@
 -- The counts from a base on, after each change, and the base that they tell.
-use Rattle.std.proofs.Common.{ℕ, zero, suc, ◌≡◌, ◌+◌, ◌-◌, ◌<◌, ◌≤◌, min, Bool, List, [], ◌∷◌, ◌++◌, Some, length, drop, get_or, replicate, nat_lt, refl, sym, ap, ◌∙◌, inl, inr, arith}
+use Rattle.std.proofs.Common.{ℕ, zero, suc, ◌≡◌, ◌+◌, ◌-◌, ◌<◌, ◌≤◌, min, Bool, false, List, [], ◌∷◌, ◌++◌, Some, length, drop, get_or, replicate, nat_lt, refl, sym, ap, ◌∙◌, inl, inr, arith}
 use Rattle.std.proofs.lemmas.Bool.{cases_eq, cases_lt, ltb-true, ltb-false}
 use Rattle.std.proofs.lemmas.List.{length-set, get_or-set_same, get_or-set_other, get_or-drop, get_or_past}
 use Rattle.std.proofs.lemmas.List.Sums.{fails_before_first, passes_at_first}
@@ -147,7 +147,11 @@ first_at_base counts some = elim (cases_lt 0 (first_place counts)) [
   | inr at ↦ omega arith
 ]
 
--- also with more places
+-- and else it is a later one
+pub first_later : (n : ℕ) (counts : List ℕ) → nat_lt 0 n ≡ false → first_place (n ∷ counts) ≡ 1 + first_place counts
+first_later n counts none = simp none refl
+
+-- it stays 0 with more places
 pub first_stays : (over n : ℕ) (counts longer : List ℕ) → over ≡ 0 → longer ≡ drop over counts ++ replicate n 0 → 0 < get_or counts 0 0 → 0 ≡ first_place longer
 first_stays over n counts longer none is some =
     let l = ap (λ (c : List ℕ). get_or c 0 0) is in

@@ -6,7 +6,9 @@ ghost use Rattle.hub_record.specs.World.{as_events};
 ghost use Rattle.hub_record.specs.Backlog.{Held, nothing_held, lowest, pending, first_place};
 ghost use Rattle.hub_record.specs.Backlog.{with_new_id, with_events, IsStill, HasRoomFor, TakesBy, RemovesBy};
 
-use crate::counts::{first_place, has_first, lengthen, one_less, one_more};
+use crate::counts::{
+    Counts, add_place, cut_places, first_place, has_first, lengthen, one_less, one_more,
+};
 use crate::cursor_list::CursorList;
 use crate::ring::{add, copy_out, cut, push_in};
 use crate::{Event, NoId, Policy};
@@ -34,7 +36,7 @@ pub struct Backlog {
     /// The events from the base on.
     ring: HeapCircularBuffer<Event>,
     /// How many cursors are at each of these events, and last how many are at the end. Slow ones aren't counted.
-    counts: HeapCircularBuffer<u64>,
+    counts: Counts,
     /// The number of the first event that is kept, which is the least cursor that isn't slow.
     base: u64,
     /// How many ids were given so far.
@@ -67,8 +69,7 @@ impl Backlog {
         ensures { IfOk result (λ b. b ≡ nothing_held room) }
     {
         let ring = HeapCircularBuffer::with_capacity(alloc, room)?;
-        let mut counts = HeapCircularBuffer::with_capacity(alloc, ring.capacity() + 1)?;
-        lengthen(&mut counts, 1);
+        let counts = Counts::new(alloc, ring.capacity())?;
         Ok(Backlog {
             ring,
             counts,
@@ -221,12 +222,12 @@ impl Backlog {
 #[inline(always)]
 fn append(
     ring: &mut HeapCircularBuffer<Event>,
-    counts: &mut HeapCircularBuffer<u64>,
+    counts: &mut Counts,
     over: usize,
     who: u64,
     letters: &[Letter],
 )
-    requires over { (over ≤ length ring.old.items) × (over ≤ length counts.old.items) }
+    requires over { (over ≤ length ring.old.items) × (over < length counts.old.items) }
     requires events { length ring.old.items - over + length letters.now ≤ ring.old.capacity }
     requires counts { length counts.old.items - over + length letters.now ≤ counts.old.capacity }
     ensures events { ring.new ≡ buffer (drop over ring.old.items ++ as_events who letters.now) ring.old.capacity }
@@ -239,11 +240,11 @@ fn append(
             letter: letters[0],
         };
         add(ring, event);
-        add(counts, 0);
+        add_place(counts);
         return;
     }
     cut(ring, over);
-    cut(counts, over);
+    cut_places(counts, over);
     push_in(ring, who, letters);
     lengthen(counts, letters.len());
 }
@@ -259,23 +260,20 @@ fn one_stays(place: usize, left: u64) -> bool
 /// may be known; else it is looked for.
 #[cold]
 #[inline(never)]
-fn release(
-    ring: &mut HeapCircularBuffer<Event>,
-    counts: &mut HeapCircularBuffer<u64>,
-    known: Option<usize>,
-) -> usize
-    requires { IfSome known (λ first. first ≡ first_place counts.old.items) }
+fn release(ring: &mut HeapCircularBuffer<Event>, counts: &mut Counts, known: Option<usize>) -> usize
+    requires places { length ring.old.items < length counts.old.items }
+    requires known { IfSome known (λ first. first ≡ first_place counts.old.items) }
     ensures count { result ≡ min (first_place counts.old.items) (length ring.old.items) }
     ensures events { ring.new ≡ buffer (drop result ring.old.items) ring.old.capacity }
     ensures counts { counts.new ≡ buffer (drop result counts.old.items) counts.old.capacity }
 {
     let count = first_or_search(counts, known).min(ring.len());
     cut(ring, count);
-    cut(counts, count);
+    cut_places(counts, count);
     count
 }
 
-fn first_or_search(counts: &HeapCircularBuffer<u64>, known: Option<usize>) -> usize
+fn first_or_search(counts: &Counts, known: Option<usize>) -> usize
     requires { IfSome known (λ first. first ≡ first_place counts.now.items) }
     ensures { result ≡ first_place counts.now.items }
 {

@@ -1,14 +1,62 @@
 //! The counts of a record: how many cursors are at each number from the base to the end.
-ghost use Rattle.std.specs.Prelude.{◌≡◌, ◌≤◌, ◌<◌, ◌+◌, ◌-◌, ◌*◌, ◌++◌, length, get_or, replicate, position, nat_lt};
+ghost use Rattle.std.specs.Prelude.{◌≡◌, ◌≤◌, ◌<◌, ◌+◌, ◌-◌, ◌*◌, ◌++◌, [], ◌∷◌, IfOk, drop, length, get_or, replicate, position, nat_lt};
 ghost use Rattle.circular_buffer.specs.Buffer.{buffer};
 ghost use Rattle.hub_record.specs.declared.limits.TheConstants.{MOST_PASSES};
 ghost use Rattle.hub_record.specs.Backlog.{first_place, with_one_more, with_one_less};
 
-use crate::ring::add;
+use crate::ring::{add, cut};
 use circular_buffer::HeapCircularBuffer;
+use std::alloc::{AllocError, Global};
+use std::marker::Model;
+
+/// How many cursors are at each place: at the base, behind each event from there on, and last at the end.
+#[derive(Drop)]
+pub struct Counts {
+    /// How many are at the base. Most takes leave from there, and each publish asks for it.
+    first: u64,
+    /// How many are at each later place.
+    later: HeapCircularBuffer<u64>,
+}
+
+impl Model for Counts {
+    ghost use Rattle.std.specs.Prelude.{ℕ, ◌+◌, ◌∷◌};
+    ghost use Rattle.circular_buffer.specs.Buffer.{Buffer, buffer};
+
+    ghost Value = { Buffer ℕ };
+
+    ghost view = { λ c. buffer (c.first ∷ c.later.items) (c.later.capacity + 1) };
+}
+
+impl Counts {
+    /// One place, at which there is no cursor, with room for this many more.
+    pub fn new(alloc: Global, room: usize) -> Result<Counts, AllocError>
+        ensures { IfOk result (λ c. c ≡ buffer (0 ∷ []) (room + 1)) }
+    {
+        Ok(Counts {
+            first: 0,
+            later: HeapCircularBuffer::with_capacity(alloc, room)?,
+        })
+    }
+}
+
+/// Adds a place, at which there is no cursor.
+#[inline(always)]
+pub fn add_place(counts: &mut Counts)
+    requires { length counts.old.items < counts.old.capacity }
+    ensures { counts.new ≡ buffer (counts.old.items ++ 0 ∷ []) counts.old.capacity }
+{
+    add(&mut counts.later, 0);
+}
 
 /// Adds this many places, at which there is no cursor.
-pub fn lengthen(counts: &mut HeapCircularBuffer<u64>, more: usize)
+pub fn lengthen(counts: &mut Counts, more: usize)
+    requires { length counts.old.items + more ≤ counts.old.capacity }
+    ensures { counts.new ≡ buffer (counts.old.items ++ replicate more 0) counts.old.capacity }
+{
+    add_zeros(&mut counts.later, more);
+}
+
+fn add_zeros(counts: &mut HeapCircularBuffer<u64>, more: usize)
     requires { length counts.old.items + more ≤ counts.old.capacity }
     ensures { counts.new ≡ buffer (counts.old.items ++ replicate more 0) counts.old.capacity }
 {
@@ -29,8 +77,38 @@ fn add_blocks(counts: &mut HeapCircularBuffer<u64>, blocks: usize)
     }
 }
 
+/// Drops the first places. At least one stays.
+pub fn cut_places(counts: &mut Counts, count: usize)
+    requires { count < length counts.old.items }
+    ensures { counts.new ≡ buffer (drop count counts.old.items) counts.old.capacity }
+{
+    if count == 0 {
+        return;
+    }
+    let Some(first) = counts.later.get(count - 1) else {
+        unreachable!()
+    };
+    counts.first = *first;
+    cut(&mut counts.later, count);
+}
+
 /// Counts one cursor more at a place, and returns how many are there now.
-pub fn one_more(counts: &mut HeapCircularBuffer<u64>, place: usize) -> u64
+#[inline(always)]
+pub fn one_more(counts: &mut Counts, place: usize) -> u64
+    requires place { place < length counts.old.items }
+    requires few { get_or counts.old.items place 0 ≤ MOST_PASSES }
+    ensures there { result ≡ get_or counts.old.items place 0 + 1 }
+    ensures counts { counts.new ≡ buffer (with_one_more counts.old.items place) counts.old.capacity }
+{
+    if place == 0 {
+        counts.first += 1;
+        return counts.first;
+    }
+    more_at(&mut counts.later, place - 1)
+}
+
+#[inline(always)]
+fn more_at(counts: &mut HeapCircularBuffer<u64>, place: usize) -> u64
     requires place { place < length counts.old.items }
     requires few { get_or counts.old.items place 0 ≤ MOST_PASSES }
     ensures there { result ≡ get_or counts.old.items place 0 + 1 }
@@ -44,7 +122,21 @@ pub fn one_more(counts: &mut HeapCircularBuffer<u64>, place: usize) -> u64
 }
 
 /// Counts one cursor less at a place, and returns how many are left there.
-pub fn one_less(counts: &mut HeapCircularBuffer<u64>, place: usize) -> u64
+#[inline(always)]
+pub fn one_less(counts: &mut Counts, place: usize) -> u64
+    requires place { place < length counts.old.items }
+    requires some { 0 < get_or counts.old.items place 0 }
+    ensures left { result ≡ get_or counts.old.items place 0 - 1 }
+    ensures counts { counts.new ≡ buffer (with_one_less counts.old.items place) counts.old.capacity }
+{
+    if place == 0 {
+        counts.first -= 1;
+        return counts.first;
+    }
+    less_at(&mut counts.later, place - 1)
+}
+
+fn less_at(counts: &mut HeapCircularBuffer<u64>, place: usize) -> u64
     requires place { place < length counts.old.items }
     requires some { 0 < get_or counts.old.items place 0 }
     ensures left { result ≡ get_or counts.old.items place 0 - 1 }
@@ -58,8 +150,17 @@ pub fn one_less(counts: &mut HeapCircularBuffer<u64>, place: usize) -> u64
 }
 
 /// The first place at which there is a cursor, or the number of places.
+pub fn first_place(counts: &Counts) -> usize
+    ensures { result ≡ first_place counts.now.items }
+{
+    if has_first(counts) {
+        return 0;
+    }
+    first_in(&counts.later).min(counts.later.len()) + 1
+}
+
 #[inline(never)]
-pub fn first_place(counts: &HeapCircularBuffer<u64>) -> usize
+fn first_in(counts: &HeapCircularBuffer<u64>) -> usize
     ensures { result ≡ first_place counts.now.items }
 {
     let (front, back) = counts.as_slices();
@@ -76,11 +177,8 @@ fn first_counted(counts: &[u64]) -> Option<usize>
 }
 
 /// Whether a cursor is at the first place.
-pub fn has_first(counts: &HeapCircularBuffer<u64>) -> bool
+pub fn has_first(counts: &Counts) -> bool
     ensures { result ≡ nat_lt 0 (get_or counts.now.items 0 0) }
 {
-    match counts.front() {
-        Some(count) => *count > 0,
-        None => false,
-    }
+    counts.first > 0
 }

@@ -1,5 +1,5 @@
-use Rattle.std.proofs.Common.{◌+◌, length, drop, ap, ◌∙◌, refl, arith}
-use Rattle.std.proofs.lemmas.List.{length-append, length-drop}
+use Rattle.std.proofs.Common.{ℕ, replicate, ◌+◌, length, drop, ap, ◌∙◌, refl, arith}
+use Rattle.std.proofs.lemmas.List.{length-append, length-drop, length-replicate}
 use Rattle.circular_buffer.specs.Buffer.{Buffer, buffer}
 use Rattle.hub_record.specs.declared.Event.{Event}
 use Rattle.hub_record.specs.World.{least, as_events}
@@ -82,3 +82,18 @@ returns c =
     let told = c.release.ensures.count in
     pushed_held _ _ c.self.inside.base c.saturating_sub-over.result c.release.result (as_events c.args.who c.args.letters.now) (buffer (drop c.saturating_sub-over.result c.self.inside.ring.items) c.self.inside.ring.capacity) c.append.new.ring c.release.new.ring c.self.view_is refl c.self.invariant.lowest (omega arith)
     refl c.append.ensures.events c.release.ensures.events (omega arith) (invariant_of-self-2 c).lowest
+
+pub release-requires-clause-places : goal.release-requires-clause-places
+release-requires-clause-places c =
+    let k = fits_if _ _ _ _ _ _ (length c.args.letters.now) c.self.view_is c.self.invariant c.has_first.ensures c.if-not-has_first.false c.requires.fits in
+    let over = c.saturating_sub-over.ensures in let long = c.len.ensures.len in let room = c.capacity.ensures.capacity in
+    let to = c.self.invariant.to_end in
+    let size = length_stamped c.args.who c.args.letters.now in
+    let d = length-drop c.saturating_sub-over.result c.self.inside.ring.items in
+    let a = length-append (drop c.saturating_sub-over.result c.self.inside.ring.items) (as_events c.args.who c.args.letters.now) in
+    let grown = ap (λ (b : Buffer Event). length b.items) c.append.ensures.events in
+    let e = length-drop c.saturating_sub-over.result c.self.inside.counts.items in
+    let b = length-append (drop c.saturating_sub-over.result c.self.inside.counts.items) (replicate (length c.args.letters.now) 0) in
+    let z = length-replicate {A = ℕ} (length c.args.letters.now) 0 in
+    let places = ap (λ (b : Buffer ℕ). length b.items) c.append.ensures.counts in
+    omega arith

@@ -81,8 +81,18 @@ returns-then-one_stays c =
     takes_some _ _ _ c.args.id _ c.copy_out-count.result _ _ _ _ _ c.self.view_is found c.self.invariant c.if-from-self.false (λ e. c.if-from-end.false (e ∙ sym c.end-end.ensures.end)) refl c.copy_out-count.ensures.count c.copy_out-count.ensures.copied
     (still_held _ _ c.self.inside.given _ _ _ _ c.self.invariant.lowest (invariant_of-self c).lowest is)
 
-pub release-requires : goal.release-requires
-release-requires c =
+pub release-requires-clause-places : goal.release-requires-clause-places
+release-requires-clause-places c =
+    let place = c.in-Some.from - c.self.inside.base in
+    let to = c.self.invariant.to_end in
+    let less = ap (λ (b : Buffer ℕ). length b.items) c.one_less-left.ensures.counts in
+    let more = ap (λ (b : Buffer ℕ). length b.items) c.one_more-there.ensures.counts in
+    let long = length-set c.self.inside.counts.items place (get_or c.self.inside.counts.items place 0 - 1) in
+    let longer = length-set c.one_less-left.new.counts.items (place + c.copy_out-count.result) (get_or c.one_less-left.new.counts.items (place + c.copy_out-count.result) 0 + 1) in
+    omega arith
+
+pub release-requires-clause-known : goal.release-requires-clause-known
+release-requires-clause-known c =
     let found = sym c.in-Some.ensures.next in
     let above = c.if-from-self.false in
     let inside = cursor_within _ _ _ _ c.in-Some.from (nat_eq c.args.id) _ _ c.self.invariant found in

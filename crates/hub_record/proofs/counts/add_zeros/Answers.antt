@@ -1,7 +1,7 @@
 use Rattle.std.proofs.Common.{◌≡◌, ℕ, ◌+◌, ◌*◌, ◌/◌, ◌%◌, ◌++◌, replicate, ap, ◌∙◌, append_assoc, arith, rules}
 use Rattle.std.proofs.lemmas.List.{replicate-append-replicate}
 use Rattle.circular_buffer.specs.Buffer.{Buffer, buffer}
-use Rattle.hub_record.proofs.counts.lengthen.Goals as goal
+use Rattle.hub_record.proofs.counts.add_zeros.Goals as goal
 
 pub returns : goal.returns
 returns c =
