@@ -63,6 +63,9 @@ Each line of standard input is a request, and each gets one reply line, in order
                  1000000); the reply has each one's number of events, or `-` if it isn't so yet
                  wait all ready 5000 db yes 3, or never, or late
                  `never`: it can't come about any more, because one failed for good or is closed
+  names FROM     list the fifodirs' names in the order in which they were made, from place FROM on (the first has 0), as
+                 many as fit in a reply of 4101 bytes
+                 names 0                names web db log, or none
 
 A line that can't be carried out is refused by `no` and one word, and changes nothing: long, text, word, form, range,
 name, exists, kind (a wait for a fifodir that isn't a service's), id, many, spent, closed, unlawful I, full, pattern

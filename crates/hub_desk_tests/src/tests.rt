@@ -2,6 +2,7 @@ mod awaits;
 mod desks;
 mod ended;
 mod listeners;
+mod names;
 mod no_memory;
 mod requests;
 mod rows;

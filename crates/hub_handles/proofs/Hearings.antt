@@ -95,6 +95,7 @@ gives_taken old new (Err (answer.Hit l)) was is mode takes = absurd takes
 gives_taken old new (Err (answer.Yes l)) was is mode takes = absurd takes
 gives_taken old new (Err answer.Never) was is mode takes = absurd takes
 gives_taken old new (Err answer.Late) was is mode takes = absurd takes
+gives_taken old new (Err (answer.Listed l)) was is mode takes = absurd takes
 gives_taken old new (Err (answer.No r)) was is mode takes = absurd takes
 
 -- ---- and are heard
@@ -177,6 +178,7 @@ stop_polls a b c reply fed p q stops few room = polls reply stops
     polls (answer.Yes l) stops = absurd stops
     polls answer.Never stops = absurd stops
     polls answer.Late stops = absurd stops
+    polls (answer.Listed l) stops = absurd stops
 
 -- ---- after a poll
 

@@ -15,6 +15,8 @@ mod UsedIds
 pub mod OtherHoldings
 pub mod AskingPolls
 pub mod AskingAwaits
+pub mod AskingNames
 pub mod AwaitLaws
+pub mod NamesLaws
 pub mod Running
 pub mod TakingWhatWaits

@@ -20,17 +20,18 @@ use Rattle.hub_record.specs.declared.Taken.TheVariants as taken
 use Rattle.hub_record.specs.declared.NoId.{NoId}
 use Rattle.hub_record.specs.declared.Closed.{Closed}
 use Rattle.hub_requests.specs.declared.bounds.TheConstants.{MOST_NAMES}
-use Rattle.hub_local.specs.Desks.{Desk, Answer, world_of, reports_of, with_world, standing, holding_at, without_handle, refusal_answer}
+use Rattle.hub_local.specs.Desks.{Desk, Answer, names_in, world_of, reports_of, with_world, standing, holding_at, without_handle, refusal_answer}
 use Rattle.hub_local.specs.Polls.{poll_answer, LeftByPoll}
 use Rattle.hub_local.specs.Awaits.{await_answer}
 use Rattle.hub_local.specs.Replies.{subscribe_reply, publish_reply}
 use Rattle.hub_requests.specs.Refusals.{refusal_of_sub, refusal_of_pub}
+use Rattle.hub_requests.specs.Listings.{names_reply}
 use Rattle.hub_requests.specs.Room.{policy_of, refusal_of_handle}
 use Rattle.hub_local.specs.Waits.{wait_answer, LeftByWait}
 use Rattle.hub_local.specs.declared.local_desk.LocalListener.{LocalListener}
 use Rattle.hub_local.specs.declared.local_desk.Holding.{Holding}
 use Rattle.hub_requests.specs.declared.request.Request.{Request}
-use Rattle.hub_requests.specs.declared.request.Request.TheVariants.{Dir, Svc, Sub, Pub, Take, Cancel, Close, Status, Listen, Poll, Await, Wait}
+use Rattle.hub_requests.specs.declared.request.Request.TheVariants.{Dir, Svc, Sub, Pub, Take, Cancel, Close, Status, Listen, Poll, Await, Wait, Names}
 use Rattle.hub_requests.specs.declared.reply.Reply.{Reply}
 use Rattle.hub_requests.specs.declared.reply.Reply.TheVariants.{Done, Number, State, Got, Nothing, End, Evicted, No}
 use Rattle.hub_requests.specs.declared.reply.Refusal.{Refusal}
@@ -100,6 +101,7 @@ own_refusal d read (Listen name mode pattern) = refusal_to_listen read (refusal_
 own_refusal d read (Poll id) = refusal_to_poll (holding_at d id)
 own_refusal d read (Await id turns) = refusal_by_handle (holding_at d id)
 own_refusal d read (Wait span want turns names) = refusal_to_wait d names
+own_refusal d read (Names from) = None
 
 -- ---- what it does otherwise
 
@@ -169,6 +171,10 @@ close_answer d name w (Ok done) = answered_with Done d name (after_close w)
 abbrev pub status_answer : Desk → World → Answer
 status_answer d w = record { reply = State (record { number = length w.events; flags = flags_of (letters w.events); closed = w.closed }); desk = d }
 
+-- nothing changes
+abbrev pub names_answer : Desk → ℕ → Answer
+names_answer d from = record { reply = names_reply (names_in d.fifodirs) from; desk = d }
+
 -- what is done with a request that the desk itself doesn't refuse
 abbrev pub request_answer : Desk → Request → Answer
 request_answer d (Dir name waiting total evict) = make_answer d name Plain None (limits_of waiting total MOST_IDS (policy_of evict))
@@ -183,6 +189,7 @@ request_answer d (Listen name mode pattern) = in_world d (λ w. subscribe_answer
 request_answer d (Poll id) = for_holding d (λ h. for_hearing d (λ g. in_world d (poll_answer d id h g) (world_of d.fifodirs h.name)) h.hearing) (holding_at d id)
 request_answer d (Await id turns) = for_holding d (λ h. in_world d (await_answer d h) (world_of d.fifodirs h.name)) (holding_at d id)
 request_answer d (Wait span want turns names) = wait_answer d span want names
+request_answer d (Names from) = names_answer d from
 
 -- ---- answers
 

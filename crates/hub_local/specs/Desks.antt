@@ -47,6 +47,10 @@ abbrev pub with_world : List Fifodir → List ℕ → World → List Fifodir
 with_world [] name w = []
 with_world (f ∷ rest) name w = if bytes_eq name f.name then record f { world = w } ∷ rest else f ∷ with_world rest name w
 
+-- the names, in the order in which they were made
+abbrev pub names_in : List Fifodir → List (List ℕ)
+names_in fifodirs = map (λ f. f.name) fifodirs
+
 -- ---- handles by number
 
 -- what the current handles hold, by their numbers; the first of the list has the number `from`

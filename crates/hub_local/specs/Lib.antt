@@ -5,6 +5,7 @@ pub mod Awaits
 pub mod Waits
 pub mod DeskAnswers
 pub mod AwaitLaws
+pub mod NamesLaws
 pub mod Hearings
 pub mod Standing
 pub mod Opening

@@ -15,6 +15,7 @@ mod awaits;
 mod fifodirs;
 mod laws;
 mod listeners;
+mod listings;
 mod subscriptions;
 mod waits;
 
@@ -138,6 +139,7 @@ impl Desk for LocalDesk {
                 turns: _,
                 names,
             } => self.wait(*span, *want, names),
+            Request::Names { from } => self.list(*from),
         }
     }
 

@@ -3,3 +3,4 @@ pub mod Hubs
 pub mod Says
 pub mod Speaking
 pub mod Fifodirs
+pub mod Looks

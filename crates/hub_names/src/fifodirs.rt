@@ -3,7 +3,7 @@ ghost use Rattle.std.specs.Prelude.{◌≡◌, None, IfErr, IfNone, IfSome, OnOk
 ghost use Rattle.hub_names.specs.Says.{says, says_status};
 ghost use Rattle.hub_names.specs.declared.hub.Hub.{Hub};
 
-use crate::hub::{Hub, Made};
+use crate::hub::{Hub, Look, Made};
 use crate::joined::Joined;
 use crate::speech::Speech;
 use hub_requests::{Name, Refusal, Reply};
@@ -19,9 +19,12 @@ use std::sync::Wait;
 pub struct Fifodirs {
     alloc: Global,
     by_name: IndexMap<Name, Joined>,
+    /// What the session last saw of its hub's names.
+    look: Option<Look>,
 }
 
 impl Fifodirs {
+    ghost use Rattle.hub_names.specs.Looks.{AsksNames};
     ghost use Rattle.hub_names.specs.Fifodirs.{AsksByName, IsAsBefore, IsSilent, IsKeptAs, KeepsAll, KeepsNone, Joins, IsFinding, IsMissing, joined_at};
 
     /// Those of a new session: it has found none.
@@ -31,6 +34,7 @@ impl Fifodirs {
         Fifodirs {
             alloc,
             by_name: IndexMap::new(alloc),
+            look: None,
         }
     }
 
@@ -107,6 +111,15 @@ impl Fifodirs {
         joined.status()
     }
 
+    /// The hub's names from place `from` on, as many as fit in one reply.
+    pub fn list<H: Wait>(&mut self, rt: &H, hub: &Hub, from: u64) -> Reply
+        ensures { AsksNames hub.now self.old from result self.new }
+    {
+        let (look, reply) = hub.list(rt, from);
+        self.look = Some(look);
+        reply
+    }
+
     /// Ends all publishers.
     pub fn leave<H: Wait>(&mut self, rt: &H)
         ensures { KeepsNone self.new }
@@ -121,7 +134,11 @@ impl Fifodirs {
     /// Ends all publishers, and frees what is left.
     pub fn release<H: Wait>(mut self, rt: &H) {
         self.leave(rt);
-        let Fifodirs { alloc: _, by_name } = self;
+        let Fifodirs {
+            alloc: _,
+            by_name,
+            look: _,
+        } = self;
         by_name.destroy_empty();
     }
 }

@@ -1,13 +1,13 @@
 //! The fifodirs that sessions share, by name.
-ghost use Rattle.std.specs.Prelude.{◌≡◌, ◌≤◌, ℕ, List, true, false, is_some, option_map, IfOk, IfSome, OnOk, OnErr, Err};
+ghost use Rattle.std.specs.Prelude.{◌≡◌, ◌≤◌, ◌++◌, ◌∷◌, [], ℕ, List, true, false, is_some, option_map, IfOk, IfSome, OnOk, OnErr, Err};
 ghost use Rattle.std.specs.Arc.{arc_value};
 ghost use Rattle.std.specs.Str.{bytes_eq};
-ghost use Rattle.indexmap.specs.IndexMap.{get, index_map_len};
+ghost use Rattle.indexmap.specs.IndexMap.{get, index_map_len, keys};
 ghost use Rattle.hub_requests.specs.declared.bounds.TheConstants.{MOST_NAMES};
 
 use hub_fifodir::{Bell, Fifodir};
 use hub_record::{Kind, Limits};
-use hub_requests::{MOST_NAMES, Name};
+use hub_requests::{MOST_NAMES, Name, Refusal, Reply, names_reply};
 use indexmap::IndexMap;
 use std::alloc::{AllocError, Global};
 use std::snapshot::Snapshot;
@@ -107,6 +107,30 @@ impl Found {
     }
 }
 
+/// What a session saw of a hub's names at one moment, as contracts see it: it has no bytes. Only [`Hub::list`] makes one.
+#[derive(Drop)]
+pub struct Look {
+    hub: Snapshot<Hub>,
+    /// What was under the hub's lock.
+    named: Snapshot<Named>,
+}
+
+impl Look {
+    ghost use Rattle.hub_names.specs.Looks.{IsLookAt, names_seen};
+
+    /// A look at what the hub has under its lock.
+    fn at(hub: &Hub, named: &Named) -> Look
+        ensures at { IsLookAt hub.now result }
+        ensures seen { names_seen result ≡ keys named.now.fifodirs }
+    {
+        named.fifodirs.len();
+        Look {
+            hub: Snapshot::of(hub),
+            named: Snapshot::of(named),
+        }
+    }
+}
+
 /// What is under the hub's lock.
 #[derive(Drop)]
 struct Named {
@@ -119,6 +143,7 @@ struct Named {
 
 impl Named {
     ghost use Rattle.hub_names.specs.Hubs.{HasMade, found_as};
+    ghost use Rattle.hub_names.specs.Looks.{Lists};
 
     fn make(
         &mut self,
@@ -139,6 +164,7 @@ impl Named {
             (get bytes_eq self.new.fifodirs name.now)) }
         ensures others { OnOk result ((other : List ℕ) → bytes_eq name.now other ≡ false
             → get bytes_eq self.new.fifodirs other ≡ get bytes_eq self.old.fifodirs other) }
+        ensures last { OnOk result (keys self.new.fifodirs ≡ keys self.old.fifodirs ++ name.now ∷ []) }
         ensures err { OnErr result (self.new.fifodirs.entries ≡ self.old.fifodirs.entries) }
     {
         if self.fifodirs.contains_key(name) {
@@ -168,6 +194,16 @@ impl Named {
             None => Ok(None),
         }
     }
+
+    /// The names from place `from` on, as many as fit in one reply.
+    fn list(&self, from: u64) -> Reply
+        ensures { Lists (keys self.now.fifodirs) from result }
+    {
+        match names_reply(self.alloc, self.fifodirs.keys().as_slice(), from) {
+            Ok(reply) => reply,
+            Err(_) => Reply::No(Refusal::Memory),
+        }
+    }
 }
 
 /// The fifodirs that sessions share.
@@ -180,6 +216,7 @@ pub struct Hub {
 
 impl Hub {
     ghost use Rattle.hub_names.specs.Hubs.{IsFoundIn};
+    ghost use Rattle.hub_names.specs.Looks.{IsLookAt, Lists, names_seen};
 
     /// A hub without a name.
     pub fn new(alloc: Global) -> Result<Hub, AllocError> {
@@ -230,5 +267,15 @@ impl Hub {
             Some(made) => Ok(Some(Found::of(self, name, made))),
             None => Ok(None),
         }
+    }
+
+    /// The names from place `from` on, in the order in which they were made and as many as fit in one reply, with the look at
+    /// the hub that saw them.
+    pub fn list<H: Wait>(&self, rt: &H, from: u64) -> (Look, Reply)
+        ensures at { IsLookAt self.now result.0 }
+        ensures lists { Lists (names_seen result.0) from result.1 }
+    {
+        let named = self.named.read(rt);
+        (Look::at(self, &named), named.list(from))
     }
 }

@@ -10,7 +10,7 @@ use Rattle.hub_requests.specs.declared.request.Request.TheVariants as request
 use Rattle.hub_requests.specs.declared.reply.Refusal.{Refusal}
 use Rattle.hub_requests.specs.declared.reply.Refusal.TheVariants.{Long, Text, Word, Range, Memory}
 use Rattle.hub_requests.specs.declared.reply.Refusal.TheVariants as no
-use Rattle.hub_protocol.specs.Spelling.{Form, Dir, Svc, Sub, Pub, Take, Cancel, Close, Status, Listen, Poll, Await, Wait, IsForm, IsWithin, IsWord, form_of, digit_of, word_of, text_of_mode, text_of_span, text_of_want, fields_of, fields_of_evict, fields_behind, fields_in}
+use Rattle.hub_protocol.specs.Spelling.{Form, Dir, Svc, Sub, Pub, Take, Cancel, Close, Status, Listen, Poll, Await, Wait, Names, IsForm, IsWithin, IsWord, form_of, digit_of, word_of, text_of_mode, text_of_span, text_of_want, fields_of, fields_of_evict, fields_behind, fields_in}
 use Rattle.hub_protocol.specs.Reading.{first_word, IsTextByte, IsText, HasForm, Spells, IsReading}
 use Rattle.hub_protocol.proofs.Numerals.{same_number}
 use Rattle.hub_protocol.proofs.Splits.{same_text}
@@ -67,6 +67,9 @@ same_await i x j y h k e =
     let turns = same_number x y h.1 k.1 second in
     cc
 
+same_names : (i j : ℕ) → IsForm (Names i) → IsForm (Names j) → fields_behind (Names i) ≡ fields_behind (Names j) → Names i ≡ Names j
+same_names i j h k e = let first : decimal i ≡ decimal j = cc in ap Names (same_number i j h k first)
+
 same_listen : (n m : List ℕ) (o r : Mode) (p q : List ℕ) → fields_behind (Listen n o p) ≡ fields_behind (Listen m r q) → Listen n o p ≡ Listen m r q
 same_listen n m o r p q e =
     let names : n ≡ m = cc in
@@ -100,6 +103,7 @@ same_form (Listen n o p) (Listen m r q) h k words e = same_listen n m o r p q e
 same_form (Poll i) (Poll j) h k words e = same_poll i j h k e
 same_form (Await i x) (Await j y) h k words e = same_await i x j y h k e
 same_form (Wait s w x n) (Wait t v y m) h k words e = same_wait s t w v x y n m h k e
+same_form (Names i) (Names j) h k words e = same_names i j h k e
 same_form a b h k words e = absurd (apart (word_of a) (word_of b) refl words)
 
 pub one_form : (line : List ℕ) (a b : Form) → HasForm line a → HasForm line b → a ≡ b
@@ -128,6 +132,7 @@ same_request (request.Listen n o p) (request.Listen m r q) e = cc
 same_request (request.Poll i) (request.Poll j) e = cc
 same_request (request.Await i x) (request.Await j y) e = cc
 same_request (request.Wait s w x n) (request.Wait t v y m) e = cc
+same_request (request.Names i) (request.Names j) e = cc
 same_request a b e = cc
 
 pub one_request : (line : List ℕ) (a b : Request) → Spells line a → Spells line b → a ≡ b

@@ -14,7 +14,7 @@ use Rattle.hub_letters.specs.declared.mode.Mode.TheVariants.{Once}
 use Rattle.hub_letters.specs.declared.span.Span.{Span}
 use Rattle.hub_letters.specs.declared.span.Span.TheVariants as span
 use Rattle.hub_requests.specs.Names.{within, is_name_byte}
-use Rattle.hub_protocol.specs.Spelling.{Form, Dir, Svc, Sub, Pub, Take, Cancel, Close, Status, Listen, Poll, Await, Wait, IsForm, IsName, IsNumeral, text_of_mode, text_of_span, text_of_want, word_of, is_space, fields_of, fields_of_evict, fields_behind, fields_in}
+use Rattle.hub_protocol.specs.Spelling.{Form, Dir, Svc, Sub, Pub, Take, Cancel, Close, Status, Listen, Poll, Await, Wait, Names, IsForm, IsName, IsNumeral, text_of_mode, text_of_span, text_of_want, word_of, is_space, fields_of, fields_of_evict, fields_behind, fields_in}
 use Rattle.hub_protocol.specs.Fields.{IsNumeralOf}
 use Rattle.hub_protocol.specs.Reading.{IsTextByte}
 use Rattle.hub_protocol.proofs.Numerals.{digits_of_numeral}
@@ -113,6 +113,7 @@ visible_behind (Listen name mode pattern) h = (visible_name name h.0, (visible_m
 visible_behind (Poll id) h = (visible_numeral id h, tt)
 visible_behind (Await id turns) h = (visible_numeral id h.0, (visible_numeral turns h.1, tt))
 visible_behind (Wait span want turns names) h = (visible_span span, (visible_want want, (visible_numeral turns h.0, visible_names names h.1.each)))
+visible_behind (Names from) h = (visible_numeral from h, tt)
 
 pub visible_in : (form : Form) → IsForm form → AllVisible (fields_in form)
 visible_in form h = (visible_word form, visible_behind form h)

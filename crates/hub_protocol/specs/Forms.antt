@@ -7,7 +7,7 @@ use Rattle.hub_protocol.specs.Spelling.{Form, IsWithin, IsWord, fields_of}
 use Rattle.hub_protocol.specs.Reading.{HasForm, IsReading}
 use Rattle.hub_protocol.specs.Fields.{IsNoForm, IsFormOf}
 use Rattle.hub_protocol.specs.declared.forms.BorrowedForm as borrowed
-use Rattle.hub_protocol.specs.declared.forms.BorrowedForm.TheVariants.{Dir, Svc, Sub, Pub, Take, Cancel, Close, Status, Listen, Poll, Await, Wait}
+use Rattle.hub_protocol.specs.declared.forms.BorrowedForm.TheVariants.{Dir, Svc, Sub, Pub, Take, Cancel, Close, Status, Listen, Poll, Await, Wait, Names}
 
 abbrev pub form_shown : borrowed.BorrowedForm → Form
 form_shown (Dir name waiting total evict) = spelled.Dir name.now waiting total evict
@@ -22,6 +22,7 @@ form_shown (Listen name mode pattern) = spelled.Listen name.now mode pattern.now
 form_shown (Poll id) = spelled.Poll id
 form_shown (Await id turns) = spelled.Await id turns
 form_shown (Wait span want turns names) = spelled.Wait span want turns (fields_of names.now)
+form_shown (Names from) = spelled.Names from
 
 -- the form of the word whose fields are the rest of a line, if there is one
 abbrev pub Finds : List ℕ → List ℕ → Option borrowed.BorrowedForm → Type 0

@@ -28,6 +28,7 @@ pub data Form : Type 0 where
   Poll : (id : ℕ) → Form
   Await : (id turns : ℕ) → Form
   Wait : (span : Span) (want : Want) (turns : ℕ) (names : List (List ℕ)) → Form
+  Names : (from : ℕ) → Form
 
 -- a numeral has at most 13 digits
 abbrev pub IsNumeral : ℕ → Type 0
@@ -67,6 +68,7 @@ IsForm (Listen name mode pattern) = IsName name × IsPatternText pattern
 IsForm (Poll id) = IsNumeral id
 IsForm (Await id turns) = IsNumeral id × IsNumeral turns
 IsForm (Wait span want turns names) = IsNumeral turns × AreNames names
+IsForm (Names from) = IsNumeral from
 
 -- whether a listener goes on after a hit
 abbrev pub text_of_mode : Mode → List ℕ
@@ -100,6 +102,7 @@ word_of (Listen name mode pattern) = codes "listen"
 word_of (Poll id) = codes "poll"
 word_of (Await id turns) = codes "await"
 word_of (Wait span want turns names) = codes "wait"
+word_of (Names from) = codes "names"
 
 abbrev pub is_space : ℕ → Bool
 is_space b = b == 32
@@ -127,6 +130,7 @@ fields_behind (Listen name mode pattern) = name ∷ text_of_mode mode ∷ fields
 fields_behind (Poll id) = decimal id ∷ []
 fields_behind (Await id turns) = decimal id ∷ decimal turns ∷ []
 fields_behind (Wait span want turns names) = text_of_span span ∷ text_of_want want ∷ decimal turns ∷ names
+fields_behind (Names from) = decimal from ∷ []
 
 -- the fields of a form's line
 abbrev pub fields_in : Form → List (List ℕ)
@@ -154,6 +158,7 @@ form_of (request.Listen name mode pattern) = Listen name mode pattern
 form_of (request.Poll id) = Poll id
 form_of (request.Await id turns) = Await id turns
 form_of (request.Wait span want turns names) = Wait span want turns names
+form_of (request.Names from) = Names from
 
 -- a request whose numbers are in their ranges has the form
 abbrev pub IsWithin : Form → Type 0

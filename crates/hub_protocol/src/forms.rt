@@ -75,6 +75,10 @@ pub enum BorrowedForm<'a> {
         turns: u64,
         names: &'a [u8],
     },
+    /// `names FROM`
+    Names {
+        from: u64,
+    },
 }
 
 fn dir(rest: &[u8]) -> Option<BorrowedForm<'_>>
@@ -162,6 +166,7 @@ pub fn form_of_word<'a>(word: &[u8], rest: &'a [u8]) -> Result<Option<BorrowedFo
             Ok(last_two_numerals(rest).map(|(id, turns)| BorrowedForm::Await { id, turns }))
         }
         b"wait" => Ok(wait(rest)),
+        b"names" => Ok(last_numeral(rest).map(|from| BorrowedForm::Names { from })),
         _ => Err(Refusal::Word),
     }
 }

@@ -143,6 +143,7 @@ pub fn request_of(alloc: Global, form: BorrowedForm<'_>) -> Result<Request, Allo
             turns,
             names: names_of(alloc, names)?,
         },
+        BorrowedForm::Names { from } => Request::Names { from },
     };
     Ok(request)
 }

@@ -3,11 +3,12 @@ ghost use Rattle.std.specs.Prelude.{◌≡◌, ◌++◌, ◌+◌, ◌∷◌, [],
 ghost use Rattle.std.specs.Fmt.{decimal};
 ghost use Rattle.hub_requests.specs.declared.reply.Reply.{Reply};
 ghost use Rattle.hub_protocol.specs.Writing.{Appends};
+ghost use Rattle.hub_requests.specs.Names.{names_text};
 ghost use Rattle.hub_requests.specs.Texts.{line_of, number_or_dash, numbers_text, text_of};
 
 use hub_letters::Letter;
 use hub_record::Status;
-use hub_requests::{Refusal, Reply};
+use hub_requests::{Name, Refusal, Reply};
 use itoa::Buffer;
 use std::alloc::AllocError;
 
@@ -51,6 +52,7 @@ fn append_line(reply: &Reply, out: &mut Vec<u8>) -> Result<(), AllocError>
         Reply::Yes(numbers) => append_yes(numbers.items(), out),
         Reply::Never => out.extend_from_slice(b"never"),
         Reply::Late => out.extend_from_slice(b"late"),
+        Reply::Listed(names) => append_listed(names.items(), out),
         Reply::No(refusal) => append_refusal(*refusal, out),
     }
 }
@@ -104,6 +106,29 @@ fn append_number_or_dash(number: Option<u64>, out: &mut Vec<u8>) -> Result<(), A
         Some(number) => append_number(b" ", number, out),
         None => out.extend_from_slice(b" -"),
     }
+}
+
+fn append_listed(names: &[Name], out: &mut Vec<u8>) -> Result<(), AllocError>
+    ensures { Appends out.old out.new result (codes "names" ++ names_text names.now) }
+{
+    out.extend_from_slice(b"names")?;
+    append_names(names, out)
+}
+
+fn append_names(names: &[Name], out: &mut Vec<u8>) -> Result<(), AllocError>
+    ensures { Appends out.old out.new result (names_text names.now) }
+{
+    for name in names {
+        append_name(name, out)?;
+    }
+    Ok(())
+}
+
+fn append_name(name: &Name, out: &mut Vec<u8>) -> Result<(), AllocError>
+    ensures { Appends out.old out.new result (32 ∷ name.now) }
+{
+    out.push(b' ')?;
+    out.extend_from_slice(name.bytes())
 }
 
 fn append_refusal(refusal: Refusal, out: &mut Vec<u8>) -> Result<(), AllocError>

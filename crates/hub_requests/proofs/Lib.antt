@@ -1,2 +1,4 @@
 pub mod NextHandle
 pub mod NumbersText
+pub mod NamesText
+pub mod FittingNames

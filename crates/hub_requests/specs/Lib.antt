@@ -1,5 +1,6 @@
 pub mod Names
 pub mod Ranges
 pub mod Texts
+pub mod Listings
 pub mod Refusals
 pub mod Room

@@ -3,7 +3,7 @@ use Rattle.std.specs.Prelude.{ℕ, ◌≤◌, List, length}
 use Rattle.hub_record.specs.declared.limits.TheConstants.{MOST_EVENTS, MOST_WAITING}
 use Rattle.hub_requests.specs.declared.bounds.TheConstants.{MOST_SERVICES, MOST_TAKEN, MOST_TURNS}
 use Rattle.hub_requests.specs.declared.request.Request.{Request}
-use Rattle.hub_requests.specs.declared.request.Request.TheVariants.{Dir, Svc, Sub, Pub, Take, Cancel, Close, Status, Listen, Poll, Await, Wait}
+use Rattle.hub_requests.specs.declared.request.Request.TheVariants.{Dir, Svc, Take, Await, Wait}
 
 pub record AreLimits (waiting total : ℕ) : Type 0 where
   pub some_wait : 1 ≤ waiting

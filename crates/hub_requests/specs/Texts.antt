@@ -2,8 +2,9 @@
 use Rattle.std.specs.Prelude.{ℕ, List, [], ◌∷◌, ◌++◌, codes, Bool, true, false, Option, None, Some}
 use Rattle.std.specs.Fmt.{decimal}
 use Rattle.hub_letters.specs.Flags.{code_of}
+use Rattle.hub_requests.specs.Names.{names_text}
 use Rattle.hub_requests.specs.declared.reply.Reply.{Reply}
-use Rattle.hub_requests.specs.declared.reply.Reply.TheVariants.{Done, Number, State, Got, Hit, Nothing, End, Evicted, Yes, Never, Late, No}
+use Rattle.hub_requests.specs.declared.reply.Reply.TheVariants.{Done, Number, State, Got, Hit, Nothing, End, Evicted, Yes, Never, Late, Listed, No}
 use Rattle.hub_requests.specs.declared.reply.Refusal.{Refusal}
 use Rattle.hub_requests.specs.declared.reply.Refusal.TheVariants.{Long, Text, Word, Form, Range, Name, Exists, Kind, Id, Many, Spent, Closed, Unlawful, Full, Pattern, Overlong, Memory}
 
@@ -55,6 +56,7 @@ line_of Evicted = codes "evicted"
 line_of (Yes numbers) = codes "yes" ++ numbers_text numbers
 line_of Never = codes "never"
 line_of Late = codes "late"
+line_of (Listed names) = codes "names" ++ names_text names
 line_of (No refusal) = codes "no " ++ word_of refusal
 
 -- the line with its LF

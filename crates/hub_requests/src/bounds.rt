@@ -25,3 +25,6 @@ pub const LONGEST_NAME: usize = 32;
 
 /// How many bytes the longest reply has, with its LF: `got ` or `hit `, and as many letters as a listener may gather.
 pub const LONGEST_REPLY: usize = "hit ".len() + MOST_GATHERED + "\n".len();
+
+/// How many bytes of names a reply has room for, each with a space before it: what `names` and the LF leave.
+pub(crate) const ROOM_FOR_NAMES: usize = LONGEST_REPLY - "names".len() - "\n".len();

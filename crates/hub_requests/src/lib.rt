@@ -10,6 +10,7 @@
 mod bounds;
 mod desk;
 mod letters;
+mod listing;
 mod name;
 mod reply;
 mod request;
@@ -22,6 +23,7 @@ pub use bounds::{
 };
 pub use desk::Desk;
 pub use letters::letters_of;
+pub use listing::{Listing, names_reply};
 pub use name::Name;
 pub use reply::{Refusal, Reply};
 pub use request::Request;

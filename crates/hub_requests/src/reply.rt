@@ -1,5 +1,6 @@
 //! The answers to clients.
 
+use crate::listing::Listing;
 use crate::texts::{Excerpt, Numbers, number_is_short};
 use hub_record::{PubError, Status, SubError};
 
@@ -16,7 +17,7 @@ pub enum Reply {
     Got(Excerpt),
     /// The letters of a listener's hit.
     Hit(Excerpt),
-    /// No event is pending, or none that completes a hit.
+    /// No event is pending, or none that completes a hit; or there is no name to list.
     Nothing,
     /// No event is pending, and none will be: the fifodir is closed.
     End,
@@ -29,6 +30,8 @@ pub enum Reply {
     Never,
     /// Neither was known when the wait ended.
     Late,
+    /// The names of fifodirs, in the order in which they were made.
+    Listed(Listing),
     /// The request was refused. Nothing has changed, except what a `wait` or a `poll` had done until then.
     No(Refusal),
 }
@@ -92,6 +95,9 @@ impl Reply {
                 letters.items();
             }
             Reply::Yes(numbers) => numbers.are_short(),
+            Reply::Listed(names) => {
+                names.items();
+            }
             Reply::No(Refusal::Unlawful(place)) => number_is_short(*place),
             Reply::Done
             | Reply::Nothing

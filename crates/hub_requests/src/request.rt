@@ -77,4 +77,9 @@ pub enum Request {
         turns: u64,
         names: Names,
     },
+    /// Lists the fifodirs' names in the order in which they were made, from place `from` on (counted from 0), as many as fit
+    /// in one reply.
+    Names {
+        from: u64,
+    },
 }

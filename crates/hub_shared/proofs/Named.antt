@@ -8,7 +8,7 @@ use Rattle.std.specs.Map.{lookup}
 use Rattle.std.specs.Option.{is_some}
 use Rattle.std.specs.Str.{bytes_eq}
 use Rattle.hub_requests.specs.declared.request.Request.{Request}
-use Rattle.hub_requests.specs.declared.request.Request.TheVariants.{Dir, Svc, Sub, Pub, Take, Cancel, Close, Status, Listen, Poll, Await, Wait}
+use Rattle.hub_requests.specs.declared.request.Request.TheVariants.{Dir, Svc, Sub, Pub, Take, Cancel, Close, Status, Listen, Poll, Await, Wait, Names}
 use Rattle.hub_requests.specs.declared.reply.Reply.{Reply}
 use Rattle.hub_requests.specs.declared.reply.Reply.TheVariants as answer
 use Rattle.hub_letters.specs.declared.mode.Mode.{Mode}
@@ -18,6 +18,7 @@ use Rattle.hub_names.specs.declared.fifodirs.Fifodirs.{Fifodirs}
 use Rattle.hub_names.specs.declared.joined.Joined.{Joined}
 use Rattle.hub_names.specs.Fifodirs.{AsksByName, KeepsAll, KeepsNone, joined_at}
 use Rattle.hub_names.specs.Hubs.{IsFoundIn}
+use Rattle.hub_names.specs.Looks.{AsksNames}
 use Rattle.hub_names.specs.Speaking.{AsksAsPublisher, fifodir_of}
 use Rattle.hub_handles.specs.declared.handles.Handles.{Handles}
 use Rattle.hub_handles.specs.declared.session_listener.SessionListener.{SessionListener}
@@ -116,6 +117,18 @@ spoken_named hub says fs gs hs name reply (inr u) n =
       listeners = λ id h at. still h.subscription (n.listeners id h at);
     }
 
+-- ---- a look at the names
+
+looked_named : (hub : Hub) (fs gs : Fifodirs) (hs : Handles) (from : ℕ) (reply : Reply) → AsksNames hub fs from reply gs → AreNamed hub fs hs → AreNamed hub gs hs
+looked_named hub fs gs hs from reply a n =
+    let as_before : (key : List ℕ) → joined_at gs key ≡ joined_at fs key = λ key. ap (λ (z : Fifodirs). lookup (bytes_eq key) z.by_name.entries) a.kept in
+    let still : (s : Subscription) → IsNamed fs s → IsNamed gs s = λ s was. record { joined = was.joined; kept_is = as_before (name_of s) ∙ was.kept_is; dir = was.dir } in
+    record {
+      found = λ other j at. n.found other j (sym (as_before other) ∙ at);
+      subscriptions = λ id s at. still s (n.subscriptions id s at);
+      listeners = λ id h at. still h.subscription (n.listeners id h at);
+    }
+
 -- ---- other handles
 
 handles_still : (hub : Hub) (fs : Fifodirs) (hs ks : Handles) → IsStill hs ks → AreNamed hub fs hs → AreNamed hub fs ks
@@ -146,6 +159,7 @@ subscribed_named hub fs hs ks name answer.Evicted (inl (j, at, a)) n = absurd a
 subscribed_named hub fs hs ks name (answer.Yes l) (inl (j, at, a)) n = absurd a
 subscribed_named hub fs hs ks name answer.Never (inl (j, at, a)) n = absurd a
 subscribed_named hub fs hs ks name answer.Late (inl (j, at, a)) n = absurd a
+subscribed_named hub fs hs ks name (answer.Listed l) (inl (j, at, a)) n = absurd a
 subscribed_named hub fs hs ks name reply (inr (unfound, same)) n = subst (AreNamed hub fs) (sym same) n
 
 listened_named : (hub : Hub) (fs : Fifodirs) (hs ks : Handles) (name : List ℕ) (mode : Mode) (pattern : List ℕ) (reply : Reply) → ListensTo fs name mode pattern hs reply ks
@@ -168,6 +182,7 @@ listened_named hub fs hs ks name mode pattern answer.Evicted (inl (j, at, a)) n 
 listened_named hub fs hs ks name mode pattern (answer.Yes l) (inl (j, at, a)) n = absurd a
 listened_named hub fs hs ks name mode pattern answer.Never (inl (j, at, a)) n = absurd a
 listened_named hub fs hs ks name mode pattern answer.Late (inl (j, at, a)) n = absurd a
+listened_named hub fs hs ks name mode pattern (answer.Listed l) (inl (j, at, a)) n = absurd a
 listened_named hub fs hs ks name mode pattern reply (inr (unfound, same)) n = subst (AreNamed hub fs) (sym same) n
 
 same_named : (fs : Fifodirs) (a b : Subscription) → IsSameTicket a b → IsNamed fs a → IsNamed fs b
@@ -201,6 +216,7 @@ polls_named fs before after (answer.Got l) p n = absurd p
 polls_named fs before after (answer.Yes l) p n = absurd p
 polls_named fs before after answer.Never p n = absurd p
 polls_named fs before after answer.Late p n = absurd p
+polls_named fs before after (answer.Listed l) p n = absurd p
 
 left_is : {A : Type 0} (ends : Bool) (after a : A) → (if ends then None else Some after) ≡ Some a → after ≡ a
 left_is true after a e = cc
@@ -261,6 +277,7 @@ asked_named hub fs gs hs ks (Listen name mode pattern) reply n (keeps, a) = list
 asked_named hub fs gs hs ks (Poll id) reply n (e, a) = subst (λ (z : Fifodirs). AreNamed hub z ks) (sym e) (polled_named hub fs hs ks id reply a n)
 asked_named hub fs gs hs ks (Await id turns) reply n (e, a) = subst (λ (z : Fifodirs). AreNamed hub z ks) (sym e) (awaited_named hub fs hs ks id reply a n)
 asked_named hub fs gs hs ks (Wait span want turns names) reply n (keeps, why, f) = subst (AreNamed hub gs) (sym f) (all_still hub fs gs hs keeps n)
+asked_named hub fs gs hs ks (Names from) reply n (a, f) = subst (AreNamed hub gs) (sym f) (looked_named hub fs gs hs from reply a n)
 
 new_named : (hub : Hub) (fs : Fifodirs) (hs : Handles) → KeepsNone fs → HoldsNone hs → AreNamed hub fs hs
 new_named hub fs hs none holds = record {

@@ -177,6 +177,7 @@ impl<P: Pause + Copy> Desk for SharedDesk<P> {
                 ),
                 Err(refusal) => Reply::No(refusal),
             },
+            Request::Names { from } => self.fifodirs.list(rt, &self.hub, *from),
         }
     }
 

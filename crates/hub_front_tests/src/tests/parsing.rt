@@ -14,7 +14,7 @@ fn read(alloc: Global, line: &[u8]) -> Result<Request, Bad> {
 }
 
 /// Lines, and the requests that they spell, in words.
-static GOOD: [(&str, &str); 32] = [
+static GOOD: [(&str, &str); 34] = [
     (
         "dir web 64 1000",
         "make web: 64 may wait, 1000 in all, evicts false",
@@ -77,6 +77,11 @@ static GOOD: [(&str, &str); 32] = [
         "await 9999999999999 5000",
         "for 5000 turns, until something comes for 9999999999999",
     ),
+    ("names 0", "list the names from 0 on"),
+    (
+        "names 9999999999999",
+        "list the names from 9999999999999 on",
+    ),
     (
         "wait all up 0 web web",
         "for 0 turns, until up is each of web web",
@@ -125,7 +130,7 @@ fn good_lines_spell_requests(rt: HostRuntime) {
 }
 
 /// Lines, and the first rule that each breaks.
-static BAD: [(&str, Bad); 101] = [
+static BAD: [(&str, Bad); 115] = [
     ("dir web 0 10", Bad::Range),
     ("dir web 4097 10", Bad::Range),
     ("dir web 04 10", Bad::Form),
@@ -214,6 +219,21 @@ static BAD: [(&str, Bad); 101] = [
     ("await 9999999999999 9999999999999", Bad::Range),
     ("awaits 1 2", Bad::Word),
     ("awai 1 2", Bad::Word),
+    // The names of fifodirs.
+    ("names", Bad::Form),
+    ("names ", Bad::Form),
+    ("names 0 ", Bad::Form),
+    ("names  0", Bad::Form),
+    ("names 0 1", Bad::Form),
+    ("names 00", Bad::Form),
+    ("names 01", Bad::Form),
+    ("names web", Bad::Form),
+    ("names -1", Bad::Form),
+    ("names 10000000000000", Bad::Form),
+    ("names 12345678901234567890", Bad::Form),
+    ("names 1234567890123456789012345", Bad::Form),
+    ("namess 0", Bad::Word),
+    ("name 0", Bad::Word),
     // Waits.
     ("wait all up 0", Bad::Form),
     ("wait all up 0 ", Bad::Form),

@@ -58,6 +58,7 @@ pub fn words_of(alloc: Global, request: &Request) -> Result<String, AllocError> 
         Request::Await { id, turns } => {
             format!(in alloc; "for {turns} turns, until something comes for {id}")
         }
+        Request::Names { from } => format!(in alloc; "list the names from {from} on"),
         Request::Wait {
             span,
             want,

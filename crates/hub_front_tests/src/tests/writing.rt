@@ -3,7 +3,7 @@
 use hub_letters::{Flags, Letter, MOST_GATHERED};
 use hub_protocol::write_reply;
 use hub_record::Status;
-use hub_requests::{Excerpt, MOST_SERVICES, Numbers, Refusal, Reply};
+use hub_requests::{Excerpt, MOST_SERVICES, Name, Numbers, Refusal, Reply, names_reply};
 use std::alloc::{AllocError, Global};
 use std::process::Abort;
 use std::test::Fail;
@@ -26,12 +26,25 @@ fn numbers_of(rt: &impl Abort, alloc: Global, list: &[Option<u64>]) -> Result<Nu
     Ok(Numbers::of(numbers))
 }
 
+/// The reply that lists these names.
+fn listing_of(rt: &impl Abort, alloc: Global, list: &[&str]) -> Result<Reply, AllocError> {
+    let mut names = Vec::new(alloc);
+    for text in list {
+        let name = Name::of(alloc, text.as_bytes())?;
+        names.push(name.expect(rt, "a name"))?;
+    }
+    names_reply(alloc, &names, 0)
+}
+
 #[test]
 fn each_reply_has_its_text(rt: HostRuntime) -> Result<(), Fail> {
     let letters = letters_of(&rt, rt.alloc(), b"sU")?;
     let hit = letters_of(&rt, rt.alloc(), b"suU")?;
     let one = numbers_of(&rt, rt.alloc(), &[Some(2)])?;
     let two = numbers_of(&rt, rt.alloc(), &[None, Some(2)])?;
+    let no_name = listing_of(&rt, rt.alloc(), &[])?;
+    let one_name = listing_of(&rt, rt.alloc(), &["web"])?;
+    let two_names = listing_of(&rt, rt.alloc(), &["a", "db.1"])?;
     let up = Flags {
         up: true,
         settled: false,
@@ -66,6 +79,9 @@ fn each_reply_has_its_text(rt: HostRuntime) -> Result<(), Fail> {
         (Reply::Yes(two), "yes - 2\n"),
         (Reply::Never, "never\n"),
         (Reply::Late, "late\n"),
+        (no_name, "none\n"),
+        (one_name, "names web\n"),
+        (two_names, "names a db.1\n"),
         (Reply::No(Refusal::Unlawful(10)), "no unlawful 10\n"),
         (Reply::No(Refusal::Long), "no long\n"),
         (Reply::No(Refusal::Text), "no text\n"),

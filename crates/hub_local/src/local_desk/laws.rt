@@ -1,5 +1,6 @@
 //! Laws of a desk: each is the contract of a function that does nothing.
 ghost use Rattle.hub_local.specs.AwaitLaws.{AwaitsTellPolls, AwaitsTellTakes};
+ghost use Rattle.hub_local.specs.NamesLaws.{NamesOutliveTheEnd, NamesStay};
 ghost use Rattle.hub_local.specs.Replies.{PublishIsOf, SubscribeIsOf};
 ghost use Rattle.hub_local.specs.Standing.{RunsAnswer};
 ghost use Rattle.hub_local.specs.Waits.{WaitsUseIds};
@@ -22,6 +23,13 @@ impl LocalDesk {
     pub fn awaits_tell_what_comes()
         ensures takes { AwaitsTellTakes }
         ensures polls { AwaitsTellPolls }
+    {}
+
+    /// A `dir` or `svc` that is carried out puts its name behind all others. No other request, and no refused one, changes the
+    /// names, and neither does the end of the session.
+    pub fn names_stay()
+        ensures asked { NamesStay }
+        ensures ended { NamesOutliveTheEnd }
     {}
 
     /// Whatever a wait answers, it leaves each fifodir as it was, except for ids that are used.

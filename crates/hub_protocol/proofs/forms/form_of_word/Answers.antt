@@ -3,7 +3,7 @@ use Rattle.std.proofs.lemmas.Slice.Eq.{HasBytesAt, text_from_reads}
 use Rattle.hub_letters.specs.declared.mode.Mode.TheVariants.{Once}
 use Rattle.hub_letters.specs.declared.span.Span.TheVariants.{All}
 use Rattle.hub_letters.specs.declared.want.Want.TheVariants.{Up}
-use Rattle.hub_protocol.specs.Spelling.{Form, Dir, Svc, Sub, Pub, Take, Cancel, Close, Status, Listen, Poll, Await, Wait, IsWord, word_of}
+use Rattle.hub_protocol.specs.Spelling.{Form, Dir, Svc, Sub, Pub, Take, Cancel, Close, Status, Listen, Poll, Await, Wait, Names, IsWord, word_of}
 use Rattle.hub_protocol.specs.Forms.{Finds}
 use Rattle.hub_protocol.specs.declared.forms.BorrowedForm.{BorrowedForm}
 use Rattle.hub_protocol.proofs.forms.form_of_word.Goals as goal
@@ -50,6 +50,9 @@ returns-in-await c = found_at c.args.word.now c.args.rest.now (Await 0 0) c.map-
 
 pub returns-in-wait : goal.returns-in-wait
 returns-in-wait c = found_at c.args.word.now c.args.rest.now (Wait All Up 0 []) c.wait.result (omega arith) (search rules) c.wait.ensures
+
+pub returns-in-names : goal.returns-in-names
+returns-in-names c = found_at c.args.word.now c.args.rest.now (Names 0) c.map-in-names.result (omega arith) (search rules) (search rules)
 
 -- what isn't read as a word is the word of no form
 no_word : (c : goal.In_default) (form : Form) → c.args.word.now ≢ word_of form

@@ -54,6 +54,7 @@ no_range c (borrowed.Close name) e = (request.Close name.now, refl, tt)
 no_range c (borrowed.Status name) e = (request.Status name.now, refl, tt)
 no_range c (borrowed.Listen name mode pattern) e = (request.Listen name.now mode pattern.now, refl, tt)
 no_range c (borrowed.Poll id) e = (request.Poll id, refl, tt)
+no_range c (borrowed.Names from) e = (request.Names from, refl, tt)
 
 pub returns-in_default : goal.returns-in_default
 returns-in_default c = no_range c c.args.form.now refl

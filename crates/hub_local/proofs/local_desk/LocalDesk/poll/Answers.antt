@@ -4,7 +4,7 @@ use Rattle.hub_local.proofs.Asking.{answers_from, same_parts, stands_on}
 use Rattle.hub_local.proofs.AskingPolls.{HasLooked, same_hearing, never_spent, poll_plain, poll_overlong, unspent, poll_lacks, poll_nothing, poll_end, poll_evicted, poll_stops, hit_stands, poll_ended, poll_goes_on}
 use Rattle.hub_local.proofs.AskingSubscriptions.{held_somewhere, has_subscription}
 use Rattle.hub_local.proofs.local_desk.LocalDesk.poll.Goals as goal
-use Rattle.hub_local.proofs.local_desk.LocalDesk.poll.Goals.{After-hear, in-Once+in-Got-1, in-Once+in-Hit-1, in-Once+in-Yes-1, in-Once+in-Done-1, in-Repeat}
+use Rattle.hub_local.proofs.local_desk.LocalDesk.poll.Goals.{After-hear, in-Once+in-Got-1, in-Once+in-Hit-1, in-Once+in-Yes-1, in-Once+in-Listed-1, in-Once+in-Done-1, in-Repeat}
 
 pub returns-in_default-hearing : goal.returns-in_default-hearing
 returns-in_default-hearing c =
@@ -99,6 +99,7 @@ returns-after-hearing c =
       | in-Once+in-Hit-1 w ↦ ends w.in-Once.is _ _ _ w.cancel.ensures w.self-is
       | in-Once+in-Yes-1 w ↦ ends w.in-Once.is _ _ _ w.cancel.ensures w.self-is
       | in-Once+in-Done-1 w ↦ ends w.in-Once.is _ _ _ w.cancel.ensures w.self-is
+      | in-Once+in-Listed-1 w ↦ ends w.in-Once.is _ _ _ w.cancel.ensures w.self-is
       | in-Repeat w ↦ goes_on w.in-Repeat.is _ w.self-is
     ])
 

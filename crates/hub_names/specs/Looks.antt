@@ -1,0 +1,33 @@
+-- What a session saw of its hub's names, and the reply that lists them.
+use Rattle.std.specs.Prelude.{◌≡◌, ◌≢◌, ◌≤◌, ℕ, List, [], length, drop, Some, ◌⊎◌}
+use Rattle.std.specs.Str.{bytes_eq}
+use Rattle.indexmap.specs.IndexMap.{IsUnique, keys}
+use Rattle.hub_requests.specs.Listings.{fitting, names_reply}
+use Rattle.hub_requests.specs.declared.bounds.TheConstants.{MOST_NAMES}
+use Rattle.hub_requests.specs.declared.reply.Refusal.TheVariants as no
+use Rattle.hub_requests.specs.declared.reply.Reply.{Reply}
+use Rattle.hub_requests.specs.declared.reply.Reply.TheVariants.{No}
+use Rattle.hub_names.specs.declared.hub.Hub.{Hub}
+use Rattle.hub_names.specs.declared.hub.Look.{Look}
+use Rattle.hub_names.specs.declared.fifodirs.Fifodirs.{Fifodirs}
+
+-- the names that were seen, in the order in which they were made
+abbrev pub names_seen : Look → List (List ℕ)
+names_seen look = keys look.named.value.fifodirs
+
+-- at this hub at most 256 names were seen, and none twice
+pub record IsLookAt (hub : Hub) (look : Look) : Type 0 where
+  pub hub_is : look.hub.value ≡ hub
+  pub few : length (names_seen look) ≤ MOST_NAMES
+  pub unlike : IsUnique bytes_eq look.named.value.fifodirs
+
+-- the names from place `from` on, as many as fit; if there is one, memory may run out
+abbrev pub Lists : List (List ℕ) → ℕ → Reply → Type 0
+Lists names from reply = (reply ≡ names_reply names from) ⊎ ((reply ≡ No no.Memory) × (fitting (drop from names) ≢ []))
+
+-- the session has looked at its hub, is told what it saw there, and keeps what it kept
+pub record AsksNames (hub : Hub) (old : Fifodirs) (from : ℕ) (reply : Reply) (new : Fifodirs) : Type 0 where
+  pub look : Look
+  pub looked : IsLookAt hub look
+  pub lists : Lists (names_seen look) from reply
+  pub kept : new ≡ record old { look = Some look }
