@@ -10,10 +10,13 @@ const MOST_NAMES: usize = 256;
 const MOST_HANDLES: usize = 256;
 const MOST_NUMBERS: u64 = 1_000_000;
 const MOST_LETTERS: usize = 4096;
+const LONGEST_REPLY: usize = 4101;
 
 #[derive(Default)]
 pub struct Hub {
     fifodirs: HashMap<String, Fifodir>,
+    /// In the order in which they were made.
+    names: Vec<String>,
     handles: HashMap<u64, Handle>,
     given: u64,
 }
@@ -47,6 +50,7 @@ impl Hub {
                 }
                 let fifodir = Fifodir::new(service, waiting, total, evict);
                 self.fifodirs.insert(name.to_string(), fifodir);
+                self.names.push(name.to_string());
                 Ok(Reply::Done)
             }
             Request::Sub { name } => self.subscribe(name, None),
@@ -65,7 +69,21 @@ impl Hub {
             Request::Poll { id } => self.poll(id),
             Request::Await { id } => self.has_something(id),
             Request::Wait { all, want, names } => self.wait(all, want, &names),
+            Request::Names { from } => Ok(self.list(from)),
         }
+    }
+
+    /// As many names as fit, each with a space before it.
+    fn list(&self, from: u64) -> Reply {
+        let mut listed = String::new();
+        for name in self.names.iter().skip(from as usize) {
+            if "names\n".len() + listed.len() + 1 + name.len() > LONGEST_REPLY {
+                break;
+            }
+            listed.push(' ');
+            listed.push_str(name);
+        }
+        if listed.is_empty() { Reply::Nothing } else { Reply::Names(listed) }
     }
 
     fn find(&mut self, name: &str) -> Result<&mut Fifodir, Refusal> {

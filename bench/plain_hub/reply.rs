@@ -14,6 +14,7 @@ pub enum Reply {
     Yes(Vec<Option<u64>>),
     Never,
     Late,
+    Names(String),
     No(Refusal),
 }
 
@@ -47,6 +48,7 @@ impl fmt::Display for Reply {
             }
             Reply::Never => write!(f, "never"),
             Reply::Late => write!(f, "late"),
+            Reply::Names(names) => write!(f, "names{names}"),
             Reply::No(refusal) => write!(f, "no {refusal}"),
         }
     }

@@ -15,6 +15,7 @@ pub enum Request<'a> {
     Poll { id: u64 },
     Await { id: u64 },
     Wait { all: bool, want: Want, names: Vec<&'a str> },
+    Names { from: u64 },
 }
 
 /// What is known of a service: whether it reports readiness.
@@ -33,8 +34,9 @@ pub enum Want {
 }
 
 const MOST_EVENTS: u64 = 1_000_000_000_000;
-const WORDS: [&str; 12] = [
+const WORDS: [&str; 13] = [
     "dir", "svc", "sub", "pub", "take", "cancel", "close", "status", "listen", "poll", "await", "wait",
+    "names",
 ];
 
 /// The request that a line spells.
@@ -74,6 +76,7 @@ pub fn parse(line: &[u8]) -> Result<Request<'_>, Refusal> {
             within(turns, 0..=1_000_000)?;
             Ok(Request::Await { id })
         }
+        ("names", [from]) => Ok(Request::Names { from: numeral(from)? }),
         ("wait", [span, want, turns, names @ ..]) => wait(span, want, turns, names),
         _ => Err(Refusal::Word("form")),
     }
