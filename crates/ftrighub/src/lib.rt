@@ -15,8 +15,8 @@
 pub use hub_client::{RelayError, relay};
 pub use hub_commands::serve_all;
 pub use hub_desk::{
-    Desk, Found, Hub, HubError, LocalDesk, Name, Names, Numbers, PatternText, Refusal, Reply,
-    Request, SharedDesk,
+    Desk, Excerpt, Found, Hub, HubError, Listing, LocalDesk, Name, Names, Numbers, PatternText,
+    Refusal, Reply, Request, SharedDesk,
 };
 pub use hub_fifodir::{Bell, Fifodir, Pass, PassError, Publisher, Ticket, Waiter};
 pub use hub_front::{parse, serve, write_reply};

@@ -5,5 +5,7 @@
 #![tactic(auto)]
 
 pub use hub_local::LocalDesk;
-pub use hub_requests::{Desk, Name, Names, Numbers, PatternText, Refusal, Reply, Request};
+pub use hub_requests::{
+    Desk, Excerpt, Listing, Name, Names, Numbers, PatternText, Refusal, Reply, Request,
+};
 pub use hub_shared::{Found, Hub, HubError, SharedDesk};
