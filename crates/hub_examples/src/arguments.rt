@@ -6,7 +6,9 @@ use std::alloc::Global;
 /// end with.
 pub fn socket_of<'a>(alloc: Global, words: &'a [String]) -> Result<Option<&'a str>, u8> {
     match read_words(alloc, words) {
-        Ok(Plan::Serve { socket, .. } | Plan::Call { socket }) => Ok(Some(socket)),
+        Ok(
+            Plan::Serve { socket, .. } | Plan::ServeForever { socket, .. } | Plan::Call { socket },
+        ) => Ok(Some(socket)),
         Ok(Plan::Script) => Ok(None),
         Err(error) => Err(status_of(&error)),
     }
