@@ -304,8 +304,9 @@ fn posts_are_used<R: Abort + Wait>(
     let heard = svlisten(rt, &mut posts, Span::All, 0, &mut pause, |_posts| 7);
     let verdict = svwait(rt, &mut posts, Span::All, 1, &mut pause);
     let seen = (posts[0].watch().at(), posts[0].mark());
+    let mut room = [Event::FILLER; SLICE];
     let [mut post] = posts;
-    post.catch_up(rt, &mut [Event::FILLER; SLICE]);
+    post.catch_up(rt, &mut room);
     post.end(rt);
     mark();
     let calls = pause.end(rt);
