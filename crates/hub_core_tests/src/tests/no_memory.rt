@@ -11,7 +11,7 @@ use hub_listen::{Feed, Listener, Mode};
 use hub_record::{
     Closed, Event, Kind, Letters, Limits, NoId, Policy, PubError, Record, Status, SubError, Taken,
 };
-use hub_wait::{SLICE, Span, Tally, Verdict, Watch, svlisten, svwait};
+use hub_wait::{Post, SLICE, Span, Tally, Verdict, Watch, svlisten, svwait};
 use std::alloc::Global;
 use std::process::Abort;
 use std::sync::Wait;
@@ -289,6 +289,13 @@ fn a_watch_is_judged() -> bool {
     seen == (1, 0, false, false) && answer == (Some(Verdict::Never), true)
 }
 
+/// A post catches up once more, and ends.
+fn post_ends<R: Wait>(rt: &R, mut post: Post) {
+    let mut room = [Event::FILLER; SLICE];
+    post.catch_up(rt, &mut room);
+    post.end(rt);
+}
+
 /// Waits at a post that catches up, and its end.
 fn posts_are_used<R: Abort + Wait>(
     rt: &R,
@@ -304,10 +311,8 @@ fn posts_are_used<R: Abort + Wait>(
     let heard = svlisten(rt, &mut posts, Span::All, 0, &mut pause, |_posts| 7);
     let verdict = svwait(rt, &mut posts, Span::All, 1, &mut pause);
     let seen = (posts[0].watch().at(), posts[0].mark());
-    let mut room = [Event::FILLER; SLICE];
-    let [mut post] = posts;
-    post.catch_up(rt, &mut room);
-    post.end(rt);
+    let [post] = posts;
+    post_ends(rt, post);
     mark();
     let calls = pause.end(rt);
     heard == (7, Verdict::Late) && verdict == Verdict::Yes && seen == (2, 1) && calls == 1
