@@ -125,11 +125,12 @@ static void ask_over_socket(const char *kind, int clients, int waits, long depth
     }
     for (int i = 0; i < clients; i++)
         pthread_join(all[i].thread, NULL);
-    for (int i = 0; i < waits; i++)
-        close(waiting[i]);
     if (strcmp(kind, "redis") == 0)
         kill(child, SIGTERM);
-    wait_for(child);
+    if (waits > 0)
+        stop(child); /* (its waits go on for longer than this) */
+    else
+        wait_for(child);
     unlink(path);
     printf("%.0f\n", best);
 }
