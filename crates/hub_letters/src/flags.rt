@@ -33,48 +33,58 @@ impl Flags {
         }
     }
 
+    /// Adds one more letter, and writes only the flags that it bears on.
+    #[inline(always)]
+    fn add(&mut self, letter: Letter)
+        ensures { self.new ≡ flags_next self.old (mark letter) }
+    {
+        match letter.byte() {
+            b's' => {
+                self.up = false;
+                self.settled = true;
+                self.supervised = true;
+                self.failed = false;
+            }
+            b'u' => {
+                self.up = true;
+                self.settled = false;
+                self.failed = false;
+            }
+            b'U' => {
+                self.up = true;
+                self.settled = true;
+            }
+            b'd' => {
+                self.up = false;
+                self.settled = false;
+            }
+            b'D' => {
+                self.up = false;
+                self.settled = true;
+            }
+            b'x' => self.supervised = false,
+            b'O' => self.failed = true,
+            _ => {}
+        }
+    }
+
+    /// Adds more letters.
+    #[inline(always)]
+    pub fn add_all(&mut self, letters: &[Letter])
+        ensures { (word : List ℕ) → flags_of word ≡ self.old → self.new ≡ flags_of (word ++ letters.now) }
+    {
+        for letter in letters {
+            self.add(*letter);
+        }
+    }
+
     /// The flags after one more letter.
     pub fn after(self, letter: Letter) -> Flags
         ensures { result ≡ flags_next self (mark letter) }
     {
-        match letter.byte() {
-            b's' => Flags {
-                up: false,
-                settled: true,
-                supervised: true,
-                failed: false,
-            },
-            b'u' => Flags {
-                up: true,
-                settled: false,
-                failed: false,
-                ..self
-            },
-            b'U' => Flags {
-                up: true,
-                settled: true,
-                ..self
-            },
-            b'd' => Flags {
-                up: false,
-                settled: false,
-                ..self
-            },
-            b'D' => Flags {
-                up: false,
-                settled: true,
-                ..self
-            },
-            b'x' => Flags {
-                supervised: false,
-                ..self
-            },
-            b'O' => Flags {
-                failed: true,
-                ..self
-            },
-            _ => self,
-        }
+        let mut flags = self;
+        flags.add(letter);
+        flags
     }
 
     /// The flags after more letters.
@@ -82,9 +92,7 @@ impl Flags {
         ensures { (word : List ℕ) → flags_of word ≡ self → result ≡ flags_of (word ++ letters.now) }
     {
         let mut flags = self;
-        for letter in letters {
-            flags = flags.after(*letter);
-        }
+        flags.add_all(letters);
         flags
     }
 

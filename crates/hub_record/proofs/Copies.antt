@@ -1,5 +1,5 @@
 -- What is copied out of two slices that represent one list.
-use Rattle.std.proofs.Common.{ℕ, zero, suc, [], ◌∷◌, Some, get_or, slice_get, slice_set, ◌≡◌, ◌+◌, ◌-◌, ◌<◌, ◌≤◌, min, List, ◌++◌, length, take, drop, refl, sym, ap, ◌∙◌, inl, inr, append_assoc, arith}
+use Rattle.std.proofs.Common.{ℕ, zero, suc, [], ◌∷◌, Some, get_or, slice_get, slice_set, ◌≡◌, ◌+◌, ◌-◌, ◌<◌, ◌≤◌, min, List, ◌++◌, length, take, drop, sym, ap, ◌∙◌, inl, inr, append_assoc, arith}
 use Rattle.circular_buffer.specs.Buffer.{Buffer, buffer}
 use Rattle.hub_record.specs.World.{as_events}
 use Rattle.std.proofs.lemmas.List.{length-take-le, drop-drop, drop_at, drop-append-le, drop_all, take_at, take-append-le}
@@ -50,20 +50,10 @@ pub copied_one : {X : Type 0} (xs out : List X) (i : ℕ) (x : X) → slice_get 
 copied_one xs [] i x at some = absurd (omega arith)
 copied_one xs (o ∷ os) i x at some = ap (λ ys. ys ++ os) (sym (take_one xs i x (slice_get_within xs i x at) (get_or_from_slice_get xs i x x at)))
 
-drop_from : {X : Type 0} (xs : List X) (i : ℕ) (x : X) → i < length xs → get_or xs i x ≡ x → drop i xs ≡ x ∷ drop (suc i) xs
+pub drop_from : {X : Type 0} (xs : List X) (i : ℕ) (x : X) → i < length xs → get_or xs i x ≡ x → drop i xs ≡ x ∷ drop (suc i) xs
 drop_from [] i x inside at = absurd (omega arith)
 drop_from (y ∷ ys) zero x inside at = ap (λ z. z ∷ ys) at
 drop_from (y ∷ ys) (suc i) x inside at = drop_from ys i x (omega arith) at
-
--- the first items are dropped, if the very first lies apart
-pub cut_first : (first x capacity count : ℕ) (later : List ℕ) (now : Buffer ℕ) → (count ≡ 0 → ⊥) → slice_get later (count - 1) ≡ Some x → now ≡ buffer (drop count later) capacity
-    → buffer (x ∷ now.items) (now.capacity + 1) ≡ buffer (drop count (first ∷ later)) (capacity + 1)
-cut_first first x capacity zero later now some at is = absurd (some refl)
-cut_first first x capacity (suc k) later now some at is =
-    let before : suc k - 1 ≡ k = omega arith in
-    let here : slice_get later k ≡ Some x = ap (slice_get later) (sym before) ∙ at in
-    (λ i. buffer (x ∷ (is i).items) ((is i).capacity + 1))
-    ∙ ap (λ l. buffer l (capacity + 1)) (sym (drop_from later k x (slice_get_within later k x here) (get_or_from_slice_get later k x x here)))
 
 -- one letter is appended as one event
 pub appended_one : (items : List Event) (capacity over who l : ℕ) (letters : List ℕ) (now : Buffer Event) → over ≡ 0 → length letters ≡ 1 → l ≡ get_or letters 0 l

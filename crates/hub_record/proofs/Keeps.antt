@@ -11,6 +11,7 @@ use Rattle.std.specs.Map.{lookup, set_value, remove_entry, keys_of, values_of}
 use Rattle.circular_buffer.specs.Buffer.{Buffer, buffer}
 use Rattle.hub_record.specs.declared.limits.TheConstants.{MOST_EVENTS, MOST_PASSES}
 use Rattle.hub_record.specs.declared.limits.Policy.{Policy}
+use Rattle.hub_record.specs.declared.limits.Policy.TheVariants.{Hold, Evict}
 use Rattle.hub_record.specs.declared.Event.{Event}
 use Rattle.hub_record.specs.World.{least, is_slow, as_events}
 use Rattle.hub_record.specs.Backlog.{Held, IsKept, IsStill, IsSlow, HasRoomFor, room_for, pending, pending_if, Takes, TakesBy, RemovesBy, next_of, lowest, lowest_in, standing_in, standing_at, first_place, with_one_more, with_one_less, with_new_id, with_events, with_cursors}
@@ -254,6 +255,11 @@ pub room_told : (inside now : Held) (policy is : Policy) (more : ℕ) → inside
 room_told inside now policy is more same at none =
     subst (λ (z : Policy × Held). IsTrue (nat_le (room_for is inside more) inside.room) ↔ HasRoomFor z.0 z.1 more) (λ i. (sym at i, same i))
     ((λ t. inr (leb-true (room_for is inside more) inside.room t)), λ h. elim h [ inl still ↦ absurd (none still) | inr fits ↦ le-leb (room_for is inside more) inside.room fits ])
+
+-- what fits behind what is kept has room by either policy
+pub fits_behind : (policy : Policy) (inside now : Held) (more : ℕ) → inside ≡ now → length inside.events + more ≤ inside.room → HasRoomFor policy now more
+fits_behind Hold inside now more same fits = subst (λ h. HasRoomFor Hold h more) same (inr fits)
+fits_behind Evict inside now more same fits = subst (λ h. HasRoomFor Evict h more) same (inr (omega arith))
 
 -- a message that may be pushed fits by itself, if a cursor is at the base
 pub fits_if : (inside now : Held) (base given : ℕ) (counts : Buffer ℕ) (some : Bool) (more : ℕ) → inside ≡ now → IsKept inside.room base counts inside.end given inside.cursors → some ≡ nat_lt 0 (get_or counts.items 0 0) → some ≡ true → IsStill now ⊎ (more ≤ now.room)

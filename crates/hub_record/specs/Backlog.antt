@@ -117,6 +117,11 @@ pub record IsKept (room base : ℕ) (counts : Buffer ℕ) (end given : ℕ) (cur
   pub few : length cursors ≤ MOST_PASSES
   pub small : end ≤ MOST_EVENTS
 
+-- the counts of the later places, the last of which may be apart
+abbrev pub with_last : List ℕ → Option ℕ → List ℕ
+with_last later None = later
+with_last later (Some last) = later ++ last ∷ []
+
 abbrev pub with_one_more : List ℕ → ℕ → List ℕ
 with_one_more counts place = set counts place (get_or counts place 0 + 1)
 

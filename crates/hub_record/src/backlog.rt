@@ -7,7 +7,7 @@ ghost use Rattle.hub_record.specs.Backlog.{Held, nothing_held, lowest, pending, 
 ghost use Rattle.hub_record.specs.Backlog.{with_new_id, with_events, IsStill, HasRoomFor, TakesBy, RemovesBy};
 
 use crate::counts::{
-    Counts, add_place, cut_places, first_place, has_first, lengthen, one_less, one_more,
+    Counts, add_place, cut_places, first_place, has_first, keep_last, lengthen, one_less, one_more,
 };
 use crate::cursor_list::CursorList;
 use crate::ring::{add, copy_out, cut, push_in};
@@ -124,11 +124,15 @@ impl Backlog {
     pub fn has_room(&self, policy: Policy, more: usize) -> bool
         ensures { IsTrue result ↔ HasRoomFor policy self.now more }
     {
+        // Most messages fit behind what is kept.
+        if more <= self.ring.capacity() - self.ring.len() {
+            return true;
+        }
         if !has_first(&self.counts) {
             return true;
         }
         match policy {
-            Policy::Hold => more <= self.ring.capacity() - self.ring.len(),
+            Policy::Hold => false,
             Policy::Evict => more <= self.ring.capacity(),
         }
     }
@@ -164,7 +168,8 @@ impl Backlog {
             self.base += letters.len() as u64;
             return;
         }
-        let over = (self.ring.len() + letters.len()).saturating_sub(self.ring.capacity());
+        let room = self.ring.capacity() - self.ring.len();
+        let over = letters.len().saturating_sub(room);
         append(&mut self.ring, &mut self.counts, over, who, letters);
         // If no event gave way, a cursor is still at the first one.
         if over == 0 {
@@ -197,7 +202,16 @@ impl Backlog {
         if one_stays(place, left) {
             return Ok(Found::Moved(count));
         }
-        let known = (there == self.cursors.len() as u64).then_some(place + count);
+        let to = place + count;
+        let all = there == self.cursors.len() as u64;
+        // After most others each is at the end, so that all is released.
+        if all && to == self.ring.len() {
+            cut(&mut self.ring, to);
+            keep_last(&mut self.counts, there);
+            self.base += to as u64;
+            return Ok(Found::Moved(count));
+        }
+        let known = all.then_some(to);
         self.base += release(&mut self.ring, &mut self.counts, known) as u64;
         Ok(Found::Moved(count))
     }
@@ -267,18 +281,12 @@ fn release(ring: &mut HeapCircularBuffer<Event>, counts: &mut Counts, known: Opt
     ensures events { ring.new ≡ buffer (drop result ring.old.items) ring.old.capacity }
     ensures counts { counts.new ≡ buffer (drop result counts.old.items) counts.old.capacity }
 {
-    let count = first_or_search(counts, known).min(ring.len());
+    let first = match known {
+        Some(first) => first,
+        None => first_place(counts),
+    };
+    let count = first.min(ring.len());
     cut(ring, count);
     cut_places(counts, count);
     count
-}
-
-fn first_or_search(counts: &Counts, known: Option<usize>) -> usize
-    requires { IfSome known (λ first. first ≡ first_place counts.now.items) }
-    ensures { result ≡ first_place counts.now.items }
-{
-    match known {
-        Some(first) => first,
-        None => first_place(counts),
-    }
 }

@@ -1,5 +1,5 @@
 //! The counts of a record: how many cursors are at each number from the base to the end.
-ghost use Rattle.std.specs.Prelude.{◌≡◌, ◌≤◌, ◌<◌, ◌+◌, ◌-◌, ◌*◌, ◌++◌, [], ◌∷◌, IfOk, drop, length, get_or, replicate, position, nat_lt};
+ghost use Rattle.std.specs.Prelude.{◌≡◌, ◌≤◌, ◌<◌, ◌+◌, ◌-◌, ◌*◌, ◌++◌, [], ◌∷◌, IfOk, IfSome, IsSome, Some, drop, length, get_or, replicate, position, nat_lt};
 ghost use Rattle.circular_buffer.specs.Buffer.{buffer};
 ghost use Rattle.hub_record.specs.declared.limits.TheConstants.{MOST_PASSES};
 ghost use Rattle.hub_record.specs.Backlog.{first_place, with_one_more, with_one_less};
@@ -14,17 +14,20 @@ use std::marker::Model;
 pub struct Counts {
     /// How many are at the base. Most takes leave from there, and each publish asks for it.
     first: u64,
-    /// How many are at each later place.
+    /// How many are at each later place that isn't apart.
     later: HeapCircularBuffer<u64>,
+    /// How many are at the end, where most takes arrive. None if `later` has it, or the end is the base.
+    last: Option<u64>,
 }
 
 impl Model for Counts {
     ghost use Rattle.std.specs.Prelude.{ℕ, ◌+◌, ◌∷◌};
     ghost use Rattle.circular_buffer.specs.Buffer.{Buffer, buffer};
+    ghost use Rattle.hub_record.specs.Backlog.{with_last};
 
     ghost Value = { Buffer ℕ };
 
-    ghost view = { λ c. buffer (c.first ∷ c.later.items) (c.later.capacity + 1) };
+    ghost view = { λ c. buffer (c.first ∷ with_last c.later.items c.last) (c.later.capacity + 1) };
 }
 
 impl Counts {
@@ -35,6 +38,7 @@ impl Counts {
         Ok(Counts {
             first: 0,
             later: HeapCircularBuffer::with_capacity(alloc, room)?,
+            last: None,
         })
     }
 }
@@ -45,7 +49,10 @@ pub fn add_place(counts: &mut Counts)
     requires { length counts.old.items < counts.old.capacity }
     ensures { counts.new ≡ buffer (counts.old.items ++ 0 ∷ []) counts.old.capacity }
 {
-    add(&mut counts.later, 0);
+    if let Some(count) = counts.last {
+        add(&mut counts.later, count);
+    }
+    counts.last = Some(0);
 }
 
 /// Adds this many places, at which there is no cursor.
@@ -53,6 +60,10 @@ pub fn lengthen(counts: &mut Counts, more: usize)
     requires { length counts.old.items + more ≤ counts.old.capacity }
     ensures { counts.new ≡ buffer (counts.old.items ++ replicate more 0) counts.old.capacity }
 {
+    if let Some(count) = counts.last {
+        add(&mut counts.later, count);
+        counts.last = None;
+    }
     add_zeros(&mut counts.later, more);
 }
 
@@ -85,11 +96,29 @@ pub fn cut_places(counts: &mut Counts, count: usize)
     if count == 0 {
         return;
     }
-    let Some(first) = counts.later.get(count - 1) else {
+    if count <= counts.later.len() {
+        let Some(first) = counts.later.get(count - 1) else {
+            unreachable!()
+        };
+        counts.first = *first;
+        cut(&mut counts.later, count);
+        return;
+    }
+    let Some(last) = counts.last else {
         unreachable!()
     };
-    counts.first = *first;
-    cut(&mut counts.later, count);
+    keep_last(counts, last);
+}
+
+/// Drops all places but the last, at which there are so many cursors.
+#[inline(always)]
+pub fn keep_last(counts: &mut Counts, there: u64)
+    requires { there ≡ get_or counts.old.items (length counts.old.items - 1) 0 }
+    ensures { counts.new ≡ buffer (drop (length counts.old.items - 1) counts.old.items) counts.old.capacity }
+{
+    counts.first = there;
+    counts.later.clear();
+    counts.last = None;
 }
 
 /// Counts one cursor more at a place, and returns how many are there now.
@@ -104,7 +133,21 @@ pub fn one_more(counts: &mut Counts, place: usize) -> u64
         counts.first += 1;
         return counts.first;
     }
+    if place > counts.later.len() {
+        return more_at_last(&mut counts.last);
+    }
     more_at(&mut counts.later, place - 1)
+}
+
+#[inline(always)]
+fn more_at_last(last: &mut Option<u64>) -> u64
+    requires { IfSome last.old (λ n. n ≤ MOST_PASSES) × IsSome last.old }
+    ensures there { IfSome last.old (λ n. result ≡ n + 1) }
+    ensures count { last.new ≡ Some result }
+{
+    let Some(count) = *last else { unreachable!() };
+    *last = Some(count + 1);
+    count + 1
 }
 
 #[inline(always)]
@@ -133,7 +176,20 @@ pub fn one_less(counts: &mut Counts, place: usize) -> u64
         counts.first -= 1;
         return counts.first;
     }
+    if place > counts.later.len() {
+        return less_at_last(&mut counts.last);
+    }
     less_at(&mut counts.later, place - 1)
+}
+
+fn less_at_last(last: &mut Option<u64>) -> u64
+    requires { IfSome last.old (λ n. 0 < n) × IsSome last.old }
+    ensures left { IfSome last.old (λ n. result ≡ n - 1) }
+    ensures count { last.new ≡ Some result }
+{
+    let Some(count) = *last else { unreachable!() };
+    *last = Some(count - 1);
+    count - 1
 }
 
 fn less_at(counts: &mut HeapCircularBuffer<u64>, place: usize) -> u64
@@ -156,7 +212,17 @@ pub fn first_place(counts: &Counts) -> usize
     if has_first(counts) {
         return 0;
     }
-    first_in(&counts.later).min(counts.later.len()) + 1
+    let place = first_in(&counts.later).min(counts.later.len());
+    if place < counts.later.len() {
+        return place + 1;
+    }
+    let Some(last) = counts.last else {
+        return place + 1;
+    };
+    if last > 0 {
+        return place + 1;
+    }
+    place + 2
 }
 
 #[inline(never)]

@@ -1,9 +1,9 @@
-use Rattle.std.proofs.Common.{ℕ, ◌≡◌, ◌+◌, ◌-◌, length, get_or, nat_eq, refl, sym, ap, subst, ◌∙◌, arith}
+use Rattle.std.proofs.Common.{ℕ, ◌≡◌, ◌+◌, ◌-◌, length, drop, get_or, nat_eq, refl, sym, ap, subst, ◌∙◌, arith}
 use Rattle.std.proofs.lemmas.Bool.{eqb-true}
 use Rattle.std.proofs.lemmas.Option.{slice_get_within}
 use Rattle.std.proofs.lemmas.List.{length-set}
 use Rattle.std.specs.Option.{IfSome}
-use Rattle.circular_buffer.specs.Buffer.{Buffer}
+use Rattle.circular_buffer.specs.Buffer.{Buffer, buffer}
 use Rattle.hub_record.specs.declared.Event.{Event}
 use Rattle.hub_record.specs.Backlog.{Held, first_place}
 use Rattle.hub_record.proofs.Counted.{some_at_place}
@@ -80,6 +80,40 @@ returns-then-one_stays c =
     let is = moved_to _ _ c.in-Some.listed c.args.id c.in-Some.from _ c.in-Some.ensures.place c.set.ensures in
     takes_some _ _ _ c.args.id _ c.copy_out-count.result _ _ _ _ _ c.self.view_is found c.self.invariant c.if-from-self.false (λ e. c.if-from-end.false (e ∙ sym c.end-end.ensures.end)) refl c.copy_out-count.ensures.count c.copy_out-count.ensures.copied
     (still_held _ _ c.self.inside.given _ _ _ _ c.self.invariant.lowest (invariant_of-self c).lowest is)
+
+pub invariant_of-self-then-to-len : goal.invariant_of-self-then-to-len
+invariant_of-self-then-to-len c =
+    let found = sym c.in-Some.ensures.next in
+    let above = c.if-from-self.false in
+    let inside = cursor_within _ _ _ _ c.in-Some.from (nat_eq c.args.id) _ _ c.self.invariant found in
+    let place = c.in-Some.from - c.self.inside.base in
+    let to = c.self.invariant.to_end in
+    let count = c.copy_out-count.ensures.count in
+    let moved = moved_to _ _ c.in-Some.listed c.args.id c.in-Some.from _ c.in-Some.ensures.place c.set.ensures in
+    let less = ap (λ (b : Buffer ℕ). length b.items) c.one_less-left.ensures.counts in
+    let more = ap (λ (b : Buffer ℕ). length b.items) c.one_more-there.ensures.counts in
+    let long = length-set c.self.inside.counts.items place (get_or c.self.inside.counts.items place 0 - 1) in
+    let longer = length-set c.one_less-left.new.counts.items (place + c.copy_out-count.result) (get_or c.one_less-left.new.counts.items (place + c.copy_out-count.result) 0 + 1) in
+    let first = first_known _ _ _ _ c.in-Some.from (c.in-Some.from + c.copy_out-count.result) place (place + c.copy_out-count.result) _ (nat_eq c.args.id) _ _ _ _ _ c.self.invariant found moved
+    (omega arith) (omega arith) (omega arith) c.one_less-left.ensures.counts c.one_more-there.ensures.counts c.one_more-there.ensures.there (c.if-all.true ∙ c.len.ensures) in
+    let at_end = c.if-to-len.true in
+    let kept = c.len-then-all.ensures.len in
+    let last : length c.one_more-there.new.counts.items - 1 ≡ place + c.copy_out-count.result = omega arith in
+    kept_set_value _ _ _ _ (length c.self.inside.ring.items) _ (c.in-Some.from + c.copy_out-count.result) place (place + c.copy_out-count.result) (place + c.copy_out-count.result) _ _ (nat_eq c.args.id) _ _ _ _ _ _ c.self.invariant refl
+    found moved (omega arith) (omega arith) (omega arith) (omega arith)
+    c.one_less-left.ensures.counts c.one_more-there.ensures.counts (omega arith)
+    (c.keep_last.ensures ∙ ap (λ n. buffer (drop n c.one_more-there.new.counts.items) c.one_more-there.new.counts.capacity) last)
+    (ap (λ (b : Buffer Event). b.capacity) c.cut.ensures)
+    (end_after_cut _ _ _ _ _ (omega arith) c.cut.ensures)
+
+pub returns-then-to-len : goal.returns-then-to-len
+returns-then-to-len c =
+    let found = sym c.in-Some.ensures.next in
+    let at_end = c.if-to-len.true in
+    let kept = c.len-then-all.ensures.len in
+    let is = moved_to _ _ c.in-Some.listed c.args.id c.in-Some.from _ c.in-Some.ensures.place c.set.ensures in
+    takes_some _ _ _ c.args.id _ c.copy_out-count.result _ _ _ _ _ c.self.view_is found c.self.invariant c.if-from-self.false (λ e. c.if-from-end.false (e ∙ sym c.end-end.ensures.end)) refl c.copy_out-count.ensures.count c.copy_out-count.ensures.copied
+    (cut_held _ _ _ c.self.inside.given _ _ _ _ _ c.self.invariant.lowest (invariant_of-self-then-to-len c).lowest (omega arith) is c.cut.ensures)
 
 pub release-requires-clause-places : goal.release-requires-clause-places
 release-requires-clause-places c =
