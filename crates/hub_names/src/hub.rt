@@ -123,7 +123,7 @@ impl Look {
         ensures at { IsLookAt hub.now result }
         ensures seen { names_seen result ≡ keys named.now.fifodirs }
     {
-        named.fifodirs.len();
+        prove!(named.fifodirs.len() <= MOST_NAMES);
         Look {
             hub: Snapshot::of(hub),
             named: Snapshot::of(named),

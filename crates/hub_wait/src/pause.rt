@@ -11,7 +11,7 @@ use std::time::{Duration, Instant};
 const TURN: u64 = 1;
 
 /// How many milliseconds the longest sleep without a look is. A ring that nobody heard costs no more than this.
-const LONGEST_SLEEP: u64 = 250;
+const LONGEST_SLEEP: u64 = 500;
 
 /// How many looks may be ahead of their time, which is a turn each, if the bell rings so often.
 const LOOKS_AHEAD: u64 = 16;
