@@ -1,0 +1,178 @@
+"""What the tests of hubs that serve over a socket share: a client, a hub that lives, the program as it is run, a peer that is no hub,
+and a report of what holds."""
+
+import atexit
+import contextlib
+import os
+import re
+import resource
+import socket
+import subprocess
+import threading
+import time
+
+# What the program says if nobody listens.
+CONNECT = "ftrighub: cannot connect\n"
+
+
+class Client:
+    """A connection to the hub. If nobody listens yet, it tries for ten seconds."""
+
+    def __init__(self, path):
+        self.stream = socket.socket(socket.AF_UNIX)
+        deadline = time.monotonic() + 10
+        while self.stream.connect_ex(path) and time.monotonic() < deadline:
+            time.sleep(0.01)
+        self.stream.settimeout(60)
+        self.replies = self.stream.makefile("rb")
+
+    def send(self, text):
+        self.stream.sendall(text.encode() + b"\n")
+
+    def reply(self):
+        return self.replies.readline().decode().rstrip("\n")
+
+    def ask(self, text):
+        self.send(text)
+        return self.reply()
+
+    def ask_each(self, *texts):
+        return [self.ask(text) for text in texts]
+
+    def ask_at_once(self, texts):
+        """Sends all lines, and then reads all replies."""
+        self.send("\n".join(texts))
+        return [self.reply() for _ in texts]
+
+    def rest(self):
+        """The replies up to the end of the connection, or nothing if it doesn't end in ten seconds."""
+        self.stream.settimeout(10)
+        try:
+            return self.replies.read().decode()
+        except TimeoutError:
+            return ""
+
+    def close(self):
+        self.replies.close()
+        self.stream.close()
+
+
+class Hub:
+    """A hub at a path that serves without end, until the test ends. It may open so many files."""
+
+    def __init__(self, program, path, *words, files=None):
+        ready, told = os.pipe()
+        self.process = subprocess.Popen(
+            [program, "serve", path, "--forever", "--ready-fd", str(told), *words],
+            pass_fds=[told], stderr=subprocess.PIPE, text=True)
+        os.close(told)
+        self.ready, self.path = ready, path
+        atexit.register(self.kill)
+        if files is not None:
+            resource.prlimit(self.process.pid, resource.RLIMIT_NOFILE, (files, files))
+
+    def told(self):
+        """Waits until the hub has written to its descriptor or has ended, and returns what it wrote."""
+        return os.read(self.ready, 16)
+
+    def client(self):
+        return Client(self.path)
+
+    def kill(self):
+        self.process.kill()
+        self.process.wait()
+
+    def end(self):
+        """Kills the hub, and returns what it wrote to standard error."""
+        self.process.kill()
+        return self.process.communicate()[1]
+
+    def status(self, what):
+        """A number of /proc/PID/status."""
+        with open(f"/proc/{self.process.pid}/status", encoding="ascii") as file:
+            return int(re.search(rf"^{what}:\s+(\d+)", file.read(), re.M)[1])
+
+    def processor_time(self):
+        """The seconds of processor time that all its threads have used, in the user's mode and in the system's."""
+        with open(f"/proc/{self.process.pid}/stat", encoding="ascii") as file:
+            fields = file.read().rpartition(")")[2].split()
+        return (int(fields[11]) + int(fields[12])) / os.sysconf("SC_CLK_TCK")
+
+
+class Program:
+    """The program, in an environment of its own."""
+
+    def __init__(self, path):
+        self.path = path
+
+    def run(self, *words, known=None, **streams):
+        """Runs the program with these words, and returns its status, its output and what it says on standard error. In its
+        environment `known` is the path of the socket."""
+        done = subprocess.run([self.path, *words], env=environment(known), stdin=subprocess.DEVNULL, timeout=60, check=False,
+                              **{"stdout": subprocess.PIPE, "stderr": subprocess.PIPE, **streams})
+        output, fault = ((text or b"").decode() for text in (done.stdout, done.stderr))
+        return done.returncode, output, fault
+
+
+def environment(known):
+    others = {name: value for name, value in os.environ.items() if name != "FTRIGHUB_SOCKET"}
+    return others if known is None else {**others, "FTRIGHUB_SOCKET": known}
+
+
+def hub_at(program, path):
+    """A hub at a path, which listens."""
+    hub = Hub(program.path, path)
+    hub.told()
+    os.close(hub.ready)
+    return hub
+
+
+class Peer:
+    """A server that is no hub: it answers the first lines of one connection with these bytes, and hangs up. `sent` is all that
+    it was sent."""
+
+    def __init__(self, path, *replies):
+        self.listener, self.replies, self.sent = socket.socket(socket.AF_UNIX), replies, b""
+        self.listener.bind(path)
+        self.listener.listen()
+        self.thread = threading.Thread(target=self.serve, daemon=True)
+        self.thread.start()
+
+    def serve(self):
+        connection, _ = self.listener.accept()
+        self.listener.close()
+        with connection, connection.makefile("rb") as lines, contextlib.suppress(BrokenPipeError):
+            for reply in self.replies:
+                self.sent += lines.readline()
+                connection.sendall(reply)
+            connection.shutdown(socket.SHUT_WR)
+            self.sent += lines.read()
+
+    def all_sent(self):
+        self.thread.join(30)
+        return self.sent
+
+
+class Report:
+    """Counts what holds, and prints what doesn't."""
+
+    def __init__(self):
+        self.passed = self.failed = 0
+
+    def add(self, name, fault):
+        if fault is None:
+            self.passed += 1
+        else:
+            self.failed += 1
+            print(f"{name}: {fault}", flush=True)
+
+    def same(self, name, found, wanted):
+        self.add(name, None if found == wanted else f"{found!r}, and wanted is {wanted!r}")
+
+    def at_most(self, name, found, most):
+        self.add(name, None if found <= most else f"{found}, and at most {most} is wanted")
+
+    def end(self):
+        """Prints the last line, and returns the status of the test."""
+        print(f"{self.passed} passed, {self.failed} failed")
+        return 1 if self.failed else 0

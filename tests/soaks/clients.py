@@ -1,0 +1,260 @@
+"""The clients of a hub under load. Each is a role, which goes from session to session until its time is over, and keeps a log
+of what it saw. What a reply has to be whatever the others do is looked at here."""
+
+import time
+from collections import Counter, defaultdict
+
+from hubs import Client
+
+# Fifodirs that hold publishers up, and fifodirs that evict; services of both kinds, and whether they report readiness.
+PLAIN = {"p0": "4096 1000000000000", "p1": "64 1000000000000", "p2": "4096 1000000000000 evict", "p3": "64 1000000000000 evict"}
+SERVICES = {"s0": "64 1000000000000 1", "s1": "64 1000000000000 0", "s2": "8 1000000000000 1 evict",
+            "s3": "8 1000000000000 0 evict"}
+REPORTS = {name: words.split()[2] == "1" for name, words in SERVICES.items()}
+# As many more as a hub may have names. They are small, and come to their ends.
+SMALL = [f"t{at}" for at in range(256 - len(PLAIN) - len(SERVICES))]
+ROOM, TOTAL = 16, 200
+# What a listener waits for: the end of a message whose number ends in 0.
+PATTERN = r"0\.*;"
+WANTS = ("up", "ready", "down", "finished", "restarted", "restarted-ready")
+NEXT_LETTERS = {"s": "u", "u": "Ud", "U": "d", "d": "D", "D": "u", "x": ""}
+
+
+def make_line(name):
+    """The line that makes a small fifodir."""
+    return f"dir {name} {ROOM} {TOTAL}"
+
+
+class Log:
+    """What a client saw."""
+
+    def __init__(self):
+        self.requests = self.sessions = self.taken = 0
+        self.faults, self.stretches, self.hits, self.waits, self.listings, self.statuses = [], [], [], [], [], []
+        self.messages = defaultdict(list)
+        self.made, self.closed = Counter(), Counter()
+
+    def keep(self, name, number, run):
+        """Keeps the messages of a run, each of which was published just after the one before it, as one."""
+        if run:
+            self.messages[name].append((number, "".join(run)))
+
+    def is_one_of(self, line, reply, *wanted):
+        """Whether the reply is one of these. If it isn't, that is a fault."""
+        if reply not in wanted:
+            self.faults.append(f"{reply} to {line}")
+        return reply in wanted
+
+
+class Role:
+    """A client that goes from session to session. Each session begins with a new connection."""
+
+    def __init__(self, path, at, dice, until, tenth):
+        self.path, self.at, self.dice, self.until, self.tenth = path, at, dice, until, tenth
+        self.log, self.handles = Log(), 0
+
+    def work(self):
+        while time.monotonic() < self.until:
+            self.client, self.handles = Client(self.path), 0
+            self.log.sessions += 1
+            self.serve()
+            self.client.close()
+        return self.log
+
+    def goes_on(self, one_in):
+        """Whether its session goes on; one time in so many it doesn't."""
+        return time.monotonic() < self.until and self.dice.randrange(one_in) > 0
+
+    def ask(self, *lines):
+        self.log.requests += len(lines)
+        return self.client.ask_at_once(lines)
+
+    def number(self, name):
+        """How many events a fifodir has."""
+        (reply,) = self.ask(f"status {name}")
+        word, number, code, _ = reply.split()
+        if word != "ok":
+            raise ValueError(f"{reply} to status")
+        if name in SERVICES:
+            self.log.statuses.append((name, int(number), int(code)))
+        return int(number)
+
+    def subscribe(self, line, *refusals):
+        """Returns the new handle, which is the next number, or None if the line was refused so."""
+        (reply,) = self.ask(line)
+        if reply in refusals:
+            return None
+        self.handles += 1
+        self.log.is_one_of(line, reply, f"ok {self.handles}")
+        return self.handles
+
+    def publish(self, name, texts, *refusals):
+        """Publishes the texts, and returns how many were refused so."""
+        replies = self.ask(*[f"pub {name} {text}" for text in texts])
+        begun, end, run = 0, -1, []
+        for text, reply in zip(texts, replies):
+            if not reply.startswith("ok "):
+                self.log.is_one_of(f"pub {name} {text}", reply, *refusals)
+                continue
+            if int(reply[3:]) != end:
+                self.log.keep(name, begun, run)
+                begun, run = int(reply[3:]), []
+            run.append(text)
+            end = int(reply[3:]) + len(text)
+        self.log.keep(name, begun, run)
+        return sum(not it.startswith("ok ") for it in replies)
+
+    def cancel(self, handle):
+        self.log.is_one_of("cancel", self.ask(f"cancel {handle}")[0], "ok")
+
+
+class Publisher(Role):
+    """Publishes messages, many lines at once. A message has the publisher's letter and its number."""
+
+    count = 0
+
+    def serve(self):
+        name = list(PLAIN)[self.at % len(PLAIN)]
+        letter = "ABCEFGHI"[self.at]
+        while self.goes_on(one_in=200):
+            numbers = range(self.count, self.count + self.dice.randrange(1, 33))
+            self.count = numbers.stop
+            texts = [f"{letter}{self.tenth}-{number}{'.' * (number % 7)};" for number in numbers]
+            if self.publish(name, texts, *["no full"] * (not PLAIN[name].endswith("evict"))):
+                time.sleep(0.001)
+
+
+class Supervisor(Role):
+    """Publishes the letters of a service, and now and then one that isn't lawful. It is the service's only publisher."""
+
+    def serve(self):
+        name, stage = f"s{self.at}", "x"
+        while self.goes_on(one_in=300):
+            text, last = self.letters(stage)
+            if self.dice.random() < 0.1:
+                unlawful = self.dice.choice([it for it in "uUdD" if it not in NEXT_LETTERS[last]])
+                line = f"pub {name} {text}{unlawful}"
+                self.log.is_one_of(line, self.ask(line)[0], f"no unlawful {len(text)}")
+            elif not self.publish(name, [text], *["no full"] * (not SERVICES[name].endswith("evict"))):
+                stage = last
+            time.sleep(self.dice.random() / 100)
+
+    def letters(self, stage):
+        """Some lawful letters after the stage, and the stage after them."""
+        text = ""
+        for _ in range(self.dice.randrange(1, 5)):
+            often = NEXT_LETTERS[stage] * 8
+            letter = self.dice.choice(often + "sxO") if often else "s"
+            text += letter
+            stage = stage if letter == "O" else letter
+        return text, stage
+
+
+class Taker(Role):
+    """Subscribes, and takes everything."""
+
+    def serve(self):
+        name = self.dice.choice(list(PLAIN))
+        before = self.number(name)
+        handle = self.subscribe(f"sub {name}")
+        after, letters = self.number(name), []
+        while self.goes_on(one_in=2_000):
+            woken, reply = self.ask(f"await {handle} 100", f"take {handle} 256")
+            if reply.startswith("got "):
+                letters.append(reply[4:])
+            elif reply == "evicted" and PLAIN[name].endswith("evict"):
+                self.log.is_one_of("take again", self.ask(f"take {handle} 1")[0], "evicted")
+                break
+            else:
+                self.log.is_one_of("await, take", f"{woken}, {reply}", "late, none")
+        self.log.stretches.append((name, before, after, "".join(letters)))
+        self.log.taken += len(self.log.stretches[-1][3])
+        if self.dice.random() < 0.5:
+            self.cancel(handle)
+
+
+class Listener(Role):
+    """Listens for a pattern, and polls."""
+
+    def serve(self):
+        name = self.dice.choice(list(PLAIN))
+        before = self.number(name)
+        handle = self.subscribe(f"listen {name} repeat {PATTERN}")
+        after, hits = self.number(name), []
+        while self.goes_on(one_in=2_000):
+            woken, reply = self.ask(f"await {handle} 100", f"poll {handle}")
+            if reply.startswith("hit "):
+                hits.append(reply[4:])
+            elif reply == "evicted" and PLAIN[name].endswith("evict"):
+                self.cancel(handle)
+                break
+            else:
+                self.log.is_one_of("await, poll", f"{woken}, {reply}", "late, none", "ok, none")
+        self.log.hits.append((name, before, after, hits))
+
+
+class Waiter(Role):
+    """Waits for services. It looks at their numbers before and after."""
+
+    def serve(self):
+        while self.goes_on(one_in=50):
+            names = [self.dice.choice(list(SERVICES)) for _ in range(self.dice.randrange(1, 4))]
+            span, want = self.dice.choice(("all", "any")), self.dice.choice(WANTS)
+            before = [self.number(name) for name in names]
+            (reply,) = self.ask(f"wait {span} {want} {self.dice.choice((0, 5, 50, 200))} {' '.join(names)}")
+            self.log.waits.append((span, want, names, before, reply, [self.number(name) for name in names]))
+
+
+class Visitor(Role):
+    """Asks for this and that, of small fifodirs above all, and leaves."""
+
+    def serve(self):
+        while self.goes_on(one_in=self.dice.randrange(1, 30)):
+            self.dice.choice((self.make, self.use, self.use, self.close, self.list, self.look))()
+
+    def make(self):
+        name = self.dice.choice(SMALL)
+        line = make_line(name)
+        (reply,) = self.ask(line)
+        if self.log.is_one_of(line, reply, "ok", "no exists") and reply == "ok":
+            self.log.made[name] += 1
+        if self.tenth > 0:
+            self.log.is_one_of("dir", self.ask(f"dir more{self.at} 1 1")[0], "no many")
+
+    def use(self):
+        """Publishes at a small fifodir while somebody subscribes there."""
+        name = self.dice.choice(SMALL)
+        (reply,) = self.ask(f"status {name}")
+        if reply == "no name":
+            return
+        before = int(reply.split()[1])
+        handle = self.subscribe(f"sub {name}", "no closed")
+        after = self.number(name)
+        text = "".join(self.dice.choices("abcefghijklmnopqrtvwyz", k=self.dice.randrange(1, 10)))
+        self.publish(name, [text], "no full", "no spent", "no closed")
+        if handle is not None:
+            (reply,) = self.ask(f"take {handle} 256")
+            letters = reply[4:] if reply.startswith("got ") else ""
+            if letters or self.log.is_one_of("take", reply, "none", "end"):
+                self.log.stretches.append((name, before, after, letters))
+            self.cancel(handle)
+
+    def close(self):
+        """Each tenth has its own fifodirs that are closed then."""
+        name = self.dice.choice(SMALL[self.tenth::10])
+        line = f"close {name}"
+        (reply,) = self.ask(line)
+        if self.log.is_one_of(line, reply, "ok", "no closed", "no name") and reply == "ok":
+            self.log.closed[name] += 1
+
+    def list(self):
+        place = self.dice.choice((0, 0, self.dice.randrange(256)))
+        (reply,) = self.ask(f"names {place}")
+        self.log.listings.append((place, reply.split()[1:]))
+
+    def look(self):
+        self.number(self.dice.choice(list(PLAIN) + list(SERVICES)))
+
+
+# How many there are of each role.
+ROLES = {Publisher: 8, Supervisor: len(SERVICES), Taker: 20, Listener: 8, Waiter: 12, Visitor: 12}
