@@ -1,17 +1,17 @@
 #!/bin/sh
-# Starts two services and goes on as soon as both are ready. Where one has failed for good, or both aren't ready in
-# time, it says so and ends with status 1.
+# Starts two services and goes on as soon as both are ready. If one has failed for good, or they aren't both ready in time, it
+# says so and ends with status 1.
 #
 #     examples/start-services.sh             starts a hub of its own, which ends with it
 #     examples/start-services.sh SOCKET      uses the hub that listens at SOCKET; it needs four of its sessions
 #
-# From the environment: DB and WEB are the commands that make the two services ready, or fail. PATIENCE is how many
-# turns the wait may take, each about a millisecond. FTRIGHUB is the program.
+# From the environment: DB and WEB are the commands that make the two services ready, or fail. PATIENCE is how long the wait may
+# take, such as 5s. FTRIGHUB is the program.
 set -u
 ftrighub=${FTRIGHUB:-$(dirname "$0")/../ftrighub}
 db=${DB:-sleep 0.2}
 web=${WEB:-sleep 0.4}
-patience=${PATIENCE:-5000}
+patience=${PATIENCE:-5s}
 work=$(mktemp -d) || exit 1
 socket=${1:-$work/hub}
 hub=
@@ -62,13 +62,14 @@ refused=$(echo "$made" | grep '^no ' | grep -v -x 'no exists')
 start db sh -c "$db"
 start web sh -c "$web"
 
-# One request subscribes to both services, then looks at their status, then waits: no change falls between.
-verdict=$(echo "wait all ready $patience db web" | "$ftrighub" call "$socket")
-case $verdict in
-yes\ *) echo "start-services: db and web are ready" ;;
-never) fail "a service has failed and won't be restarted" ;;
-late) fail "db and web aren't both ready after $patience turns" ;;
-*) fail "the hub answered '$verdict'" ;;
+# One request subscribes to both services, then looks at their status, then waits: no change falls between. If they aren't both
+# ready in the end, the program says which isn't.
+"$ftrighub" wait --socket "$socket" all ready --for "$patience" db web >/dev/null
+case $? in
+0) echo "start-services: db and web are ready" ;;
+4) fail "a service has failed and won't be restarted" ;;
+5) fail "db and web aren't both ready after $patience" ;;
+*) fail "the hub can't tell whether db and web are ready" ;;
 esac
 
 # Here goes what needs both services.

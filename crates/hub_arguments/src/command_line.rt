@@ -2,6 +2,10 @@
 ghost use Rattle.std.specs.Prelude.{◌≡◌, ◌⊎◌, ℕ, IfOk, IfSome};
 ghost use Rattle.hub_arguments.specs.declared.command_line.Start.TheVariants.{End};
 
+use crate::asking::{
+    Wish, ask_command, ask_plan, follow_command, follow_plan, status_command, status_plan,
+    wait_command, wait_plan,
+};
 use crate::help::{
     ABOUT, CALL_ABOUT, CALL_LINES, EXIT, LONG_ABOUT, SCRIPT_ABOUT, SCRIPT_LINES, SERVE_ABOUT,
     SERVE_LINES,
@@ -10,6 +14,7 @@ use clap::error::ErrorKind;
 use clap::{Arg, ArgAction, Command, Error, value_parser};
 use hub_io::FrontError;
 use std::alloc::{AllocError, AllocGlobal, Global};
+use std::env::VarError;
 use std::rt::Runtime;
 use std::{env, io};
 
@@ -29,11 +34,13 @@ const READY: &str = "ready-fd";
 
 const MODE: &str = "mode";
 
+const IDLE: &str = "idle";
+
 /// The modes that a socket may be given: those who may connect need the right to write.
 static MODES: [&str; 5] = ["0600", "0620", "0622", "0660", "0666"];
 
 /// What the program is to do.
-#[derive(Clone, Copy, Debug, PartialEq, Eq)]
+#[derive(Drop, Debug, PartialEq, Eq)]
 pub enum Plan<'a> {
     /// Serves standard input to standard output, as one local session.
     Script,
@@ -43,16 +50,42 @@ pub enum Plan<'a> {
         sessions: u64,
     },
     /// Serves sessions at the socket for as long as the program runs, at most so many at the same time (1 to 1024). Gives the
-    /// socket's file these permission bits, and writes a newline to this descriptor once it listens.
+    /// socket's file these permission bits, writes a newline to this descriptor once it listens, and ends a session that was idle
+    /// for so many seconds.
     ServeForever {
         socket: &'a str,
         sessions: u64,
         mode: Option<u32>,
         ready: Option<u64>,
+        idle: Option<u64>,
     },
     /// Sends standard input to the server at the socket, and writes its replies to standard output.
     Call {
         socket: &'a str,
+    },
+    /// Sends these words as one request to the server at the socket, and writes its reply to standard output.
+    Ask {
+        socket: &'a str,
+        words: Vec<&'a str>,
+    },
+    /// Waits until the services are as wanted, by the server at the socket, writes the reply to standard output, and what
+    /// isn't as wanted to standard error.
+    Wait {
+        socket: &'a str,
+        wish: Wish<'a>,
+    },
+    /// Writes how these fifodirs are, or all of the server at the socket if there is none, to standard output.
+    Status {
+        socket: &'a str,
+        names: Vec<&'a str>,
+    },
+    /// Writes each letter of these fifodirs of the server at the socket to standard output, or each hit of the pattern.
+    Follow {
+        socket: &'a str,
+        names: Vec<&'a str>,
+        pattern: Option<&'a str>,
+        is_plain: bool,
+        is_once: bool,
     },
 }
 
@@ -106,6 +139,15 @@ fn mode<'a>(alloc: Global) -> Result<Arg<'a>, AllocError> {
         .requires_arg(FOREVER)
 }
 
+fn idle<'a>(alloc: Global) -> Result<Arg<'a>, AllocError> {
+    Arg::new(alloc, IDLE)
+        .long(IDLE)
+        .value_name("SECONDS")
+        .help("With --forever: end a session whose client was idle for so long (1 to 1000000)")
+        .value_parser(value_parser!(u64).range(1..1000001))
+        .requires_arg(FOREVER)
+}
+
 fn script_command<'a>(alloc: Global) -> Command<'a> {
     Command::new(alloc, "script")
         .about(SCRIPT_ABOUT)
@@ -120,7 +162,8 @@ fn serve_command<'a>(alloc: Global, is_forever: bool) -> Result<Command<'a>, All
         .arg(sessions(alloc, is_forever))?
         .arg(forever(alloc))?
         .arg(ready(alloc)?)?
-        .arg(mode(alloc)?)
+        .arg(mode(alloc)?)?
+        .arg(idle(alloc)?)
 }
 
 fn call_command<'a>(alloc: Global) -> Result<Command<'a>, AllocError> {
@@ -140,18 +183,32 @@ fn program<'a>(alloc: Global) -> Command<'a> {
         .subcommand_required(true)
 }
 
-fn command<'a>(alloc: Global, is_forever: bool) -> Result<Command<'a>, AllocError> {
+// The path that the environment has for a socket is known.
+fn command<'a>(
+    alloc: Global,
+    is_forever: bool,
+    known: Option<&'a str>,
+) -> Result<Command<'a>, AllocError> {
     program(alloc)
         .subcommand(script_command(alloc))?
         .subcommand(serve_command(alloc, is_forever)?)?
-        .subcommand(call_command(alloc)?)
+        .subcommand(call_command(alloc)?)?
+        .subcommand(ask_command(alloc, known)?)?
+        .subcommand(wait_command(alloc, known)?)?
+        .subcommand(status_command(alloc, known)?)?
+        .subcommand(follow_command(alloc, known)?)
 }
 
-/// Reads the words. The first word is the program's name, which the usage lines print. An error has the text to print:
-/// help, the version, or what is wrong with the words; `OutOfMemory` if memory ran out.
-pub fn read_words<'a>(alloc: Global, words: &'a [String]) -> Result<Plan<'a>, Error> {
+/// Reads the words. The first word is the program's name, which the usage lines print. `known` is the path of the socket
+/// for words that name none, if there is one. An error has the text to print: help, the version, or what is wrong with
+/// the words; `OutOfMemory` if memory ran out.
+pub fn read_words<'a>(
+    alloc: Global,
+    words: &'a [String],
+    known: Option<&'a str>,
+) -> Result<Plan<'a>, Error> {
     let is_forever = words.iter().any(|word| word.as_str() == "--forever");
-    let matches = command(alloc, is_forever)?.try_get_matches_from(words)?;
+    let matches = command(alloc, is_forever, known)?.try_get_matches_from(words)?;
     Ok(match matches.subcommand() {
         Some(("serve", found)) if found.get_flag(FOREVER) => Plan::ServeForever {
             socket: found.get_str(SOCKET).unwrap_or(""),
@@ -160,6 +217,7 @@ pub fn read_words<'a>(alloc: Global, words: &'a [String]) -> Result<Plan<'a>, Er
                 .get_str(MODE)
                 .and_then(|it| u32::from_str_radix(it, 8).ok()),
             ready: found.get_one::<u64>(READY),
+            idle: found.get_one::<u64>(IDLE),
         },
         Some(("serve", found)) => Plan::Serve {
             socket: found.get_str(SOCKET).unwrap_or(""),
@@ -168,12 +226,16 @@ pub fn read_words<'a>(alloc: Global, words: &'a [String]) -> Result<Plan<'a>, Er
         Some(("call", found)) => Plan::Call {
             socket: found.get_str(SOCKET).unwrap_or(""),
         },
+        Some(("ask", found)) => ask_plan(alloc, found)?,
+        Some(("wait", found)) => wait_plan(alloc, found)?,
+        Some(("status", found)) => status_plan(alloc, found)?,
+        Some(("follow", found)) => follow_plan(alloc, found)?,
         _ => Plan::Script,
     })
 }
 
 /// What the words of the command line ask for.
-#[derive(Clone, Copy, Debug, PartialEq, Eq)]
+#[derive(Drop, Debug, PartialEq, Eq)]
 pub enum Start<'a> {
     /// The program is to do this.
     Run(Plan<'a>),
@@ -199,10 +261,14 @@ fn status_with_memory(error: &Error) -> Result<u8, AllocError>
 }
 
 /// The exit status for words that run nothing. None if the words are a plan to run.
-pub fn early_status(alloc: Global, words: &[String]) -> Result<Option<u8>, AllocError>
+pub fn early_status(
+    alloc: Global,
+    words: &[String],
+    known: Option<&str>,
+) -> Result<Option<u8>, AllocError>
     ensures { IfOk result (λ status. IfSome status (λ s. (s ≡ 0) ⊎ (s ≡ 2))) }
 {
-    match read_words(alloc, words) {
+    match read_words(alloc, words, known) {
         Ok(_) => Ok(None),
         Err(error) => Ok(Some(status_with_memory(&error)?)),
     }
@@ -219,17 +285,27 @@ pub fn own_words<H: Runtime + AllocGlobal>(rt: &H, alloc: Global) -> io::Result<
     Ok(words)
 }
 
+/// The path of the socket that the environment has under `FTRIGHUB_SOCKET`. A path that is empty or not UTF-8 is none.
+pub fn own_socket<H: Runtime + AllocGlobal>(rt: &H) -> Result<Option<String>, AllocError> {
+    match env::var(rt, "FTRIGHUB_SOCKET") {
+        Ok(path) if !path.is_empty() => Ok(Some(path)),
+        Err(VarError::OutOfMemory) => Err(AllocError),
+        Ok(_) | Err(VarError::NotPresent | VarError::NotUnicode) => Ok(None),
+    }
+}
+
 /// Reads the words. If they run nothing, it prints their text: help and the version on standard output, what is wrong on
-/// standard error. An error is `Write` if the text couldn't be printed, or `Memory`.
+/// standard error. `known` is the path of the socket for words that name none. An error is `Write` if the text couldn't be printed, or `Memory`.
 pub fn begin<'a, H: Runtime + AllocGlobal>(
     rt: &H,
     alloc: Global,
     words: &'a [String],
+    known: Option<&'a str>,
 ) -> Result<Start<'a>, FrontError>
     ensures { IfOk result (λ start. (status : ℕ) → start ≡ End status
         → (status ≡ 0) ⊎ (status ≡ 2)) }
 {
-    let error = match read_words(alloc, words) {
+    let error = match read_words(alloc, words, known) {
         Ok(plan) => return Ok(Start::Run(plan)),
         Err(error) => error,
     };

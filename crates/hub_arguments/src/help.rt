@@ -103,9 +103,12 @@ The file SOCKET.lock says that a server runs. As a service of s6, with a notific
 
   ftrighub serve /run/hub.sock --forever --ready-fd 3 --mode 0660
 
+With --idle SECONDS a session ends if its client sends no byte for so long while the session waits for a line, or takes none
+of a reply. The time of a `wait` or an `await` doesn't count.
+
 Exit status: 0 all went well, 2 the command line was refused, 1 a fault while running, with a line on standard error:
 `cannot listen`, `another server listens there`, `cannot notify`, `cannot accept`, `cannot start a session`, `out of
-memory`. When all sessions have ended, each that stopped gets a line such as `session 2: read failed` (write failed, too many reads, out of memory).";
+memory`. When all sessions have ended, each that stopped gets a line such as `session 2: read failed` (write failed, too many reads, out of memory, idle).";
 
 /// The subcommand `call` in one line.
 pub const CALL_ABOUT: &str = "Send the lines of standard input to a server, and write its replies";

@@ -5,7 +5,12 @@
 //! [`own_words`] and calls [`begin`], which prints that text.
 #![tactic(auto)]
 
+mod asking;
+mod asking_help;
 mod command_line;
 mod help;
 
-pub use command_line::{Plan, Start, begin, early_status, own_words, read_words, status_of};
+pub use asking::Wish;
+pub use command_line::{
+    Plan, Start, begin, early_status, own_socket, own_words, read_words, status_of,
+};

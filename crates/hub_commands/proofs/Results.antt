@@ -11,9 +11,9 @@ grows_by_none None = tt
 grows_by_none (Some k) = let same : k ≡ k + 0 = omega arith in ap Some same
 
 -- memory ran out before a desk was opened
-pub no_desk : {D R W : Type 0} (begins : D → Type 0) (asks : Asking D) (ends : D → D → Type 0) (r : Reading R) (w : Writing W) (reader : R) (writer : W)
-    → IsResult begins asks ends r w reader writer (Err Memory)
-no_desk begins asks ends r w reader writer = record {
+pub no_desk : {D R W : Type 0} (most : ℕ) (begins : D → Type 0) (asks : Asking D) (ends : D → D → Type 0) (r : Reading R) (w : Writing W) (reader : R) (writer : W)
+    → IsResult most begins asks ends r w reader writer (Err Memory)
+no_desk most begins asks ends r w reader writer = record {
   read = reader;
   written = writer;
   served = λ other. absurd (other refl);

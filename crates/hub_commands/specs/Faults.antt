@@ -1,9 +1,11 @@
 -- The lines of faults.
-use Rattle.std.specs.Prelude.{ℕ, suc, List, [], ◌∷◌, ◌++◌, codes, Bool, true, false, Result, Ok, Err}
+use Rattle.std.specs.Prelude.{ℕ, zero, suc, Option, None, Some, flat_map, List, [], ◌∷◌, ◌++◌, codes, Bool, true, false, Result, Ok, Err}
 use Rattle.std.specs.Fmt.{decimal}
+use Rattle.hub_ask.specs.Faults.{ask_text}
 use Rattle.hub_client.specs.Faults.{relay_text}
 use Rattle.hub_commands.specs.declared.fault.Fault.{Fault}
-use Rattle.hub_commands.specs.declared.fault.Fault.TheVariants.{Listen, Taken, Notify, Accept, Connect, Memory, Script, Serve, Session, Relay}
+use Rattle.hub_commands.specs.declared.fault.Fault.TheVariants.{Listen, Taken, Notify, Accept, Connect, Memory, Script, Serve, Session, Idle, More, Relay, Ask}
+use Rattle.hub_commands.specs.declared.watching.Pending.{Pending}
 use Rattle.hub_io.specs.Faults.{fault_text}
 use Rattle.hub_io.specs.declared.fault.FrontError.{FrontError}
 use Rattle.hub_io.specs.declared.fault.FrontError.TheVariants as passing
@@ -20,7 +22,10 @@ text_of Memory = fault_text passing.Memory
 text_of (Script fault) = fault_text fault
 text_of (Serve fault) = serve_text fault
 text_of (Session number fault) = codes "session " ++ decimal number ++ codes ": " ++ fault_text fault
+text_of (Idle number) = codes "session " ++ decimal number ++ codes ": idle"
+text_of (More sessions) = decimal sessions ++ codes " more sessions stopped"
 text_of (Relay fault) = relay_text fault
+text_of (Ask fault) = ask_text fault
 
 -- the line of a fault, with its LF
 abbrev pub line_of : Fault → List ℕ
@@ -45,3 +50,17 @@ gate_line false = []
 -- from 1.
 abbrev pub report_lines : List (Result ℕ FrontError) → (failed : Bool) → List ℕ
 report_lines results failed = session_lines 1 results ++ gate_line failed
+
+-- the line of a fault, if there is one
+abbrev pub line_if : Option Fault → List ℕ
+line_if None = []
+line_if (Some fault) = line_of fault
+
+-- the fault that counts the sessions that aren't told one by one
+abbrev pub rest_of : (sessions : ℕ) → Option Fault
+rest_of zero = None
+rest_of (suc sessions) = Some (More (suc sessions))
+
+-- the lines of the faults that are pending, and the one of the rest
+abbrev pub pending_lines : Pending → List ℕ
+pending_lines pending = flat_map line_if pending.faults ++ line_if (rest_of pending.more)

@@ -1,7 +1,7 @@
 -- Why a server ended before it had a report.
 use Rattle.std.specs.Prelude.{⊤}
 use Rattle.hub_commands.specs.declared.fault.Fault.{Fault}
-use Rattle.hub_commands.specs.declared.fault.Fault.TheVariants.{Listen, Taken, Notify, Accept, Connect, Memory, Script, Serve, Session, Relay}
+use Rattle.hub_commands.specs.declared.fault.Fault.TheVariants.{Listen, Taken, Notify, Accept, Connect, Memory, Script, Serve, Session, Idle, More, Relay, Ask}
 use Rattle.hub_server.specs.declared.report.ServeError.{ServeError}
 
 -- it couldn't listen, memory ran out before the first session, or its sessions stopped so
@@ -15,4 +15,7 @@ FailsToServe stops Accept = ⊥
 FailsToServe stops Connect = ⊥
 FailsToServe stops (Script fault) = ⊥
 FailsToServe stops (Session number fault) = ⊥
+FailsToServe stops (Idle number) = ⊥
+FailsToServe stops (More sessions) = ⊥
 FailsToServe stops (Relay error) = ⊥
+FailsToServe stops (Ask error) = ⊥

@@ -1,5 +1,5 @@
 //! The subcommand `call`: a client of a server.
-ghost use Rattle.std.specs.Prelude.{◌≡◌, ◌≢◌, ℕ, Result, Err};
+ghost use Rattle.std.specs.Prelude.{◌≡◌, ◌≢◌, ℕ, Result, Err, IfErr};
 ghost use Rattle.hub_client.specs.declared.fault.RelayError.{RelayError as relay_error};
 ghost use Rattle.hub_commands.specs.Calls.{IsRelayed, call_result};
 ghost use Rattle.hub_commands.specs.declared.fault.Fault.TheVariants as fault;
@@ -15,11 +15,19 @@ use std::sync::Wait;
 /// Connects to the server at the socket, and returns the connection twice: for receiving and for sending. Both are
 /// clones, since the descriptor of a clone is 3 or more. If a standard stream is closed, the connection itself may have
 /// that stream's descriptor.
-fn connect<H: Net>(rt: &H, socket: &str) -> Option<(UnixStream, UnixStream)> {
+fn connection_at<H: Net>(rt: &H, socket: &str) -> Option<(UnixStream, UnixStream)> {
     let connection = UnixStream::connect(rt, socket).ok()?;
     let receive = connection.try_clone().ok()?;
     let send = connection.try_clone().ok()?;
     Some((receive, send))
+}
+
+/// Connects to the server at the socket, and returns the connection twice: for receiving and for sending. An error is
+/// `Connect`.
+pub fn connect<H: Net>(rt: &H, socket: &str) -> Result<(UnixStream, UnixStream), Fault>
+    ensures { IfErr result (λ it. it ≡ fault.Connect) }
+{
+    connection_at(rt, socket).ok_or(Fault::Connect)
 }
 
 /// Sends the lines of the input to the server at the socket, and writes its replies. Returns how many lines there were.
@@ -41,7 +49,7 @@ pub fn call<H: Net + Wait, R: Source, W: Sink>(
         (record { contents = W.contents; faults = W.faults })
         input.old input.new output.old output.new outcome }
 {
-    let Some((mut receive, mut send)) = connect(rt, socket) else {
+    let Some((mut receive, mut send)) = connection_at(rt, socket) else {
         return Err(Fault::Connect);
     };
     Ok(relay(rt, alloc, input, output, &mut receive, &mut send)?)

@@ -1,13 +1,14 @@
 //! Sessions over one hub.
 ghost use Rattle.std.specs.Prelude.{◌≤◌, IfOk, IfErr, vec_len};
 ghost use Rattle.std.specs.Arc.{arc_value};
+ghost use Rattle.hub_front.specs.Serving.{most_reads};
 ghost use Rattle.hub_server.specs.Gates.{StopsEarly, ThenCloses};
 ghost use Rattle.hub_server.specs.Reports.{IsReport};
 ghost use Rattle.hub_shared.specs.Desks.{IsNewDesk};
 ghost use Rattle.hub_shared.specs.declared.shared_desk.SharedDesk.{SharedDesk};
 
-use hub_front::serve;
-use hub_io::{FrontError, Sink, Source};
+use hub_front::{Stay, serve_within};
+use hub_io::{FrontError, MAX_READS, Sink, Source};
 use hub_requests::Desk;
 use hub_server::{Desks, Gate, Report, ServeError, serve_each};
 use hub_shared::{Hub, SharedDesk};
@@ -22,6 +23,7 @@ use std::thread::Threads;
 pub(crate) struct HubDesks<P: Pause + Copy> {
     pub(crate) hub: Arc<Hub, Global>,
     pub(crate) pause: P,
+    pub(crate) stay: Stay,
 }
 
 impl<P: Pause + Copy> HubDesks<P> {
@@ -41,6 +43,8 @@ impl<P: Pause + Copy> Desks for HubDesks<P> {
 
     ghost opens = { λ desks. IsNewDesk (arc_value desks.hub) desks.pause };
 
+    ghost most = { λ desks. most_reads desks.stay };
+
     ghost asks = { ⟦<SharedDesk<P> as Desk>⟧.asks };
 
     ghost ends = { ⟦<SharedDesk<P> as Desk>⟧.ends };
@@ -50,6 +54,7 @@ impl<P: Pause + Copy> Desks for HubDesks<P> {
         Ok(HubDesks {
             hub,
             pause: self.pause,
+            stay: self.stay,
         })
     }
 
@@ -63,7 +68,7 @@ impl<P: Pause + Copy> Desks for HubDesks<P> {
         let Ok(mut desk) = self.open(alloc, reader.connection()) else {
             return Err(FrontError::Memory);
         };
-        let served = serve(rt, alloc, &mut desk, reader, writer);
+        let served = serve_within(rt, alloc, self.stay, &mut desk, reader, writer);
         desk.release(rt);
         served
     }
@@ -90,7 +95,7 @@ where
     // that it gave has a result, in the gate's order. The result is one of serving exactly that session's reader and
     // writer.
     ensures report { IfOk result (λ report. IsReport
-        (IsNewDesk (arc_value hub) pause)
+        MAX_READS (IsNewDesk (arc_value hub) pause)
         ⟦<SharedDesk<P> as Desk>⟧.asks ⟦<SharedDesk<P> as Desk>⟧.ends
         (record { remaining = R.remaining; reads = R.reads; faults = R.faults })
         (record { contents = W.contents; faults = W.faults })
@@ -99,6 +104,7 @@ where
     ensures err { IfErr result (λ error. ThenCloses G.closes
         (λ last. StopsEarly G.gives sessions gate.old last error) gate.new) }
 {
-    let desks = HubDesks { hub, pause };
+    let stay = Stay::Short;
+    let desks = HubDesks { hub, pause, stay };
     serve_each(rt, alloc, &desks, gate, sessions)
 }

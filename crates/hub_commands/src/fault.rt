@@ -4,6 +4,7 @@ ghost use Rattle.std.specs.Io.KnownBytes.{Appends};
 ghost use Rattle.hub_commands.specs.Faults.{line_of};
 ghost use Rattle.hub_commands.specs.declared.fault.Fault.TheVariants as fault;
 
+use hub_ask::AskError;
 use hub_client::RelayError;
 use hub_io::FrontError;
 use hub_server::ServeError;
@@ -33,8 +34,14 @@ pub enum Fault {
     Serve(ServeError),
     /// A session of `serve` stopped. Sessions are numbered from 1, in the order in which they were accepted.
     Session { number: u64, fault: FrontError },
+    /// The client of a session of `serve --forever` sent no byte, or took none of a reply, for too long.
+    Idle { number: u64 },
+    /// So many sessions of `serve --forever` stopped besides, and aren't told one by one.
+    More { sessions: u64 },
     /// The relay of `call` stopped.
     Relay(RelayError),
+    /// A request of `ask` has no outcome.
+    Ask(AskError),
 }
 
 impl fmt::Display for Fault {
@@ -53,7 +60,10 @@ impl fmt::Display for Fault {
             Fault::Script(fault) => write!(f, "{fault}"),
             Fault::Serve(fault) => write!(f, "{fault}"),
             Fault::Session { number, fault } => write!(f, "session {number}: {fault}"),
+            Fault::Idle { number } => write!(f, "session {number}: idle"),
+            Fault::More { sessions } => write!(f, "{sessions} more sessions stopped"),
             Fault::Relay(fault) => write!(f, "{fault}"),
+            Fault::Ask(fault) => write!(f, "{fault}"),
         }
     }
 }
@@ -102,5 +112,13 @@ impl From<RelayError> for Fault {
 
     fn from(error: RelayError) -> Fault {
         Fault::Relay(error)
+    }
+}
+
+impl From<AskError> for Fault {
+    ghost from_gives = { λ error it. it ≡ fault.Ask error };
+
+    fn from(error: AskError) -> Fault {
+        Fault::Ask(error)
     }
 }

@@ -12,7 +12,7 @@ mod place;
 mod serving;
 mod watching;
 
-pub use calling::call;
+pub use calling::{call, connect};
 pub use desks::serve_all;
 pub use fault::Fault;
 pub use living::{Standing, serve_forever};

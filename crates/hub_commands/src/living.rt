@@ -1,9 +1,14 @@
 //! The subcommand `serve --forever`: sessions over a Unix socket, for as long as the program runs.
 
+ghost use Rattle.std.specs.Prelude.{OnOk, flat_map};
+ghost use Rattle.std.specs.Io.KnownBytes.{Appends};
+ghost use Rattle.hub_commands.specs.Faults.{line_if, pending_lines};
+
 use crate::desks::HubDesks;
 use crate::fault::Fault;
 use crate::place::{notify, take_place};
 use crate::watching::{Pending, Watcher};
+use hub_front::Stay;
 use hub_server::{SharedDoor, start_workers};
 use hub_shared::Hub;
 use hub_wait::Patience;
@@ -28,6 +33,9 @@ pub struct Standing<'a> {
     pub mode: Option<u32>,
     /// The descriptor that gets a newline once the hub listens, as the `notification-fd` of s6 does. None: there is none.
     pub ready: Option<u64>,
+    /// How many seconds a session may be idle: its client sends no byte, or takes none of a reply, while the session waits for
+    /// it. None: without end.
+    pub idle: Option<u64>,
 }
 
 /// Serves sessions at the socket for as long as the program runs, over one hub. So many threads each accept a connection, serve
@@ -51,9 +59,12 @@ where
         return Err(Fault::Memory);
     };
     let pause = Patience::new(*rt);
-    let desks = HubDesks { hub, pause };
+    let stay = Stay::Long;
+    let desks = HubDesks { hub, pause, stay };
     let watcher = Watcher::new(alloc, *rt)?;
-    let door = SharedDoor::new(alloc, place.listen(rt, alloc, standing.mode)?)?;
+    let idle = standing.idle.map(Duration::from_secs);
+    let listener = place.listen(rt, alloc, standing.mode)?;
+    let door = SharedDoor::new(alloc, listener, idle)?;
     let _workers = start_workers(rt, alloc, &desks, &door, &watcher, standing.sessions)?;
     if let Some(descriptor) = standing.ready {
         notify(rt, alloc, descriptor)?;
@@ -66,13 +77,32 @@ where
     Ok(())
 }
 
-/// Writes a line for each fault, and one with the number of the rest.
-fn tell_pending<W: Write>(alloc: Global, pending: Pending, out: &mut W) -> io::Result<()> {
-    for fault in pending.faults.into_iter().flatten() {
-        fault.tell(alloc, out)?;
+// Writes the line of a fault, if there is one.
+fn tell_if<W: Write>(alloc: Global, fault: Option<Fault>, out: &mut W) -> io::Result<()>
+    ensures { OnOk result (Appends (W.contents out.old) (W.contents out.new) (line_if fault)) }
+{
+    match fault {
+        Some(fault) => fault.tell(alloc, out),
+        None => Ok(()),
     }
-    if pending.more == 0 {
-        return Ok(());
+}
+
+// Writes the lines of these faults, in their order.
+fn tell_each<W: Write>(alloc: Global, faults: &[Option<Fault>], out: &mut W) -> io::Result<()>
+    ensures { OnOk result (Appends (W.contents out.old) (W.contents out.new)
+        (flat_map line_if faults.now)) }
+{
+    'faults: for fault in faults.iter() {
+        tell_if(alloc, *fault, out)?;
     }
-    writeln!(out, "ftrighub: {} more sessions stopped", pending.more)
+    Ok(())
+}
+
+// Writes a line for each fault, in their order, and one with the number of the rest.
+fn tell_pending<W: Write>(alloc: Global, pending: Pending, out: &mut W) -> io::Result<()>
+    ensures { OnOk result (Appends (W.contents out.old) (W.contents out.new)
+        (pending_lines pending)) }
+{
+    tell_each(alloc, &pending.faults, out)?;
+    tell_if(alloc, pending.rest(), out)
 }

@@ -13,7 +13,7 @@ ghost use Rattle.hub_wait.specs.declared.pause.Patience.{Patience as patience};
 
 use crate::desks::serve_all;
 use crate::fault::Fault;
-use hub_io::{FrontError, Sink, Source};
+use hub_io::{FrontError, MAX_READS, Sink, Source};
 use hub_requests::Desk;
 use hub_server::{Door, Gate, Report};
 use hub_shared::{Hub, SharedDesk};
@@ -47,7 +47,7 @@ where
     // An open door was asked for this many connections. The report is that of `serve_all`, over one hub.
     ensures report { IfOk result (λ report. (one : hub) × (pause : patience H)
         × (opened closed : door)
-        × IsSome opened.listener × IsReport (IsNewDesk one pause)
+        × IsSome opened.listener × IsReport MAX_READS (IsNewDesk one pause)
         ⟦<SharedDesk<Patience<H>> as Desk>⟧.asks ⟦<SharedDesk<Patience<H>> as Desk>⟧.ends
         (record {
           remaining = ⟦<UnixStream as Read>⟧.remaining;

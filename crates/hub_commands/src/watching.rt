@@ -1,5 +1,8 @@
 //! What the operator of a hub learns of its sessions.
 
+ghost use Rattle.std.specs.Prelude.{◌≡◌};
+ghost use Rattle.hub_commands.specs.Faults.{rest_of};
+
 use crate::fault::Fault;
 use hub_io::{FrontError, Sink, Source};
 use hub_server::{Desks, Journal, Session};
@@ -39,6 +42,16 @@ impl Pending {
             }
         }
         self.more = self.more.saturating_add(1);
+    }
+
+    /// The fault that counts those for which there was no more room, if there are any.
+    pub(crate) fn rest(&self) -> Option<Fault>
+        ensures { result ≡ rest_of self.now.more }
+    {
+        match self.more {
+            0 => None,
+            sessions => Some(Fault::More { sessions }),
+        }
     }
 }
 
@@ -114,9 +127,12 @@ impl<C: Clock + Copy> Journal for Watcher<C> {
         number: u64,
         _session: &Session<R, W, O>,
         ended: Result<u64, FrontError>,
+        timed_out: bool,
     ) {
-        if let Err(fault) = ended {
-            self.put(rt, Fault::Session { number, fault });
+        match ended {
+            Ok(_) => {}
+            Err(_) if timed_out => self.put(rt, Fault::Idle { number }),
+            Err(fault) => self.put(rt, Fault::Session { number, fault }),
         }
     }
 

@@ -1,3 +1,4 @@
+mod bells;
 mod busy;
 mod fifodirs;
 mod fixtures;

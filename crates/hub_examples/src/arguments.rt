@@ -2,12 +2,22 @@
 use hub_arguments::{Plan, read_words, status_of};
 use std::alloc::Global;
 
-/// The socket that the words name, if they name one. The first word is the program's name. At an error, the status to
-/// end with.
-pub fn socket_of<'a>(alloc: Global, words: &'a [String]) -> Result<Option<&'a str>, u8> {
-    match read_words(alloc, words) {
+/// The socket that the words name, or `known` if they may do without one. None if they need none. The first word is the program's
+/// name. At an error, the status to end with.
+pub fn socket_of<'a>(
+    alloc: Global,
+    words: &'a [String],
+    known: Option<&'a str>,
+) -> Result<Option<&'a str>, u8> {
+    match read_words(alloc, words, known) {
         Ok(
-            Plan::Serve { socket, .. } | Plan::ServeForever { socket, .. } | Plan::Call { socket },
+            Plan::Serve { socket, .. }
+            | Plan::ServeForever { socket, .. }
+            | Plan::Call { socket }
+            | Plan::Ask { socket, .. }
+            | Plan::Wait { socket, .. }
+            | Plan::Status { socket, .. }
+            | Plan::Follow { socket, .. },
         ) => Ok(Some(socket)),
         Ok(Plan::Script) => Ok(None),
         Err(error) => Err(status_of(&error)),

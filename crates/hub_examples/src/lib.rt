@@ -2,6 +2,7 @@
 #![tactic(auto)]
 
 pub mod arguments;
+pub mod ask;
 pub mod client;
 pub mod commands;
 pub mod desk;
@@ -14,6 +15,7 @@ pub mod letters;
 pub mod library;
 pub mod listen;
 pub mod local;
+pub mod look;
 pub mod names;
 pub mod protocol;
 pub mod record;

@@ -10,7 +10,10 @@ use Rattle.hub_io.specs.declared.fault.FrontError.{FrontError}
 use Rattle.hub_io.specs.declared.fault.FrontError.TheVariants as fault
 use Rattle.hub_io.specs.declared.fault.FrontError.TheVariants.{Read, Write, Turns}
 use Rattle.hub_protocol.specs.Reading.{IsReading}
-use Rattle.hub_io.specs.declared.reading.TheConstants.{MAX_READS}
+use Rattle.hub_front.specs.declared.stay.Stay.{Stay}
+use Rattle.hub_front.specs.declared.stay.Stay.TheVariants.{Short, Long}
+use Rattle.hub_front.specs.declared.stay.TheConstants.{MANY_READS, SMALL_CHUNK}
+use Rattle.hub_io.specs.declared.reading.TheConstants.{CHUNK, MAX_READS}
 use Rattle.hub_io.specs.Lines.{complete_of, lines_of}
 use Rattle.hub_io.specs.Faults.{AppendsPart}
 use Rattle.hub_io.specs.Telling.{Rises}
@@ -77,25 +80,35 @@ pub record Finished {D : Type 0} (asks : Asking D) (ends : D → D → Type 0) (
   pub served : Served asks old (lines_of input) held holds mid
   pub ended : ends mid new
 
--- What a session did before it stopped; input is what was read. After a fault of the reader, and after the last read
--- that it may make, each complete line was served. Each read gave at least one byte.
-abbrev pub StopsAt : {D : Type 0} → Asking D → D → List ℕ → (held holds has : Option (List ℕ)) → D → FrontError → Type 0
-StopsAt asks old input held holds has mid Read = Served asks old (complete_of input) held holds mid
-StopsAt asks old input held holds has mid Turns =
-    Served asks old (complete_of input) held holds mid × (MAX_READS ≤ length input)
-StopsAt asks old input held holds has mid Write =
-    (lines : List (List ℕ)) × AreDue input has lines × BreaksOff asks old lines held holds mid
-StopsAt asks old input held holds has mid fault.Memory = (input ≡ []) × Served asks old [] held holds mid
+-- the most reads of a session that may stay so long
+abbrev pub most_reads : Stay → ℕ
+most_reads Short = MAX_READS
+most_reads Long = MANY_READS
 
--- A session that stopped, and then ended its desk.
-pub record Stopped {D : Type 0} (asks : Asking D) (ends : D → D → Type 0) (old new : D)
+-- how many bytes one read asks for in a session that may stay so long
+abbrev pub chunk_of : Stay → ℕ
+chunk_of Short = CHUNK
+chunk_of Long = SMALL_CHUNK
+
+-- What a session that may make `most` reads did before it stopped; input is what was read. After a fault of the reader,
+-- and after the last read that it may make, each complete line was served. Each read gave at least one byte.
+abbrev pub StopsAt : {D : Type 0} → (most : ℕ) → Asking D → D → List ℕ → (held holds has : Option (List ℕ)) → D → FrontError → Type 0
+StopsAt most asks old input held holds has mid Read = Served asks old (complete_of input) held holds mid
+StopsAt most asks old input held holds has mid Turns =
+    Served asks old (complete_of input) held holds mid × (most ≤ length input)
+StopsAt most asks old input held holds has mid Write =
+    (lines : List (List ℕ)) × AreDue input has lines × BreaksOff asks old lines held holds mid
+StopsAt most asks old input held holds has mid fault.Memory = (input ≡ []) × Served asks old [] held holds mid
+
+-- A session that might make `most` reads and stopped, and then ended its desk.
+pub record Stopped {D : Type 0} (most : ℕ) (asks : Asking D) (ends : D → D → Type 0) (old new : D)
     (held holds had has : Option (List ℕ)) (e : FrontError) : Type 0 where
   pub input : List ℕ
   pub consumed : Consumes had has input
   pub mid : D
-  pub stopped : StopsAt asks old input held holds has mid e
+  pub stopped : StopsAt most asks old input held holds has mid e
   pub ended : ends mid new
 
--- At most MAX_READS reads were made, and exactly that many at Turns. made and makes are the counts before and after.
-abbrev pub ReadsWithin : {T : Type 0} → (made makes : Option ℕ) → Result T FrontError → Type 0
-ReadsWithin made makes result = (n : ℕ) × (n ≤ MAX_READS) × Rises made makes n × (result ≡ Err Turns → n ≡ MAX_READS)
+-- At most `most` reads were made, and exactly that many at Turns. made and makes are the counts before and after.
+abbrev pub ReadsWithin : {T : Type 0} → (most : ℕ) → (made makes : Option ℕ) → Result T FrontError → Type 0
+ReadsWithin most made makes result = (n : ℕ) × (n ≤ most) × Rises made makes n × (result ≡ Err Turns → n ≡ most)

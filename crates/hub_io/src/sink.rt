@@ -54,3 +54,11 @@ impl Sink for UnixStream {
         write_again(self, bytes)
     }
 }
+
+impl Sink for &UnixStream {
+    ghost faults = { λ _. None };
+
+    fn push(&mut self, bytes: &[u8]) -> io::Result<usize> {
+        write_again(self, bytes)
+    }
+}

@@ -65,3 +65,18 @@ impl Source for UnixStream {
         self.try_clone().ok()
     }
 }
+
+// Those who share a connection read it by a reference each.
+impl Source for &UnixStream {
+    ghost reads = { λ _. None };
+
+    ghost faults = { λ _. None };
+
+    fn pull(&mut self, buf: &mut [u8]) -> io::Result<usize> {
+        read_again(self, buf)
+    }
+
+    fn connection(&self) -> Option<UnixStream> {
+        self.try_clone().ok()
+    }
+}

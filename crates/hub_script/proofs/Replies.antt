@@ -12,6 +12,7 @@ use Rattle.hub_requests.specs.declared.reply.Reply.{Reply}
 use Rattle.hub_requests.specs.declared.request.Request.{Request}
 use Rattle.hub_io.specs.Lines.{lines_of}
 use Rattle.hub_io.specs.declared.fault.FrontError.{FrontError}
+use Rattle.hub_io.specs.declared.reading.TheConstants.{MAX_READS}
 use Rattle.hub_io.specs.declared.fault.FrontError.TheVariants as fault
 use Rattle.hub_front.specs.Places.{AreInPlace, NoneIsMemory, in_place, requests_of}
 use Rattle.hub_front.specs.Places as places
@@ -82,7 +83,7 @@ session_serves old new held holds had has n stands f = record {
 
 -- a session over a new desk that stopped
 pub session_stops : (old new : Local) (held holds had has : Option (List ℕ)) (e : FrontError) → StandsForDesk old new_desk
-    → Stopped AsksDesk Ended old new held holds had has e → Stops held holds had has e
+    → Stopped MAX_READS AsksDesk Ended old new held holds had has e → Stops held holds had has e
 session_stops old new held holds had has e stands s =
     record { input = s.input; consumed = s.consumed; desk = old; is_new = stands; left = s.mid; stopped = s.stopped }
 

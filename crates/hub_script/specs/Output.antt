@@ -11,6 +11,7 @@ use Rattle.hub_requests.specs.declared.reply.Reply.{Reply}
 use Rattle.hub_requests.specs.declared.request.Request.{Request}
 use Rattle.hub_io.specs.Lines.{lines_of}
 use Rattle.hub_io.specs.declared.fault.FrontError.{FrontError}
+use Rattle.hub_io.specs.declared.reading.TheConstants.{MAX_READS}
 use Rattle.hub_front.specs.Places.{NoneIsMemory, in_place, requests_of}
 use Rattle.hub_front.specs.Serving.{Served, StopsAt}
 use Rattle.hub_protocol.specs.Reading.{IsReading}
@@ -54,4 +55,4 @@ pub record Stops (held holds had has : Option (List ℕ)) (e : FrontError) : Typ
   pub desk : Local
   pub is_new : StandsForDesk desk new_desk
   pub left : Local
-  pub stopped : StopsAt AsksDesk desk input held holds has left e
+  pub stopped : StopsAt MAX_READS AsksDesk desk input held holds has left e

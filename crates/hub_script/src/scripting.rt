@@ -6,7 +6,7 @@ ghost use Rattle.hub_io.specs.Telling.{Rises};
 ghost use Rattle.hub_script.specs.Output.{IsOutput, Serves, Stops};
 
 use hub_front::serve;
-use hub_io::{FrontError, Sink, Source};
+use hub_io::{FrontError, MAX_READS, Sink, Source};
 use hub_local::LocalDesk;
 use std::alloc::Global;
 use std::sync::Wait;
@@ -35,7 +35,7 @@ pub fn script<H: Wait, R: Source, W: Sink>(
         × (writer.new ≡ writer.old) }
 
     // It makes at most `MAX_READS` reads. An error is reported if its fault was counted, and only then.
-    ensures reads { ReadsWithin (R.reads reader.old) (R.reads reader.new) result }
+    ensures reads { ReadsWithin MAX_READS (R.reads reader.old) (R.reads reader.new) result }
     ensures read_faults { Rises (R.faults reader.old) (R.faults reader.new) (read_faults result) }
     ensures write_faults { Rises (W.faults writer.old) (W.faults writer.new) (write_faults result) }
 {

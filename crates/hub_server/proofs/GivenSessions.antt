@@ -5,7 +5,7 @@ use Rattle.hub_server.specs.declared.gate.Next.TheVariants as next
 use Rattle.hub_server.specs.declared.promise.Session.{Session}
 use Rattle.hub_server.specs.declared.report.ServeError.TheVariants.{Spawn}
 use Rattle.hub_server.specs.Gates.{Giving, Gave, IsAsked, StopsEarly}
-use Rattle.hub_server.specs.Promised.{AreOver, streams_of}
+use Rattle.hub_server.specs.Promised.{AreOver, IsShare, streams_of}
 use Rattle.std.proofs.lemmas.List.Elements.{All-push}
 
 -- one session more
@@ -53,8 +53,8 @@ given_few gives most old given true new asked = let short = asked.ends.0 in omeg
 given_few gives most old given false new asked = elim asked.ends [ inl full ↦ (let all = full.0 in omega arith) | inr over ↦ (let short = over.0 in omega arith) ]
 
 -- one more whose desk is from a share of these
-pub over_one_more : {R W O D : Type 0} (opens : O → D → Type 0) (desks : O) (sessions sessions' : List (Session R W O)) (session : Session R W O)
-    → sessions' ≡ sessions ++ session ∷ [] → AreOver opens desks sessions → ((desk : D) → opens session.desks.value desk → opens desks desk)
-    → AreOver opens desks sessions'
-over_one_more {D = D} opens desks sessions sessions' session pushed over here =
-    subst (AreOver opens desks) (sym pushed) (All-push (λ s. (desk : D) → opens s.desks.value desk → opens desks desk) sessions session over here)
+pub over_one_more : {R W O D : Type 0} (opens : O → D → Type 0) (most : O → ℕ) (desks : O) (sessions sessions' : List (Session R W O)) (session : Session R W O)
+    → sessions' ≡ sessions ++ session ∷ [] → AreOver opens most desks sessions → IsShare opens most desks session.desks.value
+    → AreOver opens most desks sessions'
+over_one_more opens most desks sessions sessions' session pushed over here =
+    subst (AreOver opens most desks) (sym pushed) (All-push (λ s. IsShare opens most desks s.desks.value) sessions session over here)

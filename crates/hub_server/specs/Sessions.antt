@@ -17,23 +17,24 @@ pub record Writing (W : Type 0) : Type 0 where
   pub contents : W → Option (List ℕ)
   pub faults : W → Option ℕ
 
--- a desk that begins so has served the lines of the reader as far as the result says, and was ended
-pub record IsServed {D R W : Type 0} (begins : D → Type 0) (asks : Asking D) (ends : D → D → Type 0) (r : Reading R) (w : Writing W)
+-- a desk that begins so has served the lines of the reader, in at most `most` reads, as far as the result says, and was
+-- ended
+pub record IsServed {D R W : Type 0} (most : ℕ) (begins : D → Type 0) (asks : Asking D) (ends : D → D → Type 0) (r : Reading R) (w : Writing W)
     (reader read : R) (writer written : W) (result : Result ℕ FrontError) : Type 0 where
   pub old : D
   pub new : D
   pub begun : begins old
   pub finished : IfOk result (Finished asks ends old new (w.contents writer) (w.contents written) (r.remaining reader) (r.remaining read))
-  pub stopped : IfErr result (Stopped asks ends old new (w.contents writer) (w.contents written) (r.remaining reader) (r.remaining read))
+  pub stopped : IfErr result (Stopped most asks ends old new (w.contents writer) (w.contents written) (r.remaining reader) (r.remaining read))
 
--- The result of a session over this reader and this writer. If memory ran out nothing was read. An error is reported if
--- its fault was counted, and only then.
-pub record IsResult {D R W : Type 0} (begins : D → Type 0) (asks : Asking D) (ends : D → D → Type 0) (r : Reading R) (w : Writing W)
+-- The result of a session over this reader, in at most `most` reads, and this writer. If memory ran out nothing was read.
+-- An error is reported if its fault was counted, and only then.
+pub record IsResult {D R W : Type 0} (most : ℕ) (begins : D → Type 0) (asks : Asking D) (ends : D → D → Type 0) (r : Reading R) (w : Writing W)
     (reader : R) (writer : W) (result : Result ℕ FrontError) : Type 0 where
   pub read : R
   pub written : W
-  pub served : result ≢ Err Memory → IsServed begins asks ends r w reader read writer written result
+  pub served : result ≢ Err Memory → IsServed most begins asks ends r w reader read writer written result
   pub untouched : result ≡ Err Memory → (read ≡ reader) × (written ≡ writer)
-  pub reads : ReadsWithin (r.reads reader) (r.reads read) result
+  pub reads : ReadsWithin most (r.reads reader) (r.reads read) result
   pub read_faults : Rises (r.faults reader) (r.faults read) (read_faults result)
   pub write_faults : Rises (w.faults writer) (w.faults written) (write_faults result)

@@ -1,6 +1,7 @@
 //! What serves sessions.
-ghost use Rattle.std.specs.Prelude.{IfOk};
+ghost use Rattle.std.specs.Prelude.{ℕ, IfOk};
 ghost use Rattle.hub_front.specs.Serving.{Asking};
+ghost use Rattle.hub_server.specs.Promised.{IsShare};
 ghost use Rattle.hub_server.specs.Sessions.{IsResult};
 
 use hub_io::{FrontError, Sink, Source};
@@ -15,6 +16,9 @@ pub trait Desks {
     /// `opens desks desk`: a session of these desks may begin with this desk.
     ghost opens: { Self → Own → Type 0 };
 
+    /// The most reads of a session of these desks.
+    ghost most: { Self → ℕ };
+
     /// How such a desk answers.
     ghost asks: { Asking Own };
 
@@ -23,7 +27,7 @@ pub trait Desks {
 
     /// A share for another thread, which opens such desks too.
     fn share(&self) -> Result<Self, AllocError>
-        ensures { IfOk result (λ other. (desk : Own) → opens other desk → opens self.now desk) };
+        ensures { IfOk result (IsShare opens most self.now) };
 
     /// Serves one session from its first line to its end. Gives the number of its lines.
     fn serve<H: Wait, R: Source, W: Sink>(
@@ -33,7 +37,7 @@ pub trait Desks {
         reader: &mut R,
         writer: &mut W,
     ) -> Result<u64, FrontError>
-        ensures { IsResult (opens self.now) asks ends
+        ensures { IsResult (most self.now) (opens self.now) asks ends
             (record { remaining = R.remaining; reads = R.reads; faults = R.faults })
             (record { contents = W.contents; faults = W.faults })
             reader.old writer.old result };

@@ -15,13 +15,15 @@ pub trait Journal {
     /// A session begins. Returns its number.
     fn begins(&mut self) -> u64;
 
-    /// The session with this number ended so. The result is one of serving exactly its reader and its writer.
+    /// The session with this number ended so. The result is one of serving exactly its reader and its writer. If it is a
+    /// fault, `timed_out` says whether the fault is that no byte came, or none was taken, for too long.
     fn ended<H: Wait, R: Source, W: Sink, O: Desks>(
         &mut self,
         rt: &H,
         number: u64,
         session: &Session<R, W, O>,
         ended: Result<u64, FrontError>,
+        timed_out: bool,
     )
         requires { ⟦<Session<R, W, O> as Promise<Result<u64, FrontError>>>⟧.kept_by session.now ended };
 

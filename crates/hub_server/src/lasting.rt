@@ -1,5 +1,7 @@
 //! Sessions one after the other, without end.
+ghost use Rattle.std.specs.Prelude.{◌≡◌, IfOk, vec_len};
 
+use crate::connection::{Connection, Timed};
 use crate::desks::Desks;
 use crate::door::SharedDoor;
 use crate::gate::{Gate, Next};
@@ -9,7 +11,6 @@ use crate::report::ServeError;
 use crate::together::STACK_SIZE;
 use hub_io::{Sink, Source};
 use std::alloc::Global;
-use std::os::unix::net::UnixStream;
 use std::snapshot::Snapshot;
 use std::sync::Wait;
 use std::thread::{Builder, JoinHandle, Threads};
@@ -30,9 +31,10 @@ where
     H: Threads + Wait + Copy + Send + 'static,
     O: Desks + Send + Drop + 'static,
     J: Journal + Send + Drop + 'static,
+    ensures { IfOk result (λ workers. vec_len workers ≡ count) }
 {
     let mut workers = Vec::new(alloc);
-    for _ in 0..count {
+    'workers: for _worker in 0..count {
         workers.reserve(1)?;
         let (desks, door, journal) = (desks.share()?, door.share()?, journal.share()?);
         let worker = start_worker(*rt, alloc, desks, door, journal).ok_or(ServeError::Spawn)?;
@@ -56,7 +58,7 @@ where
     Builder::new()
         .stack_size(STACK_SIZE)
         .spawn(&rt, move || {
-            serve_on::<H, UnixStream, UnixStream, SharedDoor, O, J>(
+            serve_on::<H, Connection, Connection, SharedDoor, O, J>(
                 &rt,
                 alloc,
                 &desks,
@@ -71,8 +73,8 @@ where
 pub fn serve_on<H, R, W, G, O, J>(rt: &H, alloc: Global, desks: &O, gate: &mut G, journal: &mut J)
 where
     H: Wait,
-    R: Source + Drop,
-    W: Sink + Drop,
+    R: Source + Timed + Drop,
+    W: Sink + Timed + Drop,
     G: Gate<R, W>,
     O: Desks,
     J: Journal,
@@ -97,8 +99,8 @@ fn serve_next<H, R, W, O, J>(
 )
 where
     H: Wait,
-    R: Source + Drop,
-    W: Sink + Drop,
+    R: Source + Timed + Drop,
+    W: Sink + Timed + Drop,
     O: Desks,
     J: Journal,
 {
@@ -109,5 +111,6 @@ where
         writer: Snapshot::of(&writer),
     };
     let ended = desks.serve(rt, alloc, &mut reader, &mut writer);
-    journal.ended(rt, number, &session, ended);
+    let timed_out = reader.has_timed_out() || writer.has_timed_out();
+    journal.ended(rt, number, &session, ended, timed_out);
 }

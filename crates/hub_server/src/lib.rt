@@ -7,6 +7,7 @@
 //! Reader and writer are dropped on the session's own thread, so a connection ends with its session.
 #![tactic(auto)]
 
+mod connection;
 mod desks;
 mod door;
 mod gate;
@@ -17,6 +18,7 @@ mod report;
 mod started;
 mod together;
 
+pub use connection::{Connection, Timed};
 pub use desks::Desks;
 pub use door::{Door, SharedDoor};
 pub use gate::{Gate, Next};

@@ -1,4 +1,4 @@
-use super::{Plan, early_status, read_words};
+use super::{early_status, read_words};
 use std::alloc::{AllocError, Global};
 use std::process::Abort;
 use std::test::Fail;
@@ -21,6 +21,10 @@ static HELP: &str = "
     ftrighub script --help
     ftrighub serve --help
     ftrighub call --help
+    ftrighub ask --help
+    ftrighub wait --help
+    ftrighub status --help
+    ftrighub follow --help
 ";
 
 /// These are refused.
@@ -43,6 +47,11 @@ static WRONG: &str = "
     ftrighub serve s --forever --ready-fd one
     ftrighub serve s --forever --mode 660
     ftrighub serve s --forever --mode 0888
+    ftrighub serve s --forever --idle
+    ftrighub serve s --forever --idle 0
+    ftrighub serve s --forever --idle 1000001
+    ftrighub serve s --forever --idle 5s
+    ftrighub serve s --idle 5
     ftrighub serve s --ready-fd 3
     ftrighub serve s --mode 0660
     ftrighub serve --forever
@@ -50,6 +59,26 @@ static WRONG: &str = "
     ftrighub call
     ftrighub call s t
     ftrighub call s --sessions 2
+    ftrighub ask
+    ftrighub ask status db
+    ftrighub ask --socket
+    ftrighub ask --socket s
+    ftrighub ask --socket s --socket s names 0
+    ftrighub ask --other names 0
+    ftrighub wait all up --for 5s db
+    ftrighub wait --socket s all up db
+    ftrighub wait --socket s all up --for 5s
+    ftrighub wait --socket s most up --for 5s db
+    ftrighub wait --socket s all away --for 5s db
+    ftrighub wait --socket s all up --for 5s --for 6s db
+    ftrighub status
+    ftrighub status db
+    ftrighub status --socket
+    ftrighub status --socket s --plain
+    ftrighub follow --socket s
+    ftrighub follow db
+    ftrighub follow --socket s --pattern db
+    ftrighub follow --socket s --once=yes db
 ";
 
 /// These are plans.
@@ -61,6 +90,15 @@ static RUN: &str = "
     ftrighub serve s --forever
     ftrighub serve s --sessions 1024 --forever
     ftrighub call s
+    ftrighub ask --socket s names 0
+    ftrighub ask --socket s pub web --
+    ftrighub ask --socket s status --help
+    ftrighub wait --socket s all up --for 5s db
+    ftrighub wait --for 5s any restarted-ready db web log --socket s
+    ftrighub status --socket s
+    ftrighub status db web --socket s
+    ftrighub follow --socket s db
+    ftrighub follow db web --once --plain --socket s --pattern u
 ";
 
 fn expect_status(
@@ -71,7 +109,7 @@ fn expect_status(
 ) -> Result<(), AllocError> {
     for line in lines.trim().lines() {
         let words = words_of(alloc, line.trim())?;
-        let found = early_status(alloc, words.as_slice())?;
+        let found = early_status(alloc, words.as_slice(), None)?;
         assert_eq!(rt; found, status, "at {line}");
     }
     Ok(())
@@ -85,47 +123,103 @@ fn early_statuses(rt: HostRuntime) -> Result<(), Fail> {
     Ok(())
 }
 
+/// The plans of these words, and of these beside a socket that the environment has.
+static PLANS: [(&str, Option<&str>, &str); 18] = [
+    ("ftrighub script", None, "Script"),
+    (
+        "ftrighub serve /run/hub.sock",
+        None,
+        "Serve { socket: \"/run/hub.sock\", sessions: 1 }",
+    ),
+    (
+        "ftrighub serve --sessions 64 hub",
+        Some("t"),
+        "Serve { socket: \"hub\", sessions: 64 }",
+    ),
+    (
+        "ftrighub serve --forever hub",
+        None,
+        "ServeForever { socket: \"hub\", sessions: 64, mode: None, ready: None, idle: None }",
+    ),
+    (
+        "ftrighub serve hub --ready-fd 3 --mode 0660 --idle 1000000 --sessions 1024 --forever",
+        None,
+        "ServeForever { socket: \"hub\", sessions: 1024, mode: Some(432), ready: Some(3), idle: Some(1000000) }",
+    ),
+    ("ftrighub call hub", Some("t"), "Call { socket: \"hub\" }"),
+    (
+        "ftrighub ask --socket s names 0",
+        None,
+        "Ask { socket: \"s\", words: [\"names\", \"0\"] }",
+    ),
+    (
+        "ftrighub ask names 0",
+        Some("t"),
+        "Ask { socket: \"t\", words: [\"names\", \"0\"] }",
+    ),
+    (
+        "ftrighub ask --socket s names 0",
+        Some("t"),
+        "Ask { socket: \"s\", words: [\"names\", \"0\"] }",
+    ),
+    (
+        "ftrighub ask pub web --socket",
+        Some("t"),
+        "Ask { socket: \"t\", words: [\"pub\", \"web\", \"--socket\"] }",
+    ),
+    (
+        "ftrighub ask -- --socket s",
+        Some("t"),
+        "Ask { socket: \"t\", words: [\"--socket\", \"s\"] }",
+    ),
+    (
+        "ftrighub wait any ready --for 2m db web",
+        Some("t"),
+        "Wait { socket: \"t\", wish: Wish { span: \"any\", want: \"ready\", patience: \"2m\", names: [\"db\", \"web\"] } }",
+    ),
+    (
+        "ftrighub wait --for 5s all restarted db",
+        Some("t"),
+        "Wait { socket: \"t\", wish: Wish { span: \"all\", want: \"restarted\", patience: \"5s\", names: [\"db\"] } }",
+    ),
+    (
+        "ftrighub wait any --for 2m --socket s ready db web",
+        Some("t"),
+        "Wait { socket: \"s\", wish: Wish { span: \"any\", want: \"ready\", patience: \"2m\", names: [\"db\", \"web\"] } }",
+    ),
+    (
+        "ftrighub status",
+        Some("t"),
+        "Status { socket: \"t\", names: [] }",
+    ),
+    (
+        "ftrighub status db --socket s web",
+        Some("t"),
+        "Status { socket: \"s\", names: [\"db\", \"web\"] }",
+    ),
+    (
+        "ftrighub follow db",
+        Some("t"),
+        "Follow { socket: \"t\", names: [\"db\"], pattern: None, is_plain: false, is_once: false }",
+    ),
+    (
+        "ftrighub follow --once web --pattern ^u$ db --plain",
+        Some("t"),
+        "Follow { socket: \"t\", names: [\"web\", \"db\"], pattern: Some(\"^u$\"), is_plain: true, is_once: true }",
+    ),
+];
+
+fn plan_of(alloc: Global, line: &str, known: Option<&str>) -> Result<String, Fail> {
+    let words = words_of(alloc, line)?;
+    let plan = read_words(alloc, words.as_slice(), known)?;
+    Ok(format!(in alloc; "{plan:?}")?)
+}
+
 #[test]
 fn plans(rt: HostRuntime) -> Result<(), Fail> {
-    for (line, plan) in [
-        ("ftrighub script", Plan::Script),
-        (
-            "ftrighub serve /run/hub.sock",
-            Plan::Serve {
-                socket: "/run/hub.sock",
-                sessions: 1,
-            },
-        ),
-        (
-            "ftrighub serve --sessions 64 hub",
-            Plan::Serve {
-                socket: "hub",
-                sessions: 64,
-            },
-        ),
-        (
-            "ftrighub serve --forever hub",
-            Plan::ServeForever {
-                socket: "hub",
-                sessions: 64,
-                mode: None,
-                ready: None,
-            },
-        ),
-        (
-            "ftrighub serve hub --ready-fd 3 --mode 0660 --sessions 1024 --forever",
-            Plan::ServeForever {
-                socket: "hub",
-                sessions: 1024,
-                mode: Some(0o660),
-                ready: Some(3),
-            },
-        ),
-        ("ftrighub call hub", Plan::Call { socket: "hub" }),
-    ] {
-        let words = words_of(rt.alloc(), line)?;
-        let found = read_words(rt.alloc(), words.as_slice())?;
-        assert!(rt; found == plan, "at {line}");
+    for (line, known, plan) in &PLANS {
+        let found = plan_of(rt.alloc(), line, *known)?;
+        assert_eq!(rt; found.as_str(), *plan, "at {line}");
     }
     Ok(())
 }

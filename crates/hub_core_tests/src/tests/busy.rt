@@ -7,7 +7,7 @@ use hub_record::Kind;
 use std::alloc::{AllocError, Global};
 use std::process::Abort;
 use std::rt::Clock;
-use std::sync::atomic::{AtomicU64, Ordering};
+use std::sync::atomic::{AtomicBool, AtomicU64, Ordering};
 use std::sync::{Arc, Wait};
 use std::test::Fail;
 use std::thread::Threads;
@@ -75,35 +75,47 @@ fn two_threads_that_publish_come_to_an_end(rt: HostRuntime) -> Result<(), Fail> 
 /// How many letters one message has, so that its publisher holds the lock for long.
 const LONG: usize = 8_000_000;
 
-/// How many such messages there are.
-const ROUNDS: u64 = 5;
+/// How many such messages there are at most.
+const ROUNDS: u64 = 200;
 
-/// Sends the long message over and over, to no subscription, and tells before each how many there were.
-fn send_long<R: Abort + Wait>(rt: &R, fifodir: &Fifodir, letters: &[Letter], begun: &AtomicU64) {
+/// How the two threads know of each other.
+#[derive(Drop)]
+struct Progress {
+    /// How many messages were begun.
+    begun: AtomicU64,
+    /// Whether two passes have met while one was being published.
+    met: AtomicBool,
+}
+
+/// Sends the long message over and over, to no subscription, until two passes have met meanwhile.
+fn send_long<R: Abort + Wait>(rt: &R, fifodir: &Fifodir, letters: &[Letter], progress: &Progress) {
     let mut sender = publisher(rt, fifodir);
     for _ in 0..ROUNDS {
-        begun.fetch_add(1, Ordering::SeqCst);
+        if progress.met.load(Ordering::SeqCst) {
+            break;
+        }
+        progress.begun.fetch_add(1, Ordering::SeqCst);
         let _ = fifodir.publish(rt, &mut sender, letters);
     }
     fifodir.leave(rt, sender);
 }
 
-/// In how many rounds two passes met while the message was being published. They meet a millisecond after it was
+/// Has two passes meet over and over, until they did while a message was being published. They meet a millisecond after it was
 /// begun, when its publisher has the lock, and then the front is still as it was.
-fn meet_meanwhile<R: Abort + Wait + Clock>(rt: &R, fifodir: &Fifodir, begun: &AtomicU64) -> u64 {
+fn meet_meanwhile<R: Abort + Wait + Clock>(rt: &R, fifodir: &Fifodir, progress: &Progress) {
     let mut one = publisher(rt, fifodir);
     let mut other = publisher(rt, fifodir);
-    let mut met: u64 = 0;
     for _ in 0..20_000 {
-        let round = begun.load(Ordering::SeqCst);
+        let begun = progress
+            .begun
+            .load(Ordering::SeqCst)
+            .wrapping_mul(LONG as u64);
         let before = fifodir.front(&mut one);
         thread::sleep(rt, Duration::from_millis(1));
         fifodir.meet(rt, &mut one, &mut other);
-        if round > 0
-            && fifodir.front(&mut one) == before
-            && before < round.wrapping_mul(LONG as u64)
-        {
-            met = met.wrapping_add(1);
+        if before < begun && fifodir.front(&mut one) == before {
+            progress.met.store(true, Ordering::SeqCst);
+            break;
         }
         if before >= ROUNDS * LONG as u64 {
             break;
@@ -111,28 +123,31 @@ fn meet_meanwhile<R: Abort + Wait + Clock>(rt: &R, fifodir: &Fifodir, begun: &At
     }
     fifodir.leave(rt, one);
     fifodir.leave(rt, other);
-    met
 }
 
 fn met_meanwhile<R: Abort + Threads + Wait + Clock + Sync>(
     rt: &R,
     alloc: Global,
     fifodir: &Fifodir,
-) -> Result<u64, AllocError> {
+) -> Result<bool, AllocError> {
     let letters = run_of(alloc, b'a', LONG)?;
-    let begun = AtomicU64::new(0);
-    let ((), met) = thread::join_mut(
+    let progress = Progress {
+        begun: AtomicU64::new(0),
+        met: AtomicBool::new(false),
+    };
+    thread::join_mut(
         rt,
-        &mut || { send_long(rt, fifodir, &letters, &begun) },
-        &mut || -> u64 { meet_meanwhile(rt, fifodir, &begun) },
+        &mut || { send_long(rt, fifodir, &letters, &progress) },
+        &mut || { meet_meanwhile(rt, fifodir, &progress) },
     );
-    Ok(met)
+    Ok(progress.met.load(Ordering::SeqCst))
 }
 
+// One message takes some milliseconds. So there are many, on a machine that is busy or whose clock is coarse.
 #[test]
 fn a_meeting_does_not_wait_for_the_lock(rt: HostRuntime) -> Result<(), Fail> {
     let fifodir = open(rt.alloc(), Kind::Plain, (64, 1_000_000_000_000, 10))?;
     let met = met_meanwhile(&rt, rt.alloc(), &fifodir)?;
-    assert!(rt; met > 0, "a meeting while a publisher has the lock");
+    assert!(rt; met, "a meeting while a publisher has the lock");
     Ok(())
 }

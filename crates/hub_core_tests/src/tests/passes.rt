@@ -155,6 +155,15 @@ impl Reader {
         receive(rt, &self.fifodir, &mut self.me, out, turns, pause)
     }
 
+    pub(crate) fn await_more<R: Wait, P: Pause>(
+        &mut self,
+        rt: &R,
+        turns: u64,
+        pause: &mut P,
+    ) -> bool {
+        self.fifodir.await_more(rt, &mut self.me, turns, pause)
+    }
+
     pub(crate) fn status(&mut self) -> Status {
         self.fifodir.status(&mut self.me)
     }

@@ -1,10 +1,12 @@
 //! A receive that waits, beside a pause that does something at one of its calls.
 use crate::tests::fixtures::word;
-use crate::tests::passes::{new_reader, new_sender, open_with};
+use crate::tests::passes::{Held, new_reader, new_sender, open, open_with};
 use crate::tests::waits::{Deed, Doing, letters_of};
 use hub_record::{Event, Kind, Policy, Taken};
+use hub_wait::Patience;
 use std::alloc::Global;
 use std::process::Abort;
+use std::rt::Clock;
 use std::sync::Wait;
 use std::test::Fail;
 
@@ -70,5 +72,30 @@ fn first_unlike<R: Abort + Wait>(rt: &R, alloc: Global) -> Result<Option<usize>,
 #[test]
 fn a_receive_waits_until_something_comes(rt: HostRuntime) -> Result<(), Fail> {
     assert_eq!(rt; first_unlike(&rt, rt.alloc())?, None);
+    Ok(())
+}
+
+/// What a receive of one turn is told, and then the id of the next ticket and the number of the next publisher.
+fn next_after_a_receive<R: Abort + Wait + Clock + Copy>(
+    rt: &R,
+    alloc: Global,
+) -> Result<(Taken, u64, u64), Fail> {
+    let fifodir = open(alloc, Kind::Plain, (8, 1000, 2))?;
+    let mut reader = new_reader(rt, &fifodir);
+    let mut out = [Event::FILLER; 4];
+    let received = reader.receive(rt, &mut out, 1, &mut Patience::new(*rt));
+    let next_reader = new_reader(rt, &fifodir);
+    let next_sender = new_sender(rt, &fifodir);
+    let (id, number) = (next_reader.own_number(), next_sender.own_number());
+    reader.cancel(rt);
+    next_reader.cancel(rt);
+    next_sender.leave(rt);
+    Ok((received, id, number))
+}
+
+#[test]
+fn a_receive_makes_no_pass_of_its_own(rt: HostRuntime) -> Result<(), Fail> {
+    let next = next_after_a_receive(&rt, rt.alloc())?;
+    assert_eq!(rt; next, (Taken::Nothing, 2, 1));
     Ok(())
 }

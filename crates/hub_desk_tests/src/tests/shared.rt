@@ -75,6 +75,48 @@ fn a_session_keeps_its_publisher(rt: HostRuntime) -> Result<(), Fail> {
     Ok(())
 }
 
+/// The id that the next subscription under the name gets. None if it is refused.
+fn next_id<H: AllocGlobal + Abort + Wait>(rt: &H, hub: &Hub) -> Result<Option<u64>, Fail> {
+    let web = name_of(rt, rt.alloc(), "web")?;
+    let found = hub.find(rt, &web)?.ok_or("found")?;
+    let Ok(ticket) = found.dir.subscribe(rt) else {
+        return Ok(None);
+    };
+    let id = ticket.id();
+    found.dir.cancel(rt, ticket);
+    Ok(Some(id))
+}
+
+/// The id that the next subscription gets, and the number that the next publisher gets.
+fn next_of_each<H: AllocGlobal + Abort + Wait>(
+    rt: &H,
+    hub: &Hub,
+) -> Result<(Option<u64>, Option<u64>), Fail> {
+    let id = next_id(rt, hub)?;
+    Ok((id, next_number(rt, hub)?))
+}
+
+/// A session subscribes, listens, awaits both sorts of handles, and lists the names.
+static LOOKS: &str = "
+    dir web 64 100 -> ok
+    sub web -> ok 1
+    listen web repeat b -> ok 2
+    await 1 3 -> late
+    await 2 3 -> late
+    names 0 -> names web
+";
+
+#[test]
+fn an_await_and_a_list_make_no_pass(rt: HostRuntime) -> Result<(), Fail> {
+    let hub = new_hub(&rt);
+    let mut desk = session(&rt, &hub);
+    run(&rt, &mut desk, LOOKS);
+    let next = next_of_each(&rt, &hub);
+    desk.release(&rt);
+    assert_eq!(rt; next?, (Some(3), Some(1)));
+    Ok(())
+}
+
 /// The kind of a name's fifodir, and whether its service reports readiness.
 fn kind_in<H: AllocGlobal + Abort + Wait>(
     rt: &H,

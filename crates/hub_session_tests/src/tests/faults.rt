@@ -7,8 +7,21 @@ use std::alloc::Global;
 use std::process::Abort;
 use std::test::Fail;
 
-static OWN: [(Fault, &str); 4] = [
+static OWN: [(Fault, &str); 9] = [
     (Fault::Listen, "ftrighub: cannot listen\n"),
+    (Fault::Taken, "ftrighub: another server listens there\n"),
+    (Fault::Notify, "ftrighub: cannot notify\n"),
+    (Fault::Idle { number: 12 }, "ftrighub: session 12: idle\n"),
+    (
+        Fault::More { sessions: 1 },
+        "ftrighub: 1 more sessions stopped\n",
+    ),
+    (
+        Fault::More {
+            sessions: 18_446_744_073_709_551_615,
+        },
+        "ftrighub: 18446744073709551615 more sessions stopped\n",
+    ),
     (Fault::Accept, "ftrighub: cannot accept\n"),
     (Fault::Connect, "ftrighub: cannot connect\n"),
     (Fault::Memory, "ftrighub: out of memory\n"),

@@ -1,4 +1,4 @@
-use Rattle.std.proofs.Common.{◌≡◌, Err, refl, sym, ap, ◌∙◌, inr, subst, rules}
+use Rattle.std.proofs.Common.{◌≡◌, ◌≤◌, Err, refl, sym, ap, ◌∙◌, inr, subst, rules}
 use Rattle.hub_io.specs.declared.fault.FrontError.TheVariants.{Turns, Memory}
 use Rattle.hub_io.specs.Lines.{lines_of}
 use Rattle.hub_front.specs.Serving.{StopsAt}
@@ -21,16 +21,17 @@ pub returns-clause-err : goal.returns-clause-err
 returns-clause-err g c =
     let u = c.in_ok-serve_reads.ensures.under_way in
     IfErr-from _ _ c.finish.result
-    (λ e broken fault. (u.input, u.consumed, subst (StopsAt _ _ u.input _ _ _ _) (sym fault) (lines_of u.input, inr (c.in_ok-serve_reads.ensures.end, refl), breaks_last u broken)))
+    (λ e broken fault. (u.input, u.consumed, subst (StopsAt _ _ _ u.input _ _ _ _) (sym fault) (lines_of u.input, inr (c.in_ok-serve_reads.ensures.end, refl), breaks_last u broken)))
     c.finish.ensures.err c.finish.ensures.fault
 
 pub returns-in_err-serve_reads-clause-reads : goal.returns-in_err-serve_reads-clause-reads
 returns-in_err-serve_reads-clause-reads g c =
     let (n, most, grown, whole) = c.serve_reads.ensures.reads in
     let same : c.from_residual-in_err-serve_reads.result ≡ Err c.in_err-serve_reads.field-0.0 = search rules in
-    (n, most, grown, λ turns. whole (c.in_err-serve_reads.was ∙ ap Err (let it : c.in_err-serve_reads.field-0.0 ≡ Turns = cc in it)))
+    let is = c.reads.ensures.reads in
+    (n, subst (λ reads. n ≤ reads) is most, grown, λ turns. whole (c.in_err-serve_reads.was ∙ ap Err (let it : c.in_err-serve_reads.field-0.0 ≡ Turns = cc in it)) ∙ is)
 
 pub returns-clause-reads : goal.returns-clause-reads
 returns-clause-reads g c =
     let (n, most, grown, whole) = c.serve_reads.ensures.reads in
-    (n, most, grown, λ turns. absurd (only_write c.finish.result c.finish.ensures.fault turns))
+    (n, subst (λ reads. n ≤ reads) c.reads.ensures.reads most, grown, λ turns. absurd (only_write c.finish.result c.finish.ensures.fault turns))

@@ -39,6 +39,7 @@ reads-preserved g c =
     let some : 1 ≤ length piece = omega arith in
     let ended : length (complete_pieces piece c.reads.session.line.items) ≤ length piece = done_few piece c.reads.session.line.items in
     record {
+      some = search rules;
       chunk = search rules;
       under_way = goes_on piece some c.in-Ok.ensures.bytes.0 c.in_ok-take_bytes.ensures.ok c.in_ok-take_bytes.ensures.line c.in_ok-take_bytes.ensures.count c.reads.invariant.under_way;
       few = omega (arith, c.reads.invariant.few, c.reads.invariant.chunk, c.in-Ok.ensures.bound.0, c.in_ok-take_bytes.ensures.count);

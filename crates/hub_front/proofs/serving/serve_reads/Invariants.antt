@@ -1,4 +1,4 @@
-use Rattle.std.proofs.Common.{◌≡◌, ◌≤◌, ◌*◌, length}
+use Rattle.std.proofs.Common.{◌≤◌, ◌*◌, length}
 use Rattle.hub_io.specs.declared.reading.TheConstants.{CHUNK}
 use Rattle.hub_io.specs.Telling.{Rises}
 use Rattle.hub_front.specs.Pieces.{IsUnderWay}
@@ -7,7 +7,8 @@ use Rattle.hub_front.proofs.serving.serve_reads.Given as goal
 -- the lines that end within the input so far were served, each read gave at least one byte, and there was no fault
 abbrev pub invariant-reads : goal.invariant-reads
 invariant-reads g l = record {
-  chunk : length l.chunk ≡ CHUNK;
+  some : 1 ≤ length l.chunk;
+  chunk : length l.chunk ≤ CHUNK;
   under_way : IsUnderWay g.D.Desk.asks l.fn.desk l.desk (g.W.Write.contents l.fn.writer) (g.W.Write.contents l.writer)
       (g.R.Read.remaining l.fn.reader) (g.R.Read.remaining l.reader) l.session.line.items l.session.count l._read;
   few : l.session.count ≤ l._read * CHUNK;

@@ -1,4 +1,5 @@
 use Rattle.std.proofs.Common.{◌+◌, ◌++◌, ◌∷◌, [], arith, ap, subst, sym, ◌∙◌}
+use Rattle.hub_server.specs.Promised.{IsShare}
 use Rattle.hub_server.proofs.GivenSessions.{asked_for_one_more, gave_another, over_one_more}
 use Rattle.hub_server.proofs.together.start_all.Goals as goal
 
@@ -11,6 +12,6 @@ sessions-preserved g c =
     let pushed = c.push_reserved.ensures.items ∙ ap (λ items. items ++ c.in-Some.session ∷ []) (c.reserve-room.ensures.items ∙ c.join_over.ensures) in
     let more = gave_another g.G.Gate.gives c.args.gate.now c.sessions.gate c.next.new.self _ _ c.in-Some.session _ _ pushed c.in-Some.ensures.reader c.in-Some.ensures.writer
     c.sessions.invariant.gave c.in-Session.ensures in
-    let here = subst (λ desks. (desk : _) → g.O.Desks.opens desks desk → g.O.Desks.opens c.args.desks.now desk) (sym c.in-Some.ensures.desks) c.in-Ok-Ok-Ok.ensures in
-    let over = over_one_more g.O.Desks.opens c.args.desks.now _ _ c.in-Some.session pushed c.sessions.invariant.over here in
+    let here = subst (IsShare g.O.Desks.opens g.O.Desks.most c.args.desks.now) (sym c.in-Some.ensures.desks) c.in-Ok-Ok-Ok.ensures in
+    let over = over_one_more g.O.Desks.opens g.O.Desks.most c.args.desks.now _ _ c.in-Some.session pushed c.sessions.invariant.over here in
     record { gave = more.0; over = over; counted = more.1 ∙ ap (λ n. n + 1) c.sessions.invariant.counted }

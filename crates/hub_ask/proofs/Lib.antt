@@ -1,0 +1,3 @@
+pub mod Replies
+pub mod Waits
+pub mod Words

@@ -1,0 +1,62 @@
+-- One request, and its reply.
+use Rattle.std.specs.Prelude.{◌≡◌, ℕ, List, [], ◌∷◌, ◌++◌, Option, None, Some}
+use Rattle.std.specs.Io.KnownBytes.{Appends, Consumes}
+use Rattle.hub_client.specs.Passing.{IsLine}
+use Rattle.hub_client.specs.Relaying.{ended_lines}
+use Rattle.hub_client.specs.declared.fault.RelayError.TheVariants as relay
+use Rattle.hub_io.specs.Faults.{AppendsPart}
+use Rattle.hub_io.specs.Lines.{lines_of}
+use Rattle.hub_ask.specs.Outcomes.{Tells}
+use Rattle.hub_ask.specs.declared.outcome.Outcome.{Outcome}
+use Rattle.hub_ask.specs.declared.fault.AskError.{AskError}
+use Rattle.hub_ask.specs.declared.fault.AskError.TheVariants.{Relay, Unknown, Words}
+
+-- The line was sent with an LF, and then a reply came: one line, which is the first of what was read. sent and sends are what was sent
+-- to the peer before and after, had and has what was left of the peer's stream.
+pub record IsAnswered (sent sends had has : Option (List ℕ)) (line reply : List ℕ) : Type 0 where
+  pub asked : Appends sent sends (line ++ 10 ∷ [])
+  pub heard : List ℕ
+  pub received : Consumes had has heard
+  pub more : List ℕ
+  pub first : heard ≡ reply ++ more
+  pub whole : IsLine reply
+
+-- No whole reply came. A front of the line was taken, and with an LF at its end at most that was sent.
+pub record IsBrokenOff (sent sends had has : Option (List ℕ)) (line : List ℕ) : Type 0 where
+  pub front : List ℕ
+  pub back : List ℕ
+  pub of_line : line ++ 10 ∷ [] ≡ front ++ back
+  pub went : List ℕ
+  pub unsent : List ℕ
+  pub prefix : ended_lines (lines_of front) ≡ went ++ unsent
+  pub asked : Appends sent sends went
+  pub heard : List ℕ
+  pub received : Consumes had has heard
+
+-- the reply came and was written, and it tells the outcome
+pub record HasReply (sent sends had has held holds : Option (List ℕ)) (line : List ℕ) (outcome : Outcome) : Type 0 where
+  pub reply : List ℕ
+  pub answered : IsAnswered sent sends had has line reply
+  pub written : Appends held holds reply
+  pub told : Tells reply (Some outcome)
+
+-- The reply came, and only a prefix of it was written.
+pub record IsCut (sent sends had has held holds : Option (List ℕ)) (line : List ℕ) : Type 0 where
+  pub reply : List ℕ
+  pub answered : IsAnswered sent sends had has line reply
+  pub written : AppendsPart held holds reply
+
+-- the reply came and was written, and it tells no outcome
+pub record IsUnknown (sent sends had has held holds : Option (List ℕ)) (line : List ℕ) : Type 0 where
+  pub reply : List ℕ
+  pub answered : IsAnswered sent sends had has line reply
+  pub written : Appends held holds reply
+  pub told : Tells reply None
+
+-- What was sent and written at an error.
+abbrev pub HasNoReply : (sent sends had has held holds : Option (List ℕ)) (line : List ℕ) → AskError → Type 0
+HasNoReply sent sends had has held holds line (Relay relay.Output) = IsCut sent sends had has held holds line
+HasNoReply sent sends had has held holds line (Relay relay.Input) = ⊥
+HasNoReply sent sends had has held holds line (Relay error) = IsBrokenOff sent sends had has line × (holds ≡ held)
+HasNoReply sent sends had has held holds line Unknown = IsUnknown sent sends had has held holds line
+HasNoReply sent sends had has held holds line Words = ⊥

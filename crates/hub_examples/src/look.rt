@@ -1,0 +1,30 @@
+// crates.txt: YOURS: hub_look hub_ask
+use hub_ask::{AskError, Outcome};
+use hub_look::{Following, Peer, follow};
+use std::alloc::Global;
+use std::os::unix::net::UnixStream;
+use std::rt::Clock;
+use std::sync::Wait;
+
+/// Puts the next letter of a fifodir behind `letters`, with an LF, and what a hub refuses behind `notes`. `receiver` and `sender` are
+/// two clones of the connection.
+pub fn next_letter<H: Wait + Clock>(
+    rt: &H,
+    alloc: Global,
+    name: &str,
+    receiver: UnixStream,
+    sender: UnixStream,
+    letters: &mut Vec<u8>,
+    notes: &mut Vec<u8>,
+) -> Result<Outcome, AskError> {
+    let mut names = Vec::new(alloc);
+    names.extend_from_slice(&[name])?;
+    let following = Following {
+        names,
+        pattern: None,
+        is_plain: true,
+        is_once: true,
+    };
+    let mut peer = Peer::new(receiver, sender);
+    follow(rt, alloc, &following, &mut peer, letters, notes)
+}

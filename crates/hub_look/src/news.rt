@@ -1,0 +1,217 @@
+//! The letters of fifodirs as they come.
+ghost use Rattle.std.specs.Prelude.{◌≡◌};
+
+use crate::answer::Answer;
+use crate::following::Following;
+use crate::look::Look;
+use crate::peer::Peer;
+use crate::stop::{Stop, tell, tell_refusal, write_text};
+use crate::subscribing::{Followed, subscribe};
+use hub_ask::{AskError, MOST_TURNS, Outcome};
+use hub_io::{Sink, Source};
+use hub_requests::MOST_TAKEN;
+use std::alloc::{AllocError, Global};
+use std::io::Write;
+use std::rt::Clock;
+use std::sync::Wait;
+
+/// How many turns it takes at most to look at each of several fifodirs once, if nothing comes.
+const ROUND: u64 = 200;
+
+// Writes the letters, or the hit, that came.
+fn write_letters<C: Clock, W: Sink>(
+    clock: &C,
+    alloc: Global,
+    following: &Following<'_>,
+    followed: &mut Followed<'_>,
+    letters: &str,
+    output: &mut W,
+) -> Result<(), Stop> {
+    let lines = following.lines(clock, alloc, followed.name, followed.next, letters)?;
+    write_text(output, lines.as_str())?;
+    let count = letters.len() as u64;
+    followed.next = followed.next.and_then(|number| number.checked_add(count));
+    Ok(())
+}
+
+// Whether something comes within so many turns.
+fn comes<H: Wait, SR: Source, SW: Sink, F: Write>(
+    rt: &H,
+    alloc: Global,
+    turns: u64,
+    followed: &Followed<'_>,
+    peer: &mut Peer<SR, SW>,
+    notes: &mut F,
+) -> Result<bool, Stop>
+    ensures { peer.new.begun ≡ peer.old.begun }
+{
+    let handle = followed.handle.as_str();
+    let words = format!(in alloc; "{handle} {turns}")?;
+    let reply = peer.ask(rt, alloc, Look::Await, words.as_str())?;
+    match Answer::of(&reply) {
+        Some(Answer::Done(_)) => Ok(true),
+        Some(Answer::Late) => Ok(false),
+        Some(Answer::Refused(why)) => {
+            tell_refusal(alloc, followed.name, why, notes)?;
+            Err(Stop::Reply(Outcome::Refused))
+        }
+        _ => Err(Stop::Fault(AskError::Unknown)),
+    }
+}
+
+// Takes what is pending for the handle.
+fn take<H: Wait, SR: Source, SW: Sink>(
+    rt: &H,
+    alloc: Global,
+    following: &Following<'_>,
+    handle: &str,
+    peer: &mut Peer<SR, SW>,
+) -> Result<Vec<u8>, Stop>
+    ensures { peer.new.begun ≡ peer.old.begun }
+{
+    if following.pattern.is_some() {
+        return Ok(peer.ask(rt, alloc, Look::Poll, handle)?);
+    }
+    let most = if following.is_once { 1 } else { MOST_TAKEN };
+    let words = format!(in alloc; "{handle} {most}")?;
+    Ok(peer.ask(rt, alloc, Look::Take, words.as_str())?)
+}
+
+// Takes what is pending for one fifodir, and writes it. Returns whether letters came.
+fn take_and_write<H: Wait + Clock, SR: Source, SW: Sink, W: Sink, F: Write>(
+    rt: &H,
+    alloc: Global,
+    following: &Following<'_>,
+    followed: &mut Followed<'_>,
+    peer: &mut Peer<SR, SW>,
+    output: &mut W,
+    notes: &mut F,
+) -> Result<bool, Stop>
+    ensures { peer.new.begun ≡ peer.old.begun }
+{
+    let reply = take(rt, alloc, following, followed.handle.as_str(), peer)?;
+    match Answer::of(&reply) {
+        Some(Answer::Letters(letters)) => {
+            write_letters(rt, alloc, following, followed, letters, output)?;
+            if following.is_once {
+                Err(Stop::Reply(Outcome::Done))
+            } else {
+                Ok(true)
+            }
+        }
+        Some(Answer::Nothing) => Ok(false),
+        Some(Answer::End) => {
+            followed.is_over = true;
+            Ok(false)
+        }
+        Some(Answer::Evicted) => {
+            tell(alloc, followed.name, "evicted", notes)?;
+            Err(Stop::Reply(Outcome::Nothing))
+        }
+        Some(Answer::Refused(why)) => {
+            tell_refusal(alloc, followed.name, why, notes)?;
+            Err(Stop::Reply(Outcome::Refused))
+        }
+        _ => Err(Stop::Fault(AskError::Unknown)),
+    }
+}
+
+// Looks once at each fifodir that isn't over. Returns whether letters of any of them came.
+fn look_at_each<H: Wait + Clock, SR: Source, SW: Sink, W: Sink, F: Write>(
+    rt: &H,
+    alloc: Global,
+    following: &Following<'_>,
+    turns: u64,
+    all: &mut [Followed<'_>],
+    peer: &mut Peer<SR, SW>,
+    output: &mut W,
+    notes: &mut F,
+) -> Result<bool, Stop>
+    ensures { peer.new.begun ≡ peer.old.begun }
+{
+    let mut came = false;
+    'followed: for followed in all {
+        if !followed.is_over && comes(rt, alloc, turns, followed, peer, notes)? {
+            came |= take_and_write(rt, alloc, following, followed, peer, output, notes)?;
+        }
+    }
+    Ok(came)
+}
+
+// For how many turns it may sleep at each of so many fifodirs. If letters of some came, more may be pending, so it doesn't sleep at
+// the others.
+fn turns_each(count: usize, came: bool) -> u64 {
+    match (count, came) {
+        (0 | 1, _) => MOST_TURNS,
+        (_, true) => 0,
+        (_, false) => (ROUND / count as u64).max(1),
+    }
+}
+
+// Puts one more behind these.
+fn put<'a>(all: &mut Vec<Followed<'a>>, followed: Followed<'a>) -> Result<(), AllocError> {
+    all.push(followed)?;
+    Ok(())
+}
+
+// Subscribes to each fifodir.
+fn subscribe_to_all<'a, H: Wait, SR: Source, SW: Sink, F: Write>(
+    rt: &H,
+    alloc: Global,
+    following: &Following<'a>,
+    peer: &mut Peer<SR, SW>,
+    notes: &mut F,
+) -> Result<Vec<Followed<'a>>, Stop>
+    ensures { peer.new.begun ≡ peer.old.begun }
+{
+    let mut all = Vec::new(alloc);
+    'names: for name in following.names.iter() {
+        let followed = subscribe(rt, alloc, following, *name, peer, notes)?;
+        put(&mut all, followed)?;
+    }
+    Ok(all)
+}
+
+// Follows until a reply ends it. That all are closed is such a reply.
+fn follow_on<H: Wait + Clock, SR: Source, SW: Sink, W: Sink, F: Write>(
+    rt: &H,
+    alloc: Global,
+    following: &Following<'_>,
+    peer: &mut Peer<SR, SW>,
+    output: &mut W,
+    notes: &mut F,
+) -> Result<Outcome, Stop>
+    ensures { peer.new.begun ≡ peer.old.begun }
+{
+    let mut all = subscribe_to_all(rt, alloc, following, peer, notes)?;
+    let mut came = false;
+    'rounds: for _ in rt.forever() {
+        let count = all.iter().filter(|followed| !followed.is_over).count();
+        if count == 0 {
+            break;
+        }
+        let turns = turns_each(count, came);
+        came = look_at_each(rt, alloc, following, turns, &mut all, peer, output, notes)?;
+    }
+    Ok(Outcome::Nothing)
+}
+
+/// Writes each letter of the fifodirs, or each hit, as it comes, until all of them are closed or one of them evicts it. `notes` gets
+/// a line on a name that the hub refuses, or that it was evicted from. With several fifodirs it looks at one after the other, and at
+/// all of them within about a fifth of a second.
+pub fn follow<H: Wait + Clock, SR: Source, SW: Sink, W: Sink, F: Write>(
+    rt: &H,
+    alloc: Global,
+    following: &Following<'_>,
+    peer: &mut Peer<SR, SW>,
+    output: &mut W,
+    notes: &mut F,
+) -> Result<Outcome, AskError>
+    // What it sends are looks (`Peer`).
+    ensures { peer.new.begun ≡ peer.old.begun }
+{
+    match follow_on(rt, alloc, following, peer, output, notes) {
+        Ok(outcome) => Ok(outcome),
+        Err(stop) => stop.outcome(),
+    }
+}
