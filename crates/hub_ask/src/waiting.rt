@@ -1,5 +1,6 @@
 //! A wait, and how each service is that isn't as wanted in the end.
-ghost use Rattle.std.specs.Prelude.{◌≡◌, IfOk, IfErr, IfSome, string_bytes};
+ghost use Rattle.std.specs.Prelude.{◌≡◌, true, IfOk, IfErr, IfSome, IfNone, string_bytes};
+ghost use Rattle.hub_client.specs.Passing.{has_lf};
 ghost use Rattle.hub_ask.specs.Asking.{HasNoReply};
 ghost use Rattle.hub_ask.specs.Lines.{bytes_of, joined};
 ghost use Rattle.hub_ask.specs.Waiting.{IsWaited, SendsPart, question, questions, wait_words};
@@ -23,8 +24,10 @@ pub fn wait_line(
     turns: u64,
     names: &[&str],
 ) -> Result<Option<Line>, AllocError>
-    ensures { IfOk result (λ it. IfSome it (λ line. bytes_of line
+    ensures line { IfOk result (λ it. IfSome it (λ line. bytes_of line
         ≡ wait_words span.now want.now turns (joined (λ name. name.now) names.now))) }
+    ensures none { IfOk result (λ it. IfNone it (has_lf (wait_words span.now want.now turns
+        (joined (λ name. name.now) names.now)) ≡ true)) }
 {
     let turns = turns.to_string(alloc)?;
     let names = names.join(alloc, " ")?;

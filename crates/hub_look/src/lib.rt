@@ -5,6 +5,7 @@
 #![tactic(auto)]
 
 mod answer;
+mod asking;
 mod events;
 mod following;
 mod look;

@@ -1,12 +1,13 @@
 //! The beginning of a follow: a handle for each fifodir.
 ghost use Rattle.std.specs.Prelude.{◌≡◌};
 
-use crate::answer::{Answer, text_of};
+use crate::answer::Answer;
+use crate::asking::{ask_about, state_of};
 use crate::following::Following;
 use crate::look::Look;
 use crate::peer::Peer;
-use crate::stop::{Stop, tell_refusal};
-use hub_ask::{AskError, Outcome, State};
+use crate::stop::Stop;
+use hub_ask::{AskError, Outcome};
 use hub_io::{Sink, Source};
 use std::alloc::Global;
 use std::io::Write;
@@ -27,30 +28,6 @@ pub(crate) struct Followed<'a> {
     pub(crate) is_over: bool,
 }
 
-/// Sends a look at this fifodir that is answered with `ok` or refused, and returns the reply. If it is refused, that is told, and
-/// the command ends.
-fn ask_about<H: Wait, SR: Source, SW: Sink, F: Write>(
-    rt: &H,
-    alloc: Global,
-    look: Look,
-    name: &str,
-    rest: &str,
-    peer: &mut Peer<SR, SW>,
-    notes: &mut F,
-) -> Result<Vec<u8>, Stop>
-    ensures { peer.new.begun ≡ peer.old.begun }
-{
-    let reply = peer.ask(rt, alloc, look, rest)?;
-    match Answer::of(&reply) {
-        Some(Answer::Done(_)) => Ok(reply),
-        Some(Answer::Refused(why)) => {
-            tell_refusal(alloc, name, why, notes)?;
-            Err(Stop::Reply(Outcome::Refused))
-        }
-        _ => Err(Stop::Fault(AskError::Unknown)),
-    }
-}
-
 // How many events the fifodir has.
 fn events_of<H: Wait, SR: Source, SW: Sink, F: Write>(
     rt: &H,
@@ -61,10 +38,9 @@ fn events_of<H: Wait, SR: Source, SW: Sink, F: Write>(
 ) -> Result<u64, Stop>
     ensures { peer.new.begun ≡ peer.old.begun }
 {
-    let reply = ask_about(rt, alloc, Look::Status, name, name, peer, notes)?;
-    match text_of(&reply).and_then(State::of) {
+    match state_of(rt, alloc, name, peer, notes)? {
         Some(state) => Ok(state.events),
-        None => Err(Stop::Fault(AskError::Unknown)),
+        None => Err(Stop::Reply(Outcome::Refused)),
     }
 }
 

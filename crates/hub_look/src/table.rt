@@ -1,11 +1,10 @@
 //! A table of how fifodirs are.
 ghost use Rattle.std.specs.Prelude.{◌≡◌};
 
-use crate::answer::{Answer, text_of};
-use crate::look::Look;
+use crate::asking::state_of;
 use crate::names::all_names;
 use crate::peer::Peer;
-use crate::stop::{Stop, tell_refusal, write_text};
+use crate::stop::{Stop, write_text};
 use hub_ask::{AskError, Outcome, State};
 use hub_io::{Sink, Source};
 use std::alloc::{AllocError, Global};
@@ -37,27 +36,6 @@ fn columns_of(alloc: Global, state: State) -> Result<String, AllocError> {
 // A row of the table. The names have a column of this width.
 fn row_of(alloc: Global, width: usize, name: &str, columns: &str) -> Result<String, AllocError> {
     format!(in alloc; "{name:<width$}  {columns}\n")
-}
-
-// How the fifodir is. None if the hub refuses to say, which is told.
-fn state_of<H: Wait, SR: Source, SW: Sink, F: Write>(
-    rt: &H,
-    alloc: Global,
-    name: &str,
-    peer: &mut Peer<SR, SW>,
-    notes: &mut F,
-) -> Result<Option<State>, Stop>
-    ensures { peer.new.begun ≡ peer.old.begun }
-{
-    let reply = peer.ask(rt, alloc, Look::Status, name)?;
-    if let Some(Answer::Refused(why)) = Answer::of(&reply) {
-        tell_refusal(alloc, name, why, notes)?;
-        return Ok(None);
-    }
-    match text_of(&reply).and_then(State::of) {
-        Some(state) => Ok(Some(state)),
-        None => Err(Stop::Fault(AskError::Unknown)),
-    }
 }
 
 // The rows of these names, below the headings. None of a refused name, which makes the outcome a refusal.

@@ -1,0 +1,57 @@
+//! Looks at one fifodir.
+ghost use Rattle.std.specs.Prelude.{◌≡◌};
+
+use crate::answer::{Answer, text_of};
+use crate::look::Look;
+use crate::peer::Peer;
+use crate::stop::{Stop, tell_refusal};
+use hub_ask::{AskError, Outcome, State};
+use hub_io::{Sink, Source};
+use std::alloc::Global;
+use std::io::Write;
+use std::sync::Wait;
+
+/// Sends a look at this fifodir that is answered with `ok` or refused, and returns the reply. If it is refused, that is told, and
+/// the command ends.
+pub(crate) fn ask_about<H: Wait, SR: Source, SW: Sink, F: Write>(
+    rt: &H,
+    alloc: Global,
+    look: Look,
+    name: &str,
+    rest: &str,
+    peer: &mut Peer<SR, SW>,
+    notes: &mut F,
+) -> Result<Vec<u8>, Stop>
+    ensures { peer.new.begun ≡ peer.old.begun }
+{
+    let reply = peer.ask(rt, alloc, look, rest)?;
+    match Answer::of(&reply) {
+        Some(Answer::Done(_)) => Ok(reply),
+        Some(Answer::Refused(why)) => {
+            tell_refusal(alloc, name, why, notes)?;
+            Err(Stop::Reply(Outcome::Refused))
+        }
+        _ => Err(Stop::Fault(AskError::Unknown)),
+    }
+}
+
+/// How the fifodir is. None if the hub refuses to say, which is told.
+pub(crate) fn state_of<H: Wait, SR: Source, SW: Sink, F: Write>(
+    rt: &H,
+    alloc: Global,
+    name: &str,
+    peer: &mut Peer<SR, SW>,
+    notes: &mut F,
+) -> Result<Option<State>, Stop>
+    ensures { peer.new.begun ≡ peer.old.begun }
+{
+    let reply = peer.ask(rt, alloc, Look::Status, name)?;
+    if let Some(Answer::Refused(why)) = Answer::of(&reply) {
+        tell_refusal(alloc, name, why, notes)?;
+        return Ok(None);
+    }
+    match text_of(&reply).and_then(State::of) {
+        Some(state) => Ok(Some(state)),
+        None => Err(Stop::Fault(AskError::Unknown)),
+    }
+}
