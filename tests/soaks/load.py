@@ -31,7 +31,7 @@ TENTHS = 10
 SESSIONS = sum(ROLES.values()) + 1
 # How much more memory the hub may have after any tenth than after the first, in KiB. In a run of less than a minute few clients
 # have come and gone by then.
-MORE_MEMORY, ROUGHLY = 1_024, 4_096
+MORE_MEMORY, ROUGHLY = 512, 2_048
 # So many seconds after its tenth a client has handed over what it saw.
 PATIENCE = 120
 
