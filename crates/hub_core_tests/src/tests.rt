@@ -1,5 +1,6 @@
 mod bells;
 mod busy;
+mod effects;
 mod fifodirs;
 mod fixtures;
 mod ids;
@@ -13,6 +14,7 @@ mod receives;
 mod records;
 mod restarts;
 mod sizes;
+mod sleepers;
 mod threads;
 mod waits;
 mod wants;

@@ -88,11 +88,33 @@ fn rings_for_each<R: Abort + Wait + Clock + Copy>(rt: &R, alloc: Global) -> Resu
     Ok([awaited, posted, ended])
 }
 
-/// A pause that sends a letter at each call, and counts the calls that were told how often the bell had rung.
+/// How often the bell of a fifodir has rung after an await in whose only pause a letter comes.
+fn rings_of_an_await<R: Abort + Wait>(rt: &R, alloc: Global) -> Result<u64, Fail> {
+    let letters = word(alloc, "a")?;
+    let bell = Arc::new(alloc, Bell::new())?;
+    let fifodir = open_with_bell(alloc, &bell)?;
+    let sender = new_sender(rt, &fifodir);
+    let mut reader = new_reader(rt, &fifodir);
+    let mut pause = Hearing::new(sender, letters);
+    let _ = reader.await_more(rt, 3, &mut pause);
+    reader.cancel(rt);
+    let _ = pause.end(rt);
+    Ok(bell.rings())
+}
+
+/// What the pauses of three turns are told: how often the bell had rung before the last look and how often it has by now, and how
+/// many turns are left.
+type Told = [(u64, u64, u64); 3];
+
+/// Before the first turn the bell has rung once, and in each pause it rings once more.
+const TOLD: Told = [(1, 1, 3), (2, 2, 2), (3, 3, 1)];
+
+/// A pause that sends a letter at each call, and notes what it was told.
 struct Hearing {
     sender: Sender,
     letters: Vec<Letter>,
-    told: u64,
+    calls: usize,
+    told: Told,
 }
 
 impl Pause for Hearing {
@@ -100,20 +122,31 @@ impl Pause for Hearing {
         Go::Again
     }
 
-    fn pause_at<R: Wait>(&mut self, rt: &R, bell: &Bell, heard: u64, _left: u64) -> Go {
-        if heard == bell.rings() {
-            self.told = self.told.wrapping_add(1);
+    fn pause_at<R: Wait>(&mut self, rt: &R, bell: &Bell, heard: u64, left: u64) -> Go {
+        if let Some(told) = self.told.get_mut(self.calls) {
+            *told = (heard, bell.rings(), left);
         }
+        self.calls = self.calls.wrapping_add(1);
         let _ = self.sender.send(rt, &self.letters);
         Go::Again
     }
 }
 
 impl Hearing {
-    fn end<R: Wait>(self, rt: &R) -> u64 {
+    fn new(sender: Sender, letters: Vec<Letter>) -> Hearing {
+        Hearing {
+            sender,
+            letters,
+            calls: 0,
+            told: [(0, 0, 0); 3],
+        }
+    }
+
+    fn end<R: Wait>(self, rt: &R) -> Told {
         let Hearing {
             sender,
             letters: _,
+            calls: _,
             told,
         } = self;
         sender.leave(rt);
@@ -121,9 +154,8 @@ impl Hearing {
     }
 }
 
-/// How many pauses of a wait of three turns were told how often the bell had rung. It rings before the first post of the wait is
-/// opened, and in each pause.
-fn told_to_a_wait<R: Abort + Wait>(rt: &R, alloc: Global) -> Result<u64, Fail> {
+/// What the pauses of a wait are told. The bell rings before the first post of the wait is opened, and in each pause.
+fn told_to_a_wait<R: Abort + Wait>(rt: &R, alloc: Global) -> Result<Told, Fail> {
     let letters = word(alloc, "a")?;
     let bell = Arc::new(alloc, Bell::new())?;
     let one = open_with_bell(alloc, &bell)?;
@@ -133,11 +165,7 @@ fn told_to_a_wait<R: Abort + Wait>(rt: &R, alloc: Global) -> Result<u64, Fail> {
     let mut sender = new_sender(rt, &one);
     let _ = sender.send(rt, &letters);
     let first = open_post(rt, other, Want::Up, true);
-    let mut pause = Hearing {
-        sender,
-        letters,
-        told: 0,
-    };
+    let mut pause = Hearing::new(sender, letters);
     let mut posts = [first, last];
     svwait(rt, &mut posts, Span::All, 3, &mut pause);
     let [first, last] = posts;
@@ -146,9 +174,27 @@ fn told_to_a_wait<R: Abort + Wait>(rt: &R, alloc: Global) -> Result<u64, Fail> {
     Ok(pause.end(rt))
 }
 
+/// What the pauses of an await are told, while the bell rings for another fifodir that shares it.
+fn told_to_an_await<R: Abort + Wait>(rt: &R, alloc: Global) -> Result<Told, Fail> {
+    let letters = word(alloc, "a")?;
+    let bell = Arc::new(alloc, Bell::new())?;
+    let one = open_with_bell(alloc, &bell)?;
+    let other = open_with_bell(alloc, &bell)?;
+    let waiter = one.admit();
+    let mut sender = new_sender(rt, &one);
+    let _ = sender.send(rt, &letters);
+    let mut reader = new_reader(rt, &other);
+    let mut pause = Hearing::new(sender, letters);
+    let _ = reader.await_more(rt, 3, &mut pause);
+    reader.cancel(rt);
+    one.dismiss(waiter);
+    Ok(pause.end(rt))
+}
+
 #[test]
 fn a_pause_is_told_how_often_the_bell_rang(rt: HostRuntime) -> Result<(), Fail> {
-    assert_eq!(rt; told_to_a_wait(&rt, rt.alloc())?, 3);
+    assert_eq!(rt; told_to_a_wait(&rt, rt.alloc())?, TOLD);
+    assert_eq!(rt; told_to_an_await(&rt, rt.alloc())?, TOLD);
     Ok(())
 }
 
@@ -161,5 +207,6 @@ fn a_bell_rings_for_those_who_wait(rt: HostRuntime) -> Result<(), Fail> {
 #[test]
 fn who_has_waited_hears_no_bell(rt: HostRuntime) -> Result<(), Fail> {
     assert_eq!(rt; rings_for_each(&rt, rt.alloc())?, [0, 1, 1]);
+    assert_eq!(rt; rings_of_an_await(&rt, rt.alloc())?, 1);
     Ok(())
 }

@@ -51,7 +51,7 @@ fn start<R: Threads + Wait + Copy + Send + 'static>(
 }
 
 /// Whether so many threads come to their end in time.
-fn come_to_an_end<R: Clock>(rt: &R, done: &AtomicU64, count: u64) -> bool {
+pub(crate) fn come_to_an_end<R: Clock>(rt: &R, done: &AtomicU64, count: u64) -> bool {
     for _ in 0..PATIENCE {
         if done.load(Ordering::SeqCst) == count {
             return true;

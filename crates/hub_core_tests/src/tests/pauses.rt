@@ -6,7 +6,7 @@ use std::process::Abort;
 use std::rt::Clock;
 use std::sync::Wait;
 use std::sync::atomic::{AtomicU64, Ordering};
-use std::time::Duration;
+use std::time::{Duration, Instant};
 
 /// A clock that returns at once, and is then as much later as was slept. One that is broken tells no time.
 #[derive(Drop)]
@@ -119,4 +119,22 @@ fn a_wait_has_a_millisecond_for_each_turn(rt: HostRuntime) {
 #[test]
 fn a_pause_without_a_clock_sleeps_a_turn(rt: HostRuntime) {
     assert_eq!(rt; time_of_looks(&rt, 5_000, 7, true), Some(7));
+}
+
+/// How long a pause is in a wait of 20 seconds, by a clock that passes by itself, if no bell rings.
+fn silent_pause<R: Wait + Clock + Copy>(rt: &R) -> io::Result<Duration> {
+    let begun = Instant::now(rt)?;
+    let _ = Patience::new(*rt).pause_at(rt, &Bell::new(), 0, 20_000);
+    Ok(Instant::now(rt)?.duration_since(begun))
+}
+
+// A pause is half a second. A busy machine may take some seconds more.
+#[test]
+fn a_pause_that_hears_no_bell_ends_by_itself(rt: HostRuntime) -> io::Result<()> {
+    let took = silent_pause(&rt)?;
+    assert!(rt;
+        took > Duration::from_millis(400) && took < Duration::from_secs(10),
+        "{took:?}"
+    );
+    Ok(())
 }

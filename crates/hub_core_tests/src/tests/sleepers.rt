@@ -1,0 +1,152 @@
+//! Sleepers at a bell. They sleep until it rings, however long that takes, so one that isn't woken never comes to its end.
+use crate::tests::busy::come_to_an_end;
+use crate::tests::fixtures::run_of;
+use crate::tests::passes::{Sender, Shared, new_sender, open};
+use hub_letters::Letter;
+use hub_record::Kind;
+use std::alloc::Global;
+use std::process::Abort;
+use std::rt::Clock;
+use std::sync::atomic::{AtomicU64, Ordering};
+use std::sync::{Arc, Wait};
+use std::test::Fail;
+use std::thread::Threads;
+use std::time::Duration;
+use std::{io, thread};
+
+/// How many sleep at once. One ring doesn't wake as many as the last by itself.
+static SLEEPERS: [u64; 3] = [1, 2, 12];
+
+/// How many letters a message has that its publisher needs a while for.
+const LONG: usize = 2_000_000;
+
+/// How many messages each of them waits for.
+const MESSAGES: u64 = 5;
+
+/// How many seconds a sleep may take: more than a test.
+const FOR_EVER: u64 = 100_000;
+
+/// Sleeps until there are so many events.
+fn sleep_until<R: Wait>(rt: &R, me: &mut Sender, number: u64) {
+    let waiter = me.fifodir.admit();
+    for _ in rt.forever() {
+        let heard = me.fifodir.bell().rings();
+        if me.front() >= number {
+            break;
+        }
+        me.fifodir
+            .bell()
+            .sleep(rt, heard, Duration::from_secs(FOR_EVER));
+    }
+    me.fifodir.dismiss(waiter);
+}
+
+/// Sleeps until each message is there, of so many letters each. Counts in `awake` before the first one and after each.
+fn sleep_for_each<R: Wait>(rt: &R, fifodir: Shared, length: u64, awake: &AtomicU64) {
+    let Ok(mut me) = Sender::of(rt, fifodir) else {
+        return;
+    };
+    for message in 0..=MESSAGES {
+        sleep_until(rt, &mut me, message.wrapping_mul(length));
+        awake.fetch_add(1, Ordering::SeqCst);
+    }
+    me.leave(rt);
+}
+
+/// Starts so many threads that sleep.
+fn start<R: Threads + Wait + Copy + Send + 'static>(
+    rt: &R,
+    fifodir: &Shared,
+    count: u64,
+    length: u64,
+    awake: &Arc<AtomicU64, Global>,
+) -> io::Result<()> {
+    let rt = *rt;
+    for _ in 0..count {
+        let fifodir = Arc::try_clone(fifodir)?;
+        let awake = Arc::try_clone(awake)?;
+        let _ = thread::spawn(&rt, move || {
+            sleep_for_each(&rt, fifodir, length, &awake)
+        })?;
+    }
+    Ok(())
+}
+
+/// How many of the messages were sent before one of so many sleepers wasn't woken in time. Each is sent when all have had time
+/// to fall asleep.
+fn messages_heard<R: Wait + Clock>(
+    rt: &R,
+    sender: &mut Sender,
+    letters: &[Letter],
+    count: u64,
+    awake: &AtomicU64,
+) -> u64 {
+    for message in 0..MESSAGES {
+        if !come_to_an_end(rt, awake, count.wrapping_mul(message.wrapping_add(1))) {
+            return message;
+        }
+        thread::sleep(rt, Duration::from_millis(20));
+        let _ = sender.send(rt, letters);
+    }
+    if come_to_an_end(rt, awake, count.wrapping_mul(MESSAGES.wrapping_add(1))) {
+        MESSAGES
+    } else {
+        MESSAGES.wrapping_sub(1)
+    }
+}
+
+/// How many messages of this length so many sleepers hear.
+fn heard_by<R: Abort + Threads + Wait + Clock + Copy + Send + 'static>(
+    rt: &R,
+    alloc: Global,
+    count: u64,
+    length: usize,
+) -> Result<u64, Fail> {
+    let letters = run_of(alloc, b'a', length)?;
+    let fifodir = open(alloc, Kind::Plain, (64, 1_000_000_000, 100))?;
+    let awake = Arc::new(alloc, AtomicU64::new(0))?;
+    start(rt, &fifodir, count, length as u64, &awake)?;
+    let mut sender = new_sender(rt, &fifodir);
+    let heard = messages_heard(rt, &mut sender, &letters, count, &awake);
+    sender.leave(rt);
+    Ok(heard)
+}
+
+// The threads aren't joined, so that a test fails where one sleeps for ever.
+#[test]
+fn a_ring_wakes_all_sleepers(rt: HostRuntime) -> Result<(), Fail> {
+    for count in SLEEPERS.iter() {
+        let heard = heard_by(&rt, rt.alloc(), *count, 1)?;
+        assert_eq!(rt; heard, MESSAGES, "{count} sleepers");
+    }
+    Ok(())
+}
+
+// A sleeper that is woken before the front shows the message looks, and sleeps again.
+#[test]
+fn a_bell_rings_after_a_long_message_is_there(rt: HostRuntime) -> Result<(), Fail> {
+    assert_eq!(rt; heard_by(&rt, rt.alloc(), 1, LONG)?, MESSAGES);
+    Ok(())
+}
+
+/// Sleeps at a bell that has rung meanwhile, and counts in `awake` that it woke.
+fn sleep_too_late<R: Wait>(rt: &R, fifodir: &Shared, awake: &AtomicU64) {
+    let heard = fifodir.bell().rings().wrapping_sub(1);
+    fifodir
+        .bell()
+        .sleep(rt, heard, Duration::from_secs(FOR_EVER));
+    awake.fetch_add(1, Ordering::SeqCst);
+}
+
+#[test]
+fn who_missed_a_ring_does_not_sleep(rt: HostRuntime) -> Result<(), Fail> {
+    let fifodir = open(rt.alloc(), Kind::Plain, (64, 1000, 10))?;
+    let awake = Arc::new(rt.alloc(), AtomicU64::new(0))?;
+    let (shared, counted) = (Arc::try_clone(&fifodir)?, Arc::try_clone(&awake)?);
+    let _ = thread::spawn(&rt, move || { sleep_too_late(&rt, &shared, &counted) })?;
+    assert!(rt;
+        come_to_an_end(&rt, &awake, 1),
+        "a sleep that began too late"
+    );
+    Ok(())
+}
