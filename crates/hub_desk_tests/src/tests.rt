@@ -8,4 +8,6 @@ mod requests;
 mod rows;
 mod shared;
 mod sizes;
+mod traces;
+mod turns;
 mod waits;

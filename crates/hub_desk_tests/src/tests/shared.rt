@@ -3,7 +3,7 @@ use crate::tests::desks::{new_hub, session};
 use crate::tests::rows::{name_of, run};
 use hub_record::{Kind, Limits};
 use hub_requests::Desk;
-use hub_shared::{Hub, HubError};
+use hub_shared::{Found, Hub, HubError};
 use std::alloc::AllocGlobal;
 use std::process::Abort;
 use std::sync::Wait;
@@ -75,16 +75,14 @@ fn a_session_keeps_its_publisher(rt: HostRuntime) -> Result<(), Fail> {
     Ok(())
 }
 
-/// The id that the next subscription under the name gets. None if it is refused.
-fn next_id<H: AllocGlobal + Abort + Wait>(rt: &H, hub: &Hub) -> Result<Option<u64>, Fail> {
-    let web = name_of(rt, rt.alloc(), "web")?;
-    let found = hub.find(rt, &web)?.ok_or("found")?;
+/// The id that the next subscription to a fifodir gets. None if it is refused.
+pub fn next_id<H: Wait>(rt: &H, found: &Found) -> Option<u64> {
     let Ok(ticket) = found.dir.subscribe(rt) else {
-        return Ok(None);
+        return None;
     };
     let id = ticket.id();
     found.dir.cancel(rt, ticket);
-    Ok(Some(id))
+    Some(id)
 }
 
 /// The id that the next subscription gets, and the number that the next publisher gets.
@@ -92,8 +90,9 @@ fn next_of_each<H: AllocGlobal + Abort + Wait>(
     rt: &H,
     hub: &Hub,
 ) -> Result<(Option<u64>, Option<u64>), Fail> {
-    let id = next_id(rt, hub)?;
-    Ok((id, next_number(rt, hub)?))
+    let web = name_of(rt, rt.alloc(), "web")?;
+    let found = hub.find(rt, &web)?.ok_or("found")?;
+    Ok((next_id(rt, &found), next_number(rt, hub)?))
 }
 
 /// A session subscribes, listens, awaits both sorts of handles, and lists the names.
