@@ -6,6 +6,7 @@ import contextlib
 import os
 import re
 import resource
+import select
 import socket
 import subprocess
 import threading
@@ -71,9 +72,9 @@ class Hub:
         if files is not None:
             resource.prlimit(self.process.pid, resource.RLIMIT_NOFILE, (files, files))
 
-    def told(self):
-        """Waits until the hub has written to its descriptor or has ended, and returns what it wrote."""
-        return os.read(self.ready, 16)
+    def told(self, seconds=20):
+        """Waits for so long until the hub has written to its descriptor or has ended, and returns what it wrote."""
+        return os.read(self.ready, 16) if select.select([self.ready], [], [], seconds)[0] else b""
 
     def client(self):
         return Client(self.path)
