@@ -59,13 +59,13 @@ class Client:
 
 
 class Hub:
-    """A hub at a path that serves without end, until the test ends. It may open so many files."""
+    """A hub at a path that serves without end, until the test ends. It may open so many files, and runs in this folder."""
 
-    def __init__(self, program, path, *words, files=None):
+    def __init__(self, program, path, *words, files=None, cwd=None):
         ready, told = os.pipe()
         self.process = subprocess.Popen(
             [program, "serve", path, "--forever", "--ready-fd", str(told), *words],
-            pass_fds=[told], stderr=subprocess.PIPE, text=True)
+            pass_fds=[told], stderr=subprocess.PIPE, text=True, cwd=cwd)
         os.close(told)
         self.ready, self.path = ready, path
         atexit.register(self.kill)

@@ -1,6 +1,7 @@
 mod calls;
 mod clients;
 mod crowd;
+mod doors;
 mod faults;
 mod gates;
 mod memory;
