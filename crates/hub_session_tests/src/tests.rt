@@ -7,3 +7,4 @@ mod gates;
 mod memory;
 mod sockets;
 mod waits;
+mod workers;

@@ -5,13 +5,13 @@ use hub_io::{Sink, Source};
 use hub_server::{Connection, Door, Gate, Next, SharedDoor, Timed};
 use std::alloc::Global;
 use std::fs::Files;
+use std::io;
+use std::io::{Read, Write};
 use std::net::Net;
 use std::os::unix::net::UnixListener;
 use std::sync::Wait;
 use std::test::Fail;
 use std::time::Duration;
-use std::io;
-use std::io::{Read, Write};
 
 /// What each client sends when it has connected, in this order. There are more than sessions are asked for, so that a door which
 /// drops some of them doesn't wait.
