@@ -6,6 +6,7 @@ import contextlib
 import os
 import re
 import resource
+import select
 import socket
 import subprocess
 import threading
@@ -58,22 +59,22 @@ class Client:
 
 
 class Hub:
-    """A hub at a path that serves without end, until the test ends. It may open so many files."""
+    """A hub at a path that serves without end, until the test ends. It may open so many files, and runs in this folder."""
 
-    def __init__(self, program, path, *words, files=None):
+    def __init__(self, program, path, *words, files=None, cwd=None):
         ready, told = os.pipe()
         self.process = subprocess.Popen(
             [program, "serve", path, "--forever", "--ready-fd", str(told), *words],
-            pass_fds=[told], stderr=subprocess.PIPE, text=True)
+            pass_fds=[told], stderr=subprocess.PIPE, text=True, cwd=cwd)
         os.close(told)
         self.ready, self.path = ready, path
         atexit.register(self.kill)
         if files is not None:
             resource.prlimit(self.process.pid, resource.RLIMIT_NOFILE, (files, files))
 
-    def told(self):
-        """Waits until the hub has written to its descriptor or has ended, and returns what it wrote."""
-        return os.read(self.ready, 16)
+    def told(self, seconds=20):
+        """Waits for so long until the hub has written to its descriptor or has ended, and returns what it wrote."""
+        return os.read(self.ready, 16) if select.select([self.ready], [], [], seconds)[0] else b""
 
     def client(self):
         return Client(self.path)

@@ -1,8 +1,10 @@
 mod calls;
 mod clients;
 mod crowd;
+mod doors;
 mod faults;
 mod gates;
 mod memory;
 mod sockets;
 mod waits;
+mod workers;

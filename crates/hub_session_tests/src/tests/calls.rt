@@ -47,8 +47,8 @@ fn a_call_of_a_server(rt: HostRuntime) -> Result<(), Fail> {
     let mut output: Vec<u8> = Vec::new(alloc);
     let input = b"dir web 64 1000\nsub web\npub web ab\ntake 1 10\n".as_slice();
     let called = call_when_it_listens(&rt, alloc, input, &mut output);
-    assert!(rt; serving.join(&rt));
     assert_eq!(rt; called, Ok(4));
+    assert!(rt; serving.join(&rt));
     assert_eq!(rt; output.as_slice(), b"ok\nok 1\nok 0\ngot ab\n".as_slice());
     fs::remove_file(&rt, SOCKET)?;
     Ok(())

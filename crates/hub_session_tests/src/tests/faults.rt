@@ -1,6 +1,7 @@
 //! The lines of faults on standard error.
 use hub_client::RelayError;
 use hub_commands::{Fault, tell_faults};
+use hub_fakes::Narrow;
 use hub_io::FrontError;
 use hub_server::{Report, ServeError};
 use std::alloc::Global;
@@ -46,6 +47,9 @@ fn expect_line(rt: &impl Abort, alloc: Global, fault: Fault, line: &str) {
     let mut told: Vec<u8> = Vec::new(alloc);
     assert!(rt; fault.tell(alloc, &mut told).is_ok());
     assert_eq!(rt; told.as_slice(), line.as_bytes());
+    let mut counted = Narrow::new(1_000, 0);
+    assert!(rt; fault.tell(alloc, &mut counted).is_ok());
+    assert_eq!(rt; counted.writes, 1, "{line}");
 }
 
 #[test]
@@ -100,5 +104,20 @@ fn faults_in_the_order_of_acceptance(rt: HostRuntime) -> Result<(), Fail> {
         assert_eq!(rt; told.as_slice(), lines.as_bytes());
         assert_eq!(rt; report.is_clean(), lines.is_empty());
     }
+    Ok(())
+}
+
+// The first line can't be written. The others are.
+#[test]
+fn a_line_that_fails_hides_no_other(rt: HostRuntime) -> Result<(), Fail> {
+    let results = [Err(FrontError::Read), Ok(1), Err(FrontError::Read)];
+    let report = Report {
+        results: Vec::from_array(rt.alloc(), results)?,
+        gate_failed: true,
+    };
+    let mut told = Narrow::new(1_000, 1);
+    assert!(rt; tell_faults(rt.alloc(), &report, &mut told).is_err());
+    let lines = b"ftrighub: session 3: read failed\nftrighub: cannot accept\n";
+    assert_eq!(rt; told.bytes_held(), lines.as_slice());
     Ok(())
 }

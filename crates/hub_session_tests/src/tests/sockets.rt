@@ -54,12 +54,13 @@ enum Talk {
     CutOffOneOfTwo,
 }
 
-/// A session that has ended, while another goes on.
+/// A session that has ended, while another goes on. The fifodir that it made stays as it was, and is the only one.
 fn end_one_of_two(mut first: Client, mut second: Client) -> io::Result<bool> {
     first.ask(b"dir web 64 1000")?;
     first.finish()?;
     let hung_up = first.rest()?.is_empty();
-    Ok(hung_up && !second.ask(b"status web")?.is_empty())
+    let stays = second.ask(b"status web")? == b"ok 0 0 open".as_slice();
+    Ok(hung_up && stays && second.ask(b"names 0")? == b"names web".as_slice())
 }
 
 /// A line of ten million bytes that doesn't end.
@@ -124,7 +125,7 @@ where
 #[test]
 fn a_connection_ends_with_its_session(rt: HostRuntime) -> Result<(), Fail> {
     let report = serve_while(&rt, rt.alloc(), "ends.sock", Talk::EndOneOfTwo, 2)?;
-    assert_eq!(rt; report.results.as_slice(), [Ok(1), Ok(1)].as_slice());
+    assert_eq!(rt; report.results.as_slice(), [Ok(1), Ok(2)].as_slice());
     Ok(())
 }
 
