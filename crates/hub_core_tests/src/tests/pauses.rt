@@ -1,11 +1,15 @@
 //! The pause of a wait, over a clock whose time passes only while somebody sleeps.
+use crate::tests::passes::{Shared, new_sender, open};
 use hub_fifodir::Bell;
+use hub_letters::Letter;
+use hub_record::Kind;
 use hub_wait::{Go, Patience, Pause};
 use std::io;
 use std::process::Abort;
 use std::rt::Clock;
 use std::sync::Wait;
 use std::sync::atomic::{AtomicU64, Ordering};
+use std::test::Fail;
 use std::time::{Duration, Instant};
 
 /// A clock that returns at once, and is then as much later as was slept. One that is broken tells no time.
@@ -121,17 +125,24 @@ fn a_pause_without_a_clock_sleeps_a_turn(rt: HostRuntime) {
     assert_eq!(rt; time_of_looks(&rt, 5_000, 7, true), Some(7));
 }
 
-/// How long a pause is in a wait of 20 seconds, by a clock that passes by itself, if no bell rings.
-fn silent_pause<R: Wait + Clock + Copy>(rt: &R) -> io::Result<Duration> {
+/// How long a pause is in a wait of 20 seconds, by a clock that passes by itself. The bell has rung before, and then it doesn't.
+fn silent_pause<R: Abort + Wait + Clock + Copy>(rt: &R, fifodir: &Shared) -> io::Result<Duration> {
+    let waiter = fifodir.admit();
+    let mut sender = new_sender(rt, fifodir);
+    let _ = sender.send(rt, &[Letter::LEAST]);
+    sender.leave(rt);
+    fifodir.dismiss(waiter);
+    let bell = fifodir.bell();
     let begun = Instant::now(rt)?;
-    let _ = Patience::new(*rt).pause_at(rt, &Bell::new(), 0, 20_000);
+    let _ = Patience::new(*rt).pause_at(rt, bell, bell.rings(), 20_000);
     Ok(Instant::now(rt)?.duration_since(begun))
 }
 
 // A pause is half a second. A busy machine may take some seconds more.
 #[test]
-fn a_pause_that_hears_no_bell_ends_by_itself(rt: HostRuntime) -> io::Result<()> {
-    let took = silent_pause(&rt)?;
+fn a_pause_that_hears_no_bell_ends_by_itself(rt: HostRuntime) -> Result<(), Fail> {
+    let fifodir = open(rt.alloc(), Kind::Plain, (64, 1000, 10))?;
+    let took = silent_pause(&rt, &fifodir)?;
     assert!(rt;
         took > Duration::from_millis(400) && took < Duration::from_secs(10),
         "{took:?}"

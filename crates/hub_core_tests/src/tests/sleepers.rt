@@ -18,7 +18,7 @@ use std::{io, thread};
 static SLEEPERS: [u64; 3] = [1, 2, 12];
 
 /// How many letters a message has that its publisher needs a while for.
-const LONG: usize = 2_000_000;
+const LONG: usize = 1_000_000;
 
 /// How many messages each of them waits for.
 const MESSAGES: u64 = 5;
