@@ -1,7 +1,5 @@
 //! What a worker asks of its gate, its desks and its journal, in this order.
 ghost use Rattle.std.specs.Prelude.{None};
-ghost use Rattle.hub_requests.specs.declared.request.Request.{Request};
-ghost use Rattle.hub_requests.specs.declared.reply.Reply.{Reply};
 
 use hub_io::{FrontError, Sink, Source};
 use hub_server::{Desks, Gate, Journal, Next, Session, Timed, serve_on};
