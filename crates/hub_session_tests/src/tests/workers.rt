@@ -5,25 +5,40 @@ use hub_io::{FrontError, Sink, Source};
 use hub_server::{Desks, Gate, Journal, Next, Session, Timed, serve_on};
 use std::alloc::{AllocError, Global};
 use std::io::{Read, Write};
-use std::sync::atomic::{AtomicBool, AtomicU64, Ordering};
-use std::sync::{Arc, Wait};
+use std::sync::atomic::{AtomicBool, Ordering};
+use std::sync::{Arc, Mutex, Wait};
 use std::test::Fail;
 use std::thread::{JoinHandle, Promise};
 use std::time::Duration;
 use std::{io, thread};
 
-/// A digit for each step of a worker: 6 asks the gate, 1 begins a session, 2 serves it, 3 tells it to the journal or 4 if it
-/// timed out, and 5 tells a failed accept.
+/// What a worker does.
+#[derive(Clone, Copy, Debug, PartialEq, Eq)]
+enum Step {
+    /// It asks its gate.
+    Asks,
+    /// It begins a session.
+    Begins,
+    /// It has a desk serve the session.
+    Serves,
+    /// It tells its journal that the session of this number has ended, and whether it timed out.
+    Ended(u64, bool),
+    /// It tells its journal of a failed accept.
+    Fails,
+}
+
+/// What a worker has done so far.
 #[derive(Drop)]
 struct Steps {
-    digits: AtomicU64,
+    list: Mutex<Vec<Step>>,
 }
 
 impl Steps {
-    fn add(&self, digit: u64) {
-        let before = self.digits.load(Ordering::SeqCst);
-        let after = before.saturating_mul(10).saturating_add(digit);
-        self.digits.store(after, Ordering::SeqCst);
+    // Nobody else has the lock while the worker runs.
+    fn add(&self, step: Step) {
+        if let Some(mut list) = self.list.try_lock() {
+            let _ = list.push(step);
+        }
     }
 }
 
@@ -96,7 +111,7 @@ impl Gate<Silent, Silent> for Given {
     ghost closes = { λ old new. Unit {0} };
 
     fn next<H: Wait>(&mut self, _rt: &H) -> Next<Silent, Silent> {
-        self.steps.add(6);
+        self.steps.add(Step::Asks);
         let Some((event, rest)) = self.events.split_first() else {
             return Next::Over;
         };
@@ -141,7 +156,7 @@ impl Desks for Bare {
         _reader: &mut R,
         _writer: &mut W,
     ) -> Result<u64, FrontError> {
-        self.steps.add(2);
+        self.steps.add(Step::Serves);
         Err(FrontError::Memory)
     }
 }
@@ -161,7 +176,7 @@ impl Journal for Telling {
     }
 
     fn begins(&mut self) -> u64 {
-        self.steps.add(1);
+        self.steps.add(Step::Begins);
         self.last = self.last.saturating_add(1);
         self.last
     }
@@ -174,15 +189,11 @@ impl Journal for Telling {
         _ended: Result<u64, FrontError>,
         timed_out: bool,
     ) {
-        match (number == self.last, timed_out) {
-            (true, false) => self.steps.add(3),
-            (true, true) => self.steps.add(4),
-            (false, _) => self.steps.add(9),
-        }
+        self.steps.add(Step::Ended(number, timed_out));
     }
 
     fn failed<H: Wait>(&mut self, _rt: &H) {
-        self.steps.add(5);
+        self.steps.add(Step::Fails);
     }
 }
 
@@ -194,11 +205,32 @@ static EVENTS: [Event; 5] = [
     Event::Session(false, true),
 ];
 
+/// What a worker does with these events, one after the other.
+static STEPS: [Step; 17] = [
+    Step::Asks,
+    Step::Begins,
+    Step::Serves,
+    Step::Ended(7, false),
+    Step::Asks,
+    Step::Fails,
+    Step::Asks,
+    Step::Begins,
+    Step::Serves,
+    Step::Ended(8, true),
+    Step::Asks,
+    Step::Fails,
+    Step::Asks,
+    Step::Begins,
+    Step::Serves,
+    Step::Ended(9, true),
+    Step::Asks,
+];
+
 #[test]
 fn a_worker_serves_until_the_gate_is_over(rt: HostRuntime) -> Result<(), Fail> {
     let alloc: Global = rt.alloc();
-    let digits = AtomicU64::new(0);
-    let steps = Arc::new(alloc, Steps { digits })?;
+    let list = Mutex::new(Vec::new(alloc));
+    let steps = Arc::new(alloc, Steps { list })?;
     let desks = Bare {
         steps: Arc::try_clone(&steps)?,
     };
@@ -221,7 +253,7 @@ fn a_worker_serves_until_the_gate_is_over(rt: HostRuntime) -> Result<(), Fail> {
             thread::sleep(&rt, Duration::from_millis(10));
         }
     }
-    assert_eq!(rt; steps.digits.load(Ordering::SeqCst), 61_236_561_246_561_246);
+    assert_eq!(rt; steps.list.lock(&rt).as_slice(), STEPS.as_slice());
     worker.join(&rt);
     Ok(())
 }
