@@ -72,7 +72,7 @@ class Hub:
         if files is not None:
             resource.prlimit(self.process.pid, resource.RLIMIT_NOFILE, (files, files))
 
-    def told(self, seconds=20):
+    def told(self, seconds=60):
         """Waits for so long until the hub has written to its descriptor or has ended, and returns what it wrote."""
         return os.read(self.ready, 16) if select.select([self.ready], [], [], seconds)[0] else b""
 
@@ -108,9 +108,12 @@ class Program:
 
     def run(self, *words, known=None, **streams):
         """Runs the program with these words, and returns its status, its output and what it says on standard error. In its
-        environment `known` is the path of the socket."""
-        done = subprocess.run([self.path, *words], env=environment(known), stdin=subprocess.DEVNULL, timeout=60, check=False,
-                              **{"stdout": subprocess.PIPE, "stderr": subprocess.PIPE, **streams})
+        environment `known` is the path of the socket. The status is None if it doesn't end in a minute."""
+        try:
+            done = subprocess.run([self.path, *words], env=environment(known), stdin=subprocess.DEVNULL, timeout=60, check=False,
+                                  **{"stdout": subprocess.PIPE, "stderr": subprocess.PIPE, **streams})
+        except subprocess.TimeoutExpired:
+            return None, "", ""
         output, fault = ((text or b"").decode() for text in (done.stdout, done.stderr))
         return done.returncode, output, fault
 
@@ -118,6 +121,14 @@ class Program:
 def environment(known):
     others = {name: value for name, value in os.environ.items() if name != "FTRIGHUB_SOCKET"}
     return others if known is None else {**others, "FTRIGHUB_SOCKET": known}
+
+
+def check_end(program, path, report, name, words, replies, wanted):
+    """The command makes one connection, and ends with the last reply though the peer stays."""
+    peer = Peer(path, *(f"{reply}\n".encode() for reply in replies), stays=True)
+    report.same(name, program.run(*words, known=path), wanted)
+    report.same(f"{name}: how often it is sent what", (len(peer.all_sent().splitlines()), peer.connections), (len(replies), 1))
+    os.unlink(path)
 
 
 def hub_at(program, path):
@@ -130,10 +141,11 @@ def hub_at(program, path):
 
 class Peer:
     """A server that is no hub: it answers the first lines of one connection with these bytes, and hangs up. `sent` is all that
-    it was sent."""
+    it was sent. A peer that stays doesn't hang up, and counts the connections to it."""
 
-    def __init__(self, path, *replies):
+    def __init__(self, path, *replies, stays=False):
         self.listener, self.replies, self.sent = socket.socket(socket.AF_UNIX), replies, b""
+        self.stays, self.connections = stays, 1
         self.listener.bind(path)
         self.listener.listen()
         self.thread = threading.Thread(target=self.serve, daemon=True)
@@ -141,13 +153,23 @@ class Peer:
 
     def serve(self):
         connection, _ = self.listener.accept()
-        self.listener.close()
+        if not self.stays:
+            self.listener.close()
         with connection, connection.makefile("rb") as lines, contextlib.suppress(BrokenPipeError):
             for reply in self.replies:
                 self.sent += lines.readline()
                 connection.sendall(reply)
-            connection.shutdown(socket.SHUT_WR)
+            if not self.stays:
+                connection.shutdown(socket.SHUT_WR)
             self.sent += lines.read()
+        if self.stays:
+            self.count()
+
+    def count(self):
+        self.listener.setblocking(False)
+        with self.listener, contextlib.suppress(BlockingIOError):
+            while self.listener.accept():
+                self.connections += 1
 
     def all_sent(self):
         self.thread.join(30)

@@ -45,6 +45,7 @@ static WRONG: &str = "
     ftrighub serve s --forever --sessions 1025
     ftrighub serve s --forever --ready-fd
     ftrighub serve s --forever --ready-fd one
+    ftrighub serve s --forever --ready-fd 65536
     ftrighub serve s --forever --mode 660
     ftrighub serve s --forever --mode 0888
     ftrighub serve s --forever --idle
