@@ -72,7 +72,7 @@ impl Pause for AtOnce {
     }
 }
 
-/// Publishes so many letters.
+/// Publishes these letters.
 fn publishes<R: Abort + Wait>(rt: &R, fifodir: &Fifodir, letters: &[Letter]) {
     let mut one = publisher(rt, fifodir);
     let _ = fifodir.publish(rt, &mut one, letters);
