@@ -127,7 +127,7 @@ def check_end(program, path, report, name, words, replies, wanted):
     """The command makes one connection, and ends with the last reply though the peer stays."""
     peer = Peer(path, *(f"{reply}\n".encode() for reply in replies), stays=True)
     report.same(name, program.run(*words, known=path), wanted)
-    report.same(f"{name}: how often it is sent what", (len(peer.all_sent().splitlines()), peer.connections), (len(replies), 1))
+    report.same(f"{name}: its requests and connections", (len(peer.all_sent().splitlines()), peer.connections), (len(replies), 1))
     os.unlink(path)
 
 
