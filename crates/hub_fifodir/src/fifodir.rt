@@ -84,7 +84,7 @@ impl Fifodir {
         &self.waiters
     }
 
-    /// The bell that rings after each change, if somebody waits for one. A change is an event more, or the close.
+    /// The bell that rings after each accepted message and after the close, if somebody waits. A message without letters rings it too.
     pub fn bell(&self) -> &Bell {
         self.waiters.bell()
     }
