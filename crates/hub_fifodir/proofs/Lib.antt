@@ -1,3 +1,4 @@
+pub mod Boxes
 pub mod Logs
 pub mod ViewLists
 pub mod OneSeat

@@ -20,7 +20,7 @@ none_between n most a b = absurd (omega arith)
 
 -- only what was given is current, and has a cursor
 pub bounded_after : (b : Locked) (w : World) → StandsForWorld b w → ((n : ℕ) → is_current b.standing.keys n ≡ true → IsGiven n b.given) → IsBounded (book_of b)
-bounded_after b w h low = record { cursors = λ i next at. cursor_given b.kept w i next h.for at; standing = low }
+bounded_after b w h low = record { cursors = λ i next at. cursor_given b.kept.value w i next h.for at; standing = low }
 
 -- with the same record
 pub still_stands : (b b' : Locked) (w : World) → KeepsRecord b b' → StandsForWorld b w → StandsForWorld b' w
@@ -53,8 +53,8 @@ rests m b b' live held low same behind =
 -- a call on the record alone that leaves the subscriptions as they are
 pub same_book : (b b' : Locked) (w w' : World) → StandsForWorld b w → StandsForWorld b' w' → w'.subscriptions ≡ w.subscriptions → KeepsPublishers b b' → book_of b' ≡ book_of b
 same_book b b' w w' h h' same others =
-    let cursors : b'.kept.cursors ≡ b.kept.cursors = h'.for.cursors ∙ ap (λ (l : List Subscription). Rattle.hub_record.specs.World.current_from 1 l) same ∙ sym h.for.cursors in
-    let ids : b'.kept.given ≡ b.kept.given = h'.for.given ∙ ap length same ∙ sym h.for.given in
+    let cursors : b'.kept.value.cursors ≡ b.kept.value.cursors = h'.for.cursors ∙ ap (λ (l : List Subscription). Rattle.hub_record.specs.World.current_from 1 l) same ∙ sym h.for.cursors in
+    let ids : b'.kept.value.given ≡ b.kept.value.given = h'.for.given ∙ ap length same ∙ sym h.for.given in
     λ i. record { cursors = cursors i; ids = ids i; standing = others.0 i; numbers = others.1 i }
 
 -- ---- a visitor becomes the publisher with the next number
@@ -65,8 +65,8 @@ pub rests_as_publisher : (m : M) (b b' : Locked) (n : ℕ) → m.0.role ≡ Visi
 rests_as_publisher m b b' n role held low fresh next joined count behind keeps =
     let k : Book = book_of b in let n' : ℕ = b'.given in let up : n' ≡ b.given + 1 = count ∙ next in
     let is_current' = still_stands b b' behind.world keeps behind.for in
-    let cursors : b'.kept.cursors ≡ b.kept.cursors = is_current'.for.cursors ∙ sym behind.for.for.cursors in
-    let ids : b'.kept.given ≡ b.kept.given = is_current'.for.given ∙ sym behind.for.for.given in
+    let cursors : b'.kept.value.cursors ≡ b.kept.value.cursors = is_current'.for.cursors ∙ sym behind.for.for.cursors in
+    let ids : b'.kept.value.given ≡ b.kept.value.given = is_current'.for.given ∙ sym behind.for.for.given in
     let all : (x : ℕ) → is_current b'.standing.keys x ≡ cond (nat_eq n' x) true (is_current b.standing.keys x) = λ x. joined x ∙ ap (λ (y : ℕ). cond (nat_eq y x) true (is_current b.standing.keys x)) (sym count) in (
       k,
       writer n' [],
@@ -86,7 +86,7 @@ rests_as_publisher m b b' n role held low fresh next joined count behind keeps =
         own_number = λ f g j h. inl (omega arith);
         id_kept = λ x h. absurd h;
         number_kept = λ x h. absurd h;
-        id_given = λ i a c. absurd (none_between i b.kept.given a (omega arith));
+        id_given = λ i a c. absurd (none_between i b.kept.value.given a (omega arith));
         number_given = λ x a c. (omega arith, omega arith);
         bounded = bounded_after b' behind.world is_current' (λ x at. dite (ℕ_discrete n' x)
             (λ e. (omega arith, omega arith))
@@ -108,8 +108,8 @@ pub rests_left : (m : M) (b b' : Locked) (n : ℕ) (mine : List ℕ) → m.0.rol
 rests_left m b b' n mine role held low behind left keeps =
     let k : Book = book_of b in
     let is_current' = still_stands b b' behind.world keeps behind.for in
-    let cursors : b'.kept.cursors ≡ b.kept.cursors = is_current'.for.cursors ∙ sym behind.for.for.cursors in
-    let ids : b'.kept.given ≡ b.kept.given = is_current'.for.given ∙ sym behind.for.for.given in
+    let cursors : b'.kept.value.cursors ≡ b.kept.value.cursors = is_current'.for.cursors ∙ sym behind.for.for.cursors in
+    let ids : b'.kept.value.given ≡ b.kept.value.given = is_current'.for.given ∙ sym behind.for.for.given in
     let numbers : b'.given ≡ b.given = left.1 in
     let book_ids : (book_of b').ids ≡ k.ids = ids in
     subst (λ (r : Role). Gives m b' (view_at_rest m.0 (as_gone r))) (sym role) (
@@ -131,7 +131,7 @@ rests_left m b b' n mine role held low behind left keeps =
         own_number = λ f g j h. inr h.its_seat;
         id_kept = λ x h. absurd h;
         number_kept = λ x h. h;
-        id_given = λ i a c. absurd (none_between i b.kept.given a (omega arith));
+        id_given = λ i a c. absurd (none_between i b.kept.value.given a (omega arith));
         number_given = λ x a c. absurd (none_between x b.given a (omega arith));
         bounded = bounded_after b' behind.world is_current' (λ x at. dite (ℕ_discrete n x)
             (λ e. let no : false ≡ true = sym (left.0 x ∙ ap (λ t. cond t false (is_current b.standing.keys x)) (eq-eqb n x e)) ∙ at in cc)

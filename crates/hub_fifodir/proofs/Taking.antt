@@ -35,12 +35,12 @@ pub rests_as_ticket : (m : M) (b b' : Locked) → m.0.role ≡ Visitor → m.0.h
     → StandsForWorld b' (after_subscribe h.world (Ok given)) → KeepsPublishers b b' → Gives m b' (view_at_rest m.0 (new_taker b' m.0.sight.seen))
 rests_as_ticket m b b' role held low h given after others =
     let k : Book = book_of b in let w : World = h.world in let w' : World = after_subscribe h.world (Ok given) in
-    let i0 : ℕ = b'.kept.given in let len : ℕ = length m.0.sight.seen in
+    let i0 : ℕ = b'.kept.value.given in let len : ℕ = length m.0.sight.seen in
     let count : length (w.subscriptions ++ new_subscription w ∷ []) ≡ length w.subscriptions + 1 = length-append w.subscriptions (new_subscription w ∷ []) in
-    let up : b'.kept.given ≡ b.kept.given + 1 = after.for.given ∙ count ∙ ap (λ (n : ℕ). n + 1) (sym h.for.for.given) in
-    let place : i0 ≡ 1 + length w.subscriptions = let e : b.kept.given ≡ length w.subscriptions = h.for.for.given in omega arith in
-    let own : cursor_of b'.kept.cursors i0 ≡ Some len =
-    cursor_found b'.kept w' i0 after.for ∙ ap next_of (found_new 1 w.subscriptions (new_subscription w) i0 place refl) ∙ ap (λ (l : List Event). Some (length l)) h.events in
+    let up : b'.kept.value.given ≡ b.kept.value.given + 1 = after.for.given ∙ count ∙ ap (λ (n : ℕ). n + 1) (sym h.for.for.given) in
+    let place : i0 ≡ 1 + length w.subscriptions = let e : b.kept.value.given ≡ length w.subscriptions = h.for.for.given in omega arith in
+    let own : cursor_of b'.kept.value.cursors i0 ≡ Some len =
+    cursor_found b'.kept.value w' i0 after.for ∙ ap next_of (found_new 1 w.subscriptions (new_subscription w) i0 place refl) ∙ ap (λ (l : List Event). Some (length l)) h.events in
     let numbers : b'.given ≡ b.given = others.1 in (
       k,
       new_taker b' m.0.sight.seen,
@@ -52,7 +52,7 @@ rests_as_ticket m b b' role held low h given after others =
       subst (λ (r : Role). Changes m.0.sight.seen r (new_taker b' m.0.sight.seen) k (book_of b') i0 (suc k.numbers)) (sym role) record {
         ids_up = omega arith;
         numbers_up = omega arith;
-        cursors = λ i ne. cursor_found b'.kept w' i after.for ∙ ap next_of (found_old 1 w.subscriptions (new_subscription w) i (λ e. ne (e ∙ sym place))) ∙ sym (cursor_found b.kept w i h.for.for);
+        cursors = λ i ne. cursor_found b'.kept.value w' i after.for ∙ ap next_of (found_old 1 w.subscriptions (new_subscription w) i (λ e. ne (e ∙ sym place))) ∙ sym (cursor_found b.kept.value w i h.for.for);
         standing = λ n ne. ap (λ (l : List ℕ). is_current l n) others.0;
         live = tt;
         live' = tt;
@@ -73,7 +73,7 @@ rests_as_ticket m b b' role held low h given after others =
     )
 
 -- the ticket that was made
-pub is_new_taker : (m m3 : M) (b' : Locked) (id mark : ℕ) → id ≡ b'.kept.given → mark ≡ length m.0.sight.seen → IsSound m.0.rules m.0.sight.seen → m3 ≡ (view_at_rest m.0 (new_taker b' m.0.sight.seen), []) → IsTaker m3 id mark mark
+pub is_new_taker : (m m3 : M) (b' : Locked) (id mark : ℕ) → id ≡ b'.kept.value.given → mark ≡ length m.0.sight.seen → IsSound m.0.rules m.0.sight.seen → m3 ≡ (view_at_rest m.0 (new_taker b' m.0.sight.seen), []) → IsTaker m3 id mark mark
 is_new_taker m m3 b' id mark is at ok e = subst (λ (x : M). IsTaker x id mark mark) (sym e) record {
   role = λ i. taker (sym is i) (sym at i) (sym at i) [];
   held = refl;
@@ -86,7 +86,7 @@ is_new_taker m m3 b' id mark is at ok e = subst (λ (x : M). IsTaker x id mark m
 }
 
 -- the id and the mark that a subscription is given
-pub id_given : (b' : Locked) (w : World) (given : ℕ × ℕ) → given ≡ (length w.subscriptions + 1, length w.events) → StandsForWorld b' (after_subscribe w (Ok given)) → given.0 ≡ b'.kept.given
+pub id_given : (b' : Locked) (w : World) (given : ℕ × ℕ) → given ≡ (length w.subscriptions + 1, length w.events) → StandsForWorld b' (after_subscribe w (Ok given)) → given.0 ≡ b'.kept.value.given
 id_given b' w given e after = ap (λ (p : ℕ × ℕ). p.0) e ∙ sym (after.for.given ∙ length-append w.subscriptions (new_subscription w ∷ []))
 
 module _ (m0 m1 : M) (id mark next : ℕ) (b : Locked) (w : IsTaker m0 id mark next) (h : Locks book_of IsBehind IsSound m0.0 m1.0 b) where
@@ -96,7 +96,7 @@ module _ (m0 m1 : M) (id mark next : ℕ) (b : Locked) (w : IsTaker m0 id mark n
   held_is : m1.0.held ≡ Some (book_of b)
   held_is = ap (λ (v : View). v.held) h.renews.is
 
-  in_book : IsGiven id b.kept.given × (cursor_of b.kept.cursors id ≡ Some next)
+  in_book : IsGiven id b.kept.value.given × (cursor_of b.kept.value.cursors id ≡ Some next)
   in_book = subst (IsInBook (book_of b)) role_is h.in_book
 
   sane_is : IsSane m1.0.sight.seen (taker id mark next (got_of m0.0.role))
@@ -104,7 +104,7 @@ module _ (m0 m1 : M) (id mark next : ℕ) (b : Locked) (w : IsTaker m0 id mark n
 
   -- its subscription
   subscribed : (s : Subscription) × (subscription_in h.behind.world id ≡ Some s) × (s.next ≡ next)
-  subscribed = subscription_of (subscription_in h.behind.world id) next (sym (cursor_found b.kept h.behind.world id h.behind.for.for) ∙ in_book.1)
+  subscribed = subscription_of (subscription_in h.behind.world id) next (sym (cursor_found b.kept.value h.behind.world id h.behind.for.for) ∙ in_book.1)
 
   pub rules_still : (m3 : M) → m3 ≡ (view_at_rest m1.0 m1.0.role, []) → m3.0.rules ≡ m1.0.rules
   rules_still m3 e = ap (λ (m : M). m.0.rules) e
@@ -115,16 +115,16 @@ module _ (m0 m1 : M) (id mark next : ℕ) (b : Locked) (w : IsTaker m0 id mark n
   -- ---- a call that makes `f` of its subscription
 
   module _ (b' : Locked) (f : Subscription → Subscription) (after : StandsForWorld b' (with_changed h.behind.world id f)) (others : KeepsPublishers b b') where
-    cursor_now : (s : Option Subscription) → subscription_in (with_changed h.behind.world id f) id ≡ s → cursor_of b'.kept.cursors id ≡ next_of s
-    cursor_now s e = cursor_found b'.kept (with_changed h.behind.world id f) id after.for ∙ ap next_of e
+    cursor_now : (s : Option Subscription) → subscription_in (with_changed h.behind.world id f) id ≡ s → cursor_of b'.kept.value.cursors id ≡ next_of s
+    cursor_now s e = cursor_found b'.kept.value (with_changed h.behind.world id f) id after.for ∙ ap next_of e
 
     -- the ticket as it is then, with its cursor, or none if it is gone
     gives : (next' : ℕ) (got' : List Event) (gone : Bool) → let t : Taking = record { id = id; mark = mark; next = next'; got = got'; gone = gone } in
-        IsSane m1.0.sight.seen (Ticket t) → cursor_of b'.kept.cursors id ≡ cursor_if gone next' → Gives m1 b' (view_at_rest m1.0 (Ticket t))
+        IsSane m1.0.sight.seen (Ticket t) → cursor_of b'.kept.value.cursors id ≡ cursor_if gone next' → Gives m1 b' (view_at_rest m1.0 (Ticket t))
     gives next' got' gone sane cursor =
         let t : Taking = record { id = id; mark = mark; next = next'; got = got'; gone = gone } in
         let numbers : b'.given ≡ b.given = others.1 in
-        let ids : b'.kept.given ≡ b.kept.given = after.for.given ∙ length-changed f 1 h.behind.world.subscriptions id ∙ sym h.behind.for.for.given in (
+        let ids : b'.kept.value.given ≡ b.kept.value.given = after.for.given ∙ length-changed f 1 h.behind.world.subscriptions id ∙ sym h.behind.for.for.given in (
           book_of b,
           Ticket t,
           id,
@@ -135,7 +135,7 @@ module _ (m0 m1 : M) (id mark next : ℕ) (b : Locked) (w : IsTaker m0 id mark n
           subst (λ (r : Role). Changes m1.0.sight.seen r (Ticket t) (book_of b) (book_of b') id (suc b.given)) (sym role_is) record {
             ids_up = omega arith;
             numbers_up = omega arith;
-            cursors = λ i ne. cursor_found b'.kept (with_changed h.behind.world id f) i after.for ∙ ap next_of (found_else f 1 h.behind.world.subscriptions id i ne) ∙ sym (cursor_found b.kept h.behind.world i h.behind.for.for);
+            cursors = λ i ne. cursor_found b'.kept.value (with_changed h.behind.world id f) i after.for ∙ ap next_of (found_else f 1 h.behind.world.subscriptions id i ne) ∙ sym (cursor_found b.kept.value h.behind.world i h.behind.for.for);
             standing = λ n ne. ap (λ (l : List ℕ). is_current l n) others.0;
             live = tt;
             live' = tt;
@@ -143,7 +143,7 @@ module _ (m0 m1 : M) (id mark next : ℕ) (b : Locked) (w : IsTaker m0 id mark n
             own_number = λ f g j x. inl (omega arith);
             id_kept = λ i x. x;
             number_kept = λ n x. absurd x;
-            id_given = λ i a c. absurd (none_between i b.kept.given a (omega arith));
+            id_given = λ i a c. absurd (none_between i b.kept.value.given a (omega arith));
             number_given = λ n a c. absurd (none_between n b.given a (omega arith));
             bounded = bounded_after b' (with_changed h.behind.world id f) after (still_low b b' h.bounded others);
             fits = λ f g j x _ _. record { its_seat = x.its_seat; given = (x.given.0, let q = x.given.1 in omega arith); sane = sane; cursor = cursor };
@@ -218,7 +218,7 @@ module _ (m0 m1 : M) (id mark next : ℕ) (b : Locked) (w : IsTaker m0 id mark n
     is_current' : StandsForWorld b' (with_changed h.behind.world id (moved_on h.behind.world most))
     is_current' = subst (λ (o : Option Subscription). StandsForWorld b' (after_take_for h.behind.world id most o)) subscribed.1 after
 
-    cursor_own : cursor_of b'.kept.cursors id ≡ Some (next + count most)
+    cursor_own : cursor_of b'.kept.value.cursors id ≡ Some (next + count most)
     cursor_own = let s = subscribed in let subs = h.behind.world.subscriptions in let f = moved_on h.behind.world most in
         cursor_now b' f is_current' others (Some (f s.0)) (found_changed f 1 subs id s.0 s.1 (found_stands 1 subs id s.0 s.1)) ∙ (λ i. Some (s.2 i + count_is most i))
 

@@ -45,10 +45,10 @@ SeatsAgree = (rules : Rules) (s : Board) (j k : ℕ) (v w : View) → RuleHolds 
 
 -- a current ticket has its cursor, and a cursor has its ticket
 abbrev pub TicketsHaveCursors : Type 0
-TicketsHaveCursors = (rules : Rules) (s : Board) (b : Locked) (j : ℕ) (t : Taking) → RuleHolds rules s → IsFree s b → HasTicket s j t → t.gone ≡ false → cursor_of b.kept.cursors t.id ≡ Some t.next
+TicketsHaveCursors = (rules : Rules) (s : Board) (b : Locked) (j : ℕ) (t : Taking) → RuleHolds rules s → IsFree s b → HasTicket s j t → t.gone ≡ false → cursor_of b.kept.value.cursors t.id ≡ Some t.next
 
 abbrev pub CursorsHaveTickets : Type 0
-CursorsHaveTickets = (rules : Rules) (s : Board) (b : Locked) (id next : ℕ) → RuleHolds rules s → IsFree s b → cursor_of b.kept.cursors id ≡ Some next
+CursorsHaveTickets = (rules : Rules) (s : Board) (b : Locked) (id next : ℕ) → RuleHolds rules s → IsFree s b → cursor_of b.kept.value.cursors id ≡ Some next
     → (j : ℕ) × (t : Taking) × HasTicket s j t × (t.id ≡ id) × (t.next ≡ next) × (t.gone ≡ false)
 
 -- a current number has its publisher

@@ -19,7 +19,7 @@ given_by b = b.given
 
 -- its record stands for the world
 pub record StandsForWorld (b : Locked) (w : World) : Type 0 where
-  pub for : StandsFor b.kept w
+  pub for : StandsFor b.kept.value w
   pub ids : b.ids ≡ w.limits.ids
 
 -- the status of a world's record
@@ -28,7 +28,7 @@ status_of w = record { number = length w.events; flags = flags_of (letters w.eve
 
 -- the record is the same
 abbrev pub KeepsRecord : Locked → Locked → Type 0
-KeepsRecord old new = (new.kept ≡ old.kept) × (new.ids ≡ old.ids)
+KeepsRecord old new = (new.kept.value ≡ old.kept.value) × (new.ids ≡ old.ids)
 
 -- whether a number is that of a current publisher
 abbrev pub is_current : List ℕ → ℕ → Bool

@@ -187,7 +187,7 @@ module _ {B : Type 0} (book_of : B → Book) (stands_for : Rules → List Event 
 -- ---- the rule of a fifodir
 
 abbrev pub book_of : Locked → Book
-book_of b = record { cursors = b.kept.cursors; ids = b.kept.given; standing = b.standing.keys; numbers = b.given }
+book_of b = record { cursors = b.kept.value.cursors; ids = b.kept.value.given; standing = b.standing.keys; numbers = b.given }
 
 -- while the lock is free: the locked value stands for a world with this history
 pub record IsBehind (rules : Rules) (log : List Event) (mark : ℕ) (b : Locked) : Type 0 where

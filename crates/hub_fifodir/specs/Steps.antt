@@ -198,7 +198,7 @@ Gives m b w = (k : Book) × (r : Role) × (i0 : ℕ) × (n0 : ℕ) × (m.0.held 
 
 -- the ticket with the last id given, whose mark is the end of what is seen
 abbrev pub new_taker : Locked → List Event → Role
-new_taker b seen = taker b.kept.given (length seen) (length seen) []
+new_taker b seen = taker b.kept.value.given (length seen) (length seen) []
 
 -- the ticket t after it took n more events of what was seen
 abbrev pub taker_after : List Event → Taking → ℕ → Role

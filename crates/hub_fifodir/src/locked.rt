@@ -18,7 +18,8 @@ use std::alloc::{AllocError, Global};
 /// `Fifodir`, for one thread, with ids and numbers in place of passes.
 #[derive(Drop)]
 pub struct Locked {
-    kept: Record,
+    /// In a box, so that little is moved when a call takes the value out of the table and puts it back.
+    kept: Box<Record>,
     /// How many numbers may be given in all.
     ids: u64,
     /// The numbers of the current publishers.
@@ -34,7 +35,7 @@ impl Locked {
             × (given_by b ≡ 0)) }
     {
         Ok(Locked {
-            kept: Record::new(alloc, kind, limits)?,
+            kept: Box::new(alloc, Record::new(alloc, kind, limits)?)?,
             ids: limits.ids,
             standing: IndexSet::new(alloc),
             given: 0,
@@ -64,6 +65,7 @@ impl Locked {
     }
 
     /// Gives the next id, and its mark: the number of events so far.
+    #[tactic(auto, using(crate::proofs::Boxes::same_if_refused))]
     pub fn subscribe(&mut self) -> Result<(u64, u64), SubError>
         ensures reply { (w : World) → StandsForWorld self.old w → SubscribeReply w result }
         ensures world { (w : World) → StandsForWorld self.old w
@@ -75,6 +77,7 @@ impl Locked {
     }
 
     /// Adds the whole message, or nothing. It doesn't check whether the publisher is current.
+    #[tactic(auto, using(crate::proofs::Boxes::same_if_refused))]
     pub fn publish(&mut self, number: u64, letters: &[Letter]) -> Result<u64, PubError>
         ensures reply { (w : World) → StandsForWorld self.old w
             → PublishReply w letters.now result }
@@ -87,6 +90,7 @@ impl Locked {
     }
 
     /// Takes what is pending behind a cursor, as far as it fits. An error says that the id has no cursor.
+    #[tactic(auto, using(crate::proofs::Boxes::same_if_refused))]
     pub fn take_into(&mut self, id: u64, out: &mut [Event]) -> Result<Taken, NoId>
         ensures reply { (w : World) → StandsForWorld self.old w
             → result ≡ take_reply w id (length out.old) }
@@ -102,6 +106,7 @@ impl Locked {
     }
 
     /// Ends a subscription. An error says that the id has no subscription.
+    #[tactic(auto, using(crate::proofs::Boxes::same_if_refused))]
     pub fn cancel(&mut self, id: u64) -> Result<(), NoId>
         ensures reply { (w : World) → StandsForWorld self.old w → result ≡ cancel_reply w id }
         ensures world { (w : World) → StandsForWorld self.old w
@@ -121,6 +126,7 @@ impl Locked {
     }
 
     /// Closes the record for good. An error says that it was closed before.
+    #[tactic(auto, using(crate::proofs::Boxes::same_if_refused))]
     pub fn close(&mut self) -> Result<(), Closed>
         ensures reply { (w : World) → StandsForWorld self.old w → result ≡ close_reply w }
         ensures world { (w : World) → StandsForWorld self.old w
