@@ -1,4 +1,4 @@
-"""What the tests of edits share: how an edit is applied, what a table of edits says, a copy of the sources, and a count of what holds."""
+"""What the tests of edits share: how an edit is applied, what a table of edits says, and a copy of the sources."""
 
 import re
 import shutil
@@ -7,26 +7,6 @@ from pathlib import Path
 ROOT = Path(__file__).resolve().parent.parent
 # A row of a table in only-tested/: the edit, a crate of tests or a script of tests/, and the name of the test there.
 TEST = re.compile(r"\| `(\w+)` \|[^|]+\| `([\w/-]+)`, `([^`|]+)` \|")
-
-
-class Checks:
-    """Counts what holds, and prints what does not."""
-
-    def __init__(self):
-        self.passed = 0
-        self.failed = 0
-
-    def add(self, name, fault):
-        if fault is None:
-            self.passed += 1
-        else:
-            self.failed += 1
-            print(f"{name}: {fault}", flush=True)
-
-    def end(self):
-        """Prints the last line, and returns the status."""
-        print(f"{self.passed} passed, {self.failed} failed")
-        return 1 if self.failed else 0
 
 
 def changed(texts, crate, path, old, new):
