@@ -1,7 +1,7 @@
 use crate::tests::fixtures::{none_is_unlike, word};
-use crate::tests::passes::{Sender, Shared, new_sender, open, open_with};
+use crate::tests::passes::{Sender, Shared, new_sender, open};
 use hub_letters::{Letter, Want};
-use hub_record::{Kind, Policy, PubError};
+use hub_record::{Kind, PubError};
 use hub_wait::{Go, Patience, Pause, Post, Span, Verdict, svlisten, svwait};
 use std::alloc::Global;
 use std::process::Abort;
@@ -128,7 +128,7 @@ static ROWS: [Row; 6] = [
 ];
 
 /// A service's fifodir whose supervisor has sent these letters.
-fn start_service<R: Abort + Wait>(
+pub(crate) fn start_service<R: Abort + Wait>(
     rt: &R,
     alloc: Global,
     text: &str,
@@ -188,130 +188,6 @@ fn waits_for_no_service<R: Wait + Clock>(rt: &R, pause: &mut Patience<R>) -> boo
         && svwait(rt, &mut [], Span::Any, 3, pause) == Verdict::Never
 }
 
-/// A pause that sends its messages, so many of them at each call.
-struct Reports {
-    supervisor: Sender,
-    messages: [Vec<Letter>; 3],
-    at_once: usize,
-    sent: usize,
-}
-
-impl Reports {
-    fn end<R: Wait>(self, rt: &R) {
-        let Reports {
-            supervisor,
-            messages: _,
-            at_once: _,
-            sent: _,
-        } = self;
-        supervisor.leave(rt);
-    }
-}
-
-impl Pause for Reports {
-    fn pause<R: Wait>(&mut self, rt: &R) -> Go {
-        for _ in 0..self.at_once {
-            if let Some(message) = self.messages.get(self.sent) {
-                let _ = self.supervisor.send(rt, message);
-            }
-            self.sent = self.sent.wrapping_add(1);
-        }
-        Go::Again
-    }
-}
-
-/// A wait for a restart: the letters before it, what is wanted, the messages of the first two pauses, and how many turns.
-type Course = (&'static str, Want, [&'static str; 2], u64);
-
-/// How the wait ends: the verdict, and the watch's number, code of flags and fall.
-type End = (Verdict, u64, u64, bool);
-
-const AGAIN: Want = Want::Restarted;
-
-const READY_AGAIN: Want = Want::RestartedReady;
-
-static RESTARTS: [(Course, End); 8] = [
-    (("su", AGAIN, ["dDu", "U"], 1), (Verdict::Yes, 5, 5, true)),
-    (
-        ("su", READY_AGAIN, ["dDu", "U"], 1),
-        (Verdict::Late, 5, 5, true),
-    ),
-    (
-        ("su", READY_AGAIN, ["dDu", "U"], 2),
-        (Verdict::Yes, 6, 7, true),
-    ),
-    // It doesn't fall.
-    (("su", AGAIN, ["U", ""], 3), (Verdict::Late, 3, 7, false)),
-    // A new supervisor starts it.
-    (("su", AGAIN, ["su", ""], 1), (Verdict::Yes, 4, 5, true)),
-    // It fell before the wait.
-    (
-        ("suUdDu", READY_AGAIN, ["U", ""], 3),
-        (Verdict::Late, 7, 7, false),
-    ),
-    // It stays down.
-    (("suU", AGAIN, ["d", "D"], 3), (Verdict::Late, 5, 6, true)),
-    // It won't be restarted.
-    (
-        ("suU", READY_AGAIN, ["dO", "D"], 3),
-        (Verdict::Never, 5, 12, true),
-    ),
-];
-
-fn waits_for<R: Abort + Wait>(rt: &R, alloc: Global, course: Course) -> Result<End, Fail> {
-    let (before, want, [first, second], turns) = course;
-    let messages = [word(alloc, first)?, word(alloc, second)?, word(alloc, "")?];
-    let (fifodir, supervisor) = start_service(rt, alloc, before)?;
-    let mut pause = Reports {
-        supervisor,
-        messages,
-        at_once: 1,
-        sent: 0,
-    };
-    let mut posts = [open_post(rt, fifodir, want, true)];
-    let verdict = svwait(rt, &mut posts, Span::All, turns, &mut pause);
-    let [post] = posts;
-    let watch = *post.watch();
-    post.end(rt);
-    pause.end(rt);
-    Ok((verdict, watch.at(), watch.flags().code(), watch.fell()))
-}
-
-/// The place of the first row that goes otherwise.
-fn first_restarted_otherwise<R: Abort + Wait>(
-    rt: &R,
-    alloc: Global,
-) -> Result<Option<usize>, Fail> {
-    for (place, (course, end)) in RESTARTS.iter().enumerate() {
-        if waits_for(rt, alloc, *course)? != *end {
-            return Ok(Some(place));
-        }
-    }
-    Ok(None)
-}
-
-/// Whether a wait is told right if its own subscription is evicted while it waits.
-fn an_evicted_wait_goes_on<R: Abort + Wait>(rt: &R, alloc: Global) -> Result<bool, Fail> {
-    let messages = [word(alloc, "uU")?, word(alloc, "dD")?, word(alloc, "uU")?];
-    let first = word(alloc, "s")?;
-    let fifodir = open_with(alloc, Kind::Service, (2, 1000, 10), Policy::Evict)?;
-    let mut supervisor = new_sender(rt, &fifodir);
-    let is_begun = supervisor.send(rt, &first) == Ok(0);
-    let mut posts = [open_post(rt, fifodir, Want::Ready, true)];
-    let mut pause = Reports {
-        supervisor,
-        messages,
-        at_once: 3,
-        sent: 0,
-    };
-    let verdict = svwait(rt, &mut posts, Span::All, 1, &mut pause);
-    let [post] = posts;
-    let (at, code, mark) = (post.watch().at(), post.watch().flags().code(), post.mark());
-    post.end(rt);
-    pause.end(rt);
-    Ok(is_begun && (verdict, at, code, mark) == (Verdict::Yes, 7, 7, 1))
-}
-
 /// Whether a wait for so many turns, beside a supervisor that starts the service, ends with the verdict and at the number.
 fn act_is_heard<R: Abort + Wait + Clock + Copy>(
     rt: &R,
@@ -360,20 +236,6 @@ fn room_comes_with_a_wait<R: Abort + Wait + Clock + Copy>(
 #[test]
 fn a_wait_goes_on_for_so_many_turns(rt: HostRuntime) -> Result<(), Fail> {
     none_is_unlike(&rt, first_unlike(&rt, rt.alloc())?);
-    Ok(())
-}
-
-#[test]
-fn a_wait_goes_on_if_it_is_evicted(rt: HostRuntime) -> Result<(), Fail> {
-    let goes_on = an_evicted_wait_goes_on(&rt, rt.alloc())?;
-    assert!(rt; goes_on, "a wait whose subscription is evicted");
-    Ok(())
-}
-
-#[test]
-fn waits_for_a_restart(rt: HostRuntime) -> Result<(), Fail> {
-    let unlike = first_restarted_otherwise(&rt, rt.alloc())?;
-    assert_eq!(rt; unlike, None);
     Ok(())
 }
 

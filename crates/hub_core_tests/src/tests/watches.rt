@@ -1,13 +1,13 @@
 use crate::tests::fixtures::{none_is_unlike, word};
 use hub_letters::{Flags, Want};
 use hub_record::Status;
-use hub_wait::{Span, Tally, Verdict, Watch};
+use hub_wait::Watch;
 use std::alloc::Global;
 use std::io;
 use std::test::Fail;
 
 /// A watch that begins at an open status.
-fn watch_at(want: Want, number: u64, code: u64) -> Option<Watch> {
+pub(crate) fn watch_at(want: Want, number: u64, code: u64) -> Option<Watch> {
     let flags = Flags::of_code(code)?;
     let status = Status {
         number,
@@ -205,93 +205,6 @@ fn ends(watch: Watch) -> bool {
     !watch.ended() && ended.ended() && ended.at() == watch.at() && ended.flags() == watch.flags()
 }
 
-fn a_closed_status_makes_an_ended_watch() -> bool {
-    let status = Status {
-        number: 0,
-        flags: Flags::none(),
-        closed: true,
-    };
-    Watch::new(Want::Up, false, status).ended()
-}
-
-/// Codes of the flags of watches for readiness, and whether each is ended; then the verdicts for all and for any.
-type Row = (
-    &'static str,
-    &'static [(u64, bool)],
-    (Option<Verdict>, Option<Verdict>),
-);
-
-const YES: Option<Verdict> = Some(Verdict::Yes);
-
-const NEVER: Option<Verdict> = Some(Verdict::Never);
-
-const READY: (u64, bool) = (7, false);
-
-const STARTING: (u64, bool) = (5, false);
-
-const FAILED: (u64, bool) = (14, false);
-
-const CLOSED: (u64, bool) = (4, true);
-
-static VERDICTS: [Row; 11] = [
-    ("over none", &[], (YES, NEVER)),
-    ("both ready", &[READY, READY], (YES, YES)),
-    ("one ready", &[READY, STARTING], (None, YES)),
-    ("none yet", &[STARTING, STARTING], (None, None)),
-    ("failed before the wait", &[FAILED, FAILED], (NEVER, NEVER)),
-    (
-        "one failed, the other starting",
-        &[FAILED, STARTING],
-        (NEVER, None),
-    ),
-    (
-        "one failed, the other ready",
-        &[FAILED, READY],
-        (NEVER, YES),
-    ),
-    (
-        "one closed, the other starting",
-        &[STARTING, CLOSED],
-        (NEVER, None),
-    ),
-    (
-        "one closed, the other failed",
-        &[CLOSED, FAILED],
-        (NEVER, NEVER),
-    ),
-    ("ready and then closed", &[(7, true), (7, true)], (YES, YES)),
-    (
-        "ready, and won't be restarted",
-        &[(15, false), READY],
-        (YES, YES),
-    ),
-];
-
-fn verdicts(watches: &[(u64, bool)]) -> (Option<Verdict>, Option<Verdict>) {
-    let mut all = Tally::new(Span::All);
-    let mut any = Tally::new(Span::Any);
-    for (code, ended) in watches {
-        if let Some(mut watch) = watch_at(Want::Ready, 4, *code) {
-            if *ended {
-                watch.end();
-            }
-            all.add(&watch);
-            any.add(&watch);
-        }
-    }
-    (all.answer(), any.answer())
-}
-
-/// The name of the first row with another verdict.
-fn first_judged_otherwise() -> Option<&'static str> {
-    for (name, watches, wanted) in VERDICTS.iter() {
-        if verdicts(watches) != *wanted {
-            return Some(*name);
-        }
-    }
-    None
-}
-
 #[test]
 fn watches_follow_their_letters(rt: HostRuntime) -> Result<(), Fail> {
     none_is_unlike(&rt, first_unlike(rt.alloc())?);
@@ -307,13 +220,4 @@ fn watches_go_on_from_a_status(rt: HostRuntime) -> Result<(), Fail> {
         "a closed status ends a watch"
     );
     Ok(())
-}
-
-#[test]
-fn verdicts_over_several_watches(rt: HostRuntime) {
-    none_is_unlike(&rt, first_judged_otherwise());
-    assert!(rt;
-        a_closed_status_makes_an_ended_watch(),
-        "a closed status makes an ended watch"
-    );
 }
