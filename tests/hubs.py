@@ -9,6 +9,8 @@ import resource
 import select
 import socket
 import subprocess
+import sys
+import tempfile
 import threading
 import time
 
@@ -94,10 +96,14 @@ class Hub:
             return int(re.search(rf"^{what}:\s+(\d+)", file.read(), re.M)[1])
 
     def processor_time(self):
-        """The seconds of processor time that all its threads have used, in the user's mode and in the system's."""
-        with open(f"/proc/{self.process.pid}/stat", encoding="ascii") as file:
-            fields = file.read().rpartition(")")[2].split()
-        return (int(fields[11]) + int(fields[12])) / os.sysconf("SC_CLK_TCK")
+        return processor_time(self.process.pid)
+
+
+def processor_time(process):
+    """The seconds of processor time that all threads of a process have used, in the user's mode and in the system's."""
+    with open(f"/proc/{process}/stat", encoding="ascii") as file:
+        fields = file.read().rpartition(")")[2].split()
+    return (int(fields[11]) + int(fields[12])) / os.sysconf("SC_CLK_TCK")
 
 
 class Program:
@@ -199,3 +205,22 @@ class Report:
         """Prints the last line, and returns the status of the test."""
         print(f"{self.passed} passed, {self.failed} failed")
         return 1 if self.failed else 0
+
+
+def tried(check, program, folder, report):
+    """Makes a check. If a hub doesn't answer or hangs up, that fails, and what is left of the check is left out."""
+    name = check.__name__
+    try:
+        check(program, folder, report)
+        report.add(name, None)
+    except OSError as fault:
+        report.add(name, repr(fault))
+
+
+def checked(checks):
+    """Makes the checks of the program that the test's argument names, in one folder, and returns the status of the test."""
+    program, report = os.path.abspath(sys.argv[1]), Report()
+    with tempfile.TemporaryDirectory() as folder:
+        for check in checks:
+            tried(check, program, folder, report)
+    return report.end()
