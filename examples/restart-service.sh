@@ -31,7 +31,7 @@ ask() {
 }
 
 coproc SESSION { exec "$ftrighub" call "$socket" 2>/dev/null; }
-lines=${SESSION[1]} replies=${SESSION[0]}
+lines=${SESSION[1]-} replies=${SESSION[0]-} # neither, if it has ended
 
 # The listener is subscribed once the hub has replied. So it hears the fall, however soon the command brings it about: `s`, `d`
 # or `D`, and then the letter for readiness, or `O` if the service won't be restarted.

@@ -11,28 +11,49 @@ set -u
     echo "usage: s6-bridge.sh SERVICEDIR SOCKET [NAME]" >&2
     exit 2
 }
+LC_ALL=C
 ftrighub=${FTRIGHUB:-$(dirname "$(readlink -f "$0")")/../ftrighub}
 service=$1
 socket=$2
 name=${3:-$(basename "$service")}
+[[ $name =~ ^[A-Za-z0-9_.-]{1,32}$ ]] || {
+    printf 's6-bridge: %q is no name of a fifodir\n' "$name" >&2
+    exit 2
+}
 reports=0
 [ ! -f "$service/notification-fd" ] || reports=1
-work=$(mktemp -d) || exit 1
 pipe=
+work=
 session=
-marker='!' # none of the letters that s6-supervise sends
+count=0  # how many events the hub has, as far as this bridge knows
+seen=    # letters that were read, and that the hub may not have
+failed=  # O if the service failed for good, as far as this bridge has read
+told=    # letters that the look had already, and that may still come
+letter=
+quiet=0
+
+# A service is at a stage, named by a letter: `x` without a supervisor, `s` wholly down, `u` up, `U` ready, `d` while its finish
+# script runs. Here are the least letters that lead from the hub's stage to the service's own.
+declare -A ways=(
+    [xs]=s [xu]=su [xU]=suU [xd]=sud
+    [sx]=x [su]=u [sU]=uU [sd]=ud
+    [ux]=dDx [us]=dD [uU]=U [ud]=d
+    [Ux]=dDx [Us]=dD [Uu]=dDu [Ud]=d
+    [dx]=Dx [ds]=D [du]=Du [dU]=DuU
+)
+stages=([4]=d [5]=u [6]=s [7]=U) # by the flags up, settled and supervised of the hub's code; `x` for the others
 
 clean_up() {
     [ -z "$pipe" ] || rm -f "$pipe"
     [ -z "$session" ] || kill "$session" 2>/dev/null
-    rm -rf "$work"
+    [ -z "$work" ] || rm -rf "$work"
 }
 trap clean_up EXIT
 trap 'exit 1' HUP INT TERM
 trap '' PIPE
 
 tell() {
-    echo "s6-bridge: $name: $1" >&2
+    printf 's6-bridge: %s: %s\n' "$name" "$1" >&2
 }
 
 fail() {
@@ -48,26 +69,35 @@ disconnect() {
     session=
 }
 
-# connect: begins a session, over two pipes, as soon as a hub answers.
+# connect: begins a session, over two pipes, as soon as a hub answers. No pipe waits here for its other end, and the session
+# ends with the bridge, however that ends.
 connect() {
-    local told=
-    rm -f "$work/lines" "$work/replies"
-    mkfifo "$work/lines" "$work/replies" || exit 1
+    local said=
+    work=$(mktemp -d) && mkfifo "$work/lines" "$work/replies" || exit 1
     while true; do
-        "$ftrighub" call "$socket" <"$work/lines" >"$work/replies" 2>/dev/null &
+        # shellcheck disable=SC2094 # both ends of a pipe
+        exec 4<>"$work/lines" 6<>"$work/replies" 5<"$work/replies"
+        "$ftrighub" call "$socket" <"$work/lines" >&6 2>/dev/null 3>&- 4>&- 5<&- 6>&- &
         session=$!
-        exec 4>"$work/lines" 5<"$work/replies"
-        ask "status $name" && return
+        exec 6>&-
+        ask "status $name" && break
         disconnect
-        [ -n "$told" ] || tell "no hub answers at $socket; trying again"
-        told=yes
+        [ -n "$said" ] || tell "no hub answers at $socket; trying again"
+        said=yes
         sleep 0.5
     done
+    rm -rf "$work"
+    work=
 }
 
-# ask LINE: sends a request, and leaves the reply in $reply. It fails if the session has ended.
+# ask LINE: sends a request, and leaves the reply in $reply. While the hub has no room or no memory for it, it tries again, and
+# the pipe keeps what s6-supervise sends, 64 KiB of it. It fails if the session has ended.
 ask() {
-    { echo "$1" >&4; } 2>/dev/null && IFS= read -r reply <&5
+    while { echo "$1" >&4; } 2>/dev/null && IFS= read -r reply <&5; do
+        [[ $reply == 'no full' || $reply == 'no memory' ]] || return 0
+        sleep 0.1
+    done
+    return 1
 }
 
 # subscribe: as libftrigr does, makes a pipe in the fifodir. It is open for reading before it has a name that notifiers look
@@ -83,75 +113,149 @@ subscribe() {
     mv "$hidden" "$pipe" || exit 1
 }
 
-# next SECONDS: leaves the next letter of the pipe in $letter. It fails if none comes in time.
+# next: leaves the next letter of the pipe in $letter. It fails if none comes within a second. When the time is over, `read`
+# fails also if it has just read a letter: so only the variable tells.
 next() {
-    LC_ALL=C IFS= read -r -t "$1" -N 1 letter <&3
-}
-
-# skip_to_mark: passes over the letters that were sent until now, and leaves in $skipped how many they were.
-skip_to_mark() {
-    skipped=0
-    printf %s "$marker" >&3
-    while next 10 && [ "$letter" != "$marker" ]; do skipped=$((skipped + 1)); done
-}
-
-# look: leaves in $standing a word of letters for how the service is, `s` first, which is lawful after all others; `x` if no
-# s6-supervise runs. A service that is down and `ready` is wholly down: its finish script has ended too.
-look() {
-    case $(s6-svstat "$service" 2>/dev/null) in
-    "up "*", ready "*) standing=suU ;;
-    "up "*) standing=su ;;
-    "down "*", ready "*) standing=s ;;
-    "down "*) standing=sud ;;
-    *) standing=x ;;
+    letter=
+    IFS= read -r -t 1 -N 1 letter <&3
+    [ -n "$letter" ] || return
+    case $letter in
+    O) failed=O ;;
+    [su]) failed= ;;
     esac
 }
 
-# publish LETTERS: leaves the reply in $reply. While there is no room it tries again, and the pipe keeps what s6-supervise
-# sends, 64 KiB of it. It fails if the session has ended.
-publish() {
-    ask "pub $name $1" || return
-    while [ "$reply" = 'no full' ]; do
-        sleep 0.1
-        ask "pub $name $1" || return
-    done
+# drain: adds to $seen the letters that are in the pipe.
+drain() {
+    while read -r -t 0 <&3 && next; do seen+=$letter; done
+}
+
+# look: leaves in $stage the stage of the service as s6 has it. A service that is down and `ready` is wholly down: its finish
+# script has ended too.
+look() {
+    local text status
+    text=$(s6-svstat "$service" 2>&1)
+    status=$?
+    case $status:$text in
+    0:"up "*", ready "*) stage=U ;;
+    0:"up "*) stage=u ;;
+    0:"down "*", ready "*) stage=s ;;
+    0:"down "*) stage=d ;;
+    1:*) stage=x ;;
+    *) fail "s6-svstat ended with status $status: $text" ;;
+    esac
+}
+
+# ask_status: leaves in $number how many events the hub has, and in $known the stage of the service there.
+ask_status() {
+    ask "status $name" || return
+    [[ $reply =~ ^ok\ ([0-9]+)\ ([0-9]+)\ open$ ]] || fail "status: $reply"
+    number=${BASH_REMATCH[1]}
+    code=${BASH_REMATCH[2]}
+    known=${stages[code & 7]-x}
+}
+
+# settle: leads the hub to the stage that the service has. It fails if the session has ended.
+#
+# The order matters. The letters that were sent before the look are told by it; where some came during the look, it looks again.
+# The hub's status comes after that, and then one message for what is different. All further letters wait in the pipe.
+settle() {
+    drain
+    local before=
+    until
+        before=$seen
+        look
+        drain
+        [ "$seen" = "$before" ]
+    do :; done
+    [[ $seen != *x ]] || stage=x # s6-supervise sends it and then ends, and s6-svstat may have come between
+    ask_status || return
+    word=${ways[$known$stage]-}
+    # It fell and is back: the least letters don't say so.
+    [[ $stage == x || $seen != *[sdD]* || $word == *[sdD]* ]] || word=${ways[x$stage]}
+    [[ $stage == x || -z $failed || ($word != *[su]* && $((code & 8)) -ne 0) ]] || word+=O
+    count=$number
+    if [ -n "$word" ]; then
+        ask "pub $name $word" || return
+        [[ $reply =~ ^ok\ ([0-9]+)$ ]] || fail "letters $word: $reply"
+        count=$((BASH_REMATCH[1] + ${#word}))
+    fi
+    seen=
+    quiet=0
+    told=uUdD
+    [ "$word" != s ] || told+=s
+    [[ $known$word != *u ]] || agree
+}
+
+# settle_anew WHY: does so once more, since the hub isn't as the bridge has left it, and says what it published.
+settle_anew() {
+    settle || return
+    tell "$1; looked again, and published ${word:-nothing}"
 }
 
 # agree: if the hub had the service already, it has to report readiness as this one does. That shows as soon as it is up
 # and not ready.
 agree() {
-    local expected=late
-    [ "$reports" -eq 1 ] || expected=yes
+    [ -z "$agreed" ] || return 0
     ask "wait all ready 0 $name" || return
-    [ "${reply%% *}" = "$expected" ] || fail "the hub has a service of this name with another R, not $reports"
-    agreed=yes
+    case $reports:$reply in
+    0:yes* | 1:late | 1:never) agreed=yes ;;
+    0:late | 0:never | 1:yes*) fail "the hub has a service of this name with another R, not $reports" ;;
+    esac
 }
 
-# carry LETTER: publishes it, and ends the bridge if it can't. It fails if the session has ended.
+# carry: publishes $letter. It fails if the session has ended.
+#
+# s6-supervise writes its status and then sends the letters for it, so the look may have had the first message after it. That is
+# one letter, or `dD`, or `OD`, of which a look shows no `O`. The hub refuses what it has already, but for an `s`.
 carry() {
-    publish "$1" || return
+    local had=$told
+    told=
+    quiet=0
+    case $letter in
+    s) [[ $had != *s* ]] || return 0 ;;
+    [dO]) [[ $had != *d* ]] || told=D ;;
+    [uUDx]) ;;
+    *)
+        tell "$(printf 'passed over a byte that s6-supervise never sends: %q' "$letter")"
+        return 0
+        ;;
+    esac
+    ask "pub $name $letter" || {
+        seen=$letter
+        return 1
+    }
     case $reply in
-    ok\ *) tellable= ;;
-    'no unlawful 0') drop "$1" ;;
-    *) fail "letter $1: $reply" ;;
-    esac
-    [ "$1$agreed" != u ] || agree
-}
-
-# drop LETTER: s6-supervise writes its status and then sends the letter for it, so the status that the look found may have
-# the first message already. That is one letter, or `dD` if there is no finish script. No other letter is dropped.
-drop() {
-    case $tellable:$1 in
-    yes:d) tellable=d ;;
-    yes:* | d:D) tellable= ;;
-    *) fail "letter $1: $reply" ;;
+    "ok $count")
+        count=$((count + 1))
+        [ "$letter" != u ] || agree
+        ;;
+    ok\ *) settle_anew "somebody else publishes at this service" ;;
+    'no unlawful 0') [[ $had == *"$letter"* ]] || settle_anew "the hub refused the letter $letter, which can't follow" ;;
+    *) fail "letter $letter: $reply" ;;
     esac
 }
 
-# begin: makes the service at the hub and tells how it is. It fails if the session has ended. The service evicts clients that
-# don't take their letters: one of them would else keep the bridge, and with it every wait, from the letters that follow.
+# check: once a second without a letter, sees that the session and the pipe are there, and that nobody else has published. After
+# five such seconds it looks, since a supervisor that is killed sends no letter.
+check() {
+    told=
+    [ -p "$pipe" ] || fail "its pipe in $service/event was removed"
+    ask_status || return
+    if [ "$number" != "$count" ]; then
+        settle_anew "somebody else publishes at this service"
+        return
+    fi
+    quiet=$((quiet + 1))
+    [ $((quiet % 5)) -eq 0 ] || return 0
+    look
+    if [ "$stage" = "$known" ]; then return 0; fi
+    if next; then carry; else settle_anew "s6 sent no letter for a change"; fi
+}
+
+# begin: makes the service at the hub. It fails if the session has ended. The service evicts clients that don't take their
+# letters: one of them would else keep the bridge, and with it every wait, from the letters that follow.
 begin() {
-    local i
     agreed=yes
     ask "svc $name 4096 1000000000000 $reports evict" || return
     case $reply in
@@ -163,36 +267,20 @@ begin() {
         ;;
     *) fail "$reply" ;;
     esac
-
-    # The letters that were sent before the look are told by it. Where some came during the look, it looks again.
-    skip_to_mark
-    skipped=1
-    while [ "$skipped" -gt 0 ]; do
-        look
-        skip_to_mark
-    done
-    if [ "$standing" = x ]; then
-        publish x || return # which the hub refuses if it knows that no supervisor runs
-    else
-        for ((i = 0; i < ${#standing}; i++)); do carry "${standing:i:1}" || return; done
-    fi
-    tellable=yes
 }
 
-# The bridge subscribes, then looks, then carries letter after letter. Once a second without a letter it asks the hub for
-# something, so that it notices the end of its session.
+# follow: carries letter after letter, until the session has ended.
+follow() {
+    while if next; then carry; else check; fi; do :; done
+}
+
+# The bridge subscribes, then looks, then carries.
 subscribe
 while true; do
     connect
-    if begin; then
+    if begin && settle; then
         tell "subscribed"
-        while true; do
-            if next 1; then
-                carry "$letter" || break
-            else
-                ask "status $name" || break
-            fi
-        done
+        follow
     fi
     disconnect
     tell "the hub is gone"

@@ -5,10 +5,12 @@
 #     examples/to-redis.sh SOCKET NAME [WORD ..]       WORDs are for redis-cli, such as -s /run/redis.sock
 #
 # It takes one of the hub's sessions, and ends with status 1 if that ends; its subscription is then gone. If two of them run at
-# the same time, either may be killed and started again without a loss. See docs/requests.md, "Beyond one machine".
+# the same time, either may be killed and started again without a loss. See ftrighub-machines(7).
 [ $# -ge 2 ] || { echo "usage: to-redis.sh SOCKET NAME [WORD ..]" >&2; exit 2; }
+LC_ALL=C
 ftrighub=${FTRIGHUB:-$(dirname "$(readlink -f "$0")")/../ftrighub}
 socket=$1 name=$2 words=("${@:3}")
+[[ $name =~ ^[A-Za-z0-9_.-]{1,32}$ ]] || { printf 'to-redis: %q is no name of a fifodir\n' "$name" >&2; exit 2; }
 trap '' PIPE
 
 # Adds the letters from number ARGV[1] on that the stream doesn't have yet, and returns the number that it needs next.
@@ -41,16 +43,19 @@ put() { # LETTERS: adds them from $number on, as soon as Redis answers. Another 
 }
 
 coproc SESSION { exec "$ftrighub" call "$socket" 2>/dev/null; }
-lines=${SESSION[1]} replies=${SESSION[0]} before='' after=-
+lines=${SESSION[1]-} replies=${SESSION[0]-} before='' after=-
 until [ "$before" = "$after" ]; do # until nothing comes between: then it is known where the subscription begins
     [ -z "$before" ] || ask "cancel $id"
     ask "status $name" && before=$reply && ask "sub $name" && id=${reply#ok }
     [[ $reply == ok\ * ]] || fail "sub: $reply"
     ask "status $name" && after=$reply
 done
-read -r _ number _ <<<"$after"
+[[ $after =~ ^ok\ ([0-9]+)\  ]] || fail "status: $after"
+number=${BASH_REMATCH[1]}
 put ""
-ask "status $name" && read -r _ total _ <<<"$reply"
+ask "status $name"
+[[ $reply =~ ^ok\ ([0-9]+)\  ]] || fail "status: $reply"
+total=${BASH_REMATCH[1]}
 [ "$next" -le "$total" ] || fail "the stream has $next events and the fifodir $total, so it is that of an earlier hub"
 echo "to-redis: $name: subscribed at $number" >&2
 while ask "await $id 1000" && ask "take $id 256" && [ "$reply" != end ]; do

@@ -1,31 +1,65 @@
-"""What the tests of hubs that serve over a socket share: a client, a hub that lives, the program as it is run, a peer that is no hub,
-and a report of what holds."""
+"""What the tests in Python share: a client, a hub that lives, the program as it is run, and a report of what holds. A test that
+imports this shows where it is if SIGTERM ends it, as tests/within does when its time is over."""
 
 import atexit
-import contextlib
+import faulthandler
 import os
 import re
 import resource
 import select
+import signal
 import socket
 import subprocess
 import sys
 import tempfile
-import threading
 import time
+import traceback
 
-# What the program says if nobody listens.
+TOP = os.path.dirname(os.path.dirname(os.path.realpath(__file__)))
+# What the program says if nobody listens, if no reply comes, and if a reply isn't a hub's.
 CONNECT = "ftrighub: cannot connect\n"
+NO_ANSWER = "ftrighub: no answer\n"
+UNKNOWN = "ftrighub: unknown reply\n"
+
+
+def show_stacks(then=signal.SIG_DFL):
+    """Has SIGTERM print the stacks of all threads to standard error, and then do this."""
+    faulthandler.unregister(signal.SIGTERM)
+    signal.signal(signal.SIGTERM, then)
+    faulthandler.register(signal.SIGTERM, all_threads=True, chain=True)
+
+
+# (what was printed before isn't lost with the process)
+sys.stdout.reconfigure(line_buffering=True)
+# What starts a test may have it ignore signals, as `nohup` does, and all that a test starts would ignore them too.
+for number in (signal.SIGHUP, signal.SIGQUIT):
+    signal.signal(number, signal.SIG_DFL)
+show_stacks()
+
+
+def the_program():
+    """The path of the program: the test's argument, or the one that was built."""
+    return os.path.abspath(sys.argv[1] if len(sys.argv) > 1 else f"{TOP}/crates/hub_cli/out/hub_cli")
+
+
+def seen_by(check, seconds=10, of=None):
+    """Whether the check holds within so many seconds, and before the process that it is of has ended."""
+    deadline = time.monotonic() + seconds
+    while not check():
+        if time.monotonic() > deadline or (of is not None and of.poll() is not None):
+            return check()
+        time.sleep(0.01)
+    return True
 
 
 class Client:
-    """A connection to the hub. If nobody listens yet, it tries for ten seconds."""
+    """A connection to the hub. If nobody listens yet, it tries for ten seconds, or until the hub's process has ended, and then fails."""
 
-    def __init__(self, path):
+    def __init__(self, path, process=None):
         self.stream = socket.socket(socket.AF_UNIX)
-        deadline = time.monotonic() + 10
-        while self.stream.connect_ex(path) and time.monotonic() < deadline:
-            time.sleep(0.01)
+        if not seen_by(lambda: self.stream.connect_ex(path) == 0, of=process):
+            ended = f", and the hub has ended with status {process.returncode}" if process and process.poll() is not None else ""
+            raise ConnectionRefusedError(f"nobody listens at {path}{ended}")
         self.stream.settimeout(60)
         self.replies = self.stream.makefile("rb")
 
@@ -61,13 +95,14 @@ class Client:
 
 
 class Hub:
-    """A hub at a path that serves without end, until the test ends. It may open so many files, and runs in this folder."""
+    """A hub at a path that serves without end, until the test ends. It may open so many files, and runs in this folder, with this
+    umask."""
 
-    def __init__(self, program, path, *words, files=None, cwd=None):
+    def __init__(self, program, path, *words, files=None, cwd=None, umask=-1):
         ready, told = os.pipe()
         self.process = subprocess.Popen(
             [program, "serve", path, "--forever", "--ready-fd", str(told), *words],
-            pass_fds=[told], stderr=subprocess.PIPE, text=True, cwd=cwd)
+            pass_fds=[told], stderr=subprocess.PIPE, text=True, cwd=cwd, umask=umask)
         os.close(told)
         self.ready, self.path = ready, path
         atexit.register(self.kill)
@@ -79,7 +114,7 @@ class Hub:
         return os.read(self.ready, 16) if select.select([self.ready], [], [], seconds)[0] else b""
 
     def client(self):
-        return Client(self.path)
+        return Client(self.path, self.process)
 
     def kill(self):
         self.process.kill()
@@ -91,12 +126,24 @@ class Hub:
         return self.process.communicate()[1]
 
     def status(self, what):
-        """A number of /proc/PID/status."""
-        with open(f"/proc/{self.process.pid}/status", encoding="ascii") as file:
-            return int(re.search(rf"^{what}:\s+(\d+)", file.read(), re.M)[1])
+        return number_of(self.process.pid, what)
 
     def processor_time(self):
         return processor_time(self.process.pid)
+
+    def switches(self):
+        return switches(self.process.pid)
+
+
+def number_of(task, what):
+    """A number of /proc/TASK/status. A task is a process, or PROCESS/task/THREAD."""
+    with open(f"/proc/{task}/status", encoding="ascii") as file:
+        return int(re.search(rf"^{what}:\s+(\d+)", file.read(), re.M)[1])
+
+
+def switches(process):
+    """How often the threads of a process have stopped to wait for something."""
+    return sum(number_of(f"{process}/task/{thread}", "voluntary_ctxt_switches") for thread in os.listdir(f"/proc/{process}/task"))
 
 
 def processor_time(process):
@@ -129,14 +176,6 @@ def environment(known):
     return others if known is None else {**others, "FTRIGHUB_SOCKET": known}
 
 
-def check_end(program, path, report, name, words, replies, wanted):
-    """The command makes one connection, and ends with the last reply though the peer stays."""
-    peer = Peer(path, *(f"{reply}\n".encode() for reply in replies), stays=True)
-    report.same(name, program.run(*words, known=path), wanted)
-    report.same(f"{name}: its requests and connections", (len(peer.all_sent().splitlines()), peer.connections), (len(replies), 1))
-    os.unlink(path)
-
-
 def hub_at(program, path):
     """A hub at a path, which listens."""
     hub = Hub(program.path, path)
@@ -145,47 +184,11 @@ def hub_at(program, path):
     return hub
 
 
-class Peer:
-    """A server that is no hub: it answers the first lines of one connection with these bytes, and hangs up. `sent` is all that
-    it was sent. A peer that stays doesn't hang up, and counts the connections to it."""
-
-    def __init__(self, path, *replies, stays=False):
-        self.listener, self.replies, self.sent = socket.socket(socket.AF_UNIX), replies, b""
-        self.stays, self.connections = stays, 1
-        self.listener.bind(path)
-        self.listener.listen()
-        self.thread = threading.Thread(target=self.serve, daemon=True)
-        self.thread.start()
-
-    def serve(self):
-        connection, _ = self.listener.accept()
-        if not self.stays:
-            self.listener.close()
-        with connection, connection.makefile("rb") as lines, contextlib.suppress(BrokenPipeError):
-            for reply in self.replies:
-                self.sent += lines.readline()
-                connection.sendall(reply)
-            if not self.stays:
-                connection.shutdown(socket.SHUT_WR)
-            self.sent += lines.read()
-        if self.stays:
-            self.count()
-
-    def count(self):
-        self.listener.setblocking(False)
-        with self.listener, contextlib.suppress(BlockingIOError):
-            while self.listener.accept():
-                self.connections += 1
-
-    def all_sent(self):
-        self.thread.join(30)
-        return self.sent
-
-
 class Report:
-    """Counts what holds, and prints what doesn't."""
+    """Counts what holds, and prints what doesn't, with the name of the test."""
 
     def __init__(self):
+        self.test = os.path.basename(sys.argv[0])
         self.passed = self.failed = 0
 
     def add(self, name, fault):
@@ -193,7 +196,7 @@ class Report:
             self.passed += 1
         else:
             self.failed += 1
-            print(f"{name}: {fault}", flush=True)
+            sys.stdout.write(f"{self.test}, {name}: FAILED: {fault}\n")
 
     def same(self, name, found, wanted):
         self.add(name, None if found == wanted else f"{found!r}, and wanted is {wanted!r}")
@@ -201,26 +204,25 @@ class Report:
     def at_most(self, name, found, most):
         self.add(name, None if found <= most else f"{found}, and at most {most} is wanted")
 
+    def tried(self, name, check, *arguments):
+        """Makes a check. If it breaks off, for example since a hub doesn't answer, that fails, and what is left of it is left out."""
+        try:
+            check(*arguments)
+        except Exception as fault:  # (whatever it is, the other checks are made)
+            frames = traceback.extract_tb(fault.__traceback__)[1:]
+            place = " > ".join(f"{os.path.basename(it.filename)}:{it.lineno}" for it in frames)
+            self.add(name, f"it broke off at {place}: {fault!r}")
+
     def end(self):
         """Prints the last line, and returns the status of the test."""
         print(f"{self.passed} passed, {self.failed} failed")
         return 1 if self.failed else 0
 
 
-def tried(check, program, folder, report):
-    """Makes a check. If a hub doesn't answer or hangs up, that fails, and what is left of the check is left out."""
-    name = check.__name__
-    try:
-        check(program, folder, report)
-        report.add(name, None)
-    except OSError as fault:
-        report.add(name, repr(fault))
-
-
-def checked(checks):
-    """Makes the checks of the program that the test's argument names, in one folder, and returns the status of the test."""
-    program, report = os.path.abspath(sys.argv[1]), Report()
+def checked(checks, report=None, kind=str):
+    """Makes these checks of the program in one folder, and returns the status of the test. The program is a path, or what is made of it."""
+    program, report = kind(the_program()), report or Report()
     with tempfile.TemporaryDirectory() as folder:
         for check in checks:
-            tried(check, program, folder, report)
+            report.tried(check.__name__, check, program, folder, report)
     return report.end()

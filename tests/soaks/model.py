@@ -1,5 +1,5 @@
 """What a hub does, from outside: the record of a fifodir that its publishers' replies make, and what the others may have seen
-of it. The rules are those of docs/requests.md. Each judgement returns what is wrong, or None."""
+of it. The rules are those of docs/manual/requests.md. Each judgement returns what is wrong, or None."""
 
 import re
 

@@ -18,8 +18,9 @@ The session ends with the reply, and its subscriptions with it. FTRIGHUB_SOCKET 
   ftrighub ask wait all ready 5000 db web && echo 'both are ready'
 
 Exit status: 0 the reply is ok, got, hit, yes or names; 3 it is no; 4 never; 5 late; 6 none, end or evicted. 2 the command line
-was refused. 1 a fault while running, with a line on standard error: `cannot connect`, `send failed`, `receive failed`,
-`connection ended`, `unknown reply` (no server of this program), `write failed`, `too many reads`, `out of memory`.";
+was refused. 1 a fault while running, with a line on standard error: `cannot connect`, `no answer` (no reply came within 10
+seconds, and the time of a `wait` or an `await` itself), `send failed`, `receive failed`, `connection ended`, `unknown reply` (no
+server of this program), `write failed`, `too many reads`, `out of memory`.";
 
 /// The subcommand `wait` in one line.
 pub const WAIT_ABOUT: &str = "Wait until services are as wanted, and say which aren't";
@@ -28,11 +29,12 @@ pub const WAIT_ABOUT: &str = "Wait until services are as wanted, and say which a
 pub const WAIT_LINES: &str = "\
 Waits until all or any (SPAN) of 1 to 32 services are as wanted, and writes the reply line to standard output: yes, with each one's
 number of events or `-`, never or late. DURATION is a number with ms, s or m, or a number of turns (about a millisecond each), up
-to 1000000ms.
+to 1000000ms. If the server doesn't answer within 2 seconds after that, it says `no answer`.
 
   ftrighub wait --socket /run/hub.sock all ready --for 5s db web
 
-If the reply is never, late or no, it asks how each service is, and standard error has a line for each that isn't as wanted:
+If the reply is never, late or no, it asks how each service is, for 2 seconds at most, and standard error has a line for each that
+isn't as wanted:
 
   db: failed, won't be restarted
   web: up, not ready
@@ -41,7 +43,7 @@ If the reply is never, late or no, it asks how each service is, and standard err
 FTRIGHUB_SOCKET in the environment has the path if there is no --socket.
 
 Exit status: 0 the reply is yes, 3 no, 4 never, 5 late. 2 the command line was refused. 1 a fault while running, with a line on
-standard error, as for `ask` (see `ftrighub ask --help`).";
+standard error, as for `ask` (see `ftrighub ask --help`): `no answer`, and `unknown reply` for any other reply.";
 
 /// The subcommand `status` in one line.
 pub const STATUS_ABOUT: &str = "Show how services are, in a table";
@@ -64,7 +66,8 @@ A NAME that the hub refuses has no row, and a line on standard error: `log: no s
 FTRIGHUB_SOCKET in the environment has the path if there is no --socket.
 
 Exit status: 0 each NAME has a row, 3 the hub refused one. 2 the command line was refused. 1 a fault while running, with a line on
-standard error, as for `ask` (see `ftrighub ask --help`).";
+standard error, as for `ask` (see `ftrighub ask --help`): `no answer` if it can't connect, or one of the replies doesn't come, within
+10 seconds.";
 
 /// The subcommand `follow` in one line.
 pub const FOLLOW_ABOUT: &str = "Write each letter of fifodirs as it comes";
@@ -89,4 +92,5 @@ A follow is a subscription, so what it hasn't taken is pending. If a fifodir evi
 FTRIGHUB_SOCKET in the environment has the path if there is no --socket.
 
 Exit status: 0 with --once, after a letter or a hit; 6 all NAMEs are closed, or it was evicted; 3 the hub refused, with a line on
-standard error. 2 the command line was refused. 1 a fault while running, with a line on standard error, as for `ask`.";
+standard error. 2 the command line was refused. 1 a fault while running, with a line on standard error, as for `ask`: `no answer` if
+the server doesn't reply within 10 seconds. It may wait for letters for as long as it takes.";

@@ -13,10 +13,14 @@ subscriber gets every event from then on, each once and in order. Events are pen
 taken them. No event is lost: if too many are pending, the publisher is refused (`no full`) and retries. If a fifodir
 was made with `evict`, such a subscriber is evicted in place of that, and is told so.
 
-A start-up script waits until two services are ready, for about five seconds at most:
+These lines start a hub, make the service `db`, say that it is ready, wait for
+it for five seconds at most, and end the hub:
 
-  ftrighub serve /run/hub.sock --sessions 8 &
-  printf 'wait all ready 5000 db web\\n' | ftrighub call /run/hub.sock";
+  ftrighub serve hub.socket --forever & export FTRIGHUB_SOCKET=hub.socket
+  until ftrighub ask svc db 64 1000000 1 2>refused; do sleep 0.1; done
+  ftrighub ask pub db suU
+  ftrighub wait all ready --for 5s db
+  kill $!; wait";
 
 /// The exit statuses.
 pub const EXIT: &str = "\
@@ -72,8 +76,8 @@ name, exists, kind (a wait for a fifodir that isn't a service's), id, many, spen
 (not a regular expression, or too large), overlong (4096 letters came since the last hit: cancel the listener),
 memory. The session goes on.
 
-In `script` nothing can change during a `wait` or an `await`, so each answers immediately. In a session of `serve` a
-turn takes about a millisecond after the first 32, but this isn't promised.
+In `script` nothing can change during a `wait` or an `await`, so each answers immediately. In a session of `serve` it
+sleeps until something changes, for about a millisecond a turn, but this isn't promised.
 
 Exit status: 0 all went well, 1 a fault while running (one line on standard error), 2 the command line was refused.";
 
@@ -99,16 +103,18 @@ The file SOCKET stays. If it exists before, the server can't listen: remove it f
 
 With --forever it serves connections for as long as it runs, at most N at the same time; one more waits until a session
 ends. Then a file SOCKET that an earlier server left is no obstacle, and each session that stops gets its line at once.
-The file SOCKET.lock says that a server runs. As a service of s6, with a notification-fd of 3:
+The file SOCKET.lock says that a server runs, and from the folder SOCKET.a it puts SOCKET back if somebody removes it. As a
+service of s6, with a notification-fd of 3:
 
   ftrighub serve /run/hub.sock --forever --ready-fd 3 --mode 0660
 
-With --idle SECONDS a session ends if its client sends no byte for so long while the session waits for a line, or takes none
-of a reply. The time of a `wait` or an `await` doesn't count.
+With --idle SECONDS a session ends if its client sends no whole line for so long while the session waits for one, or takes no
+whole reply. The time of a `wait` or an `await` doesn't count.
 
 Exit status: 0 all went well, 2 the command line was refused, 1 a fault while running, with a line on standard error:
-`cannot listen`, `another server listens there`, `cannot notify`, `cannot accept`, `cannot start a session`, `out of
-memory`. When all sessions have ended, each that stopped gets a line such as `session 2: read failed` (write failed, too many reads, out of memory, idle).";
+`cannot listen`, `another server listens there`, `socket file lost`, `cannot notify`, `cannot accept`, `cannot start a session`,
+`out of memory`. When all sessions have ended, each that stopped gets a line such as `session 2: read failed` (write failed, too
+many reads, out of memory, idle).";
 
 /// The subcommand `call` in one line.
 pub const CALL_ABOUT: &str = "Send the lines of standard input to a server, and write its replies";

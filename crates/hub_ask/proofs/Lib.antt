@@ -1,3 +1,4 @@
-pub mod Replies
+pub mod Counting
+pub mod Exchanges
 pub mod Waits
 pub mod Words

@@ -7,7 +7,7 @@ use Rattle.hub_requests.specs.declared.reply.Reply.{Reply}
 use Rattle.hub_requests.specs.declared.reply.Reply.TheVariants as reply
 use Rattle.hub_ask.specs.declared.outcome.Outcome.{Outcome}
 use Rattle.hub_ask.specs.declared.outcome.Outcome.TheVariants.{Done, Refused, Never, Late, Nothing}
-use Rattle.hub_ask.specs.Outcomes.{ends_word, first_word, IsWordOf, Tells, outcome_of}
+use Rattle.hub_ask.specs.Outcomes.{ends_word, first_word, IsWordOf, Tells, TellsOfWait, RepliesToWait, outcome_of}
 
 -- the word ends at the first space or LF
 by_place : (reply word : List ℕ) (n : ℕ) → position_from ends_word 0 reply ≡ Some n → take n reply ≡ word → first_word reply ≡ word
@@ -30,6 +30,23 @@ of_reply reply.Late = by_place (text_of reply.Late) _ 4 refl refl
 of_reply (reply.Listed []) = inr (inr (inr (inr (by_place (text_of (reply.Listed [])) _ 5 refl refl))))
 of_reply (reply.Listed (name ∷ names)) = inr (inr (inr (inr (by_place (text_of (reply.Listed (name ∷ names))) _ 5 refl refl))))
 of_reply (reply.No refusal) = by_place (text_of (reply.No refusal)) _ 2 refl refl
+
+-- each reply of a hub to a wait tells the outcome of its kind
+pub of_wait : (it : Reply) → RepliesToWait it → TellsOfWait (text_of it) (Some (outcome_of it))
+of_wait (reply.Yes []) p = by_place (text_of (reply.Yes [])) _ 3 refl refl
+of_wait (reply.Yes (number ∷ numbers)) p = by_place (text_of (reply.Yes (number ∷ numbers))) _ 3 refl refl
+of_wait reply.Never p = by_place (text_of reply.Never) _ 5 refl refl
+of_wait reply.Late p = by_place (text_of reply.Late) _ 4 refl refl
+of_wait (reply.No refusal) p = by_place (text_of (reply.No refusal)) _ 2 refl refl
+of_wait reply.Done p = absurd p
+of_wait (reply.Number n) p = absurd p
+of_wait (reply.State status) p = absurd p
+of_wait (reply.Got letters) p = absurd p
+of_wait (reply.Hit letters) p = absurd p
+of_wait reply.Nothing p = absurd p
+of_wait reply.End p = absurd p
+of_wait reply.Evicted p = absurd p
+of_wait (reply.Listed names) p = absurd p
 
 -- no word is of two outcomes
 pub one : (word : List ℕ) (a b : Outcome) → IsWordOf word a → IsWordOf word b → a ≡ b

@@ -1,15 +1,14 @@
 -- One request, and its reply.
-use Rattle.std.specs.Prelude.{◌≡◌, ℕ, List, [], ◌∷◌, ◌++◌, Option, None, Some}
+use Rattle.std.specs.Prelude.{◌≡◌, ◌⊎◌, ℕ, List, [], ◌∷◌, ◌++◌, Option, None, Some}
 use Rattle.std.specs.Io.KnownBytes.{Appends, Consumes}
 use Rattle.hub_client.specs.Passing.{IsLine}
 use Rattle.hub_client.specs.Relaying.{ended_lines}
 use Rattle.hub_client.specs.declared.fault.RelayError.TheVariants as relay
 use Rattle.hub_io.specs.Faults.{AppendsPart}
 use Rattle.hub_io.specs.Lines.{lines_of}
-use Rattle.hub_ask.specs.Outcomes.{Tells}
 use Rattle.hub_ask.specs.declared.outcome.Outcome.{Outcome}
 use Rattle.hub_ask.specs.declared.fault.AskError.{AskError}
-use Rattle.hub_ask.specs.declared.fault.AskError.TheVariants.{Relay, Unknown, Words}
+use Rattle.hub_ask.specs.declared.fault.AskError.TheVariants.{Relay, NoAnswer, Unknown, Words}
 
 -- The line was sent with an LF, and then a reply came: one line, which is the first of what was read. sent and sends are what was sent
 -- to the peer before and after, had and has what was left of the peer's stream.
@@ -33,12 +32,16 @@ pub record IsBrokenOff (sent sends had has : Option (List ℕ)) (line : List ℕ
   pub heard : List ℕ
   pub received : Consumes had has heard
 
--- the reply came and was written, and it tells the outcome
-pub record HasReply (sent sends had has held holds : Option (List ℕ)) (line : List ℕ) (outcome : Outcome) : Type 0 where
-  pub reply : List ℕ
+-- the reply came and was written
+pub record IsWritten (sent sends had has held holds : Option (List ℕ)) (line reply : List ℕ) : Type 0 where
   pub answered : IsAnswered sent sends had has line reply
   pub written : Appends held holds reply
-  pub told : Tells reply (Some outcome)
+
+-- the reply came and was written, and by these words of replies it tells the outcome
+pub record HasReply (tells : List ℕ → Option Outcome → Type 0) (sent sends had has held holds : Option (List ℕ)) (line : List ℕ) (outcome : Outcome) : Type 0 where
+  pub reply : List ℕ
+  pub written : IsWritten sent sends had has held holds line reply
+  pub told : tells reply (Some outcome)
 
 -- The reply came, and only a prefix of it was written.
 pub record IsCut (sent sends had has held holds : Option (List ℕ)) (line : List ℕ) : Type 0 where
@@ -46,17 +49,20 @@ pub record IsCut (sent sends had has held holds : Option (List ℕ)) (line : Lis
   pub answered : IsAnswered sent sends had has line reply
   pub written : AppendsPart held holds reply
 
--- the reply came and was written, and it tells no outcome
-pub record IsUnknown (sent sends had has held holds : Option (List ℕ)) (line : List ℕ) : Type 0 where
+-- the reply came and was written, and by these words of replies it tells no outcome
+pub record IsUnknown (tells : List ℕ → Option Outcome → Type 0) (sent sends had has held holds : Option (List ℕ)) (line : List ℕ) : Type 0 where
   pub reply : List ℕ
-  pub answered : IsAnswered sent sends had has line reply
-  pub written : Appends held holds reply
-  pub told : Tells reply None
+  pub written : IsWritten sent sends had has held holds line reply
+  pub told : tells reply None
+
+-- What was sent and written at an error, if no reply was written whole: Unknown is that of a reply that is too long.
+abbrev pub HasNoLine : (sent sends had has held holds : Option (List ℕ)) (line : List ℕ) → AskError → Type 0
+HasNoLine sent sends had has held holds line (Relay relay.Output) = IsCut sent sends had has held holds line
+HasNoLine sent sends had has held holds line (Relay relay.Input) = ⊥
+HasNoLine sent sends had has held holds line Words = ⊥
+HasNoLine sent sends had has held holds line error = IsBrokenOff sent sends had has line × (holds ≡ held)
 
 -- What was sent and written at an error.
-abbrev pub HasNoReply : (sent sends had has held holds : Option (List ℕ)) (line : List ℕ) → AskError → Type 0
-HasNoReply sent sends had has held holds line (Relay relay.Output) = IsCut sent sends had has held holds line
-HasNoReply sent sends had has held holds line (Relay relay.Input) = ⊥
-HasNoReply sent sends had has held holds line (Relay error) = IsBrokenOff sent sends had has line × (holds ≡ held)
-HasNoReply sent sends had has held holds line Unknown = IsUnknown sent sends had has held holds line
-HasNoReply sent sends had has held holds line Words = ⊥
+abbrev pub HasNoReply : (tells : List ℕ → Option Outcome → Type 0) → (sent sends had has held holds : Option (List ℕ)) (line : List ℕ) → AskError → Type 0
+HasNoReply tells sent sends had has held holds line Unknown = IsUnknown tells sent sends had has held holds line ⊎ HasNoLine sent sends had has held holds line Unknown
+HasNoReply tells sent sends had has held holds line error = HasNoLine sent sends had has held holds line error

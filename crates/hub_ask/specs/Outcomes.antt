@@ -1,5 +1,5 @@
 -- How a request went.
-use Rattle.std.specs.Prelude.{◌≡◌, ◌⊎◌, ℕ, Bool, List, ◌==◌, ◌||◌, take, length, position, unwrap_or, codes, Option, MatchOption}
+use Rattle.std.specs.Prelude.{◌≡◌, ◌⊎◌, ⊤, ℕ, Bool, List, ◌==◌, ◌||◌, take, length, position, unwrap_or, codes, Option, MatchOption}
 use Rattle.hub_requests.specs.declared.reply.Reply.{Reply}
 use Rattle.hub_requests.specs.declared.reply.Reply.TheVariants as reply
 use Rattle.hub_ask.specs.declared.outcome.Outcome.{Outcome}
@@ -24,6 +24,26 @@ IsWordOf word Nothing = (word ≡ codes "none") ⊎ (word ≡ codes "end") ⊎ (
 -- the request of this reply went so; or it went in no known way, and the reply isn't a hub's
 abbrev pub Tells : List ℕ → Option Outcome → Type 0
 Tells reply outcome = MatchOption outcome ((o : Outcome) → IsWordOf (first_word reply) o → ⊥) (λ o. IsWordOf (first_word reply) o)
+
+-- the first words of the replies to a wait that went so
+abbrev pub IsWordOfWait : List ℕ → Outcome → Type 0
+IsWordOfWait word Done = word ≡ codes "yes"
+IsWordOfWait word Refused = word ≡ codes "no"
+IsWordOfWait word Never = word ≡ codes "never"
+IsWordOfWait word Late = word ≡ codes "late"
+IsWordOfWait word Nothing = ⊥
+
+-- the wait of this reply went so; or it went in no known way, and the reply isn't one of a hub to a wait
+abbrev pub TellsOfWait : List ℕ → Option Outcome → Type 0
+TellsOfWait reply outcome = MatchOption outcome ((o : Outcome) → IsWordOfWait (first_word reply) o → ⊥) (λ o. IsWordOfWait (first_word reply) o)
+
+-- the replies of a hub to a wait
+abbrev pub RepliesToWait : Reply → Type 0
+RepliesToWait (reply.Yes numbers) = ⊤
+RepliesToWait reply.Never = ⊤
+RepliesToWait reply.Late = ⊤
+RepliesToWait (reply.No refusal) = ⊤
+RepliesToWait other = ⊥
 
 -- the exit status
 abbrev pub status_of : Outcome → ℕ

@@ -6,6 +6,7 @@ use Rattle.hub_client.specs.Relaying.{ended_lines}
 use Rattle.hub_io.specs.Lines.{lines_of}
 use Rattle.hub_ask.specs.Asking.{HasReply}
 use Rattle.hub_ask.specs.Lines.{joined}
+use Rattle.hub_ask.specs.Outcomes.{TellsOfWait}
 use Rattle.hub_ask.specs.declared.outcome.Outcome.{Outcome}
 use Rattle.hub_ask.specs.declared.outcome.Outcome.TheVariants.{Refused, Never, Late}
 
@@ -43,5 +44,5 @@ AsksAfter sent sends had has lines other = (sends ≡ sent) × (has ≡ had)
 pub record IsWaited (sent sends had has held holds : Option (List ℕ)) (line lines : List ℕ) (outcome : Outcome) : Type 0 where
   pub sends' : Option (List ℕ)
   pub has' : Option (List ℕ)
-  pub replied : HasReply sent sends' had has' held holds line outcome
+  pub replied : HasReply TellsOfWait sent sends' had has' held holds line outcome
   pub after : AsksAfter sends' sends has' has lines outcome

@@ -1,19 +1,46 @@
 //! One request, whose reply is written.
 ghost use Rattle.std.specs.Prelude.{IfOk, IfErr};
-ghost use Rattle.hub_ask.specs.Asking.{HasReply, HasNoReply};
+ghost use Rattle.hub_ask.specs.Asking.{HasReply, HasNoReply, HasNoLine, IsWritten};
 ghost use Rattle.hub_ask.specs.Lines.{bytes_of};
+ghost use Rattle.hub_ask.specs.Outcomes.{Tells};
 
 use crate::exchanging::exchange;
 use crate::fault::AskError;
 use crate::line::Line;
 use crate::outcome::Outcome;
+use crate::peer::{Replies, Requests};
 use hub_client::RelayError;
-use hub_io::{Sink, Source, write_whole};
+use hub_io::{Sink, write_whole};
 use std::alloc::Global;
 use std::sync::Wait;
 
+/// Sends the line to the peer, writes its reply line, and returns the reply.
+pub(crate) fn ask_and_write<H: Wait, SR: Replies, SW: Requests, W: Sink>(
+    rt: &H,
+    alloc: Global,
+    line: &Line,
+    receiver: &mut SR,
+    sender: &mut SW,
+    output: &mut W,
+) -> Result<Vec<u8>, AskError>
+    ensures ok { IfOk result (λ reply. IsWritten
+        (SW.contents sender.old) (SW.contents sender.new)
+        (SR.remaining receiver.old) (SR.remaining receiver.new)
+        (W.contents output.old) (W.contents output.new) (bytes_of line.now) reply.items) }
+    ensures err { IfErr result (HasNoLine
+        (SW.contents sender.old) (SW.contents sender.new)
+        (SR.remaining receiver.old) (SR.remaining receiver.new)
+        (W.contents output.old) (W.contents output.new) (bytes_of line.now)) }
+{
+    let reply = exchange(rt, alloc, line, receiver, sender)?;
+    match write_whole(output, &reply) {
+        Ok(()) => Ok(reply),
+        Err(_) => Err(AskError::Relay(RelayError::Output)),
+    }
+}
+
 /// Sends the line to the peer, writes its reply line, and returns how the request went.
-pub fn ask<H: Wait, SR: Source, SW: Sink, W: Sink>(
+pub fn ask<H: Wait, SR: Replies, SW: Requests, W: Sink>(
     rt: &H,
     alloc: Global,
     line: &Line,
@@ -22,19 +49,16 @@ pub fn ask<H: Wait, SR: Source, SW: Sink, W: Sink>(
     output: &mut W,
 ) -> Result<Outcome, AskError>
     // The line was sent and the reply was written, each exactly once. The reply tells the outcome.
-    ensures ok { IfOk result (HasReply
+    ensures ok { IfOk result (HasReply Tells
         (SW.contents sender.old) (SW.contents sender.new)
         (SR.remaining receiver.old) (SR.remaining receiver.new)
         (W.contents output.old) (W.contents output.new) (bytes_of line.now)) }
     // Without a whole reply, nothing is written.
-    ensures err { IfErr result (HasNoReply
+    ensures err { IfErr result (HasNoReply Tells
         (SW.contents sender.old) (SW.contents sender.new)
         (SR.remaining receiver.old) (SR.remaining receiver.new)
         (W.contents output.old) (W.contents output.new) (bytes_of line.now)) }
 {
-    let reply = exchange(rt, alloc, line, receiver, sender)?;
-    match write_whole(output, &reply) {
-        Ok(()) => Outcome::of(&reply).ok_or(AskError::Unknown),
-        Err(_) => Err(AskError::Relay(RelayError::Output)),
-    }
+    let reply = ask_and_write(rt, alloc, line, receiver, sender, output)?;
+    Outcome::of(&reply).ok_or(AskError::Unknown)
 }

@@ -2,6 +2,8 @@
 ghost use Rattle.std.specs.Prelude.{◌≤◌, IfSome};
 ghost use Rattle.hub_ask.specs.declared.duration.TheConstants.{MOST_TURNS};
 
+use crate::line::Line;
+
 /// The most turns of a wait. A turn takes about a millisecond.
 pub const MOST_TURNS: u64 = 1_000_000;
 
@@ -31,4 +33,30 @@ pub fn turns_of(text: &str) -> Option<u64>
         return None;
     }
     Some(turns)
+}
+
+// The number of turns in the line of a `wait` or an `await`.
+fn number_of(line: &str) -> Option<u64> {
+    let mut words = line.split(' ');
+    match words.next() {
+        Some("wait") => {
+            let (_span, _want) = (words.next()?, words.next()?);
+            words.next()?.parse::<u64>().ok()
+        }
+        Some("await") => {
+            let _handle = words.next()?;
+            words.next()?.parse::<u64>().ok()
+        }
+        _ => None,
+    }
+}
+
+/// For how many turns a hub may sleep before it answers this line: those of a `wait` or an `await`, and else none.
+pub fn turns_asked(line: &Line) -> u64
+    ensures { result ≤ MOST_TURNS }
+{
+    match number_of(line.as_str()) {
+        Some(asked) => asked.min(MOST_TURNS),
+        None => 0,
+    }
 }

@@ -14,7 +14,9 @@ use std::fmt;
 pub enum AskError {
     /// A stream failed, the peer's stream ended before the LF of a reply, or memory ran out.
     Relay(RelayError),
-    /// The reply doesn't begin with a word of a hub.
+    /// No reply came in time, or the peer didn't take the request in time.
+    NoAnswer,
+    /// The reply doesn't begin with a word of a hub, or is longer than any reply of one.
     Unknown,
     /// A word of a look has a line feed, so it wasn't sent.
     Words,
@@ -44,6 +46,7 @@ impl fmt::Display for AskError {
     fn fmt<W: fmt::Write>(&self, f: &mut fmt::Formatter<W>) -> fmt::Result {
         match self {
             AskError::Relay(error) => write!(f, "{error}"),
+            AskError::NoAnswer => f.write_str("no answer"),
             AskError::Unknown => f.write_str("unknown reply"),
             AskError::Words => f.write_str("a word has a line feed"),
         }

@@ -4,24 +4,33 @@
 //! has the exit status. A peer whose reply begins with another word is no hub: that is an [`AskError`], as is a fault of a
 //! stream.
 //!
-//! The peer's stream is read until the LF of the reply, and nothing of a reply is written before its LF has come.
+//! The peer's stream is read until the LF of the reply, and nothing of a reply is written before its LF has come. [`halves`] of a
+//! connection end by a [`Deadline`], and take no more of a reply than the longest of a hub has.
 #![tactic(auto)]
 
 mod asking;
+mod bounded;
+mod deadline;
 mod duration;
 mod exchanging;
 mod fault;
 mod line;
 mod notes;
 mod outcome;
+mod peer;
 mod state;
+mod timed;
 mod waiting;
 
 pub use asking::ask;
-pub use duration::{MOST_TURNS, turns_of};
-pub use exchanging::exchange;
+pub use bounded::Bounded;
+pub use deadline::Deadline;
+pub use duration::{MOST_TURNS, turns_asked, turns_of};
+pub use exchanging::{ANSWER, exchange, exchange_in_time};
 pub use fault::AskError;
 pub use line::Line;
 pub use outcome::Outcome;
+pub use peer::{Halt, Replies, Requests};
 pub use state::State;
-pub use waiting::{wait_for, wait_line};
+pub use timed::{Timed, halves};
+pub use waiting::{GRACE, wait_for, wait_line};

@@ -27,6 +27,11 @@ impl Line {
         Ok(Some(Line { text }))
     }
 
+    /// The words.
+    pub(crate) fn as_str(&self) -> &str {
+        self.text.as_str()
+    }
+
     /// The bytes, without an LF.
     pub fn as_bytes(&self) -> &[u8]
         ensures bytes { result.now ≡ bytes_of self.now }

@@ -3,7 +3,7 @@ ghost use Rattle.std.specs.Prelude.{ℕ, List, Some, ◌≡◌, position, MatchO
 ghost use Rattle.hub_ask.specs.declared.outcome.Outcome.{Outcome as outcome};
 ghost use Rattle.hub_requests.specs.Texts.{text_of};
 ghost use Rattle.hub_requests.specs.declared.reply.Reply.{Reply as reply};
-ghost use Rattle.hub_ask.specs.Outcomes.{outcome_of, status_of, ends_word, first_word, IsWordOf, Tells};
+ghost use Rattle.hub_ask.specs.Outcomes.{outcome_of, status_of, ends_word, first_word, IsWordOf, IsWordOfWait, Tells, TellsOfWait, RepliesToWait};
 
 /// How a request went, by the first word of its reply.
 #[derive(Clone, Copy, Debug, PartialEq, Eq)]
@@ -53,12 +53,32 @@ fn outcome_with(word: &[u8]) -> Option<Outcome>
     })
 }
 
+// How a wait went whose reply begins with this word.
+fn wait_with(word: &[u8]) -> Option<Outcome>
+    ensures { MatchOption result ((o : outcome) → IsWordOfWait word.now o → ⊥) (λ o. IsWordOfWait word.now o) }
+{
+    match word {
+        b"yes" => Some(Outcome::Done),
+        b"no" => Some(Outcome::Refused),
+        b"never" => Some(Outcome::Never),
+        b"late" => Some(Outcome::Late),
+        _ => None,
+    }
+}
+
 impl Outcome {
     /// How the request of this reply went. None if the reply isn't a hub's.
     pub fn of(reply: &[u8]) -> Option<Outcome>
         ensures { Tells reply.now result }
     {
         outcome_with(word_of(reply))
+    }
+
+    /// How the wait of this reply went. None if a hub doesn't reply so to a wait.
+    pub fn of_wait(reply: &[u8]) -> Option<Outcome>
+        ensures { TellsOfWait reply.now result }
+    {
+        wait_with(word_of(reply))
     }
 
     /// The exit status.
@@ -85,5 +105,11 @@ impl Outcome {
     #[tactic(auto, using(crate::proofs::Words::of_reply))]
     pub fn is_that_of_the_reply()
         ensures { (it : reply) → Tells (text_of it) (Some (outcome_of it)) }
+    {}
+
+    /// A law: so does each reply of a hub to a wait, as the reply to a wait.
+    #[tactic(auto, using(crate::proofs::Words::of_wait))]
+    pub fn is_that_of_the_wait()
+        ensures { (it : reply) → RepliesToWait it → TellsOfWait (text_of it) (Some (outcome_of it)) }
     {}
 }

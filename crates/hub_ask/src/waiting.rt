@@ -3,18 +3,23 @@ ghost use Rattle.std.specs.Prelude.{◌≡◌, true, IfOk, IfErr, IfSome, IfNone
 ghost use Rattle.hub_client.specs.Passing.{has_lf};
 ghost use Rattle.hub_ask.specs.Asking.{HasNoReply};
 ghost use Rattle.hub_ask.specs.Lines.{bytes_of, joined};
+ghost use Rattle.hub_ask.specs.Outcomes.{TellsOfWait};
 ghost use Rattle.hub_ask.specs.Waiting.{IsWaited, SendsPart, question, questions, wait_words};
 
-use crate::asking::ask;
+use crate::asking::ask_and_write;
 use crate::fault::AskError;
 use crate::line::Line;
 use crate::notes::tell_states;
 use crate::outcome::Outcome;
+use crate::peer::{Replies, Requests};
 use hub_client::{RelayError, relay};
-use hub_io::{Sink, Source};
+use hub_io::Sink;
 use std::alloc::{AllocError, Global};
 use std::io::Write;
 use std::sync::Wait;
+
+/// How many milliseconds a hub has for the reply of a wait after the wait's own time, and then for what is asked about the services.
+pub const GRACE: u64 = 2_000;
 
 /// The line of a wait. None if a word has an LF.
 pub fn wait_line(
@@ -55,7 +60,7 @@ fn questions_about(alloc: Global, want: &str, names: &[&str]) -> Result<String, 
 }
 
 // Sends these lines, and puts the replies behind `replies`.
-fn send_lines<H: Wait, SR: Source, SW: Sink>(
+fn send_lines<H: Wait, SR: Replies, SW: Requests>(
     rt: &H,
     alloc: Global,
     text: &[u8],
@@ -69,8 +74,8 @@ fn send_lines<H: Wait, SR: Source, SW: Sink>(
     relay(rt, alloc, &mut lines, replies, receiver, sender)
 }
 
-// Asks how the services are, and writes a line for each that isn't as wanted.
-fn explain<H: Wait, SR: Source, SW: Sink, F: Write>(
+// Asks how the services are, for so long as is left for that, and writes a line for each that isn't as wanted.
+fn explain<H: Wait, SR: Replies, SW: Requests, F: Write>(
     rt: &H,
     alloc: Global,
     want: &str,
@@ -83,6 +88,8 @@ fn explain<H: Wait, SR: Source, SW: Sink, F: Write>(
         (questions want.now (λ name. name.now) names.now) }
 {
     let text = questions_about(alloc, want, names)?;
+    receiver.allow(GRACE);
+    sender.allow(GRACE);
     let mut replies = Vec::new(alloc);
     // If the relay stops, the replies so far are told.
     let _: Result<u64, RelayError> = send_lines(
@@ -96,9 +103,9 @@ fn explain<H: Wait, SR: Source, SW: Sink, F: Write>(
     tell_states(alloc, want, names, &replies, notes)
 }
 
-/// Sends the line of a wait as [`ask`] does. If it is refused, `never` or `late`, it asks how each service is, and writes a line to
+/// Sends the line of a wait as [`ask`](crate::ask) does; only a `yes` is done. If it is refused, `never` or `late`, it asks how each service is, and writes a line to
 /// `notes` for each that isn't as wanted. What goes wrong then isn't told.
-pub fn wait_for<H: Wait, SR: Source, SW: Sink, W: Sink, F: Write>(
+pub fn wait_for<H: Wait, SR: Replies, SW: Requests, W: Sink, F: Write>(
     rt: &H,
     alloc: Global,
     line: &Line,
@@ -116,12 +123,13 @@ pub fn wait_for<H: Wait, SR: Source, SW: Sink, W: Sink, F: Write>(
         (W.contents output.old) (W.contents output.new) (bytes_of line.now)
         (questions want.now (λ name. name.now) names.now)) }
     // Without an outcome it is all as in `ask`.
-    ensures err { IfErr result (HasNoReply
+    ensures err { IfErr result (HasNoReply TellsOfWait
         (SW.contents sender.old) (SW.contents sender.new)
         (SR.remaining receiver.old) (SR.remaining receiver.new)
         (W.contents output.old) (W.contents output.new) (bytes_of line.now)) }
 {
-    let outcome = ask(rt, alloc, line, receiver, sender, output)?;
+    let reply = ask_and_write(rt, alloc, line, receiver, sender, output)?;
+    let outcome = Outcome::of_wait(&reply).ok_or(AskError::Unknown)?;
     match outcome {
         Outcome::Refused | Outcome::Never | Outcome::Late => {
             let _: Result<(), AllocError> = explain(

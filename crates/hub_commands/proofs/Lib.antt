@@ -1,2 +1,4 @@
 pub mod Results
 pub mod Lines
+pub mod Requested
+pub mod Planned

@@ -4,7 +4,7 @@ use Rattle.std.specs.Fmt.{decimal}
 use Rattle.hub_ask.specs.Faults.{ask_text}
 use Rattle.hub_client.specs.Faults.{relay_text}
 use Rattle.hub_commands.specs.declared.fault.Fault.{Fault}
-use Rattle.hub_commands.specs.declared.fault.Fault.TheVariants.{Listen, Taken, Notify, Accept, Connect, Memory, Script, Serve, Session, Idle, More, Relay, Ask}
+use Rattle.hub_commands.specs.declared.fault.Fault.TheVariants.{Listen, Taken, Notify, Restored, Lost, Accept, Connect, Memory, Script, Serve, Session, Idle, More, Relay, Ask}
 use Rattle.hub_commands.specs.declared.watching.Pending.{Pending}
 use Rattle.hub_io.specs.Faults.{fault_text}
 use Rattle.hub_io.specs.declared.fault.FrontError.{FrontError}
@@ -16,6 +16,8 @@ abbrev pub text_of : Fault → List ℕ
 text_of Listen = codes "cannot listen"
 text_of Taken = codes "another server listens there"
 text_of Notify = codes "cannot notify"
+text_of Restored = codes "socket file restored"
+text_of Lost = codes "socket file lost"
 text_of Accept = codes "cannot accept"
 text_of Connect = codes "cannot connect"
 text_of Memory = fault_text passing.Memory

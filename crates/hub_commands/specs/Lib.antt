@@ -1,3 +1,10 @@
 pub mod Faults
 pub mod Calls
 pub mod Serving
+pub mod BadTexts
+pub mod Endings
+pub mod Dialing
+pub mod Asking
+pub mod Breaking
+pub mod Looking
+pub mod Running

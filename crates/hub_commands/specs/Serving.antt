@@ -1,7 +1,7 @@
 -- Why a server ended before it had a report.
 use Rattle.std.specs.Prelude.{⊤}
 use Rattle.hub_commands.specs.declared.fault.Fault.{Fault}
-use Rattle.hub_commands.specs.declared.fault.Fault.TheVariants.{Listen, Taken, Notify, Accept, Connect, Memory, Script, Serve, Session, Idle, More, Relay, Ask}
+use Rattle.hub_commands.specs.declared.fault.Fault.TheVariants.{Listen, Taken, Notify, Restored, Lost, Accept, Connect, Memory, Script, Serve, Session, Idle, More, Relay, Ask}
 use Rattle.hub_server.specs.declared.report.ServeError.{ServeError}
 
 -- it couldn't listen, memory ran out before the first session, or its sessions stopped so
@@ -11,6 +11,8 @@ FailsToServe stops Memory = ⊤
 FailsToServe stops (Serve error) = stops error
 FailsToServe stops Taken = ⊥
 FailsToServe stops Notify = ⊥
+FailsToServe stops Restored = ⊥
+FailsToServe stops Lost = ⊥
 FailsToServe stops Accept = ⊥
 FailsToServe stops Connect = ⊥
 FailsToServe stops (Script fault) = ⊥

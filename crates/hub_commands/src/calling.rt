@@ -1,5 +1,5 @@
 //! The subcommand `call`: a client of a server.
-ghost use Rattle.std.specs.Prelude.{◌≡◌, ◌≢◌, ℕ, Result, Err, IfErr};
+ghost use Rattle.std.specs.Prelude.{◌≡◌, ◌≢◌, ℕ, Result, Err};
 ghost use Rattle.hub_client.specs.declared.fault.RelayError.{RelayError as relay_error};
 ghost use Rattle.hub_commands.specs.Calls.{IsRelayed, call_result};
 ghost use Rattle.hub_commands.specs.declared.fault.Fault.TheVariants as fault;
@@ -20,14 +20,6 @@ fn connection_at<H: Net>(rt: &H, socket: &str) -> Option<(UnixStream, UnixStream
     let receive = connection.try_clone().ok()?;
     let send = connection.try_clone().ok()?;
     Some((receive, send))
-}
-
-/// Connects to the server at the socket, and returns the connection twice: for receiving and for sending. An error is
-/// `Connect`.
-pub fn connect<H: Net>(rt: &H, socket: &str) -> Result<(UnixStream, UnixStream), Fault>
-    ensures { IfErr result (λ it. it ≡ fault.Connect) }
-{
-    connection_at(rt, socket).ok_or(Fault::Connect)
 }
 
 /// Sends the lines of the input to the server at the socket, and writes its replies. Returns how many lines there were.

@@ -8,13 +8,12 @@ ghost use Rattle.hub_shared.specs.Desks.{IsNewDesk};
 ghost use Rattle.hub_shared.specs.declared.shared_desk.SharedDesk.{SharedDesk};
 
 use hub_front::{Stay, serve_within};
-use hub_io::{FrontError, MAX_READS, Sink, Source};
+use hub_io::{Client, FrontError, MAX_READS, Sink, Source};
 use hub_requests::Desk;
 use hub_server::{Desks, Gate, Report, ServeError, serve_each};
 use hub_shared::{Hub, SharedDesk};
 use hub_wait::Pause;
 use std::alloc::{AllocError, Global};
-use std::os::unix::net::UnixStream;
 use std::sync::{Arc, Wait};
 use std::thread::Threads;
 
@@ -28,7 +27,7 @@ pub(crate) struct HubDesks<P: Pause + Copy> {
 
 impl<P: Pause + Copy> HubDesks<P> {
     // A desk for one session, which watches this client.
-    fn open(&self, alloc: Global, client: Option<UnixStream>) -> Result<SharedDesk<P>, AllocError>
+    fn open(&self, alloc: Global, client: Option<Client>) -> Result<SharedDesk<P>, AllocError>
         ensures { IfOk result (IsNewDesk (arc_value self.now.hub) self.now.pause) }
     {
         let hub = Arc::try_clone(&self.hub)?;
@@ -65,7 +64,7 @@ impl<P: Pause + Copy> Desks for HubDesks<P> {
         reader: &mut R,
         writer: &mut W,
     ) -> Result<u64, FrontError> {
-        let Ok(mut desk) = self.open(alloc, reader.connection()) else {
+        let Ok(mut desk) = self.open(alloc, reader.client()) else {
             return Err(FrontError::Memory);
         };
         let served = serve_within(rt, alloc, self.stay, &mut desk, reader, writer);

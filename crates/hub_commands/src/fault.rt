@@ -22,6 +22,10 @@ pub enum Fault {
     Taken,
     /// The descriptor that is told when the hub listens couldn't be written to.
     Notify,
+    /// The socket's file was removed, and is back.
+    Restored,
+    /// Another file is in the place of the socket, or its file couldn't be put back.
+    Lost,
     /// A connection was expected, and accepting it failed.
     Accept,
     /// The connection to a server at the socket couldn't be made.
@@ -34,7 +38,7 @@ pub enum Fault {
     Serve(ServeError),
     /// A session of `serve` stopped. Sessions are numbered from 1, in the order in which they were accepted.
     Session { number: u64, fault: FrontError },
-    /// The client of a session of `serve --forever` sent no byte, or took none of a reply, for too long.
+    /// The client of a session of `serve --forever` sent no whole line, or took no whole reply, for too long.
     Idle { number: u64 },
     /// So many sessions of `serve --forever` stopped besides, and aren't told one by one.
     More { sessions: u64 },
@@ -54,6 +58,8 @@ impl fmt::Display for Fault {
             Fault::Listen => f.write_str("cannot listen"),
             Fault::Taken => f.write_str("another server listens there"),
             Fault::Notify => f.write_str("cannot notify"),
+            Fault::Restored => f.write_str("socket file restored"),
+            Fault::Lost => f.write_str("socket file lost"),
             Fault::Accept => f.write_str("cannot accept"),
             Fault::Connect => f.write_str("cannot connect"),
             Fault::Memory => write!(f, "{}", FrontError::Memory),

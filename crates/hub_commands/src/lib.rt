@@ -1,19 +1,44 @@
-//! The subcommands `serve` and `call`, and the faults that end the program.
+//! The subcommands, and how the program ends.
 //!
-//! [`serve`] accepts connections at a Unix socket, and serves them by [`serve_all`] over one hub. [`call`] is the
-//! client of such a server. A [`Fault`] says in one line why the program ends with status 1.
+//! [`run`] does what the words of a command line say. [`serve`] accepts connections at a Unix socket, and serves them by
+//! [`serve_all`] over one hub. [`call`] is the client of such a server. [`ask_words`], [`wait_as_told`], [`show_status`] and
+//! [`follow_as_told`] each make one connection by a [`Dial`], and none if their words are refused.
+//!
+//! They return the exit status, or an [`Ending`]: [`BadWords`], a report of sessions that stopped, or a [`Fault`]. [`end_status`]
+//! is its exit status, and [`tell_end`] writes its lines.
 #![tactic(auto)]
 
+mod asking;
+mod breaking;
 mod calling;
+mod connecting;
 mod desks;
+mod dialing;
+mod ending;
 mod fault;
+mod folder;
+mod following;
 mod living;
+mod lock;
+mod look;
+mod notice;
 mod place;
+mod running;
 mod serving;
+mod showing;
+mod waiting;
 mod watching;
 
-pub use calling::{call, connect};
+pub use asking::ask_words;
+pub use calling::call;
+pub use connecting::connect;
 pub use desks::serve_all;
+pub use dialing::{Dial, Dialer};
+pub use ending::{BadWords, Ending, end_status, tell_end};
 pub use fault::Fault;
+pub use following::follow_as_told;
 pub use living::{Standing, serve_forever};
+pub use running::run;
 pub use serving::{serve, tell_faults};
+pub use showing::show_status;
+pub use waiting::wait_as_told;

@@ -6,7 +6,8 @@ ghost use Rattle.hub_commands.specs.Faults.{line_if, pending_lines};
 
 use crate::desks::HubDesks;
 use crate::fault::Fault;
-use crate::place::{notify, take_place};
+use crate::notice::Notice;
+use crate::place::{Place, take_place};
 use crate::watching::{Pending, Watcher};
 use hub_front::Stay;
 use hub_server::{SharedDoor, start_workers};
@@ -33,17 +34,18 @@ pub struct Standing<'a> {
     pub mode: Option<u32>,
     /// The descriptor that gets a newline once the hub listens, as the `notification-fd` of s6 does. None: there is none.
     pub ready: Option<u64>,
-    /// How many seconds a session may be idle: its client sends no byte, or takes none of a reply, while the session waits for
+    /// How many seconds a session may be idle: its client sends no whole line, or takes no whole reply, while the session waits for
     /// it. None: without end.
     pub idle: Option<u64>,
 }
 
 /// Serves sessions at the socket for as long as the program runs, over one hub. So many threads each accept a connection, serve
 /// its session, and accept the next one. The faults of sessions are told as they come, a few lines a second and the number of
-/// the rest.
+/// the rest. If the socket's file is removed, it is put back.
 ///
-/// It returns only if it couldn't begin: `Taken` if another server listens at the socket, `Listen`, `Notify` if the descriptor
-/// couldn't be written to, `Memory`, or `Serve` if a thread couldn't be started.
+/// It returns only if it couldn't begin, and then nobody could connect unless it is `Notify`: `Taken` if another server listens
+/// at the socket, `Listen`, `Notify` if the descriptor isn't open or couldn't be written to, `Memory`, or `Serve` if a thread
+/// couldn't be started. Or it returns `Lost`, if another file is in the socket's place, or its file can't be put back.
 pub fn serve_forever<H, F>(
     rt: &H,
     alloc: Global,
@@ -54,7 +56,30 @@ where
     H: Files<File = File> + Net + Clock + Threads + Wait + Copy + Send + 'static,
     F: Write,
 {
-    let place = take_place(rt, alloc, standing.socket)?;
+    let notice = match standing.ready {
+        Some(descriptor) => Some(Notice::at(descriptor)?),
+        None => None,
+    };
+    let mut place = take_place(rt, alloc, standing.socket)?;
+    let ended = serve_at(rt, alloc, &mut place, standing, notice, faults);
+    place.leave(rt);
+    ended
+}
+
+// Serves sessions at this place. The threads come before the place, since a client that could connect would be cut off if one of
+// them couldn't be started.
+fn serve_at<H, F>(
+    rt: &H,
+    alloc: Global,
+    place: &mut Place<'_>,
+    standing: Standing<'_>,
+    notice: Option<Notice>,
+    faults: &mut F,
+) -> Result<(), Fault>
+where
+    H: Files<File = File> + Net + Clock + Threads + Wait + Copy + Send + 'static,
+    F: Write,
+{
     let Ok(hub) = Arc::new(alloc, Hub::new(alloc)?) else {
         return Err(Fault::Memory);
     };
@@ -63,16 +88,37 @@ where
     let desks = HubDesks { hub, pause, stay };
     let watcher = Watcher::new(alloc, *rt)?;
     let idle = standing.idle.map(Duration::from_secs);
-    let listener = place.listen(rt, alloc, standing.mode)?;
-    let door = SharedDoor::new(alloc, listener, idle)?;
+    let listener = place.listen(rt, standing.mode)?;
+    let door = SharedDoor::new(alloc, listener, idle, *rt)?;
     let _workers = start_workers(rt, alloc, &desks, &door, &watcher, standing.sessions)?;
-    if let Some(descriptor) = standing.ready {
-        notify(rt, alloc, descriptor)?;
+    place.put(rt)?;
+    if let Some(notice) = notice {
+        notice.give(rt)?;
     }
-    'faults: for _ in rt.forever() {
+    watch(rt, alloc, place, &watcher, faults)
+}
+
+// Tells the faults of sessions, and keeps the socket in its place. It returns only if the socket is lost.
+fn watch<H, F>(
+    rt: &H,
+    alloc: Global,
+    place: &Place<'_>,
+    watcher: &Watcher<H>,
+    faults: &mut F,
+) -> Result<(), Fault>
+where
+    H: Files + Clock + Wait + Copy,
+    F: Write,
+{
+    'seconds: for _ in rt.forever() {
         let pending = watcher.take(rt);
         let _: io::Result<()> = tell_pending(alloc, pending, faults);
-        thread::sleep(rt, Duration::from_secs(1));
+        if place.keep(rt)? {
+            let _: io::Result<()> = Fault::Restored.tell(alloc, faults);
+        }
+        if pending.has_faults() {
+            thread::sleep(rt, Duration::from_secs(1));
+        }
     }
     Ok(())
 }

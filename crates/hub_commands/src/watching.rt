@@ -9,7 +9,7 @@ use hub_server::{Desks, Journal, Session};
 use std::alloc::{AllocError, Global};
 use std::rt::Clock;
 use std::sync::atomic::{AtomicBool, AtomicU64, Ordering};
-use std::sync::{Arc, Condvar, Mutex, Wait};
+use std::sync::{Arc, Condvar, CondvarTimeouts, Mutex, Wait};
 use std::thread;
 use std::thread::Promise;
 use std::time::Duration;
@@ -19,6 +19,9 @@ const MOST_TOLD: usize = 5;
 
 /// How many milliseconds a thread waits after a failed accept.
 const RETRY: u64 = 100;
+
+/// For how many seconds who tells faults waits for one.
+const MOMENT: u64 = 1;
 
 /// Faults that weren't told yet.
 #[derive(Clone, Copy, Drop)]
@@ -42,6 +45,10 @@ impl Pending {
             }
         }
         self.more = self.more.saturating_add(1);
+    }
+
+    pub(crate) fn has_faults(&self) -> bool {
+        self.faults[0].is_some()
     }
 
     /// The fault that counts those for which there was no more room, if there are any.
@@ -91,14 +98,12 @@ impl<C: Clock + Copy> Watcher<C> {
         self.shared.came.notify_one();
     }
 
-    /// Waits until there are faults, and takes them.
-    pub(crate) fn take<H: Wait>(&self, rt: &H) -> Pending {
+    /// Waits until there are faults, or for a moment, and takes what there is.
+    pub(crate) fn take<H: Clock + Wait>(&self, rt: &H) -> Pending {
         let mut pending = self.shared.pending.lock(rt);
-        'faults: for _ in rt.forever() {
-            if pending.faults[0].is_some() {
-                break;
-            }
-            pending = self.shared.came.wait(rt, pending);
+        if !pending.has_faults() {
+            let most = Duration::from_secs(MOMENT);
+            pending = self.shared.came.wait_timeout(rt, pending, most).0;
         }
         let taken = *pending;
         *pending = Pending::NONE;

@@ -1,5 +1,6 @@
 mod bells;
 mod busy;
+mod classes;
 mod effects;
 mod fifodirs;
 mod fixtures;

@@ -1,19 +1,18 @@
 // crates.txt: YOURS: hub_look hub_ask
-use hub_ask::{AskError, Outcome};
+use hub_ask::{AskError, Outcome, Replies, Requests};
 use hub_look::{Following, Peer, follow};
 use std::alloc::Global;
-use std::os::unix::net::UnixStream;
 use std::rt::Clock;
 use std::sync::Wait;
 
 /// Puts the next letter of a fifodir behind `letters`, with an LF, and what a hub refuses behind `notes`. `receiver` and `sender` are
-/// two clones of the connection.
+/// the `halves` of a connection.
 pub fn next_letter<H: Wait + Clock>(
     rt: &H,
     alloc: Global,
     name: &str,
-    receiver: UnixStream,
-    sender: UnixStream,
+    receiver: impl Replies + Drop,
+    sender: impl Requests + Drop,
     letters: &mut Vec<u8>,
     notes: &mut Vec<u8>,
 ) -> Result<Outcome, AskError> {

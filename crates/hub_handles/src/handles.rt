@@ -260,7 +260,10 @@ fn listener_for(alloc: Global, pattern: &PatternText) -> Result<Listener, Refusa
     })
 }
 
+// The C library gives back to the system what was taken last, and a thread keeps some small pieces of what is freed first. So the
+// handles that were given first go first.
 fn cancel_subscriptions<H: Wait>(rt: &H, mut subscriptions: IndexMap<u64, Subscription>) {
+    subscriptions.reverse();
     while let Some((_, subscription)) = subscriptions.pop() {
         subscription.cancel(rt);
     }
@@ -268,6 +271,7 @@ fn cancel_subscriptions<H: Wait>(rt: &H, mut subscriptions: IndexMap<u64, Subscr
 }
 
 fn cancel_listeners<H: Wait>(rt: &H, mut listeners: IndexMap<u64, SessionListener>) {
+    listeners.reverse();
     while let Some((_, hearing)) = listeners.pop() {
         hearing.cancel(rt);
     }

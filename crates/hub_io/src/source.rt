@@ -5,6 +5,7 @@ ghost use Rattle.std.specs.Io.KnownBytes.{ReadConsumes};
 ghost use Rattle.hub_io.specs.Telling.{Rises, faults_of_read};
 
 use crate::again::read_again;
+use crate::client::Client;
 use std::io;
 use std::io::{Read, Stdin};
 use std::os::unix::net::UnixStream;
@@ -25,9 +26,9 @@ pub trait Source: Read {
         ensures counted { Rises (reads self.old) (reads self.new) 1 }
         ensures told { Rises (faults self.old) (faults self.new) (faults_of_read result) };
 
-    /// A descriptor of its own for the connection that is read, by which a session can see during a wait whether its
-    /// client is still there. None if no connection is read, or if the system has no descriptor left.
-    fn connection(&self) -> Option<UnixStream> {
+    /// The client whose connection is read. None if no connection is read, or if it takes a descriptor that the system doesn't
+    /// have.
+    fn client(&self) -> Option<Client> {
         None
     }
 }
@@ -61,8 +62,8 @@ impl Source for UnixStream {
         read_again(self, buf)
     }
 
-    fn connection(&self) -> Option<UnixStream> {
-        self.try_clone().ok()
+    fn client(&self) -> Option<Client> {
+        self.try_clone().ok().map(Client::Own)
     }
 }
 
@@ -76,7 +77,7 @@ impl Source for &UnixStream {
         read_again(self, buf)
     }
 
-    fn connection(&self) -> Option<UnixStream> {
-        self.try_clone().ok()
+    fn client(&self) -> Option<Client> {
+        self.try_clone().ok().map(Client::Own)
     }
 }

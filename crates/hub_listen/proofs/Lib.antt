@@ -1,4 +1,5 @@
 pub mod Patterns
+pub mod Cutting
 pub mod Listed
 pub mod Growing
 pub mod Looks

@@ -1,5 +1,5 @@
 -- The fields of a list of states when it is emptied and when it grows.
-use Rattle.std.proofs.Common.{◌≡◌, ℕ, ◌+◌, ◌<◌, ◌≤◌, true, false, List, [], ◌∷◌, ◌++◌, length, replicate, set, vec_capacity, All, sym, ap, ◌∙◌, subst, arith, length-append, length-set}
+use Rattle.std.proofs.Common.{◌≡◌, ℕ, ◌+◌, ◌<◌, true, false, List, [], ◌∷◌, ◌++◌, length, replicate, set, vec_capacity, All, sym, ap, ◌∙◌, subst, arith, length-append, length-set}
 use Rattle.std.proofs.lemmas.List.{length-replicate}
 use Rattle.std.proofs.lemmas.List.Elements.{All-push}
 use Rattle.regex_vm.specs.Bits.{members}
@@ -12,7 +12,7 @@ use Rattle.hub_listen.specs.declared.states.States.TheInside.{Inside}
 none_within : (n : ℕ) (xs : List ℕ) → xs ≡ [] → All (λ q. q < n) xs
 none_within n xs e k d h = let len = ap length e in absurd (omega arith)
 
-pub IsListed-none : (a : Inside) (n : ℕ) → a.set ≡ replicate n false → a.list.items ≡ [] → n ≤ vec_capacity a.list → IsListed a
+pub IsListed-none : (a : Inside) (n : ℕ) → a.set ≡ replicate n false → a.list.items ≡ [] → vec_capacity a.list ≡ n → IsListed a
 IsListed-none a n flags items room =
     let len : length a.set ≡ n = ap length flags ∙ length-replicate n false in
     let none : length a.list.items ≡ 0 = ap length items in record {
@@ -24,7 +24,7 @@ IsListed-none a n flags items room =
     }
 
 pub IsListed-push : (a b : Inside) (q : ℕ) → IsListed a → q < length a.set → b.set ≡ set a.set q true → b.list.items ≡ a.list.items ++ q ∷ []
-    → members b.set ≡ members a.set + 1 → vec_capacity a.list ≤ vec_capacity b.list → IsListed b
+    → members b.set ≡ members a.set + 1 → vec_capacity b.list ≡ vec_capacity a.list → IsListed b
 IsListed-push a b q kept inside flags items counted room =
     let len : length b.set ≡ length a.set = ap length flags ∙ length-set a.set q true in
     let more : length b.list.items ≡ length a.list.items + 1 = ap length items ∙ length-append a.list.items (q ∷ []) in

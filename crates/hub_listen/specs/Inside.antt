@@ -1,9 +1,9 @@
 -- What the fields of a listener keep.
 use Rattle.std.specs.Prelude.{◌≡◌, ◌≤◌, false, length, string_bytes, vec_capacity, vec_len}
 use Rattle.std.specs.String.{string_capacity}
-use Rattle.std.specs.Str.{IsAscii}
 use Rattle.hub_letters.specs.declared.bounds.TheConstants.{MOST_GATHERED}
 use Rattle.hub_listen.specs.Hit.{finds}
+use Rattle.hub_listen.specs.Letters.{AreLetters}
 use Rattle.hub_listen.specs.Alive.{AreAlive, HasRoom}
 use Rattle.hub_listen.specs.Listening.{Listening}
 use Rattle.hub_listen.specs.declared.listener.Listener.TheInside.{Inside}
@@ -20,7 +20,7 @@ listening_of l = record {
 -- gather.
 pub record IsKept (l : Inside) : Type 0 where
   pub same : string_bytes l.text ≡ l.letters.items
-  pub ascii : IsAscii (string_bytes l.text)
+  pub letters : AreLetters (string_bytes l.text)
   pub states_room : HasRoom l.alive (vec_len l.pattern.nfa.states)
   pub alive : AreAlive l.pattern.nfa (string_bytes l.text) (length (string_bytes l.text)) l.alive.states.items
   pub quiet : 1 ≤ length (string_bytes l.text) → finds (string_bytes l.pattern.text) (string_bytes l.text) ≡ false

@@ -8,10 +8,10 @@ use Rattle.hub_listen.specs.declared.states.States.TheInside.{Inside}
 abbrev pub list_of : Inside → StateList
 list_of a = record { count = length a.set; items = a.list.items }
 
--- The set has the states of the list, each is in the list once, and there is room for all of them.
+-- The set has the states of the list, each is in the list once, and there is room for all of them, and for no more.
 pub record IsListed (a : Inside) : Type 0 where
   pub tracks : Tracks a.set a.list.items
   pub within : All (λ q. q < length a.set) a.list.items
   pub counted : members a.set ≡ length a.list.items
   pub few : length a.list.items ≤ length a.set
-  pub room : length a.set ≤ vec_capacity a.list
+  pub room : vec_capacity a.list ≡ length a.set

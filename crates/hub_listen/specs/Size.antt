@@ -1,17 +1,17 @@
--- How large a pattern may be.
-use Rattle.std.specs.Prelude.{◌≡◌, ℕ, ◌≤◌, ◌*◌, ◌+◌, ◌^◌, List}
-use Rattle.regex.specs.Strings.{regex_source, regex_config, regex_size, IsReadFromSource}
-use Rattle.regex.specs.Patterns.{default_config}
-use Rattle.regex.specs.declared.string.regex.Regex.{Regex}
+-- How much a listener keeps for its pattern.
+use Rattle.std.specs.Prelude.{ℕ, ◌≤◌, ◌*◌, ◌+◌, List, length, vec_len, vec_capacity}
+use Rattle.regex_nfa.specs.declared.nfa.Nfa.{Nfa}
+use Rattle.hub_listen.specs.Searches.{SearchesFor}
+use Rattle.hub_listen.specs.declared.size.TheConstants.{MOST_BYTES}
 
--- the most bytes that the tables of a compiled pattern take: 280 KiB, and what `regex` adds to a limit
-abbrev pub most_bytes : ℕ
-most_bytes = 280 * 2 ^ 10 + 24
+-- The bytes of the NFA's tables, by the room that each has: 12 a state, 8 a transition, 4 a rank. Each of three lists of
+-- states has two numbers of 4 bytes for each state.
+abbrev pub bytes_for : Nfa → ℕ
+bytes_for nfa =
+    12 * vec_capacity nfa.states + 8 * vec_capacity nfa.transitions + 4 * vec_capacity nfa.ranks + 3 * (4 + 4) * vec_len nfa.states
 
--- a regex that is read from the text takes at most that many bytes
-pub record IsSmall (text : List ℕ) : Type 0 where
-  pub regex : Regex
-  pub source : regex_source regex ≡ text
-  pub config : regex_config regex ≡ default_config
-  pub read : IsReadFromSource regex
-  pub small : regex_size regex ≤ most_bytes
+-- a listener for the pattern keeps at most that much, with the pattern's text
+pub record IsSmall (pattern : List ℕ) : Type 0 where
+  pub nfa : Nfa
+  pub searches : ∥ SearchesFor nfa pattern ∥₁
+  pub small : bytes_for nfa + length pattern ≤ MOST_BYTES

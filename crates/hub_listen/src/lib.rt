@@ -15,18 +15,21 @@
 //!
 //! No letter costs more than three passes over the pattern's NFA, however many were gathered: the listener keeps the
 //! states in which its searches are alive, and a letter moves them on.
+//!
+//! For its pattern a listener keeps at most [`MOST_BYTES`], or it isn't made. Of the pattern's classes it keeps the letters.
 #![tactic(auto)]
 
 mod alive;
-mod compile;
+mod cut;
 mod feed;
 pub mod laws;
 mod listener;
 mod pattern;
 mod search;
+mod size;
 mod states;
 
-pub use compile::MOST_BYTES;
 pub use feed::{Feed, FeedError};
 pub use hub_letters::Mode;
 pub use listener::{ListenError, Listener};
+pub use size::MOST_BYTES;

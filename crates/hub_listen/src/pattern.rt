@@ -1,15 +1,20 @@
 //! Patterns.
-ghost use Rattle.std.specs.Prelude.{◌≡◌, string_bytes, IfOk, OnOk};
+ghost use Rattle.std.specs.Prelude.{◌≡◌, ◌≤◌, ◌+◌, string_bytes, length, IfOk, OnOk};
 ghost use Rattle.hub_listen.specs.Hit.{IsPattern};
-ghost use Rattle.hub_listen.specs.Size.{IsSmall};
+ghost use Rattle.hub_listen.specs.Size.{bytes_for, IsSmall};
 ghost use Rattle.hub_listen.specs.Searches.{SearchesFor};
+ghost use Rattle.hub_listen.specs.declared.size.TheConstants.{MOST_BYTES};
 
-use crate::compile::{MOST_BYTES, compile};
+use crate::cut::cut;
 use crate::listener::ListenError;
+use crate::size::is_small;
 use regex::Error;
 use regex_nfa::Nfa;
 use regex_syntax::{Config, Parsed};
 use std::alloc::Global;
+
+/// What compiling a pattern may spend.
+const MOST_WORK: usize = 280 << 10;
 
 /// The text of a pattern, and the NFA that searches for it.
 #[derive(Drop)]
@@ -17,6 +22,7 @@ pub(crate) struct Pattern {
     pub(crate) text: String,
     pub(crate) nfa: Nfa,
     pub(crate) ghost searches: { ∥ SearchesFor nfa (string_bytes text) ∥₁ },
+    pub(crate) ghost small: { bytes_for nfa + length (string_bytes text) ≤ MOST_BYTES },
 }
 
 impl Pattern {
@@ -26,8 +32,10 @@ impl Pattern {
         ensures read { OnOk result (IsPattern text.now) }
         ensures small { OnOk result (IsSmall text.now) }
     {
-        drop(compile(alloc, text)?);
         let nfa = nfa_of(alloc, text)?;
+        if !is_small(&nfa, text) {
+            return Err(ListenError::Pattern);
+        }
         let text = String::from_str(alloc, text)?;
         Ok(Pattern { text, nfa })
     }
@@ -42,5 +50,6 @@ fn nfa_of(alloc: Global, text: &str) -> Result<Nfa, Error>
     let Ok(groups) = u32::try_from(names.len()) else {
         return Err(Error::CompiledTooBig);
     };
-    Ok(regex_compile::compile(alloc, &hir, groups, MOST_BYTES)?)
+    let letters = cut(alloc, &hir)?;
+    Ok(regex_compile::compile(alloc, &letters, groups, MOST_WORK)?)
 }

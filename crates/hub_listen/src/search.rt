@@ -1,8 +1,8 @@
 //! The search for the first hit.
 ghost use Rattle.std.specs.Prelude.{◌≡◌, ◌+◌, ◌≤◌, ◌<◌, ◌-◌, ◌++◌, ◌∷◌, [], false, length, take, IfSome, IfNone, string_bytes, string_len, vec_len};
 ghost use Rattle.std.specs.String.{string_capacity};
-ghost use Rattle.std.specs.Str.{IsAscii};
 ghost use Rattle.hub_listen.specs.Hit.{finds, IsHit, HasNoHit};
+ghost use Rattle.hub_listen.specs.Letters.{IsLetter, AreLetters};
 ghost use Rattle.hub_listen.specs.Alive.{AreAlive, HasRoom};
 
 use crate::alive::Alive;
@@ -14,7 +14,7 @@ fn append(text: &mut String, letter: Letter)
     requires { string_len text.old < string_capacity text.old }
     ensures bytes { string_bytes text.new ≡ string_bytes text.old ++ letter ∷ [] }
     ensures room { string_capacity text.old ≤ string_capacity text.new }
-    ensures ascii { letter < 128 }
+    ensures letter { IsLetter letter }
 {
     text.push(char::from(letter.byte())).unwrap();
 }
@@ -29,7 +29,7 @@ pub(crate) fn first_hit(
 ) -> Option<usize>
     requires short { string_len text.old ≤ MOST_GATHERED }
     requires room { MOST_GATHERED ≤ string_capacity text.old }
-    requires ascii { IsAscii (string_bytes text.old) }
+    requires letters { AreLetters (string_bytes text.old) }
     requires states { HasRoom alive.old (vec_len pattern.now.nfa.states) }
     requires alive { AreAlive pattern.now.nfa (string_bytes text.old)
         (string_len text.old) alive.old.states.items }
@@ -49,7 +49,7 @@ pub(crate) fn first_hit(
     ensures states { HasRoom alive.new (vec_len pattern.now.nfa.states) }
     ensures kept { alive.new.kept ≡ alive.old.kept }
     ensures room { MOST_GATHERED ≤ string_capacity text.new }
-    ensures ascii { IsAscii (string_bytes text.new) }
+    ensures letters { AreLetters (string_bytes text.new) }
 {
     for i in 0..piece.len() {
         if text.len() >= MOST_GATHERED {

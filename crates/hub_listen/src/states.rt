@@ -1,5 +1,5 @@
 //! Lists of states.
-ghost use Rattle.std.specs.Prelude.{◌≡◌, ◌<◌, ◌≤◌, ◌↔◌, ◌++◌, ◌∷◌, ℕ, [], length, vec_len, vec_capacity, slice_index, IfOk};
+ghost use Rattle.std.specs.Prelude.{◌≡◌, ◌<◌, ◌≤◌, ◌↔◌, ℕ, [], length, slice_index, IfOk};
 ghost use Rattle.regex_dfa.specs.Moves.{Has};
 ghost use Rattle.regex_dfa.specs.Walks.{Grows};
 
@@ -7,15 +7,6 @@ use regex_nfa::StateId;
 use regex_vm::StateSet;
 use std::alloc::{AllocError, Global};
 use std::marker::Model;
-
-/// Appends a state; the caller knows that there is room.
-fn push(list: &mut Vec<StateId>, state: StateId)
-    requires { vec_len list.old < vec_capacity list.old }
-    ensures items { list.new.items ≡ list.old.items ++ state ∷ [] }
-    ensures room { vec_capacity list.old ≤ vec_capacity list.new }
-{
-    list.push(state).unwrap();
-}
 
 /// Some of the states 0, 1, 2, .. below a count, each once. All of the room is made at the start.
 #[derive(Drop)]
@@ -77,7 +68,7 @@ impl States {
         ensures has { Has self.new.items state }
     {
         if self.set.insert(state) {
-            push(&mut self.list, state);
+            self.list.push_reserved(state);
         }
     }
 

@@ -5,15 +5,14 @@ use crate::answer::{Answer, text_of};
 use crate::look::Look;
 use crate::peer::Peer;
 use crate::stop::{Stop, tell_refusal};
-use hub_ask::{AskError, Outcome, State};
-use hub_io::{Sink, Source};
+use hub_ask::{AskError, Outcome, Replies, Requests, State};
 use std::alloc::Global;
 use std::io::Write;
 use std::sync::Wait;
 
 /// Sends a look at this fifodir that is answered with `ok` or refused, and returns the reply. If it is refused, that is told, and
 /// the command ends.
-pub(crate) fn ask_about<H: Wait, SR: Source, SW: Sink, F: Write>(
+pub(crate) fn ask_about<H: Wait, SR: Replies, SW: Requests, F: Write>(
     rt: &H,
     alloc: Global,
     look: Look,
@@ -36,7 +35,7 @@ pub(crate) fn ask_about<H: Wait, SR: Source, SW: Sink, F: Write>(
 }
 
 /// How the fifodir is. None if the hub refuses to say, which is told.
-pub(crate) fn state_of<H: Wait, SR: Source, SW: Sink, F: Write>(
+pub(crate) fn state_of<H: Wait, SR: Replies, SW: Requests, F: Write>(
     rt: &H,
     alloc: Global,
     name: &str,

@@ -5,8 +5,7 @@ use crate::answer::Answer;
 use crate::look::Look;
 use crate::peer::Peer;
 use crate::stop::{Stop, tell_refusal};
-use hub_ask::{AskError, Outcome};
-use hub_io::{Sink, Source};
+use hub_ask::{AskError, Outcome, Replies, Requests};
 use hub_requests::MOST_NAMES;
 use std::alloc::{AllocError, Global};
 use std::io::Write;
@@ -21,7 +20,7 @@ fn put_words(alloc: Global, words: &str, names: &mut Vec<String>) -> Result<(), 
 }
 
 /// All names of the hub, in the order in which their fifodirs were made.
-pub(crate) fn all_names<H: Wait, SR: Source, SW: Sink, F: Write>(
+pub(crate) fn all_names<H: Wait, SR: Replies, SW: Requests, F: Write>(
     rt: &H,
     alloc: Global,
     peer: &mut Peer<SR, SW>,

@@ -7,8 +7,8 @@ use crate::look::Look;
 use crate::peer::Peer;
 use crate::stop::{Stop, tell, tell_refusal, write_text};
 use crate::subscribing::{Followed, subscribe};
-use hub_ask::{AskError, MOST_TURNS, Outcome};
-use hub_io::{Sink, Source};
+use hub_ask::{AskError, Outcome, Replies, Requests};
+use hub_io::Sink;
 use hub_requests::MOST_TAKEN;
 use std::alloc::{AllocError, Global};
 use std::io::Write;
@@ -17,6 +17,9 @@ use std::sync::Wait;
 
 /// How many turns it takes at most to look at each of several fifodirs once, if nothing comes.
 const ROUND: u64 = 200;
+
+/// How many turns a look at the only fifodir may take, if nothing comes. A hub that is stopped is noticed after that.
+const LONGEST: u64 = 5_000;
 
 // Writes the letters, or the hit, that came.
 fn write_letters<C: Clock, W: Sink>(
@@ -35,7 +38,7 @@ fn write_letters<C: Clock, W: Sink>(
 }
 
 // Whether something comes within so many turns.
-fn comes<H: Wait, SR: Source, SW: Sink, F: Write>(
+fn comes<H: Wait, SR: Replies, SW: Requests, F: Write>(
     rt: &H,
     alloc: Global,
     turns: u64,
@@ -60,7 +63,7 @@ fn comes<H: Wait, SR: Source, SW: Sink, F: Write>(
 }
 
 // Takes what is pending for the handle.
-fn take<H: Wait, SR: Source, SW: Sink>(
+fn take<H: Wait, SR: Replies, SW: Requests>(
     rt: &H,
     alloc: Global,
     following: &Following<'_>,
@@ -78,7 +81,7 @@ fn take<H: Wait, SR: Source, SW: Sink>(
 }
 
 // Takes what is pending for one fifodir, and writes it. Returns whether letters came.
-fn take_and_write<H: Wait + Clock, SR: Source, SW: Sink, W: Sink, F: Write>(
+fn take_and_write<H: Wait + Clock, SR: Replies, SW: Requests, W: Sink, F: Write>(
     rt: &H,
     alloc: Global,
     following: &Following<'_>,
@@ -117,7 +120,7 @@ fn take_and_write<H: Wait + Clock, SR: Source, SW: Sink, W: Sink, F: Write>(
 }
 
 // Looks once at each fifodir that isn't over. Returns whether letters of any of them came.
-fn look_at_each<H: Wait + Clock, SR: Source, SW: Sink, W: Sink, F: Write>(
+fn look_at_each<H: Wait + Clock, SR: Replies, SW: Requests, W: Sink, F: Write>(
     rt: &H,
     alloc: Global,
     following: &Following<'_>,
@@ -142,7 +145,7 @@ fn look_at_each<H: Wait + Clock, SR: Source, SW: Sink, W: Sink, F: Write>(
 // the others.
 fn turns_each(count: usize, came: bool) -> u64 {
     match (count, came) {
-        (0 | 1, _) => MOST_TURNS,
+        (0 | 1, _) => LONGEST,
         (_, true) => 0,
         (_, false) => (ROUND / count as u64).max(1),
     }
@@ -155,7 +158,7 @@ fn put<'a>(all: &mut Vec<Followed<'a>>, followed: Followed<'a>) -> Result<(), Al
 }
 
 // Subscribes to each fifodir.
-fn subscribe_to_all<'a, H: Wait, SR: Source, SW: Sink, F: Write>(
+fn subscribe_to_all<'a, H: Wait, SR: Replies, SW: Requests, F: Write>(
     rt: &H,
     alloc: Global,
     following: &Following<'a>,
@@ -173,7 +176,7 @@ fn subscribe_to_all<'a, H: Wait, SR: Source, SW: Sink, F: Write>(
 }
 
 // Follows until a reply ends it. That all are closed is such a reply.
-fn follow_on<H: Wait + Clock, SR: Source, SW: Sink, W: Sink, F: Write>(
+fn follow_on<H: Wait + Clock, SR: Replies, SW: Requests, W: Sink, F: Write>(
     rt: &H,
     alloc: Global,
     following: &Following<'_>,
@@ -199,7 +202,7 @@ fn follow_on<H: Wait + Clock, SR: Source, SW: Sink, W: Sink, F: Write>(
 /// Writes each letter of the fifodirs, or each hit, as it comes, until all of them are closed or one of them evicts it. `notes` gets
 /// a line on a name that the hub refuses, or that it was evicted from. With several fifodirs it looks at one after the other, and at
 /// all of them within about a fifth of a second.
-pub fn follow<H: Wait + Clock, SR: Source, SW: Sink, W: Sink, F: Write>(
+pub fn follow<H: Wait + Clock, SR: Replies, SW: Requests, W: Sink, F: Write>(
     rt: &H,
     alloc: Global,
     following: &Following<'_>,

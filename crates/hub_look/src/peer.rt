@@ -3,14 +3,15 @@ ghost use Rattle.std.specs.Prelude.{◌≡◌, false};
 ghost use Rattle.hub_look.specs.Looks.{AsksWhole, OnlyLooks};
 
 use crate::look::Look;
-use hub_ask::{AskError, exchange};
+use hub_ask::{AskError, Replies, Requests, exchange_in_time};
 use hub_client::RelayError;
-use hub_io::{Sink, Source};
+use hub_io::Sink;
 use std::alloc::Global;
 use std::snapshot::Snapshot;
 use std::sync::Wait;
 
-/// A connection to a hub that sends nothing but looks. After a request that broke off, it sends nothing any more.
+/// A connection to a hub that sends nothing but looks. After a request that broke off, it sends nothing any more. For each reply the
+/// hub has ten seconds, and the time that an `await` asks for.
 #[derive(Drop)]
 pub struct Peer<SR, SW: Sink> {
     receiver: SR,
@@ -22,7 +23,7 @@ pub struct Peer<SR, SW: Sink> {
     ghost whole: { is_broken ≡ false → ∥ AsksWhole (SW.contents begun.value) (SW.contents sender) ∥₁ },
 }
 
-impl<SR: Source, SW: Sink> Peer<SR, SW> {
+impl<SR: Replies, SW: Requests> Peer<SR, SW> {
     /// A hub that is reached by these streams.
     pub fn new(receiver: SR, sender: SW) -> Peer<SR, SW>
         ensures { result.begun.value ≡ sender }
@@ -53,7 +54,7 @@ impl<SR: Source, SW: Sink> Peer<SR, SW> {
             return Err(AskError::Words);
         };
         self.is_broken = true;
-        let reply = exchange(rt, alloc, &line, &mut self.receiver, &mut self.sender)?;
+        let reply = exchange_in_time(rt, alloc, &line, &mut self.receiver, &mut self.sender)?;
         self.is_broken = false;
         Ok(reply)
     }

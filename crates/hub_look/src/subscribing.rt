@@ -7,8 +7,7 @@ use crate::following::Following;
 use crate::look::Look;
 use crate::peer::Peer;
 use crate::stop::Stop;
-use hub_ask::{AskError, Outcome};
-use hub_io::{Sink, Source};
+use hub_ask::{AskError, Outcome, Replies, Requests};
 use std::alloc::Global;
 use std::io::Write;
 use std::sync::Wait;
@@ -29,7 +28,7 @@ pub(crate) struct Followed<'a> {
 }
 
 // How many events the fifodir has.
-fn events_of<H: Wait, SR: Source, SW: Sink, F: Write>(
+fn events_of<H: Wait, SR: Replies, SW: Requests, F: Write>(
     rt: &H,
     alloc: Global,
     name: &str,
@@ -45,7 +44,7 @@ fn events_of<H: Wait, SR: Source, SW: Sink, F: Write>(
 }
 
 // A handle for this look, which subscribes.
-fn handle_for<H: Wait, SR: Source, SW: Sink, F: Write>(
+fn handle_for<H: Wait, SR: Replies, SW: Requests, F: Write>(
     rt: &H,
     alloc: Global,
     look: Look,
@@ -64,7 +63,7 @@ fn handle_for<H: Wait, SR: Source, SW: Sink, F: Write>(
 }
 
 /// Subscribes, and knows the number of the next event: no event came between a look before and one after it. None if one came.
-fn subscribe_between<'a, H: Wait, SR: Source, SW: Sink, F: Write>(
+fn subscribe_between<'a, H: Wait, SR: Replies, SW: Requests, F: Write>(
     rt: &H,
     alloc: Global,
     name: &'a str,
@@ -88,7 +87,7 @@ fn subscribe_between<'a, H: Wait, SR: Source, SW: Sink, F: Write>(
 }
 
 // Subscribes, and knows the number of the next event unless the fifodir is too busy.
-fn subscribe_numbered<'a, H: Wait, SR: Source, SW: Sink, F: Write>(
+fn subscribe_numbered<'a, H: Wait, SR: Replies, SW: Requests, F: Write>(
     rt: &H,
     alloc: Global,
     name: &'a str,
@@ -106,7 +105,7 @@ fn subscribe_numbered<'a, H: Wait, SR: Source, SW: Sink, F: Write>(
 }
 
 // Subscribes by this look. The number of the next event isn't known.
-fn subscribe_by<'a, H: Wait, SR: Source, SW: Sink, F: Write>(
+fn subscribe_by<'a, H: Wait, SR: Replies, SW: Requests, F: Write>(
     rt: &H,
     alloc: Global,
     look: Look,
@@ -127,7 +126,7 @@ fn subscribe_by<'a, H: Wait, SR: Source, SW: Sink, F: Write>(
 }
 
 /// Subscribes to the fifodir as it is to be followed.
-pub(crate) fn subscribe<'a, H: Wait, SR: Source, SW: Sink, F: Write>(
+pub(crate) fn subscribe<'a, H: Wait, SR: Replies, SW: Requests, F: Write>(
     rt: &H,
     alloc: Global,
     following: &Following<'a>,

@@ -5,8 +5,8 @@ use crate::asking::state_of;
 use crate::names::all_names;
 use crate::peer::Peer;
 use crate::stop::{Stop, write_text};
-use hub_ask::{AskError, Outcome, State};
-use hub_io::{Sink, Source};
+use hub_ask::{AskError, Outcome, Replies, Requests, State};
+use hub_io::Sink;
 use std::alloc::{AllocError, Global};
 use std::io::Write;
 use std::sync::Wait;
@@ -39,7 +39,7 @@ fn row_of(alloc: Global, width: usize, name: &str, columns: &str) -> Result<Stri
 }
 
 // The rows of these names, below the headings. None of a refused name, which makes the outcome a refusal.
-fn table_of<H: Wait, SR: Source, SW: Sink, F: Write>(
+fn table_of<H: Wait, SR: Replies, SW: Requests, F: Write>(
     rt: &H,
     alloc: Global,
     names: &[&str],
@@ -74,7 +74,7 @@ fn words_of(alloc: Global, names: &[String]) -> Result<Vec<&str>, AllocError> {
 }
 
 // Writes the table of these names, or of all names of the hub.
-fn write_table<H: Wait, SR: Source, SW: Sink, W: Sink, F: Write>(
+fn write_table<H: Wait, SR: Replies, SW: Requests, W: Sink, F: Write>(
     rt: &H,
     alloc: Global,
     names: &[&str],
@@ -96,7 +96,7 @@ fn write_table<H: Wait, SR: Source, SW: Sink, W: Sink, F: Write>(
 
 /// Writes a table to the output: a row for each of these fifodirs, or for each of the hub if none is named. For a name that the hub
 /// refuses, `notes` gets a line, and the outcome is [`Outcome::Refused`].
-pub fn show_states<H: Wait, SR: Source, SW: Sink, W: Sink, F: Write>(
+pub fn show_states<H: Wait, SR: Replies, SW: Requests, W: Sink, F: Write>(
     rt: &H,
     alloc: Global,
     names: &[&str],

@@ -1,68 +1,105 @@
--- A line of a form, as its list of fields.
-use Rattle.std.proofs.Common.{inl, inr, ◌≡◌, ℕ, ◌≤◌, List, [], ◌∷◌, length, false, sym, ap, ◌∙◌, arith}
-use Rattle.std.specs.Prelude.{All}
-use Rattle.std.specs.List.{after_first, position_or_len, join_with_byte}
-use Rattle.std.proofs.lemmas.Bool.{cases_lt}
-use Rattle.std.proofs.lemmas.List.{take_all}
-use Rattle.std.proofs.lemmas.List.Elements.{All-from_get_or, All-cons, All-append}
-use Rattle.std.proofs.lemmas.List.Sums.{fails_before_first}
-use Rattle.std.proofs.lemmas.List.Splits.{slice_split_first, join_with_byte-slice_split}
-use Rattle.hub_protocol.specs.Spelling.{Form, Dir, IsForm, spelling, word_of, is_space, fields_of, fields_behind, fields_in}
-use Rattle.hub_protocol.specs.Fields.{IsNoForm, IsFormOf}
-use Rattle.hub_protocol.specs.Reading.{first_word, IsTextByte, IsText, HasForm}
-use Rattle.hub_protocol.proofs.Splits.{IsOneField, fields_of-one, fields_of-more}
-use Rattle.hub_protocol.proofs.Visible.{AllVisible, one_field, plain, visible_in}
+-- Fields that are read one after another.
+use Rattle.std.proofs.Common.{◌≡◌, ◌≢◌, ℕ, zero, suc, ◌+◌, ◌<◌, List, [], ◌∷◌, ◌++◌, length, get_or, map, take, drop, slice_set, refl, sym, ap, ◌∙◌, subst, arith}
+use Rattle.std.specs.List.{AllZip}
+use Rattle.std.proofs.lemmas.List.{length-map, take_more_set, map-append, take_more, drop_more, take-append-drop, get_or-map, get_or-take}
+use Rattle.hub_protocol.specs.declared.table.Kind.{Kind}
+use Rattle.hub_protocol.specs.declared.table.Kind.TheVariants as kind
+use Rattle.hub_protocol.specs.declared.line.Field as code
+use Rattle.hub_protocol.specs.Spelling.{Field, Name, Number, Letters, Mode, Span, Want, IsOf, IsSound, text_of_field}
+use Rattle.hub_protocol.specs.Lines.{IsWithinKind, field_shown, fields_shown}
 
--- the first word of a line is its first field
-pub first_word-fields : (line field : List ℕ) (more : List (List ℕ)) → fields_of line ≡ field ∷ more → first_word line ≡ field
-first_word-fields line field more e = elim (cases_lt (position_or_len is_space line) (length line)) [
-  | inl inside ↦ let split : fields_of line ≡ first_word line ∷ fields_of (after_first is_space line) = slice_split_first is_space line 0 inside in cc
-  | inr past ↦
-      let whole : first_word line ≡ line = take_all (position_or_len is_space line) line past in
-      let plain : IsOneField line = All-from_get_or (λ b. is_space b ≡ false) line 0 (λ k below. fails_before_first is_space line k 0 (omega arith)) in
-      let one : fields_of line ≡ line ∷ [] = fields_of-one line plain in
-      cc
-]
+-- ---- lists side by side
 
--- ---- forms
+pub all_zip_push : {A B : Type 0} (R : A → B → Type 0) (xs : List A) (ys : List B) (x : A) (y : B) → AllZip R xs ys → R x y → AllZip R (xs ++ x ∷ []) (ys ++ y ∷ [])
+all_zip_push R [] [] x y h r = (r, tt)
+all_zip_push R [] (b ∷ bs) x y h r = absurd h
+all_zip_push R (a ∷ as') [] x y h r = absurd h
+all_zip_push R (a ∷ as') (b ∷ bs) x y h r = (h.0, all_zip_push R as' bs x y h.1 r)
 
-fields_of-join : (field : List ℕ) (fields : List (List ℕ)) → AllVisible (field ∷ fields) → fields_of (join_with_byte 32 (field ∷ fields)) ≡ field ∷ fields
-fields_of-join field [] visible = fields_of-one field (one_field field visible.0)
-fields_of-join field (next ∷ fields) visible =
-    fields_of-more field (join_with_byte 32 (next ∷ fields)) (one_field field visible.0) ∙ ap (λ fs. field ∷ fs) (fields_of-join next fields visible.1)
+-- a pair of an AllZip
+pub all_zip_at : {A B : Type 0} (R : A → B → Type 0) (xs : List A) (ys : List B) (i : ℕ) (d : A) (e : B) → AllZip R xs ys → i < length xs → R (get_or xs i d) (get_or ys i e)
+all_zip_at R [] ys i d e h below = absurd (omega (arith, below))
+all_zip_at R (x ∷ xs) [] i d e h below = absurd h
+all_zip_at R (x ∷ xs) (y ∷ ys) zero d e h below = h.0
+all_zip_at R (x ∷ xs) (y ∷ ys) (suc i) d e h below = all_zip_at R xs ys i d e h.1 (omega (arith, below))
 
-plain_join : (field : List ℕ) (fields : List (List ℕ)) → AllVisible (field ∷ fields) → All IsTextByte (join_with_byte 32 (field ∷ fields))
-plain_join field [] visible = plain field visible.0
-plain_join field (next ∷ fields) visible =
-    All-append IsTextByte field (32 ∷ join_with_byte 32 (next ∷ fields)) (plain field visible.0)
-    (All-cons IsTextByte 32 (join_with_byte 32 (next ∷ fields)) (omega arith, omega arith) (plain_join next fields visible.1))
+take_shown : (n : ℕ) (list : List code.Field) → take n (map field_shown list) ≡ map field_shown (take n list)
+take_shown zero list = refl
+take_shown (suc n) [] = refl
+take_shown (suc n) (f ∷ fs) = ap (λ l. field_shown f ∷ l) (take_shown n fs)
 
-pub text_of_form : (form : Form) → IsForm form → length (spelling form) ≤ 512 → IsText (spelling form)
-text_of_form form h short = record { short = short; plain = plain_join (word_of form) (fields_behind form) (visible_in form h) }
+more_shown : (list : List code.Field) (i : ℕ) (x : code.Field) → i < length list → take (i + 1) (map field_shown (slice_set list i x)) ≡ take i (map field_shown list) ++ field_shown x ∷ []
+more_shown list i x below =
+    take_shown (i + 1) (slice_set list i x) ∙ ap (map field_shown) (take_more_set list i x below) ∙ map-append field_shown (take i list) (x ∷ [])
+    ∙ ap (λ l. l ++ field_shown x ∷ []) (sym (take_shown i list))
 
--- a line has a form exactly if its fields are the form's
-pub fields_of-has_form : (line : List ℕ) (form : Form) → HasForm line form → fields_of line ≡ fields_in form
-fields_of-has_form line form has = ap fields_of has.spelled ∙ fields_of-join (word_of form) (fields_behind form) (visible_in form has.formed)
+-- ---- reading
 
-has_form-fields_of : (line : List ℕ) (form : Form) → IsForm form → fields_of line ≡ fields_in form → HasForm line form
-has_form-fields_of line form h e = record { formed = h; spelled = sym (join_with_byte-slice_split 32 line) ∙ ap (join_with_byte 32) e }
+pub sound_by : (kind : Kind) (field : Field) → IsOf kind field → IsSound field
+sound_by kind.Name (Name name) h = h
+sound_by kind.Letters (Letters letters) h = h
+sound_by (kind.Number least most) (Number number) h = h
+sound_by kind.Flag (Number number) h = h
+sound_by k (Mode mode) h = tt
+sound_by k (Span s) h = tt
+sound_by k (Want want) h = tt
+sound_by k field h = absurd h
 
--- a line begins with the word of its form
-pub first_word-form : (line : List ℕ) (form : Form) → HasForm line form → first_word line ≡ word_of form
-first_word-form line form has = first_word-fields line (word_of form) (fields_behind form) (fields_of-has_form line form has)
+-- one more field is read
+pub read_more : (kinds : List Kind) (list : List code.Field) (i : ℕ) (d : Kind) (x : code.Field) → i < length kinds → i < length list
+    → AllZip IsOf (take i kinds) (take i (map field_shown list)) → IsOf (get_or kinds i d) (field_shown x)
+    → AllZip IsOf (take (i + 1) kinds) (take (i + 1) (map field_shown (slice_set list i x)))
+read_more kinds list i d x below inside read is =
+    subst (λ ks. AllZip IsOf ks (take (i + 1) (map field_shown (slice_set list i x)))) (sym (take_more kinds i d below))
+    (subst (λ fs. AllZip IsOf (take i kinds ++ get_or kinds i d ∷ []) fs) (sym (more_shown list i x inside)) (all_zip_push IsOf (take i kinds) (take i (map field_shown list)) (get_or kinds i d) (field_shown x) read is))
 
--- ---- what the parts of a line show about it
+texts-more : (fields : List Field) (field : Field) (behind : List (List ℕ)) → map text_of_field fields ++ text_of_field field ∷ behind ≡ map text_of_field (fields ++ field ∷ []) ++ behind
+texts-more [] field behind = refl
+texts-more (f ∷ fs) field behind = ap (λ l. text_of_field f ∷ l) (texts-more fs field behind)
 
-pub has_form-of_word : (line word rest : List ℕ) (form : Form) → fields_of line ≡ word ∷ fields_of rest → IsFormOf word (fields_of rest) form → HasForm line form
-has_form-of_word line word rest form e is = has_form-fields_of line form is.formed (let w = is.of_word in let b = is.behind in cc)
+pub pieces_more : (list : List code.Field) (i : ℕ) (x : code.Field) (pieces left behind : List (List ℕ)) → i < length list
+    → pieces ≡ map text_of_field (take i (map field_shown list)) ++ left → left ≡ text_of_field (field_shown x) ∷ behind
+    → pieces ≡ map text_of_field (take (i + 1) (map field_shown (slice_set list i x))) ++ behind
+pieces_more list i x pieces left behind inside so_far next =
+    so_far ∙ ap (λ l. map text_of_field (take i (map field_shown list)) ++ l) next ∙ texts-more (take i (map field_shown list)) (field_shown x) behind
+    ∙ ap (λ fs. map text_of_field fs ++ behind) (sym (more_shown list i x inside))
 
--- no form of the line's word has its fields
-pub no_form : (line word : List ℕ) (fields : List (List ℕ)) → fields_of line ≡ word ∷ fields → IsNoForm word fields → (form : Form) → HasForm line form → ⊥
-no_form line word fields e none form has =
-    let is : fields_of line ≡ fields_in form = fields_of-has_form line form has in
-    none form has.formed (cc) (cc)
+no_fields_by : (before : List Kind) (kind : Kind) (after : List Kind) (read : List Field) (left : List (List ℕ)) → AllZip IsOf before read
+    → ((field : Field) (more : List (List ℕ)) → IsOf kind field → left ≢ text_of_field field ∷ more)
+    → (fields : List Field) (more : List (List ℕ)) → AllZip IsOf (before ++ kind ∷ after) fields → map text_of_field read ++ left ≢ map text_of_field fields ++ more
+no_fields_by [] kind after [] left zip none [] more h e = h
+no_fields_by [] kind after [] left zip none (f ∷ fs) more h e = none f (map text_of_field fs ++ more) h.0 e
+no_fields_by [] kind after (r ∷ rs) left zip none fields more h e = zip
+no_fields_by (b ∷ bs) kind after [] left zip none fields more h e = zip
+no_fields_by (b ∷ bs) kind after (r ∷ rs) left zip none [] more h e = h
+no_fields_by (b ∷ bs) kind after (r ∷ rs) left zip none (f ∷ fs) more h e =
+    let rest : map text_of_field rs ++ left ≡ map text_of_field fs ++ more = cc in
+    no_fields_by bs kind after rs left zip.1 none fs more h.1 rest
 
--- each form has a field after its word
-pub no_form_alone : (word : List ℕ) → IsNoForm word []
-no_form_alone word (Dir name waiting total evict) h is e = cc
-no_form_alone word form h is e = cc
+-- if the next field isn't of its kind, the pieces aren't those of such fields
+pub no_fields_at : (kinds : List Kind) (read : List Field) (i : ℕ) (d : Kind) (pieces left : List (List ℕ)) → i < length kinds → AllZip IsOf (take i kinds) read
+    → pieces ≡ map text_of_field read ++ left → ((field : Field) (more : List (List ℕ)) → IsOf (get_or kinds i d) field → left ≢ text_of_field field ∷ more)
+    → (fields : List Field) (more : List (List ℕ)) → AllZip IsOf kinds fields → pieces ≢ map text_of_field fields ++ more
+no_fields_at kinds read i d pieces left below zip so_far none fields more h e =
+    let whole : kinds ≡ take i kinds ++ get_or kinds i d ∷ drop (i + 1) kinds = sym (take-append-drop i kinds) ∙ ap (λ l. take i kinds ++ l) (drop_more kinds i d below) in
+    no_fields_by (take i kinds) (get_or kinds i d) (drop (i + 1) kinds) read left zip none fields more (subst (λ ks. AllZip IsOf ks fields) whole h) (sym so_far ∙ e)
+
+-- ---- ranges
+
+field_at : (kinds : List Kind) (list : List code.Field) (i : ℕ) (d : code.Field) (e : Field) → i < length kinds → i < length list → get_or (fields_shown kinds list) i e ≡ field_shown (get_or list i d)
+field_at kinds list i d e below inside = get_or-take (length kinds) (map field_shown list) i e below ∙ get_or-map field_shown list i d e inside
+
+pub out_of_range : (kinds : List Kind) (list : List code.Field) (i : ℕ) (d : Kind) (e : code.Field) → i < length kinds → i < length list
+    → (IsWithinKind (get_or kinds i d) (field_shown (get_or list i e)) → ⊥) → AllZip IsWithinKind kinds (fields_shown kinds list) → ⊥
+out_of_range kinds list i d e below inside beyond within =
+    beyond (subst (IsWithinKind (get_or kinds i d)) (field_at kinds list i e (field_shown e) below inside) (all_zip_at IsWithinKind kinds (fields_shown kinds list) i d (field_shown e) within below))
+
+pub in_range_more : (kinds : List Kind) (list : List code.Field) (i : ℕ) (d : Kind) (e : code.Field) → i < length kinds → i < length list
+    → IsWithinKind (get_or kinds i d) (field_shown (get_or list i e)) → AllZip IsWithinKind (take i kinds) (take i (map field_shown list))
+    → AllZip IsWithinKind (take (i + 1) kinds) (take (i + 1) (map field_shown list))
+in_range_more kinds list i d e below inside within so_far =
+    let long : length (map field_shown list) ≡ length list = length-map list field_shown in
+    subst (λ ks. AllZip IsWithinKind ks (take (i + 1) (map field_shown list))) (sym (take_more kinds i d below))
+    (subst (λ fs. AllZip IsWithinKind (take i kinds ++ get_or kinds i d ∷ []) fs) (sym (take_more (map field_shown list) i (field_shown e) (omega (arith, long, inside))))
+    (all_zip_push IsWithinKind (take i kinds) (take i (map field_shown list)) (get_or kinds i d) (get_or (map field_shown list) i (field_shown e)) so_far
+    (subst (IsWithinKind (get_or kinds i d)) (sym (get_or-map field_shown list i e (field_shown e) inside)) within)))

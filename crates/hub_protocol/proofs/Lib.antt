@@ -1,7 +1,11 @@
 pub mod Numerals
 pub mod Splits
+pub mod Rows
 pub mod Visible
 pub mod SameWords
 pub mod FieldLists
-pub mod OneReading
+pub mod FormLines
 pub mod FormRequests
+pub mod OneReading
+pub mod LineForms
+pub mod RequestTexts

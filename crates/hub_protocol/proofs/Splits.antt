@@ -1,11 +1,11 @@
 -- A text is cut at its first space.
-use Rattle.std.proofs.Common.{◌≡◌, ◌≢◌, ℕ, ◌+◌, ◌-◌, ◌<◌, List, [], ◌∷◌, ◌++◌, length, get_or, take, drop, Bool, true, false, refl, sym, ap, ◌∙◌, arith}
-use Rattle.std.specs.Prelude.{All, codes}
+use Rattle.std.proofs.Common.{◌≡◌, ◌≢◌, ℕ, ◌+◌, ◌-◌, ◌<◌, List, [], ◌∷◌, ◌++◌, length, get_or, take, drop, false, refl, sym, ap, ◌∙◌, arith}
+use Rattle.std.specs.Prelude.{All}
 use Rattle.std.specs.List.{join_with_byte}
 use Rattle.std.proofs.lemmas.Bool.{ne_eqb}
 use Rattle.std.proofs.lemmas.List.{drop_more, take-append-drop, get_or-take, get_or_default, take_rest, length-take}
 use Rattle.std.proofs.lemmas.List.Splits.{slice_split_none, slice_split_at, length-slice_split, join_with_byte-slice_split}
-use Rattle.hub_protocol.specs.Spelling.{is_space, fields_of, fields_of_evict}
+use Rattle.hub_protocol.specs.Spelling.{is_space, fields_of}
 
 -- no byte of the text is a space
 abbrev pub IsOneField : List ℕ → Type 0
@@ -46,17 +46,9 @@ text_of_one text field e = sym (join_with_byte-slice_split 32 text) ∙ ap (join
 pub same_text : (a b : List ℕ) → fields_of a ≡ fields_of b → a ≡ b
 same_text a b e = sym (join_with_byte-slice_split 32 a) ∙ ap (join_with_byte 32) e ∙ join_with_byte-slice_split 32 b
 
--- each text has a field
+-- each text has a piece
 pub some_fields : (text : List ℕ) → 0 < length (fields_of text)
 some_fields text = omega (arith, length-slice_split is_space text)
 
--- another word than `evict`, or several, behind the first field
-pub not_evict : (text first rest : List ℕ) → fields_of text ≡ first ∷ fields_of rest → rest ≢ codes "evict"
-    → (field : List ℕ) (evict : Bool) → fields_of text ≢ field ∷ fields_of_evict evict
-not_evict text first rest e other field false is =
-    let none : fields_of rest ≡ [] = cc in
-    let zero : length (fields_of rest) ≡ 0 = ap length none in
-    omega (arith, some_fields rest, zero)
-not_evict text first rest e other field true is =
-    let one : fields_of rest ≡ codes "evict" ∷ [] = cc in
-    other (text_of_one rest (codes "evict") one)
+pub no_fields : (text : List ℕ) → fields_of text ≢ []
+no_fields text e = let none : length (fields_of text) ≡ 0 = ap length e in omega (arith, some_fields text, none)

@@ -1,24 +1,29 @@
 -- Names, numerals, letters, words, and the pieces between the spaces of a text, are of visible bytes: bytes that may be
 -- in a line and aren't spaces.
-use Rattle.std.proofs.Common.{◌≡◌, ◌≢◌, ℕ, ◌≤◌, List, [], ◌∷◌, Bool, true, false, cond, not, nat_lt, Option, None, Some, refl, ap, ◌∙◌, arith}
-use Rattle.std.specs.Prelude.{All, MatchOption, codes}
+use Rattle.std.proofs.Common.{◌≡◌, ◌≢◌, ℕ, ◌≤◌, List, [], ◌∷◌, ◌++◌, map, Bool, true, false, cond, not, nat_lt, refl, subst, arith, rules}
+use Rattle.std.specs.Prelude.{All, codes}
 use Rattle.std.specs.Fmt.{decimal}
-use Rattle.std.specs.List.{list_all, onto_first}
+use Rattle.std.specs.List.{list_all, onto_first, AllZip}
 use Rattle.std.specs.Char.{is_ascii_digit}
 use Rattle.std.proofs.lemmas.Bool.{and_parts, or_cases, eqb-true, eqb-false, ne_eqb, not-true, ltb-false}
 use Rattle.std.proofs.lemmas.List.Elements.{All-nil, All-cons, All-head, All-tail, All-weaker}
-use Rattle.hub_letters.specs.declared.want.Want.{Want}
+use Rattle.hub_letters.specs.declared.want.Want as wants
 use Rattle.hub_letters.specs.declared.want.Want.TheVariants.{Up}
-use Rattle.hub_letters.specs.declared.mode.Mode.{Mode}
+use Rattle.hub_letters.specs.declared.mode.Mode as modes
 use Rattle.hub_letters.specs.declared.mode.Mode.TheVariants.{Once}
-use Rattle.hub_letters.specs.declared.span.Span.{Span}
+use Rattle.hub_letters.specs.declared.span.Span as spans
 use Rattle.hub_letters.specs.declared.span.Span.TheVariants as span
 use Rattle.hub_requests.specs.Names.{within, is_name_byte}
-use Rattle.hub_protocol.specs.Spelling.{Form, Dir, Svc, Sub, Pub, Take, Cancel, Close, Status, Listen, Poll, Await, Wait, Names, IsForm, IsName, IsNumeral, text_of_mode, text_of_span, text_of_want, word_of, is_space, fields_of, fields_of_evict, fields_behind, fields_in}
-use Rattle.hub_protocol.specs.Fields.{IsNumeralOf}
+use Rattle.hub_protocol.specs.declared.table.Kind.{Kind}
+use Rattle.hub_protocol.specs.declared.table.Kind.TheVariants as kind
+use Rattle.hub_protocol.specs.declared.table.Ending.{Ending}
+use Rattle.hub_protocol.specs.declared.table.Ending.TheVariants as ending
+use Rattle.hub_protocol.specs.Table.{IsWord, table}
+use Rattle.hub_protocol.specs.Spelling.{Form, Field, Name, Number, Letters, Mode, Span, Want, Last, Nothing, Names, Pattern, Evict, IsForm, IsOf, EndsAs, IsName, IsNumeral, text_of_mode, text_of_span, text_of_want, text_of_field, pieces_of_last, is_space, fields_of, fields_of_evict, fields_in}
 use Rattle.hub_protocol.specs.Reading.{IsTextByte}
 use Rattle.hub_protocol.proofs.Numerals.{digits_of_numeral}
-use Rattle.hub_protocol.proofs.Splits.{IsOneField, fields_of-one, text_of_one}
+use Rattle.hub_protocol.proofs.Splits.{IsOneField}
+use Rattle.hub_protocol.proofs.Rows.{EachRow, of_word, word_at}
 
 abbrev pub IsVisible : ℕ → Type 0
 IsVisible b = (33 ≤ b) × (b ≤ 126)
@@ -55,19 +60,21 @@ visible_name name h = visible_by is_name_byte visible_name_byte name (and_parts 
 pub visible_numeral : (n : ℕ) → IsNumeral n → AreVisible (decimal n)
 visible_numeral n h = visible_by is_ascii_digit visible_digit (decimal n) (digits_of_numeral n h)
 
-visible_word : (form : Form) → AreVisible (word_of form)
-visible_word (Dir name waiting total evict) = visible_name (word_of (Dir name waiting total evict)) refl
-visible_word form = visible_name (word_of form) refl
+each_is_named : EachRow (λ row. IsName row.word) table
+each_is_named = search rules
 
-visible_mode : (mode : Mode) → AreVisible (text_of_mode mode)
+visible_word : (word : List ℕ) → IsWord word → AreVisible word
+visible_word word is = visible_name word (subst IsName (word_at word is) (of_word (λ row. IsName row.word) each_is_named word is))
+
+visible_mode : (mode : modes.Mode) → AreVisible (text_of_mode mode)
 visible_mode Once = visible_name (text_of_mode Once) refl
 visible_mode mode = visible_name (text_of_mode mode) refl
 
-visible_span : (span : Span) → AreVisible (text_of_span span)
+visible_span : (s : spans.Span) → AreVisible (text_of_span s)
 visible_span span.All = visible_name (text_of_span span.All) refl
 visible_span s = visible_name (text_of_span s) refl
 
-visible_want : (want : Want) → AreVisible (text_of_want want)
+visible_want : (want : wants.Want) → AreVisible (text_of_want want)
 visible_want Up = visible_name (text_of_want Up) refl
 visible_want want = visible_name (text_of_want want) refl
 
@@ -99,27 +106,28 @@ visible_evict : (evict : Bool) → AllVisible (fields_of_evict evict)
 visible_evict false = tt
 visible_evict true = (visible_name (codes "evict") refl, tt)
 
-visible_behind : (form : Form) → IsForm form → AllVisible (fields_behind form)
-visible_behind (Dir name waiting total evict) h = (visible_name name h.0, (visible_numeral waiting h.1, (visible_numeral total h.2, visible_evict evict)))
-visible_behind (Svc name waiting total reports evict) h =
-    (visible_name name h.0, (visible_numeral waiting h.1, (visible_numeral total h.2, (visible_numeral reports h.3, visible_evict evict))))
-visible_behind (Sub name) h = (visible_name name h, tt)
-visible_behind (Pub name letters) h = (visible_name name h.0, (h.1.each, tt))
-visible_behind (Take id max) h = (visible_numeral id h.0, (visible_numeral max h.1, tt))
-visible_behind (Cancel id) h = (visible_numeral id h, tt)
-visible_behind (Close name) h = (visible_name name h, tt)
-visible_behind (Status name) h = (visible_name name h, tt)
-visible_behind (Listen name mode pattern) h = (visible_name name h.0, (visible_mode mode, visible_fields pattern h.1.plain))
-visible_behind (Poll id) h = (visible_numeral id h, tt)
-visible_behind (Await id turns) h = (visible_numeral id h.0, (visible_numeral turns h.1, tt))
-visible_behind (Wait span want turns names) h = (visible_span span, (visible_want want, (visible_numeral turns h.0, visible_names names h.1.each)))
-visible_behind (Names from) h = (visible_numeral from h, tt)
+visible_field : (k : Kind) (field : Field) → IsOf k field → AreVisible (text_of_field field)
+visible_field kind.Name (Name name) h = visible_name name h
+visible_field (kind.Number least most) (Number number) h = visible_numeral number h
+visible_field kind.Flag (Number number) h = visible_numeral number h
+visible_field kind.Letters (Letters letters) h = h.each
+visible_field k (Mode mode) h = visible_mode mode
+visible_field k (Span s) h = visible_span s
+visible_field k (Want want) h = visible_want want
+visible_field k field h = absurd h
+
+visible_texts : (kinds : List Kind) (fields : List Field) (pieces : List (List ℕ)) → AllZip IsOf kinds fields → AllVisible pieces → AllVisible (map text_of_field fields ++ pieces)
+visible_texts [] [] pieces h rest = rest
+visible_texts [] (field ∷ fields) pieces h rest = absurd h
+visible_texts (k ∷ ks) [] pieces h rest = absurd h
+visible_texts (k ∷ ks) (field ∷ fields) pieces h rest = (visible_field k field h.0, visible_texts ks fields pieces h.1 rest)
+
+visible_last : (end : Ending) (last : Last) → EndsAs end last → AllVisible (pieces_of_last last)
+visible_last ending.Names (Names names) h = visible_names names h.each
+visible_last ending.Pattern (Pattern pattern) h = visible_fields pattern h.plain
+visible_last end (Evict evict) h = visible_evict evict
+visible_last end Nothing h = tt
+visible_last end last h = absurd h
 
 pub visible_in : (form : Form) → IsForm form → AllVisible (fields_in form)
-visible_in form h = (visible_word form, visible_behind form h)
-
--- a text is a numeral if its one field is
-pub fields_of_numeral : (text : List ℕ) (number : Option ℕ) → IsNumeralOf text number
-    → MatchOption number ((n : ℕ) → IsNumeral n → fields_of text ≢ decimal n ∷ []) (λ n. IsNumeral n × (fields_of text ≡ decimal n ∷ []))
-fields_of_numeral text None none = λ n h e. none n h (text_of_one text (decimal n) e)
-fields_of_numeral text (Some n) is = (is.0, ap fields_of is.1 ∙ fields_of-one (decimal n) (one_field (decimal n) (visible_numeral n is.0)))
+visible_in form h = (visible_word form.word h.word, visible_texts _ form.fields (pieces_of_last form.last) h.fields (visible_last _ form.last h.last))

@@ -1,5 +1,6 @@
+pub mod Table
 pub mod Spelling
 pub mod Reading
 pub mod Fields
-pub mod Forms
+pub mod Lines
 pub mod Writing

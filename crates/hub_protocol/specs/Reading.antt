@@ -6,7 +6,8 @@ use Rattle.hub_requests.specs.declared.reply.Refusal.{Refusal}
 use Rattle.hub_requests.specs.declared.reply.Refusal.TheVariants.{Long, Text, Word, Range, Memory}
 use Rattle.hub_requests.specs.declared.reply.Refusal.TheVariants as no
 use Rattle.hub_requests.specs.Ranges.{IsInRange}
-use Rattle.hub_protocol.specs.Spelling.{Form, IsForm, IsWithin, IsWord, spelling, form_of}
+use Rattle.hub_protocol.specs.Table.{IsWord}
+use Rattle.hub_protocol.specs.Spelling.{Form, IsForm, IsWithin, spelling, form_of}
 
 -- the bytes up to the first space, or all of them
 abbrev pub first_word : List ℕ → List ℕ

@@ -1,34 +1,45 @@
 -- The forms of request lines, and how each is spelled.
-use Rattle.std.specs.Prelude.{◌≡◌, ℕ, ◌<◌, ◌≤◌, ◌^◌, List, [], ◌∷◌, length, Bool, true, false, codes, All, ◌==◌}
+use Rattle.std.specs.Prelude.{◌≡◌, ℕ, ◌<◌, ◌≤◌, ◌^◌, List, [], ◌∷◌, ◌++◌, length, map, Bool, true, false, codes, All, ◌==◌}
 use Rattle.std.specs.Fmt.{decimal}
-use Rattle.std.specs.List.{slice_split, join_with_byte}
-use Rattle.hub_letters.specs.declared.want.Want.{Want}
+use Rattle.std.specs.List.{slice_split, join_with_byte, AllZip}
+use Rattle.hub_letters.specs.declared.want.Want as wants
 use Rattle.hub_letters.specs.declared.want.Want.TheVariants.{Up, Ready, Down, Finished, Restarted, RestartedReady}
-use Rattle.hub_letters.specs.declared.mode.Mode.{Mode}
+use Rattle.hub_letters.specs.declared.mode.Mode as modes
 use Rattle.hub_letters.specs.declared.mode.Mode.TheVariants.{Once, Repeat}
-use Rattle.hub_letters.specs.declared.span.Span.{Span}
+use Rattle.hub_letters.specs.declared.span.Span as spans
 use Rattle.hub_letters.specs.declared.span.Span.TheVariants as span
 use Rattle.hub_requests.specs.Names.{is_name}
 use Rattle.hub_requests.specs.Ranges.{IsInRange}
 use Rattle.hub_requests.specs.declared.bounds.TheConstants.{MOST_SERVICES}
 use Rattle.hub_requests.specs.declared.request.Request.{Request}
 use Rattle.hub_requests.specs.declared.request.Request.TheVariants as request
+use Rattle.hub_protocol.specs.declared.table.Kind.{Kind}
+use Rattle.hub_protocol.specs.declared.table.Kind.TheVariants as kind
+use Rattle.hub_protocol.specs.declared.table.Ending.{Ending}
+use Rattle.hub_protocol.specs.declared.table.Ending.TheVariants as ending
+use Rattle.hub_protocol.specs.Table.{IsWord, kinds_of, ending_of}
 
--- what a line of a form says, before its numbers are checked against their ranges
-pub data Form : Type 0 where
-  Dir : (name : List ℕ) (waiting total : ℕ) (evict : Bool) → Form
-  Svc : (name : List ℕ) (waiting total reports : ℕ) (evict : Bool) → Form
-  Sub : (name : List ℕ) → Form
-  Pub : (name letters : List ℕ) → Form
-  Take : (id max : ℕ) → Form
-  Cancel : (id : ℕ) → Form
-  Close : (name : List ℕ) → Form
-  Status : (name : List ℕ) → Form
-  Listen : (name : List ℕ) (mode : Mode) (pattern : List ℕ) → Form
-  Poll : (id : ℕ) → Form
-  Await : (id turns : ℕ) → Form
-  Wait : (span : Span) (want : Want) (turns : ℕ) (names : List (List ℕ)) → Form
-  Names : (from : ℕ) → Form
+-- what a field of a line says
+pub data Field : Type 0 where
+  Name : (name : List ℕ) → Field
+  Number : (number : ℕ) → Field
+  Letters : (letters : List ℕ) → Field
+  Mode : (mode : modes.Mode) → Field
+  Span : (span : spans.Span) → Field
+  Want : (want : wants.Want) → Field
+
+-- what the end of a line says; a pattern with spaces is several pieces
+pub data Last : Type 0 where
+  Nothing : Last
+  Names : (names : List (List ℕ)) → Last
+  Pattern : (pattern : List ℕ) → Last
+  Evict : (evict : Bool) → Last
+
+-- what a line says, before its numbers are checked against their ranges
+pub record Form : Type 0 where
+  pub word : List ℕ
+  pub fields : List Field
+  pub last : Last
 
 -- a numeral has at most 13 digits
 abbrev pub IsNumeral : ℕ → Type 0
@@ -54,55 +65,70 @@ pub record AreNames (names : List (List ℕ)) : Type 0 where
   pub few : length names ≤ MOST_SERVICES
   pub each : All IsName names
 
--- the form's fields are what it needs
-abbrev pub IsForm : Form → Type 0
-IsForm (Dir name waiting total evict) = IsName name × IsNumeral waiting × IsNumeral total
-IsForm (Svc name waiting total reports evict) = IsName name × IsNumeral waiting × IsNumeral total × IsNumeral reports
-IsForm (Sub name) = IsName name
-IsForm (Pub name letters) = IsName name × AreLetters letters
-IsForm (Take id max) = IsNumeral id × IsNumeral max
-IsForm (Cancel id) = IsNumeral id
-IsForm (Close name) = IsName name
-IsForm (Status name) = IsName name
-IsForm (Listen name mode pattern) = IsName name × IsPatternText pattern
-IsForm (Poll id) = IsNumeral id
-IsForm (Await id turns) = IsNumeral id × IsNumeral turns
-IsForm (Wait span want turns names) = IsNumeral turns × AreNames names
-IsForm (Names from) = IsNumeral from
+-- the field says what it may say
+abbrev pub IsOf : Kind → Field → Type 0
+IsOf kind.Name (Name name) = IsName name
+IsOf (kind.Number least most) (Number number) = IsNumeral number
+IsOf kind.Flag (Number number) = IsNumeral number
+IsOf kind.Letters (Letters letters) = AreLetters letters
+IsOf kind.Mode (Mode mode) = Unit {0}
+IsOf kind.Span (Span s) = Unit {0}
+IsOf kind.Want (Want want) = Unit {0}
+IsOf kind field = ⊥
+
+-- the line ends as it may end
+abbrev pub EndsAs : Ending → Last → Type 0
+EndsAs ending.Nothing Nothing = Unit {0}
+EndsAs ending.Names (Names names) = AreNames names
+EndsAs ending.Pattern (Pattern pattern) = IsPatternText pattern
+EndsAs ending.Evict (Evict evict) = Unit {0}
+EndsAs ending last = ⊥
+
+-- a name is one, a number has a numeral, and letters are some, whatever the line
+abbrev pub IsSound : Field → Type 0
+IsSound (Name name) = IsName name
+IsSound (Number number) = IsNumeral number
+IsSound (Letters letters) = AreLetters letters
+IsSound field = Unit {0}
+
+abbrev pub AreSound : List Field → Type 0
+AreSound [] = Unit {0}
+AreSound (field ∷ fields) = IsSound field × AreSound fields
+
+-- names are 1 to 32, and a pattern is short
+abbrev pub EndsSoundly : Last → Type 0
+EndsSoundly (Names names) = AreNames names
+EndsSoundly (Pattern pattern) = IsPatternText pattern
+EndsSoundly last = Unit {0}
+
+-- each field is sound, and the line ends soundly
+pub record IsSoundForm (form : Form) : Type 0 where
+  pub fields : AreSound form.fields
+  pub last : EndsSoundly form.last
+
+-- a row of the table has the word, and the line says behind it what the row wants
+pub record IsForm (form : Form) : Type 0 where
+  pub word : IsWord form.word
+  pub fields : AllZip IsOf (kinds_of form.word) form.fields
+  pub last : EndsAs (ending_of form.word) form.last
 
 -- whether a listener goes on after a hit
-abbrev pub text_of_mode : Mode → List ℕ
+abbrev pub text_of_mode : modes.Mode → List ℕ
 text_of_mode Once = codes "once"
 text_of_mode Repeat = codes "repeat"
 
 -- how many of the services a wait is for
-abbrev pub text_of_span : Span → List ℕ
+abbrev pub text_of_span : spans.Span → List ℕ
 text_of_span span.All = codes "all"
 text_of_span span.Any = codes "any"
 
-abbrev pub text_of_want : Want → List ℕ
+abbrev pub text_of_want : wants.Want → List ℕ
 text_of_want Up = codes "up"
 text_of_want Ready = codes "ready"
 text_of_want Down = codes "down"
 text_of_want Finished = codes "finished"
 text_of_want Restarted = codes "restarted"
 text_of_want RestartedReady = codes "restarted-ready"
-
--- the word that a form begins with
-abbrev pub word_of : Form → List ℕ
-word_of (Dir name waiting total evict) = codes "dir"
-word_of (Svc name waiting total reports evict) = codes "svc"
-word_of (Sub name) = codes "sub"
-word_of (Pub name letters) = codes "pub"
-word_of (Take id max) = codes "take"
-word_of (Cancel id) = codes "cancel"
-word_of (Close name) = codes "close"
-word_of (Status name) = codes "status"
-word_of (Listen name mode pattern) = codes "listen"
-word_of (Poll id) = codes "poll"
-word_of (Await id turns) = codes "await"
-word_of (Wait span want turns names) = codes "wait"
-word_of (Names from) = codes "names"
 
 abbrev pub is_space : ℕ → Bool
 is_space b = b == 32
@@ -116,27 +142,25 @@ abbrev pub fields_of_evict : Bool → List (List ℕ)
 fields_of_evict false = []
 fields_of_evict true = codes "evict" ∷ []
 
--- the fields after a form's word; a pattern with spaces is several of them
-abbrev pub fields_behind : Form → List (List ℕ)
-fields_behind (Dir name waiting total evict) = name ∷ decimal waiting ∷ decimal total ∷ fields_of_evict evict
-fields_behind (Svc name waiting total reports evict) = name ∷ decimal waiting ∷ decimal total ∷ decimal reports ∷ fields_of_evict evict
-fields_behind (Sub name) = name ∷ []
-fields_behind (Pub name letters) = name ∷ letters ∷ []
-fields_behind (Take id max) = decimal id ∷ decimal max ∷ []
-fields_behind (Cancel id) = decimal id ∷ []
-fields_behind (Close name) = name ∷ []
-fields_behind (Status name) = name ∷ []
-fields_behind (Listen name mode pattern) = name ∷ text_of_mode mode ∷ fields_of pattern
-fields_behind (Poll id) = decimal id ∷ []
-fields_behind (Await id turns) = decimal id ∷ decimal turns ∷ []
-fields_behind (Wait span want turns names) = text_of_span span ∷ text_of_want want ∷ decimal turns ∷ names
-fields_behind (Names from) = decimal from ∷ []
+abbrev pub text_of_field : Field → List ℕ
+text_of_field (Name name) = name
+text_of_field (Number number) = decimal number
+text_of_field (Letters letters) = letters
+text_of_field (Mode mode) = text_of_mode mode
+text_of_field (Span s) = text_of_span s
+text_of_field (Want want) = text_of_want want
 
--- the fields of a form's line
+abbrev pub pieces_of_last : Last → List (List ℕ)
+pieces_of_last Nothing = []
+pieces_of_last (Names names) = names
+pieces_of_last (Pattern pattern) = fields_of pattern
+pieces_of_last (Evict evict) = fields_of_evict evict
+
+-- the pieces of a form's line
 abbrev pub fields_in : Form → List (List ℕ)
-fields_in form = word_of form ∷ fields_behind form
+fields_in form = form.word ∷ (map text_of_field form.fields ++ pieces_of_last form.last)
 
--- the one line of a form: its fields, with one space between two
+-- the one line of a form: its pieces, with one space between two
 abbrev pub spelling : Form → List ℕ
 spelling form = join_with_byte 32 (fields_in form)
 
@@ -144,26 +168,25 @@ abbrev pub digit_of : Bool → ℕ
 digit_of false = 0
 digit_of true = 1
 
+abbrev pub says : List ℕ → List Field → Last → Form
+says word fields last = record { word = word; fields = fields; last = last }
+
 -- the form of a request
 abbrev pub form_of : Request → Form
-form_of (request.Dir name waiting total evict) = Dir name waiting total evict
-form_of (request.Svc name waiting total notifies evict) = Svc name waiting total (digit_of notifies) evict
-form_of (request.Sub name) = Sub name
-form_of (request.Pub name letters) = Pub name letters
-form_of (request.Take id max) = Take id max
-form_of (request.Cancel id) = Cancel id
-form_of (request.Close name) = Close name
-form_of (request.Status name) = Status name
-form_of (request.Listen name mode pattern) = Listen name mode pattern
-form_of (request.Poll id) = Poll id
-form_of (request.Await id turns) = Await id turns
-form_of (request.Wait span want turns names) = Wait span want turns names
-form_of (request.Names from) = Names from
+form_of (request.Dir name waiting total evict) = says (codes "dir") (Name name ∷ Number waiting ∷ Number total ∷ []) (Evict evict)
+form_of (request.Svc name waiting total notifies evict) = says (codes "svc") (Name name ∷ Number waiting ∷ Number total ∷ Number (digit_of notifies) ∷ []) (Evict evict)
+form_of (request.Sub name) = says (codes "sub") (Name name ∷ []) Nothing
+form_of (request.Pub name letters) = says (codes "pub") (Name name ∷ Letters letters ∷ []) Nothing
+form_of (request.Take id max) = says (codes "take") (Number id ∷ Number max ∷ []) Nothing
+form_of (request.Cancel id) = says (codes "cancel") (Number id ∷ []) Nothing
+form_of (request.Close name) = says (codes "close") (Name name ∷ []) Nothing
+form_of (request.Status name) = says (codes "status") (Name name ∷ []) Nothing
+form_of (request.Listen name mode pattern) = says (codes "listen") (Name name ∷ Mode mode ∷ []) (Pattern pattern)
+form_of (request.Poll id) = says (codes "poll") (Number id ∷ []) Nothing
+form_of (request.Await id turns) = says (codes "await") (Number id ∷ Number turns ∷ []) Nothing
+form_of (request.Wait s want turns names) = says (codes "wait") (Span s ∷ Want want ∷ Number turns ∷ []) (Names names)
+form_of (request.Names from) = says (codes "names") (Number from ∷ []) Nothing
 
 -- a request whose numbers are in their ranges has the form
 abbrev pub IsWithin : Form → Type 0
 IsWithin form = (request : Request) × (form_of request ≡ form) × IsInRange request
-
--- some form has this word
-abbrev pub IsWord : List ℕ → Type 0
-IsWord text = (form : Form) × (text ≡ word_of form)

@@ -2,12 +2,13 @@
 ghost use Rattle.std.specs.Prelude.{◌≡◌, ◌∷◌, [], IfOk};
 ghost use Rattle.hub_requests.specs.Ranges.{IsInRange};
 ghost use Rattle.hub_protocol.specs.Spelling.{fields_of};
-ghost use Rattle.hub_protocol.specs.Forms.{IsRead};
+ghost use Rattle.hub_protocol.specs.Lines.{IsRead};
 ghost use Rattle.hub_protocol.specs.Reading.{IsReading, IsText};
 
-use crate::fields::{is_text, split_at_space};
-use crate::forms::{BorrowedForm, form_of_word};
-use crate::requests::{is_within, request_of};
+use crate::fields::is_text;
+use crate::line::{Line, are_within, first_piece, last_of, read_fields};
+use crate::requests::request_of;
+use crate::table::row_of;
 use hub_requests::{Refusal, Request};
 use std::alloc::Global;
 
@@ -29,37 +30,30 @@ pub fn parse(alloc: Global, line: &[u8]) -> Result<Request, Bad>
     if !is_text(line) {
         return Err(Bad::Text);
     }
-    let form = read_text(line)?;
-    match request_of(alloc, form) {
+    let said = read_text(line)?;
+    match request_of(alloc, said) {
         Ok(request) => Ok(request),
         Err(_) => Err(Bad::Memory),
     }
 }
 
-fn read_text(line: &[u8]) -> Result<BorrowedForm<'_>, Bad>
-    requires { IsText line.now }
-    ensures { IsRead line.now result }
+fn read_text(text: &[u8]) -> Result<Line<'_>, Bad>
+    requires { IsText text.now }
+    ensures { IsRead text.now result }
 {
-    let Some((word, rest)) = split_at_space(line) else {
-        return Err(refusal_of_word(line));
+    let (word, rest) = first_piece(text);
+    let Some((_, kinds, ending)) = row_of(word) else {
+        return Err(Bad::Word);
     };
-    let Some(form) = form_of_word(word, rest)? else {
+    let Some(read) = read_fields(kinds, rest) else {
         return Err(Bad::Form);
     };
-    if !is_within(&form) {
+    let fields = read.0;
+    let Some(last) = last_of(ending, read.1) else {
+        return Err(Bad::Form);
+    };
+    if !are_within(kinds, &fields) {
         return Err(Bad::Range);
     }
-    Ok(form)
-}
-
-// A line without a space has no form, since each form has a field after its word.
-fn refusal_of_word(line: &[u8]) -> Bad
-    requires text { IsText line.now }
-    requires one { fields_of line.now ≡ line.now ∷ [] }
-    ensures { IsReading line.now (Err result) }
-{
-    match form_of_word(line, b"") {
-        Ok(_) => Bad::Form,
-        Err(refusal) => refusal,
-    }
+    Ok(Line { word, fields, last })
 }

@@ -1,41 +1,16 @@
-//! The request of a form.
-ghost use Rattle.std.specs.Prelude.{◌≡◌, MatchBool, IfOk};
-ghost use Rattle.hub_requests.specs.Ranges.{AreLimits};
-ghost use Rattle.hub_protocol.specs.Spelling.{IsName, IsPatternText, AreLetters, AreNames, IsForm, IsWithin, form_of, fields_of};
-ghost use Rattle.hub_protocol.specs.Forms.{form_shown};
+//! The request of a line.
+ghost use Rattle.std.specs.Prelude.{◌≡◌, ◌∷◌, [], length, IfOk};
+ghost use Rattle.hub_protocol.specs.Spelling as spelled;
+ghost use Rattle.hub_protocol.specs.Spelling.{EndsSoundly, IsName, IsPatternText, IsForm, IsSound, AreLetters, AreNames, form_of, fields_of};
+ghost use Rattle.hub_protocol.specs.Table.{IsWord};
+ghost use Rattle.hub_protocol.specs.declared.table.TheConstants.{MOST_FIELDS};
+ghost use Rattle.hub_protocol.specs.Lines.{AreAllSound, AreWithinKinds, IsMadeOf, evict_in, field_shown, flag_in, form_shown, last_shown, letters_in, mode_in, name_in, names_in, number_in, pattern_in, span_in, want_in};
 
-use crate::forms::BorrowedForm;
-use hub_letters::Letter;
-use hub_record::{Letters, MOST_EVENTS, MOST_WAITING};
-use hub_requests::{MOST_TAKEN, MOST_TURNS, Name, Names, PatternText, Request};
+use crate::line::{Field, Last, Line};
+use hub_letters::{Letter, Mode, Span, Want};
+use hub_record::Letters;
+use hub_requests::{Name, Names, PatternText, Request};
 use std::alloc::{AllocError, Global};
-
-fn are_limits(waiting: u64, total: u64) -> bool
-    ensures { MatchBool result (AreLimits waiting total) (AreLimits waiting total → ⊥) }
-{
-    (1..=MOST_WAITING).contains(&waiting) && (1..=MOST_EVENTS).contains(&total)
-}
-
-/// Whether each number is in its range.
-pub fn is_within(form: &BorrowedForm<'_>) -> bool
-    requires { IsForm (form_shown form.now) }
-    ensures { MatchBool result (IsWithin (form_shown form.now))
-        (IsWithin (form_shown form.now) → ⊥) }
-{
-    match form {
-        BorrowedForm::Dir { waiting, total, .. } => are_limits(*waiting, *total),
-        BorrowedForm::Svc {
-            waiting,
-            total,
-            reports,
-            ..
-        } => *reports <= 1 && are_limits(*waiting, *total),
-        BorrowedForm::Take { max, .. } => *max >= 1 && *max <= MOST_TAKEN,
-        BorrowedForm::Await { turns, .. } => *turns <= MOST_TURNS,
-        BorrowedForm::Wait { turns, .. } => *turns <= MOST_TURNS,
-        _ => true,
-    }
-}
 
 fn name_of(alloc: Global, text: &[u8]) -> Result<Name, AllocError>
     requires { IsName text.now }
@@ -75,75 +50,174 @@ fn names_of(alloc: Global, text: &[u8]) -> Result<Names, AllocError>
     Ok(Names::of(names))
 }
 
-/// The request of a form whose numbers are in their ranges. An error says that memory ran out.
-pub fn request_of(alloc: Global, form: BorrowedForm<'_>) -> Result<Request, AllocError>
-    requires formed { IsForm (form_shown form) }
-    requires within { IsWithin (form_shown form) }
-    ensures { IfOk result (λ request. form_of request ≡ form_shown form.entry) }
+fn name(alloc: Global, field: Field<'_>) -> Result<Name, AllocError>
+    requires { IsSound (field_shown field) }
+    ensures { IfOk result (λ name. name ≡ name_in (field_shown field.entry)) }
 {
-    let request = match form {
-        BorrowedForm::Dir {
-            name,
-            waiting,
-            total,
-            evict,
-        } => Request::Dir {
-            name: name_of(alloc, name)?,
-            waiting,
-            total,
-            evict,
-        },
-        BorrowedForm::Svc {
-            name,
-            waiting,
-            total,
-            reports,
-            evict,
-        } => Request::Svc {
-            name: name_of(alloc, name)?,
-            waiting,
-            total,
-            notifies: reports == 1,
-            evict,
-        },
-        BorrowedForm::Sub { name } => Request::Sub {
-            name: name_of(alloc, name)?,
-        },
-        BorrowedForm::Pub { name, letters } => Request::Pub {
-            name: name_of(alloc, name)?,
-            letters: letters_of(alloc, letters)?,
-        },
-        BorrowedForm::Take { id, max } => Request::Take { id, max },
-        BorrowedForm::Cancel { id } => Request::Cancel { id },
-        BorrowedForm::Close { name } => Request::Close {
-            name: name_of(alloc, name)?,
-        },
-        BorrowedForm::Status { name } => Request::Status {
-            name: name_of(alloc, name)?,
-        },
-        BorrowedForm::Listen {
-            name,
-            mode,
-            pattern,
-        } => Request::Listen {
-            name: name_of(alloc, name)?,
-            mode,
-            pattern: pattern_of(alloc, pattern)?,
-        },
-        BorrowedForm::Poll { id } => Request::Poll { id },
-        BorrowedForm::Await { id, turns } => Request::Await { id, turns },
-        BorrowedForm::Wait {
-            span,
-            want,
-            turns,
-            names,
-        } => Request::Wait {
-            span,
-            want,
-            turns,
-            names: names_of(alloc, names)?,
-        },
-        BorrowedForm::Names { from } => Request::Names { from },
-    };
-    Ok(request)
+    match field {
+        Field::Name(text) => name_of(alloc, text),
+        _ => name_of(alloc, b"-"),
+    }
+}
+
+fn letters(alloc: Global, field: Field<'_>) -> Result<Letters, AllocError>
+    requires { IsSound (field_shown field) }
+    ensures { IfOk result (λ letters. letters ≡ letters_in (field_shown field.entry)) }
+{
+    match field {
+        Field::Letters(text) => letters_of(alloc, text),
+        _ => Ok(Letters::of(Vec::new(alloc))),
+    }
+}
+
+fn number(field: Field<'_>) -> u64
+    ensures { result ≡ number_in (field_shown field.entry) }
+{
+    match field {
+        Field::Number(number) => number,
+        _ => 0,
+    }
+}
+
+fn flag(field: Field<'_>) -> bool
+    ensures { result ≡ flag_in (field_shown field.entry) }
+{
+    number(field) == 1
+}
+
+fn mode(field: Field<'_>) -> Mode
+    ensures { result ≡ mode_in (field_shown field.entry) }
+{
+    match field {
+        Field::Mode(mode) => mode,
+        _ => Mode::Once,
+    }
+}
+
+fn span(field: Field<'_>) -> Span
+    ensures { result ≡ span_in (field_shown field.entry) }
+{
+    match field {
+        Field::Span(span) => span,
+        _ => Span::All,
+    }
+}
+
+fn want(field: Field<'_>) -> Want
+    ensures { result ≡ want_in (field_shown field.entry) }
+{
+    match field {
+        Field::Want(want) => want,
+        _ => Want::Up,
+    }
+}
+
+fn names(alloc: Global, last: Last<'_>) -> Result<Names, AllocError>
+    requires { EndsSoundly (last_shown last) }
+    ensures { IfOk result (λ names. names ≡ names_in (last_shown last.entry)) }
+{
+    match last {
+        Last::Names(text) => names_of(alloc, text),
+        _ => Ok(Names::of(Vec::new(alloc))),
+    }
+}
+
+fn pattern(alloc: Global, last: Last<'_>) -> Result<PatternText, AllocError>
+    requires { EndsSoundly (last_shown last) }
+    ensures { IfOk result (λ pattern. pattern ≡ pattern_in (last_shown last.entry)) }
+{
+    match last {
+        Last::Pattern(text) => pattern_of(alloc, text),
+        _ => Ok(PatternText::of(String::new(alloc))),
+    }
+}
+
+fn evict(last: Last<'_>) -> bool
+    ensures { result ≡ evict_in (last_shown last.entry) }
+{
+    matches!(last, Last::Evict(true))
+}
+
+/// The request of a line whose numbers are in their ranges. An error says that memory ran out.
+pub fn request_of(alloc: Global, line: Line<'_>) -> Result<Request, AllocError>
+    requires formed { IsForm (form_shown line) }
+    requires within { AreWithinKinds (form_shown line) }
+    requires whole { length line.fields ≡ MOST_FIELDS }
+    requires sound { AreAllSound line.fields }
+    ensures { IfOk result (λ request. form_of request ≡ form_shown line.entry) }
+{
+    let [a, b, c, d] = line.fields;
+    made_of(alloc, line.word, a, b, c, d, line.last)
+}
+
+fn made_of(
+    alloc: Global,
+    word: &[u8],
+    a: Field<'_>,
+    b: Field<'_>,
+    c: Field<'_>,
+    d: Field<'_>,
+    last: Last<'_>,
+) -> Result<Request, AllocError>
+    requires word { IsWord word.now }
+    requires first { IsSound (field_shown a) }
+    requires second { IsSound (field_shown b) }
+    requires third { IsSound (field_shown c) }
+    requires fourth { IsSound (field_shown d) }
+    requires ending { EndsSoundly (last_shown last) }
+    ensures { IfOk result (λ request. IsMadeOf word.now
+        (field_shown a.entry ∷ field_shown b.entry ∷ field_shown c.entry ∷ field_shown d.entry ∷ [])
+        (last_shown last.entry) (form_of request)) }
+{
+    match word {
+        b"dir" => Ok(Request::Dir {
+            name: name(alloc, a)?,
+            waiting: number(b),
+            total: number(c),
+            evict: evict(last),
+        }),
+        b"svc" => Ok(Request::Svc {
+            name: name(alloc, a)?,
+            waiting: number(b),
+            total: number(c),
+            notifies: flag(d),
+            evict: evict(last),
+        }),
+        b"sub" => Ok(Request::Sub {
+            name: name(alloc, a)?,
+        }),
+        b"pub" => Ok(Request::Pub {
+            name: name(alloc, a)?,
+            letters: letters(alloc, b)?,
+        }),
+        b"take" => Ok(Request::Take {
+            id: number(a),
+            max: number(b),
+        }),
+        b"cancel" => Ok(Request::Cancel { id: number(a) }),
+        b"close" => Ok(Request::Close {
+            name: name(alloc, a)?,
+        }),
+        b"status" => Ok(Request::Status {
+            name: name(alloc, a)?,
+        }),
+        b"listen" => Ok(Request::Listen {
+            name: name(alloc, a)?,
+            mode: mode(b),
+            pattern: pattern(alloc, last)?,
+        }),
+        b"poll" => Ok(Request::Poll { id: number(a) }),
+        b"await" => Ok(Request::Await {
+            id: number(a),
+            turns: number(b),
+        }),
+        b"wait" => Ok(Request::Wait {
+            span: span(a),
+            want: want(b),
+            turns: number(c),
+            names: names(alloc, last)?,
+        }),
+        b"names" => Ok(Request::Names { from: number(a) }),
+        _ => unreachable!(),
+    }
 }

@@ -9,6 +9,10 @@ pub trait Spelled: Copy {
     /// The word of a value.
     ghost word: { Self → List ℕ };
 
+    /// The word, as bytes.
+    fn text(self) -> &'static [u8]
+        ensures { result.now ≡ Self.word self };
+
     /// The value with this spelling.
     fn of_word(text: &[u8]) -> Option<Self>
         ensures { MatchOption result ((x : Self) → text.now ≢ Self.word x)
@@ -17,6 +21,13 @@ pub trait Spelled: Copy {
 
 impl Spelled for Mode {
     ghost word = { text_of_mode };
+
+    fn text(self) -> &'static [u8] {
+        match self {
+            Mode::Once => b"once",
+            Mode::Repeat => b"repeat",
+        }
+    }
 
     fn of_word(text: &[u8]) -> Option<Mode> {
         match text {
@@ -29,6 +40,17 @@ impl Spelled for Mode {
 
 impl Spelled for Want {
     ghost word = { text_of_want };
+
+    fn text(self) -> &'static [u8] {
+        match self {
+            Want::Up => b"up",
+            Want::Ready => b"ready",
+            Want::Down => b"down",
+            Want::Finished => b"finished",
+            Want::Restarted => b"restarted",
+            Want::RestartedReady => b"restarted-ready",
+        }
+    }
 
     fn of_word(text: &[u8]) -> Option<Want> {
         Some(match text {
@@ -45,6 +67,13 @@ impl Spelled for Want {
 
 impl Spelled for Span {
     ghost word = { text_of_span };
+
+    fn text(self) -> &'static [u8] {
+        match self {
+            Span::All => b"all",
+            Span::Any => b"any",
+        }
+    }
 
     fn of_word(text: &[u8]) -> Option<Span> {
         match text {

@@ -57,7 +57,7 @@ fn append_line(reply: &Reply, out: &mut Vec<u8>) -> Result<(), AllocError>
     }
 }
 
-fn append_number(before: &[u8], number: u64, out: &mut Vec<u8>) -> Result<(), AllocError>
+pub(crate) fn append_number(before: &[u8], number: u64, out: &mut Vec<u8>) -> Result<(), AllocError>
     ensures { Appends out.old out.new result (before.now ++ decimal number) }
 {
     let mut digits = Buffer::new();
@@ -73,7 +73,11 @@ fn append_status(status: &Status, out: &mut Vec<u8>) -> Result<(), AllocError>
     out.extend_from_slice(if status.closed { b" closed" } else { b" open" })
 }
 
-fn append_letters(before: &[u8], letters: &[Letter], out: &mut Vec<u8>) -> Result<(), AllocError>
+pub(crate) fn append_letters(
+    before: &[u8],
+    letters: &[Letter],
+    out: &mut Vec<u8>,
+) -> Result<(), AllocError>
     ensures { Appends out.old out.new result (before.now ++ letters.now) }
 {
     out.extend_from_slice(before)?;
@@ -115,7 +119,7 @@ fn append_listed(names: &[Name], out: &mut Vec<u8>) -> Result<(), AllocError>
     append_names(names, out)
 }
 
-fn append_names(names: &[Name], out: &mut Vec<u8>) -> Result<(), AllocError>
+pub(crate) fn append_names(names: &[Name], out: &mut Vec<u8>) -> Result<(), AllocError>
     ensures { Appends out.old out.new result (names_text names.now) }
 {
     for name in names {
@@ -124,7 +128,7 @@ fn append_names(names: &[Name], out: &mut Vec<u8>) -> Result<(), AllocError>
     Ok(())
 }
 
-fn append_name(name: &Name, out: &mut Vec<u8>) -> Result<(), AllocError>
+pub(crate) fn append_name(name: &Name, out: &mut Vec<u8>) -> Result<(), AllocError>
     ensures { Appends out.old out.new result (32 ∷ name.now) }
 {
     out.push(b' ')?;

@@ -75,7 +75,7 @@ impl Backlog {
             counts,
             base: 0,
             given: 0,
-            cursors: CursorList::new(alloc),
+            cursors: CursorList::new(alloc)?,
         })
     }
 

@@ -1,10 +1,11 @@
 //! The cursors of the current ids, in the order of the ids.
-ghost use Rattle.std.specs.Prelude.{◌≡◌, ◌<◌, ◌++◌, ℕ, [], ◌∷◌, All, length, slice_get, nat_eq, nat_lt, true, false, IsSome, IfSome, IfNone, OnOk, OnErr, Some};
+ghost use Rattle.std.specs.Prelude.{◌≡◌, ◌<◌, ◌++◌, ℕ, [], ◌∷◌, All, length, slice_get, nat_eq, nat_lt, true, false, IsSome, IfSome, IfNone, IfOk, OnOk, OnErr, Some};
 ghost use Rattle.std.specs.Option.{option_map};
 ghost use Rattle.std.specs.List.Sorted.{IsPartitionPoint};
 ghost use Rattle.hub_record.specs.CursorList.{IsRising};
 ghost use Rattle.std.specs.Map.{lookup, set_value, remove_entry, keys_of};
 
+use crate::limits::MOST_PASSES;
 use std::alloc::{AllocError, Global};
 use std::marker::Model;
 
@@ -27,13 +28,13 @@ impl Model for CursorList {
 }
 
 impl CursorList {
-    /// No cursors.
-    pub fn new(alloc: Global) -> CursorList
-        ensures { result ≡ [] }
+    /// No cursors, with room for all that there may be. If the room grew in the middle of a session, the new room would outlive
+    /// the session, and the C library would keep all that the session had before it.
+    pub fn new(alloc: Global) -> Result<CursorList, AllocError>
+        ensures { IfOk result (λ cursors. cursors ≡ []) }
     {
-        CursorList {
-            list: Vec::new(alloc),
-        }
+        let list = Vec::with_capacity(alloc, MOST_PASSES)?;
+        Ok(CursorList { list })
     }
 
     /// How many cursors there are.

@@ -36,7 +36,7 @@ pub enum Reply {
     No(Refusal),
 }
 
-/// Why a line was refused. `docs/requests.md` has the order in which reasons are checked.
+/// Why a line was refused. `docs/manual/protocol.md` has the order in which reasons are checked.
 #[derive(Clone, Copy, Debug, PartialEq, Eq)]
 pub enum Refusal {
     /// The line has more than 512 bytes.

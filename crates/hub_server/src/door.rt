@@ -2,12 +2,14 @@
 ghost use Rattle.std.specs.Prelude.{◌≡◌, ◌≢◌, None};
 ghost use Rattle.hub_server.specs.declared.gate.Next.TheVariants.{Over};
 
-use crate::connection::Connection;
+use crate::connection::{Connection, Room};
 use crate::gate::{Gate, Next};
 use std::alloc::{AllocError, Global};
 use std::io;
 use std::io::ErrorKind;
 use std::os::unix::net::{UnixListener, UnixStream};
+use std::rt::Clock;
+use std::sync::atomic::{AtomicBool, Ordering};
 use std::sync::{Arc, Condvar, Mutex, Wait};
 use std::time::Duration;
 
@@ -62,11 +64,14 @@ const MOST_ACCEPTING: u64 = 4;
 
 /// The gate of a listening socket that several threads share. It is never over: closing it does nothing.
 #[derive(Drop)]
-pub struct SharedDoor {
+pub struct SharedDoor<C> {
     alloc: Global,
     entrance: Arc<Entrance, Global>,
-    /// How long a connection waits for a byte. None: without end.
+    /// Whether this thread tries again, since accepting failed. It is in the entrance meanwhile.
+    tries_again: AtomicBool,
+    /// How long a connection waits for a line. None: without end.
     idle: Option<Duration>,
+    clock: C,
 }
 
 /// A listening socket, at which few threads at a time accept. A thread that leaves wakes another one only if it was the last,
@@ -74,88 +79,139 @@ pub struct SharedDoor {
 #[derive(Drop)]
 struct Entrance {
     listener: UnixListener,
-    /// How many threads accept.
-    accepting: Mutex<u64>,
-    /// Signalled when none does any more.
+    inside: Mutex<Inside>,
+    /// Signalled when no thread accepts any more.
     empty: Condvar,
 }
 
-impl Entrance {
-    fn accept<H: Wait>(&self, rt: &H) -> io::Result<UnixStream> {
-        self.enter(rt);
-        let accepted = self.listener.accept();
-        self.leave(rt);
-        Ok(accepted?.0)
-    }
+/// Who is in the entrance.
+#[derive(Drop)]
+struct Inside {
+    /// How many threads accept.
+    accepting: u64,
+    /// Whether one of them tries again, since accepting failed. Nobody else enters then: it would fail too.
+    tries_again: bool,
+}
 
+impl Entrance {
     // Waits until few enough threads accept, and is one of them.
     fn enter<H: Wait>(&self, rt: &H) {
-        let mut accepting = self.accepting.lock(rt);
+        let mut inside = self.inside.lock(rt);
         'full: for _ in rt.forever() {
-            if *accepting < MOST_ACCEPTING {
+            if inside.accepting < MOST_ACCEPTING && !inside.tries_again {
                 break;
             }
-            accepting = self.empty.wait(rt, accepting);
+            inside = self.empty.wait(rt, inside);
         }
-        *accepting = accepting.saturating_add(1);
+        inside.accepting = inside.accepting.saturating_add(1);
     }
 
-    fn leave<H: Wait>(&self, rt: &H) {
-        let mut accepting = self.accepting.lock(rt);
-        *accepting = accepting.saturating_sub(1);
-        if *accepting == 0 {
+    // `tried_again` says whether this is the thread that tried again.
+    fn leave<H: Wait>(&self, rt: &H, tried_again: bool) {
+        let mut inside = self.inside.lock(rt);
+        inside.accepting = inside.accepting.saturating_sub(1);
+        if tried_again {
+            inside.tries_again = false;
+        }
+        if inside.accepting == 0 {
             self.empty.notify_one();
         }
     }
+
+    // A thread for which accepting failed stays, to try again, unless another one does so already. Returns whether it stays.
+    fn stays<H: Wait>(&self, rt: &H) -> bool {
+        let mut inside = self.inside.lock(rt);
+        if inside.tries_again {
+            inside.accepting = inside.accepting.saturating_sub(1);
+            return false;
+        }
+        inside.tries_again = true;
+        true
+    }
+
+    // What a connection needs is there before it is accepted, so that its client isn't turned away for want of memory.
+    fn accept(&self, alloc: Global) -> io::Result<(Room, UnixStream)> {
+        let room = Room::new(alloc)?;
+        let (stream, _peer) = self.listener.accept()?;
+        Ok((room, stream))
+    }
 }
 
-impl SharedDoor {
-    /// A door at this socket, whose connections wait for so long for a byte. None: without end.
+impl<C: Clock + Copy> SharedDoor<C> {
+    /// A door at this socket, whose connections wait for so long for a whole line. None: without end.
     pub fn new(
         alloc: Global,
         listener: UnixListener,
         idle: Option<Duration>,
-    ) -> Result<SharedDoor, AllocError> {
+        clock: C,
+    ) -> Result<SharedDoor<C>, AllocError> {
         let entrance = Entrance {
             listener,
-            accepting: Mutex::new(0),
+            inside: Mutex::new(Inside {
+                accepting: 0,
+                tries_again: false,
+            }),
             empty: Condvar::new(),
         };
         let entrance = Arc::new(alloc, entrance)?;
         Ok(SharedDoor {
             alloc,
             entrance,
+            tries_again: AtomicBool::new(false),
             idle,
+            clock,
         })
     }
 
     /// The same door for another thread.
-    pub fn share(&self) -> Result<SharedDoor, AllocError> {
+    pub fn share(&self) -> Result<SharedDoor<C>, AllocError> {
         let entrance = Arc::try_clone(&self.entrance)?;
         Ok(SharedDoor {
             alloc: self.alloc,
             entrance,
+            tries_again: AtomicBool::new(false),
             idle: self.idle,
+            clock: self.clock,
         })
     }
 
-    // Accepts a connection, for receiving and for sending.
-    fn accept<H: Wait>(&self, rt: &H) -> io::Result<(Connection, Connection)> {
-        let stream = self.entrance.accept(rt)?;
-        Connection::halves(self.alloc, stream, self.idle)
+    // Accepts a connection, for receiving and for sending. None: this one came to nothing, or another thread tries again.
+    fn accept<H: Wait>(&self, rt: &H) -> io::Result<Option<(Connection<C>, Connection<C>)>> {
+        let tried_again = self.tries_again.load(Ordering::Relaxed);
+        if !tried_again {
+            self.entrance.enter(rt);
+        }
+        match self.entrance.accept(self.alloc) {
+            Ok((room, stream)) => {
+                self.tries_again.store(false, Ordering::Relaxed);
+                self.entrance.leave(rt, tried_again);
+                let halves = Connection::halves(room, stream, self.idle, self.clock)?;
+                Ok(Some(halves))
+            }
+            Err(fault) if passes(&fault) => {
+                self.tries_again.store(false, Ordering::Relaxed);
+                self.entrance.leave(rt, tried_again);
+                Ok(None)
+            }
+            Err(fault) => {
+                let stays = tried_again || self.entrance.stays(rt);
+                self.tries_again.store(stays, Ordering::Relaxed);
+                if stays { Err(fault) } else { Ok(None) }
+            }
+        }
     }
 }
 
-impl Gate<Connection, Connection> for SharedDoor {
+impl<C: Clock + Copy> Gate<Connection<C>, Connection<C>> for SharedDoor<C> {
     ghost gives = { λ old next new. (new ≡ old) × (next ≢ Over) };
 
     ghost closes = { λ old new. new ≡ old };
 
-    fn next<H: Wait>(&mut self, rt: &H) -> Next<Connection, Connection> {
+    fn next<H: Wait>(&mut self, rt: &H) -> Next<Connection<C>, Connection<C>> {
         for _ in rt.forever() {
             match self.accept(rt) {
-                Ok((receive, send)) => return Next::Session(receive, send),
-                Err(fault) if passes(&fault) => {}
+                Ok(Some((receive, send))) => return Next::Session(receive, send),
+                Ok(None) => {}
                 Err(_) => return Next::Failed,
             }
         }

@@ -27,6 +27,6 @@ pub trait Journal {
     )
         requires { ⟦<Session<R, W, O> as Promise<Result<u64, FrontError>>>⟧.kept_by session.now ended };
 
-    /// The gate failed. It is asked again when this returns, so it waits for a moment.
+    /// The gate failed, or there was no memory for a session. Either is tried again when this returns, so it waits for a moment.
     fn failed<H: Wait>(&mut self, rt: &H);
 }

@@ -13,6 +13,7 @@ mod door;
 mod gate;
 mod journal;
 mod lasting;
+mod limit;
 mod promise;
 mod report;
 mod started;

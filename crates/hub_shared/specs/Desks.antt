@@ -1,7 +1,7 @@
 -- What a session is answered, and what it leaves.
 use Rattle.std.specs.Prelude.{◌≡◌, ℕ, List, Option, Some, ◌⊎◌}
 use Rattle.std.specs.Arc.{arc_value}
-use Rattle.std.specs.declared.net.unix.UnixStream.{UnixStream}
+use Rattle.hub_io.specs.declared.client.Client.{Client}
 use Rattle.hub_requests.specs.declared.reply.Refusal.TheVariants as no
 use Rattle.hub_requests.specs.declared.reply.Reply.{Reply}
 use Rattle.hub_requests.specs.declared.reply.Reply.TheVariants.{Done, No}
@@ -74,7 +74,7 @@ pub record IsNewDesk {P : Type 0} (hub : Hub) (pause : P) (desk : SharedDesk P) 
   pub given : given_of desk.handles ≡ 0
 
 -- the desk looks at this client from now on, and nothing else has changed
-pub record Watches {P : Type 0} (old : SharedDesk P) (client : Option UnixStream) (new : SharedDesk P) : Type 0 where
+pub record Watches {P : Type 0} (old : SharedDesk P) (client : Option Client) (new : SharedDesk P) : Type 0 where
   pub hub : new.hub ≡ old.hub
   pub pause : new.pause ≡ old.pause
   pub client_is : new.client ≡ client

@@ -3,12 +3,12 @@ ghost use Rattle.std.specs.Prelude.{IfOk};
 ghost use Rattle.std.specs.Arc.{arc_value};
 
 use hub_handles::Handles;
+use hub_io::Client;
 use hub_names::{Fifodirs, Hub, HubError, Speech};
 use hub_record::{Kind, Limits};
 use hub_requests::{Desk, Name, Refusal, Reply, Request, limits};
 use hub_wait::Pause;
 use std::alloc::{AllocError, Global};
-use std::os::unix::net::UnixStream;
 use std::sync::{Arc, Wait};
 
 mod waits;
@@ -27,8 +27,8 @@ pub struct SharedDesk<P: Pause + Copy> {
     alloc: Global,
     hub: Arc<Hub, Global>,
     pause: P,
-    /// The connection of its client, at which its waits look.
-    client: Option<UnixStream>,
+    /// Its client, at which its waits look.
+    client: Option<Client>,
     fifodirs: Fifodirs,
     handles: Handles,
 }
@@ -53,7 +53,7 @@ impl<P: Pause + Copy> SharedDesk<P> {
 
     /// From now on a wait answers `late` within about half a second of the end of its client, who reads no reply. Else a session
     /// whose client was killed would hold its subscriptions until the wait is over.
-    pub fn watch(&mut self, client: Option<UnixStream>)
+    pub fn watch(&mut self, client: Option<Client>)
         ensures { Watches self.old client self.new }
     {
         self.client = client;

@@ -17,16 +17,28 @@ static NO_PATTERNS: [(&str, bool); 8] = [
     ("(?:(?:\\w{99}){99}){99}", true),
 ];
 
-/// Texts, and whether each is a pattern that takes at most 280 KiB.
-static SIZES: [(&str, bool); 8] = [
+/// Texts, and whether each is a pattern for which a listener keeps at most 64 KiB.
+static SIZES: [(&str, bool); 20] = [
     (".{100}", true),
-    ("[a-z]{64}", true),
+    ("[a-z]{200}", true),
     ("\\w{20}", true),
-    ("\\w{21}", false),
-    ("\\w{100}Z", false),
-    ("((\\pL{9}){9}){5}", false),
+    ("\\w{100}", true),
+    ("\\w{100}Z", true),
+    ("((\\pL{9}){9}){5}", true),
+    ("(?i)[k]{100}", true),
+    ("\\S+", true),
+    ("[^a]{1000}", true),
+    ("(?-u:\\w{100})", true),
     ("(x+x+)+y", true),
+    (".{1458}", true),
+    (".{1459}", false),
+    ("\\w{727}", true),
+    ("\\w{728}", false),
     ("((a?){300}){300}z", false),
+    ("(?:[ab]?){10900}z", false),
+    ("(?:(?:a|b|){74}){74}c", false),
+    ("(?:(?:[ab]?){104}){104}c", false),
+    ("(?-u:.)", false),
 ];
 
 /// Whether a listener is made for the text, or none if the refusal is another than `Pattern`.

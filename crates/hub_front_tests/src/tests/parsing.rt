@@ -2,7 +2,7 @@
 
 use crate::tests::relay_sizes::text_of;
 use crate::tests::told::words_of;
-use hub_protocol::{Bad, parse};
+use hub_protocol::{Bad, parse, write_request};
 use hub_requests::Request;
 use std::alloc::Global;
 use std::process::Abort;
@@ -119,7 +119,18 @@ fn expect_request(rt: &impl Abort, alloc: Global, line: &str, want: &str) {
         if let Ok(told) = words_of(alloc, &request) {
             assert_eq!(rt; told.as_str(), want);
         }
+        expect_line(rt, alloc, &request, line);
     }
+}
+
+/// The line of the request is this one, with an LF.
+fn expect_line(rt: &impl Abort, alloc: Global, request: &Request, line: &str) {
+    let mut out = Vec::new(alloc);
+    let written = write_request(request, &mut out);
+    assert!(rt; written.is_ok(), "{line}");
+    assert_eq!(rt; out.len(), line.len() + 1, "{line}");
+    assert!(rt; out.starts_with(line.as_bytes()), "{line}");
+    assert!(rt; out.ends_with(b"\n"), "{line}");
 }
 
 #[test]

@@ -9,6 +9,7 @@ use std::io;
 use std::io::{Read, Write};
 use std::net::Net;
 use std::os::unix::net::UnixListener;
+use std::rt::Clock;
 use std::sync::Wait;
 use std::test::Fail;
 use std::time::Duration;
@@ -70,7 +71,7 @@ fn a_shared_door_gives_each_connection_once(rt: HostRuntime) -> Result<(), Fail>
         assert!(rt; false);
         return Ok(());
     };
-    let mut door = SharedDoor::new(rt.alloc(), listener, Some(Duration::from_secs(2)))?;
+    let mut door = SharedDoor::new(rt.alloc(), listener, Some(Duration::from_secs(2)), rt)?;
     let mut share = door.share()?;
     for (at, (client, line)) in clients.iter_mut().zip(&LINES).take(4).enumerate() {
         let gate = if at < 2 { &mut door } else { &mut share };
@@ -81,18 +82,18 @@ fn a_shared_door_gives_each_connection_once(rt: HostRuntime) -> Result<(), Fail>
 }
 
 /// The connection of the only client, which waits for a byte for so many milliseconds.
-fn connected<H: Files + Net + Wait>(
+fn connected<H: Files + Net + Clock + Wait + Copy>(
     rt: &H,
     alloc: Global,
     path: &'static str,
     idle: u64,
-) -> io::Result<Option<(Connection, Connection, Client)>> {
+) -> io::Result<Option<(Connection<H>, Connection<H>, Client)>> {
     let (mut door, mut clients) = open(rt, alloc, path, 1)?;
     let (Some(listener), Some(client)) = (door.listener.take(), clients.pop()) else {
         return Ok(None);
     };
     let idle = Some(Duration::from_millis(idle));
-    match SharedDoor::new(alloc, listener, idle)?.next(rt) {
+    match SharedDoor::new(alloc, listener, idle, *rt)?.next(rt) {
         Next::Session(reader, writer) => Ok(Some((reader, writer, client))),
         Next::Failed | Next::Over => Ok(None),
     }
@@ -130,12 +131,12 @@ fn a_connection_reads_and_writes_once(rt: HostRuntime) -> Result<(), Fail> {
     assert_eq!(rt; writer.write(b"x")?, 1);
     writer.flush()?;
     assert_eq!(rt; writer.push(b"y")?, 1);
-    match reader.connection() {
-        Some(mut watched) => watched.write_all(b"z\n")?,
-        None => assert!(rt; false),
-    }
+    writer.write_all(b"z\n")?;
     assert_eq!(rt; client.next_reply()?, b"xyz".as_slice());
+    let watched = reader.client();
+    assert_eq!(rt; watched.as_ref().map(|it| it.is_gone()), Some(false));
     drop(client);
+    assert_eq!(rt; watched.as_ref().map(|it| it.is_gone()), Some(true));
     assert!(rt; writer.push(b"y").is_err());
     assert!(rt; !writer.has_timed_out());
     Ok(())

@@ -8,10 +8,12 @@ use std::alloc::Global;
 use std::process::Abort;
 use std::test::Fail;
 
-static OWN: [(Fault, &str); 9] = [
+static OWN: [(Fault, &str); 11] = [
     (Fault::Listen, "ftrighub: cannot listen\n"),
     (Fault::Taken, "ftrighub: another server listens there\n"),
     (Fault::Notify, "ftrighub: cannot notify\n"),
+    (Fault::Restored, "ftrighub: socket file restored\n"),
+    (Fault::Lost, "ftrighub: socket file lost\n"),
     (Fault::Idle { number: 12 }, "ftrighub: session 12: idle\n"),
     (
         Fault::More { sessions: 1 },

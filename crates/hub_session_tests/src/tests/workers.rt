@@ -205,26 +205,35 @@ static EVENTS: [Event; 5] = [
     Event::Session(false, true),
 ];
 
+/// How often a session is tried for which there is never any memory.
+const TRIES: u64 = 600;
+
+/// What a worker does with one session, and with no memory for it.
+fn add_session(steps: &mut Vec<Step>, number: u64, timed_out: bool) -> Result<(), AllocError> {
+    steps.push(Step::Asks)?;
+    steps.push(Step::Begins)?;
+    for _ in 1..TRIES {
+        steps.push(Step::Serves)?;
+        steps.push(Step::Fails)?;
+    }
+    steps.push(Step::Serves)?;
+    steps.push(Step::Ended(number, timed_out))?;
+    Ok(())
+}
+
 /// What a worker does with these events, one after the other.
-static STEPS: [Step; 17] = [
-    Step::Asks,
-    Step::Begins,
-    Step::Serves,
-    Step::Ended(7, false),
-    Step::Asks,
-    Step::Fails,
-    Step::Asks,
-    Step::Begins,
-    Step::Serves,
-    Step::Ended(8, true),
-    Step::Asks,
-    Step::Fails,
-    Step::Asks,
-    Step::Begins,
-    Step::Serves,
-    Step::Ended(9, true),
-    Step::Asks,
-];
+fn expected_steps(alloc: Global) -> Result<Vec<Step>, AllocError> {
+    let mut steps = Vec::new(alloc);
+    add_session(&mut steps, 7, false)?;
+    steps.push(Step::Asks)?;
+    steps.push(Step::Fails)?;
+    add_session(&mut steps, 8, true)?;
+    steps.push(Step::Asks)?;
+    steps.push(Step::Fails)?;
+    add_session(&mut steps, 9, true)?;
+    steps.push(Step::Asks)?;
+    Ok(steps)
+}
 
 #[test]
 fn a_worker_serves_until_the_gate_is_over(rt: HostRuntime) -> Result<(), Fail> {
@@ -253,7 +262,8 @@ fn a_worker_serves_until_the_gate_is_over(rt: HostRuntime) -> Result<(), Fail> {
             thread::sleep(&rt, Duration::from_millis(10));
         }
     }
-    assert_eq!(rt; steps.list.lock(&rt).as_slice(), STEPS.as_slice());
+    let wanted = expected_steps(alloc)?;
+    assert_eq!(rt; steps.list.lock(&rt).as_slice(), wanted.as_slice());
     worker.join(&rt);
     Ok(())
 }

@@ -1,5 +1,5 @@
 use Rattle.std.proofs.Common.{◌∷◌, [], refl, sym}
-use Rattle.hub_ask.proofs.Replies.{one_line, some_byte}
+use Rattle.hub_ask.proofs.Exchanges.{one_line, some_byte}
 use Rattle.hub_ask.proofs.exchanging.as_input.Goals as goal
 
 pub returns-else-is_empty-clause-one : goal.returns-else-is_empty-clause-one

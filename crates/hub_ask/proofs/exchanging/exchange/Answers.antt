@@ -1,5 +1,5 @@
 use Rattle.std.proofs.Common.{◌∙◌, ◌++◌, ◌∷◌, [], ap, sym}
-use Rattle.hub_ask.proofs.Replies.{is_answered, is_broken_off}
+use Rattle.hub_ask.proofs.Exchanges.{is_answered, is_broken_off}
 use Rattle.hub_ask.proofs.exchanging.exchange.Goals as goal
 
 pub returns-in-Ok-clause-ok : goal.returns-in-Ok-clause-ok

@@ -1,7 +1,7 @@
 use Rattle.std.proofs.Common.{◌≡◌, false, ◌++◌, ◌∙◌, take, length, string_bytes, sym, subst, arith}
-use Rattle.std.specs.Str.{IsAscii}
-use Rattle.std.proofs.lemmas.Str.Ascii.{IsAscii-push}
+use Rattle.std.proofs.lemmas.List.Elements.{All-push}
 use Rattle.hub_listen.specs.Hit.{finds}
+use Rattle.hub_listen.specs.Letters.{IsLetter, AreLetters}
 use Rattle.hub_listen.specs.Alive.{AreAlive}
 use Rattle.hub_listen.proofs.Prefixes.{grown_more, fails_more, length_grown}
 use Rattle.hub_listen.proofs.Found.{AreAlive-pushed, heard_match, heard_nothing}
@@ -9,23 +9,23 @@ use Rattle.hub_listen.proofs.search.first_hit.Goals as goal
 
 pub hear_last-requires-clause-alive : goal.hear_last-requires-clause-alive
 hear_last-requires-clause-alive c =
-    AreAlive-pushed _ _ _ _ _ c.loop-i.invariant.ascii (c.as_bytes.ensures.value ∙ c.as_str.ensures.value ∙ c.append.ensures.bytes) c.loop-i.invariant.alive
+    AreAlive-pushed _ _ _ _ _ c.loop-i.invariant.letters (c.as_bytes.ensures.value ∙ c.as_str.ensures.value ∙ c.append.ensures.bytes) c.loop-i.invariant.alive
 
 pub returns-then-hear_last-clause-hit : goal.returns-then-hear_last-clause-hit
 returns-then-hear_last-clause-hit c =
     let full = length_grown _ _ c.args.piece.now c.loop-i.i c.loop-i-test.true c.loop-i.invariant.grown in
     let grown = grown_more _ _ _ c.args.piece.now c.loop-i.i _ c.loop-i-test.true c.loop-i.invariant.grown c.index-piece-i.is c.append.ensures.bytes in
-    let ascii : IsAscii (string_bytes c.append.new.text) = subst IsAscii (sym c.append.ensures.bytes) (IsAscii-push _ _ c.loop-i.invariant.ascii c.append.ensures.ascii) in record {
+    let letters : AreLetters (string_bytes c.append.new.text) = subst AreLetters (sym c.append.ensures.bytes) (All-push IsLetter _ _ c.loop-i.invariant.letters c.append.ensures.letter) in record {
       some = omega arith;
       within = omega arith;
       short = omega arith;
       found = heard_match c.args.pattern.now.nfa _ c.args.pattern.now.searches _ _ (c.as_bytes.ensures.value ∙ c.as_str.ensures.value ∙ grown)
-          (subst IsAscii grown ascii) (c.hear_last.ensures.found c.if-hear_last.true);
+          (subst AreLetters grown letters) (c.hear_last.ensures.found c.if-hear_last.true);
       least = λ j some lt. c.loop-i.invariant.none j some (omega arith);
     }
 
-pub returns-then-hear_last-clause-ascii : goal.returns-then-hear_last-clause-ascii
-returns-then-hear_last-clause-ascii c = subst IsAscii (sym c.append.ensures.bytes) (IsAscii-push _ _ c.loop-i.invariant.ascii c.append.ensures.ascii)
+pub returns-then-hear_last-clause-letters : goal.returns-then-hear_last-clause-letters
+returns-then-hear_last-clause-letters c = subst AreLetters (sym c.append.ensures.bytes) (All-push IsLetter _ _ c.loop-i.invariant.letters c.append.ensures.letter)
 
 pub loop-i-preserved : goal.loop-i-preserved
 loop-i-preserved c =
@@ -33,11 +33,11 @@ loop-i-preserved c =
     let grown = grown_more _ _ _ c.args.piece.now c.loop-i.i _ c.loop-i-test.true c.loop-i.invariant.grown c.index-piece-i.is c.append.ensures.bytes in
     let shown = c.as_bytes.ensures.value ∙ c.as_str.ensures.value in
     let none = heard_nothing c.args.pattern.now.nfa (string_bytes c.args.pattern.now.text) c.args.pattern.now.searches _ c.as_bytes.result.now
-    (string_bytes c.append.new.text) _ c.loop-i.invariant.ascii c.append.ensures.ascii c.loop-i.invariant.quiet (shown ∙ c.append.ensures.bytes)
+    (string_bytes c.append.new.text) _ c.loop-i.invariant.letters c.append.ensures.letter c.loop-i.invariant.quiet (shown ∙ c.append.ensures.bytes)
     (c.hear_last.ensures.none_before c.if-hear_last.false) (c.hear_last.ensures.none_behind c.if-hear_last.false) c.append.ensures.bytes in record {
       grown = grown;
       short = omega arith;
-      ascii = subst IsAscii (sym c.append.ensures.bytes) (IsAscii-push _ _ c.loop-i.invariant.ascii c.append.ensures.ascii);
+      letters = subst AreLetters (sym c.append.ensures.bytes) (All-push IsLetter _ _ c.loop-i.invariant.letters c.append.ensures.letter);
       room = omega arith;
       states = c.hear_last.ensures.room;
       kept = c.hear_last.ensures.kept ∙ c.loop-i.invariant.kept;

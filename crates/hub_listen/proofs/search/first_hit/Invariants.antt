@@ -1,8 +1,8 @@
 use Rattle.std.proofs.Common.{◌≡◌, ℕ, ◌+◌, ◌≤◌, ◌++◌, false, length, take, string_bytes, vec_len}
 use Rattle.std.specs.String.{string_capacity}
-use Rattle.std.specs.Str.{IsAscii}
 use Rattle.hub_letters.specs.declared.bounds.TheConstants.{MOST_GATHERED}
 use Rattle.hub_listen.specs.Hit.{finds}
+use Rattle.hub_listen.specs.Letters.{AreLetters}
 use Rattle.hub_listen.specs.Alive.{AreAlive, HasRoom}
 use Rattle.hub_listen.proofs.search.first_hit.Given as goal
 
@@ -10,7 +10,7 @@ abbrev pub invariant-loop-i : goal.invariant-loop-i
 invariant-loop-i l = record {
   grown : string_bytes l.text ≡ string_bytes l.initial.text ++ take l.i l.piece;
   short : length (string_bytes l.initial.text) + l.i ≤ MOST_GATHERED;
-  ascii : IsAscii (string_bytes l.text);
+  letters : AreLetters (string_bytes l.text);
   room : MOST_GATHERED ≤ string_capacity l.text;
   states : HasRoom l.alive (vec_len l.pattern.nfa.states);
   kept : l.alive.kept ≡ l.initial.alive.kept;

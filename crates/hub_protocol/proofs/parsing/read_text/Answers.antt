@@ -1,33 +1,76 @@
-use Rattle.std.proofs.Common.{◌≡◌, Err, sym, subst, rules}
-use Rattle.hub_requests.specs.declared.reply.Refusal.TheVariants.{Word}
-use Rattle.hub_protocol.specs.Spelling.{IsWord, fields_of}
-use Rattle.hub_protocol.specs.Forms.{form_shown}
-use Rattle.hub_protocol.proofs.FieldLists.{first_word-fields, no_form, has_form-of_word}
+use Rattle.std.proofs.Common.{◌≡◌, ◌∷◌, ℕ, List, sym, ap, subst, arith}
+use Rattle.hub_protocol.specs.Table.{IsWord}
+use Rattle.hub_protocol.specs.Spelling.{fields_of}
+use Rattle.hub_protocol.specs.Lines.{fields_shown, form_shown, pieces_of}
+use Rattle.hub_protocol.specs.declared.line.Line.{Line}
+use Rattle.hub_protocol.specs.Reading.{first_word}
+use Rattle.hub_protocol.proofs.FormLines.{first_word-fields}
+use Rattle.hub_protocol.proofs.FormRequests.{beyond}
+use Rattle.hub_protocol.proofs.LineForms.{few_kinds, line_beyond, line_form, line_within, no_form_fields, no_form_last}
 use Rattle.hub_protocol.proofs.parsing.read_text.Goals as goal
 
-pub returns-in_err-form : goal.returns-in_err-form
-returns-in_err-form c =
-    let first = first_word-fields c.args.line.now c.in-Some.word.now (fields_of c.in-Some.rest.now) c.in-Some.ensures in
-    let is : c.from_residual.result ≡ Err Word = search (rules, c.in_err-form.ensures.0) in
-    rw is (c.requires, λ word. c.in_err-form.ensures.1 (subst IsWord first word))
+first : (line word : List ℕ) (more : List (List ℕ)) → fields_of line ≡ word ∷ more → IsWord word → IsWord (first_word line)
+first line word more e is = subst IsWord (sym (first_word-fields line word more e)) is
 
-pub returns-in_default-2 : goal.returns-in_default-2
-returns-in_default-2 c =
-    let line = c.args.line.now in
-    let word = c.in-Some.word.now in
-    let behind = fields_of c.in-Some.rest.now in
-    let first = first_word-fields line word behind c.in-Some.ensures in
-    let none = rw c.in_default-2.is at c.in_ok-form.ensures.1 in
-    (c.requires, subst IsWord (sym first) c.in_ok-form.ensures.0, no_form line word behind c.in-Some.ensures none)
+pub returns-in_default : goal.returns-in_default
+returns-in_default c =
+    let e = first_word-fields c.args.text.now c.first_piece.result.0.now (pieces_of c.first_piece.result.1) c.first_piece.ensures in
+    (c.requires, λ is. c.in_default.ensures (subst IsWord e is))
 
-pub returns-then-not-is_within : goal.returns-then-not-is_within
-returns-then-not-is_within c =
-    let form = form_shown c.in-Some-2.form in
-    let is = rw c.in-Some-2.is at c.in_ok-form.ensures.1 in
-    (c.requires, form, has_form-of_word c.args.line.now c.in-Some.word.now c.in-Some.rest.now form c.in-Some.ensures is, c.if-not-is_within.ensures)
+pub read_fields-requires : goal.read_fields-requires
+read_fields-requires c =
+    let row = c.in-Some.ensures in
+    few_kinds c.first_piece.result.0.now c.in-Some.kinds.now row.0 (ap (λ r. r.kinds) row.1)
+
+pub returns-in_default-read_fields : goal.returns-in_default-read_fields
+returns-in_default-read_fields c =
+    let row = c.in-Some.ensures in
+    let text = c.args.text.now in
+    let word = c.first_piece.result.0.now in
+    let pieces = pieces_of c.first_piece.result.1 in (
+      c.requires,
+      first text word pieces c.first_piece.ensures row.0,
+      no_form_fields text word c.in-Some.kinds.now pieces (ap (λ r. r.kinds) row.1) c.first_piece.ensures c.in_default-read_fields.ensures,
+    )
+
+pub returns-in_default-last_of : goal.returns-in_default-last_of
+returns-in_default-last_of c =
+    let row = c.in-Some.ensures in
+    let text = c.args.text.now in
+    let word = c.first_piece.result.0.now in
+    let pieces = pieces_of c.first_piece.result.1 in
+    let read = c.in-Some-read_fields.ensures in (
+      c.requires,
+      first text word pieces c.first_piece.ensures row.0,
+      no_form_last text word c.in-Some.kinds.now c.in-Some.ending pieces (pieces_of c.in-Some-read_fields.read.1) (fields_shown c.in-Some.kinds.now c.in-Some-read_fields.read.0)
+          (ap (λ r. r.kinds) row.1) (ap (λ r. r.ending) row.1) c.first_piece.ensures read.each read.pieces c.in_default-last_of.ensures,
+    )
+
+pub are_within-requires : goal.are_within-requires
+are_within-requires c =
+    let row = c.in-Some.ensures in
+    let few = few_kinds c.first_piece.result.0.now c.in-Some.kinds.now row.0 (ap (λ r. r.kinds) row.1) in
+    omega (arith, few, c.in-Some-read_fields.ensures.whole)
+
+pub returns-then-not-are_within : goal.returns-then-not-are_within
+returns-then-not-are_within c =
+    let row = c.in-Some.ensures in
+    let ends = c.in-Some-last_of.ensures in
+    let kinds = ap (λ r. r.kinds) row.1 in
+    let line : Line = record { word = c.first_piece.result.0; fields = c.in-Some-read_fields.read.0; last = c.in-Some-last_of.last } in
+    let has = line_form c.args.text.now line _ _ c.first_piece.result.1 _ row.0 kinds (ap (λ r. r.ending) row.1) c.first_piece.ensures c.in-Some-read_fields.ensures ends.0 ends.1 in
+    (c.requires, form_shown line, has, beyond (form_shown line) has.formed (line_beyond line _ kinds c.if-not-are_within.ensures))
 
 pub returns : goal.returns
 returns c =
-    let form = form_shown c.in-Some-2.form in
-    let is = rw c.in-Some-2.is at c.in_ok-form.ensures.1 in
-    (has_form-of_word c.args.line.now c.in-Some.word.now c.in-Some.rest.now form c.in-Some.ensures is, c.if-not-is_within.ensures)
+    let row = c.in-Some.ensures in
+    let ends = c.in-Some-last_of.ensures in
+    let kinds = ap (λ r. r.kinds) row.1 in
+    let line : Line = record { word = c.first_piece.result.0; fields = c.in-Some-read_fields.read.0; last = c.in-Some-last_of.last } in
+    let read = c.in-Some-read_fields.ensures in
+    record {
+      has = line_form c.args.text.now line _ _ c.first_piece.result.1 _ row.0 kinds (ap (λ r. r.ending) row.1) c.first_piece.ensures read ends.0 ends.1;
+      within = line_within line _ kinds c.if-not-are_within.ensures;
+      whole = read.whole;
+      sound = read.sound;
+    }

@@ -13,15 +13,15 @@ invariant_of-self c =
     let counted : members c.insert.new.self ≡ members c.self.inside.set + 1 = rw c.if-insert.true at c.insert.ensures.counted in
     let count = ap (λ (s : StateList). s.count) c.self.view_is in
     let inside : c.args.state < length c.self.inside.set = omega (arith, c.requires) in
-    IsListed-push c.self.inside _ c.args.state c.self.invariant inside c.insert.ensures.after c.push.ensures.items counted c.push.ensures.room
+    IsListed-push c.self.inside _ c.args.state c.self.invariant inside c.insert.ensures.after c.push_reserved.ensures.items counted c.push_reserved.ensures.capacity
 
 pub returns-then-insert-clause-grows : goal.returns-then-insert-clause-grows
 returns-then-insert-clause-grows c =
-    subst (λ old. Grows (λ q. c.args.state ≡ q) old c.push.new.list.items) (ap (λ (s : StateList). s.items) c.self.view_is)
-    (rw c.push.ensures.items (Grows-push _ _))
+    subst (λ old. Grows (λ q. c.args.state ≡ q) old c.push_reserved.new.self.items) (ap (λ (s : StateList). s.items) c.self.view_is)
+    (rw c.push_reserved.ensures.items (Grows-push _ _))
 
 pub returns-then-insert-clause-has : goal.returns-then-insert-clause-has
-returns-then-insert-clause-has c = rw c.push.ensures.items (Has-push _ _)
+returns-then-insert-clause-has c = rw c.push_reserved.ensures.items (Has-push _ _)
 
 pub returns-else-insert-clause-grows : goal.returns-else-insert-clause-grows
 returns-else-insert-clause-grows c =

@@ -1,0 +1,69 @@
+-- A request that came to nothing.
+use Rattle.std.proofs.Common.{◌≡◌, ℕ, ◌+◌, ◌≤◌, List, Option, Result, Ok, Err, IsErrAnd, false, inr, refl, sym, subst}
+use Rattle.hub_ask.specs.Asking.{HasNoReply}
+use Rattle.hub_ask.specs.Lines.{joined}
+use Rattle.hub_ask.specs.Outcomes.{Tells, TellsOfWait}
+use Rattle.hub_ask.specs.Waiting.{questions, wait_words}
+use Rattle.hub_ask.specs.declared.duration.TheConstants.{MOST_TURNS}
+use Rattle.hub_ask.specs.declared.exchanging.TheConstants.{ANSWER}
+use Rattle.hub_ask.specs.declared.fault.AskError.{AskError}
+use Rattle.hub_ask.specs.declared.outcome.Outcome.{Outcome}
+use Rattle.hub_ask.specs.declared.waiting.TheConstants.{GRACE}
+use Rattle.hub_client.specs.Passing.{has_lf}
+use Rattle.hub_commands.specs.Asking.{Asks, Waits, Ends, Going}
+use Rattle.hub_commands.specs.Dialing.{Dialing, OverOne}
+use Rattle.hub_commands.specs.declared.ending.BadWords.{BadWords}
+use Rattle.hub_commands.specs.declared.ending.Ending.{Ending}
+use Rattle.hub_commands.specs.declared.ending.Ending.TheVariants.{Failed}
+use Rattle.hub_commands.specs.declared.fault.Fault.TheVariants.{Ask}
+
+-- an error over the connection ends the command
+pub ends_with_error : {D SR SW : Type 0} (d : Dialing D SR SW) (old new : D) (socket : List ℕ) (millis : ℕ) (line : List ℕ)
+    (refuses : BadWords → Type 0) (untouched : Type 0) (goes : Outcome → Going) (fails : AskError → Going)
+    (result : Result ℕ Ending) (error : AskError) → IsErrAnd result (λ it. it ≡ Failed (Ask error)) → has_lf line ≡ false
+    → OverOne d old new socket millis (fails error) → Ends d old new socket millis line refuses untouched goes fails result
+ends_with_error d old new socket millis line refuses untouched goes fails (Ok status) error is cut over = absurd is
+ends_with_error d old new socket millis line refuses untouched goes fails (Err ending) error is cut over =
+    subst (λ it. Ends d old new socket millis line refuses untouched goes fails (Err it)) (sym is) (inr (inr (cut, error, refl, over)))
+
+-- an error of `ask`
+pub asks_in_vain : {D SR SW : Type 0} (d : Dialing D SR SW) (old new : D) (socket line words : List ℕ) (turns : ℕ) (untouched : Type 0)
+    (held holds : Option (List ℕ)) (result : Result ℕ Ending) (error : AskError) (receive receives : SR) (send sends : SW)
+    → line ≡ words → has_lf line ≡ false → turns ≤ MOST_TURNS → IsErrAnd result (λ it. it ≡ Failed (Ask error))
+    → d.reaches old socket (turns + ANSWER) (Ok (receive, send)) new
+    → HasNoReply Tells (d.contents send) (d.contents sends) (d.remaining receive) (d.remaining receives) held holds line error
+    → Asks d old new socket words untouched held holds result
+asks_in_vain d old new socket line words turns untouched held holds result error receive receives send sends same cut few is reached over =
+    subst (λ it. Asks d old new socket it untouched held holds result) same (
+      turns,
+      few,
+      ends_with_error d old new socket (turns + ANSWER) line _ untouched _ (λ error sent sends had has. HasNoReply Tells sent sends had has held holds line error) result error is cut (record {
+        receive = receive;
+        receives = receives;
+        send = send;
+        sends = sends;
+        reached = reached;
+        over = over;
+      }),
+    )
+
+-- an error of `wait`
+pub waits_in_vain : {D SR SW Name : Type 0} (text : Name → List ℕ) (d : Dialing D SR SW) (old new : D) (socket line span want : List ℕ)
+    (turns : ℕ) (names all : List Name) (untouched : Type 0)
+    (held holds : Option (List ℕ)) (result : Result ℕ Ending) (error : AskError) (receive receives : SR) (send sends : SW)
+    → names ≡ all → line ≡ wait_words span want turns (joined text names) → has_lf line ≡ false → turns ≤ MOST_TURNS
+    → IsErrAnd result (λ it. it ≡ Failed (Ask error)) → d.reaches old socket (turns + GRACE) (Ok (receive, send)) new
+    → HasNoReply TellsOfWait (d.contents send) (d.contents sends) (d.remaining receive) (d.remaining receives) held holds line error
+    → (n : ℕ) × (n ≤ MOST_TURNS) × Waits d old new socket (wait_words span want n (joined text all)) (questions want text all) n untouched held holds result
+waits_in_vain text d old new socket line span want turns names all untouched held holds result error receive receives send sends same is_line cut few is reached over =
+    let lines = questions want text names in
+    let vain : Waits d old new socket line lines turns untouched held holds result = ends_with_error d old new socket (turns + GRACE) line _ untouched _ (λ error sent sends had has. HasNoReply TellsOfWait sent sends had has held holds line error) result error is cut (record {
+      receive = receive;
+      receives = receives;
+      send = send;
+      sends = sends;
+      reached = reached;
+      over = over;
+    }) in
+    let so = subst (λ it. Waits d old new socket it lines turns untouched held holds result) is_line vain in
+    (turns, few, subst (λ it. Waits d old new socket (wait_words span want turns (joined text it)) (questions want text it) turns untouched held holds result) same so)

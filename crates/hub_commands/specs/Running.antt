@@ -1,0 +1,106 @@
+-- What the program does with a plan.
+use Rattle.std.specs.Prelude.{◌≡◌, ◌≢◌, ◌⊎◌, ℕ, ◌≤◌, All, IsOk, IfOk, IfErr, false, Result, Ok, Err}
+use Rattle.hub_arguments.specs.declared.command_line.Plan.{Plan}
+use Rattle.hub_arguments.specs.declared.command_line.Plan.TheVariants as plan
+use Rattle.hub_ask.specs.Lines.{joined}
+use Rattle.hub_ask.specs.Waiting.{questions, wait_words}
+use Rattle.hub_ask.specs.declared.duration.TheConstants.{MOST_TURNS}
+use Rattle.hub_client.specs.declared.fault.RelayError.{RelayError}
+use Rattle.hub_commands.specs.Asking.{Asks, Waits}
+use Rattle.hub_commands.specs.Breaking.{any_breaks, follow_breaks}
+use Rattle.hub_commands.specs.Calls.{IsRelayed, call_result}
+use Rattle.hub_commands.specs.Dialing.{Dialing}
+use Rattle.hub_commands.specs.Looking.{LooksWith}
+use Rattle.hub_commands.specs.declared.ending.BadWords.TheVariants as bad
+use Rattle.hub_commands.specs.declared.ending.Ending.{Ending}
+use Rattle.hub_commands.specs.declared.ending.Ending.TheVariants.{Refused, Stopped, Failed}
+use Rattle.hub_commands.specs.declared.fault.Fault.{Fault}
+use Rattle.hub_commands.specs.declared.fault.Fault.TheVariants.{Connect, Script, Memory}
+use Rattle.hub_io.specs.declared.fault.FrontError.{FrontError}
+use Rattle.hub_script.specs.Output.{Serves, Stops}
+use Rattle.hub_server.specs.Sessions.{Reading, Writing}
+use Rattle.hub_server.specs.declared.report.Report.{Report}
+
+-- what the program has: a dialer, and its three streams
+pub record Hands (D R W F : Type 0) : Type 0 where
+  pub dialer : D
+  pub input : R
+  pub output : W
+  pub notes : F
+
+-- how the program ends after this result: with status 0, or with the fault
+abbrev pub ending_of : {T : Type 0} → Result T Fault → Result ℕ Ending
+ending_of (Ok done) = Ok 0
+ending_of (Err fault) = Err (Failed fault)
+
+-- the same of a script
+abbrev pub script_ending : Result ℕ FrontError → Result ℕ Ending
+script_ending (Ok lines) = Ok 0
+script_ending (Err error) = Err (Failed (Script error))
+
+-- every session ended with its input, and the gate didn't fail
+abbrev pub IsClean : Report → Type 0
+IsClean report = All IsOk report.results.items × (report.gate_failed ≡ false)
+
+-- A report ends the program with status 0 if it is clean, and else with its faults.
+abbrev pub Judges : Report → Result ℕ Ending → Type 0
+Judges report result = (IsClean report × (result ≡ Ok 0)) ⊎ ((IsClean report → ⊥) × (result ≡ Err (Stopped report)))
+
+-- `serve` ended with a report, which is judged, or with a fault
+abbrev pub JudgesOrFails : Result ℕ Ending → Type 0
+JudgesOrFails result = ((report : Report) × Judges report result) ⊎ ((fault : Fault) × (result ≡ Err (Failed fault)))
+
+-- `call` relayed its input, or it had no connection and nothing was read or written
+pub record Calls {R W : Type 0} (r : Reading R) (w : Writing W) (input rest : R) (output written : W) (result : Result ℕ Ending) : Type 0 where
+  pub called : Result ℕ Fault
+  pub ended : result ≡ ending_of called
+  pub connected : called ≡ Err Connect → (rest ≡ input) × (written ≡ output)
+  pub relayed : called ≢ Err Connect → (outcome : Result ℕ RelayError) × (called ≡ call_result outcome)
+      × IsRelayed r w input rest output written outcome
+
+-- `script` answered its input
+pub record Scripts {R W : Type 0} (r : Reading R) (w : Writing W) (input rest : R) (output written : W) (result : Result ℕ Ending) : Type 0 where
+  pub scripted : Result ℕ FrontError
+  pub ended : result ≡ script_ending scripted
+  pub served : IfOk scripted (Serves (w.contents output) (w.contents written) (r.remaining input) (r.remaining rest))
+  pub stopped : IfErr scripted (Stops (w.contents output) (w.contents written) (r.remaining input) (r.remaining rest))
+
+-- What is done with each plan. What a plan doesn't need is as it was.
+abbrev pub CarriesOut : {D SR SW R W F : Type 0} → Dialing D SR SW → Reading R → Writing W → (old new : Hands D R W F) → Plan → Result ℕ Ending → Type 0
+CarriesOut d r w old new plan.Script result =
+    Scripts r w old.input new.input old.output new.output result × (new.dialer ≡ old.dialer) × (new.notes ≡ old.notes)
+CarriesOut d r w old new (plan.Serve socket sessions) result = JudgesOrFails result × (new ≡ old)
+CarriesOut d r w old new (plan.ServeForever socket sessions mode ready idle) result =
+    ((result ≡ Ok 0) ⊎ ((fault : Fault) × (result ≡ Err (Failed fault))))
+    × (new.dialer ≡ old.dialer) × (new.input ≡ old.input) × (new.output ≡ old.output)
+CarriesOut d r w old new (plan.Call socket) result =
+    Calls r w old.input new.input old.output new.output result × (new.dialer ≡ old.dialer) × (new.notes ≡ old.notes)
+CarriesOut d r w old new (plan.Ask socket words) result =
+    Asks d old.dialer new.dialer socket.now (joined (λ word. word.now) words.items) (new.output ≡ old.output)
+    (w.contents old.output) (w.contents new.output) result
+    × (new.input ≡ old.input) × (new.notes ≡ old.notes)
+CarriesOut d r w old new (plan.Wait socket wish) result =
+    ((turns : ℕ) × (turns ≤ MOST_TURNS) × Waits d old.dialer new.dialer socket.now
+    (wait_words wish.span.now wish.want.now turns (joined (λ name. name.now) wish.names.items))
+    (questions wish.want.now (λ name. name.now) wish.names.items) turns
+    ((new.output ≡ old.output) × (new.notes ≡ old.notes)) (w.contents old.output) (w.contents new.output) result)
+    × (new.input ≡ old.input)
+CarriesOut d r w old new (plan.Status socket names) result =
+    LooksWith d old.dialer new.dialer socket.now (any_breaks (λ name. name.now) names.items) bad.Name
+    ((new.output ≡ old.output) × (new.notes ≡ old.notes)) result
+    × (new.input ≡ old.input)
+CarriesOut d r w old new (plan.Follow socket names pattern is_plain is_once) result =
+    LooksWith d old.dialer new.dialer socket.now (follow_breaks (λ word. word.now) pattern names.items) bad.Word
+    ((new.output ≡ old.output) × (new.notes ≡ old.notes)) result
+    × (new.input ≡ old.input)
+
+-- How the program ends without a plan: its words ask for a text, are none or are refused, or there was a fault before.
+abbrev pub EndsEarly : Result ℕ Ending → Type 0
+EndsEarly (Ok status) = (status ≡ 0) ⊎ (status ≡ 2)
+EndsEarly (Err (Refused words)) = words ≡ bad.NotText
+EndsEarly (Err (Stopped report)) = ⊥
+EndsEarly (Err (Failed fault)) = (fault ≡ Memory) ⊎ ((error : FrontError) × (fault ≡ Script error))
+
+-- What the program does: it carries out a plan, or ends before it has one, and then it touches nothing.
+abbrev pub Runs : {D SR SW R W F : Type 0} → Dialing D SR SW → Reading R → Writing W → (old new : Hands D R W F) → Result ℕ Ending → Type 0
+Runs d r w old new result = ((plan : Plan) × CarriesOut d r w old new plan result) ⊎ (EndsEarly result × (new ≡ old))

@@ -1,0 +1,42 @@
+//! The subcommand `ask`: one request, made of words.
+ghost use Rattle.std.specs.Prelude.{◌≡◌};
+ghost use Rattle.hub_ask.specs.Lines.{joined};
+ghost use Rattle.hub_commands.specs.Asking.{Asks};
+
+use crate::dialing::Dial;
+use crate::ending::{BadWords, Ending};
+use hub_ask::{ANSWER, Line, Replies, Requests, ask, turns_asked};
+use hub_io::Sink;
+use std::alloc::Global;
+use std::sync::Wait;
+
+/// Sends the words as one request to the hub at the socket, writes its reply, and returns the exit status for it. Words with a line
+/// feed are refused, since they would be several requests.
+pub fn ask_words<H, SR, SW, D, W>(
+    rt: &H,
+    alloc: Global,
+    dialer: &mut D,
+    socket: &str,
+    words: &[&str],
+    output: &mut W,
+) -> Result<u8, Ending>
+where
+    H: Wait,
+    SR: Replies + Drop,
+    SW: Requests + Drop,
+    D: Dial<SR, SW>,
+    W: Sink,
+    // If a word has an LF, it is refused: no connection is made, and nothing is written. Else one connection is made, over which
+    // the words go as one line. Its reply is written, and has the status.
+    ensures { Asks
+        (record { reaches = D.reaches; remaining = SR.remaining; contents = SW.contents })
+        dialer.old dialer.new socket.now (joined (λ word. word.now) words.now)
+        (output.new ≡ output.old) (W.contents output.old) (W.contents output.new) result }
+{
+    let Some(line) = Line::of(alloc, words)? else {
+        return Err(Ending::Refused(BadWords::Word));
+    };
+    let (mut receive, mut send) = dialer.dial(socket, turns_asked(&line) + ANSWER)?;
+    let outcome = ask(rt, alloc, &line, &mut receive, &mut send, output)?;
+    Ok(outcome.status())
+}

@@ -1,0 +1,65 @@
+//! A connection to a server, which ends by a time.
+ghost use Rattle.std.specs.Prelude.{◌≡◌, ◌⊎◌, IfErr};
+ghost use Rattle.hub_ask.specs.declared.fault.AskError.TheVariants as ask;
+ghost use Rattle.hub_commands.specs.declared.fault.Fault.TheVariants as fault;
+
+use crate::fault::Fault;
+use hub_ask::{AskError, Bounded, Deadline, Timed, halves};
+use std::io::ErrorKind;
+use std::net::Net;
+use std::os::unix::net::UnixStream;
+use std::rt::Clock;
+use std::time::Duration;
+use std::{io, thread};
+
+/// How many milliseconds pass before another try, if the server has no room for one more connection.
+const PAUSE: u64 = 10;
+
+/// The most tries. The longest time of a request ends before.
+const TRIES: u64 = 1_000_000;
+
+// Connects, and fails with `WouldBlock` if the server has no room for one more connection: a blocking connect would wait for it.
+fn connect_now<H: Net>(rt: &H, socket: &str) -> io::Result<UnixStream> {
+    let connection = UnixStream::from(mio::net::UnixStream::connect(rt, socket)?);
+    connection.set_nonblocking(false)?;
+    Ok(connection)
+}
+
+// Connects, and tries again until there is room, or the time is over.
+fn connect_by<H: Net + Clock>(
+    rt: &H,
+    socket: &str,
+    deadline: &Deadline,
+) -> Result<UnixStream, Fault>
+    ensures { IfErr result (λ it. (it ≡ fault.Connect) ⊎ (it ≡ fault.Ask ask.NoAnswer)) }
+{
+    'tries: for _ in 0..TRIES {
+        match connect_now(rt, socket) {
+            Ok(connection) => return Ok(connection),
+            Err(error) if error.kind() != ErrorKind::WouldBlock => return Err(Fault::Connect),
+            Err(_) => {}
+        }
+        let Some(left) = deadline.left(rt) else {
+            break;
+        };
+        thread::sleep(rt, left.min(Duration::from_millis(PAUSE)));
+    }
+    Err(Fault::Ask(AskError::NoAnswer))
+}
+
+/// Connects to the server at the socket, and returns the two halves of the connection: for its replies and for requests. They end
+/// so many milliseconds after the call began. The error is `Connect`, or the one of no answer if it can't connect in time.
+pub fn connect<H: Net + Clock + Copy>(
+    rt: &H,
+    socket: &str,
+    millis: u64,
+) -> Result<(Bounded<Timed<H>>, Timed<H>), Fault>
+    ensures { IfErr result (λ it. (it ≡ fault.Connect) ⊎ (it ≡ fault.Ask ask.NoAnswer)) }
+{
+    let deadline = Deadline::after(rt, millis);
+    let connection = connect_by(rt, socket, &deadline)?;
+    match halves(*rt, &connection, deadline) {
+        Ok(both) => Ok(both),
+        Err(_) => Err(Fault::Connect),
+    }
+}

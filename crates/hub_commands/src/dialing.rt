@@ -1,0 +1,45 @@
+//! How a hub is reached.
+ghost use Rattle.std.specs.Prelude.{◌≡◌, ◌⊎◌, ℕ, List, Result, IfErr};
+ghost use Rattle.hub_ask.specs.declared.fault.AskError.TheVariants as ask;
+ghost use Rattle.hub_commands.specs.declared.fault.Fault.{Fault as fault_of};
+ghost use Rattle.hub_commands.specs.declared.fault.Fault.TheVariants as fault;
+
+use crate::connecting::connect;
+use crate::fault::Fault;
+use hub_ask::{Bounded, Replies, Requests, Timed};
+use std::net::Net;
+use std::rt::Clock;
+
+/// The means to reach hubs. A function that has no other can't connect without it.
+pub trait Dial<SR: Replies, SW: Requests> {
+    /// `reaches old socket millis both new`: a dialer in the state `old` may give this for the socket and the time, and is then in
+    /// the state `new`.
+    ghost reaches: { Self → List ℕ → ℕ → Result (SR × SW) fault_of → Self → Type 0 };
+
+    /// Connects to the hub at the socket, and returns the two halves of the connection: for its replies and for requests. They
+    /// end so many milliseconds after the call began.
+    fn dial(&mut self, socket: &str, millis: u64) -> Result<(SR, SW), Fault>
+        ensures { reaches self.old socket.now millis result self.new };
+}
+
+/// Reaches hubs at Unix sockets.
+#[derive(Clone, Copy, Drop)]
+pub struct Dialer<H> {
+    rt: H,
+}
+
+impl<H: Net + Clock + Copy> Dialer<H> {
+    /// A dialer by this runtime.
+    pub fn new(rt: H) -> Dialer<H> {
+        Dialer { rt }
+    }
+}
+
+impl<H: Net + Clock + Copy> Dial<Bounded<Timed<H>>, Timed<H>> for Dialer<H> {
+    ghost reaches = { λ old _ _ both new. (new ≡ old)
+        × IfErr both (λ it. (it ≡ fault.Connect) ⊎ (it ≡ fault.Ask ask.NoAnswer)) };
+
+    fn dial(&mut self, socket: &str, millis: u64) -> Result<(Bounded<Timed<H>>, Timed<H>), Fault> {
+        connect(&self.rt, socket, millis)
+    }
+}

@@ -1,0 +1,62 @@
+//! The subcommand `follow`: the letters of fifodirs as they come.
+ghost use Rattle.std.specs.Prelude.{◌≡◌};
+ghost use Rattle.hub_commands.specs.Breaking.{follow_breaks};
+ghost use Rattle.hub_commands.specs.Looking.{LooksWith};
+
+use crate::breaking::{any_breaks, breaks};
+use crate::dialing::Dial;
+use crate::ending::{BadWords, Ending};
+use hub_ask::{ANSWER, Replies, Requests};
+use hub_io::Sink;
+use hub_look::{Following, Peer, follow};
+use std::alloc::Global;
+use std::io::Write;
+use std::rt::Clock;
+use std::sync::Wait;
+
+// Whether the pattern or a name has a line feed.
+fn following_breaks(following: &Following<'_>) -> bool
+    ensures { result ≡ follow_breaks (λ word. word.now) following.now.pattern
+        following.now.names.items }
+{
+    let in_names = any_breaks(&following.names);
+    match following.pattern {
+        Some(pattern) => breaks(pattern) || in_names,
+        None => in_names,
+    }
+}
+
+/// Writes the letters of these fifodirs of the hub at the socket as they come, and returns the exit status. `notes` gets a line on
+/// what the hub refuses. A pattern or names with a line feed are refused.
+pub fn follow_as_told<H, SR, SW, D, W, F>(
+    rt: &H,
+    alloc: Global,
+    dialer: &mut D,
+    socket: &str,
+    following: &Following<'_>,
+    output: &mut W,
+    notes: &mut F,
+) -> Result<u8, Ending>
+where
+    H: Wait + Clock,
+    SR: Replies + Drop,
+    SW: Requests + Drop,
+    D: Dial<SR, SW>,
+    W: Sink,
+    F: Write,
+    // If a word has an LF, it is refused: no connection is made, and nothing is written. Else one connection is made, over which
+    // only looks go.
+    ensures { LooksWith
+        (record { reaches = D.reaches; remaining = SR.remaining; contents = SW.contents })
+        dialer.old dialer.new socket.now
+        (follow_breaks (λ word. word.now) following.now.pattern following.now.names.items)
+        BadWords.Word ((output.new ≡ output.old) × (notes.new ≡ notes.old)) result }
+{
+    if following_breaks(following) {
+        return Err(Ending::Refused(BadWords::Word));
+    }
+    let (receive, send) = dialer.dial(socket, ANSWER)?;
+    let mut peer = Peer::new(receive, send);
+    let outcome = follow(rt, alloc, following, &mut peer, output, notes)?;
+    Ok(outcome.status())
+}

@@ -1,0 +1,156 @@
+//! What the program does with the words of its command line.
+ghost use Rattle.hub_commands.specs.Running.{CarriesOut, Judges, Runs};
+
+use crate::asking::ask_words;
+use crate::calling::call;
+use crate::dialing::Dial;
+use crate::ending::{BadWords, Ending};
+use crate::fault::Fault;
+use crate::following::follow_as_told;
+use crate::living::{Standing, serve_forever};
+use crate::serving::serve;
+use crate::showing::show_status;
+use crate::waiting::wait_as_told;
+use hub_arguments::{Plan, Start, begin, own_socket, own_words};
+use hub_ask::{Replies, Requests};
+use hub_io::{Sink, Source};
+use hub_look::Following;
+use hub_script::script;
+use hub_server::Report;
+use std::alloc::{AllocGlobal, Global};
+use std::fs::{File, Files};
+use std::io::{ErrorKind, Write};
+use std::net::Net;
+use std::rt::Runtime;
+use std::sync::Wait;
+use std::thread::Threads;
+
+// The exit status after sessions of which none stopped, or what is to be told of them.
+fn judge(report: Report) -> Result<u8, Ending>
+    ensures { Judges report result }
+{
+    if report.is_clean() {
+        Ok(0)
+    } else {
+        Err(Ending::Stopped(report))
+    }
+}
+
+// Does what the plan says, and returns the exit status.
+fn carry_out<H, SR, SW, D, R, W, F>(
+    rt: &H,
+    alloc: Global,
+    dialer: &mut D,
+    plan: Plan<'_>,
+    input: &mut R,
+    output: &mut W,
+    notes: &mut F,
+) -> Result<u8, Ending>
+where
+    H: Runtime + Files<File = File> + AllocGlobal + Net + Threads + Wait + Copy + Send + 'static,
+    SR: Replies + Drop,
+    SW: Requests + Drop,
+    D: Dial<SR, SW>,
+    R: Source,
+    W: Sink,
+    F: Write,
+    // What the subcommand of the plan ensures, and what the plan doesn't need is as it was.
+    ensures { CarriesOut
+        (record { reaches = D.reaches; remaining = SR.remaining; contents = SW.contents })
+        (record { remaining = R.remaining; reads = R.reads; faults = R.faults })
+        (record { contents = W.contents; faults = W.faults })
+        (record { dialer = dialer.old; input = input.old; output = output.old; notes = notes.old })
+        (record { dialer = dialer.new; input = input.new; output = output.new; notes = notes.new })
+        plan.entry result }
+{
+    match plan {
+        Plan::Script => {
+            script(rt, alloc, input, output)?;
+            Ok(0)
+        }
+        Plan::Serve { socket, sessions } => judge(serve(rt, alloc, socket, sessions)?),
+        Plan::ServeForever {
+            socket,
+            sessions,
+            mode,
+            ready,
+            idle,
+        } => {
+            let standing = Standing {
+                socket,
+                sessions,
+                mode,
+                ready,
+                idle,
+            };
+            serve_forever(rt, alloc, standing, notes)?;
+            Ok(0)
+        }
+        Plan::Call { socket } => {
+            call(rt, alloc, socket, input, output)?;
+            Ok(0)
+        }
+        Plan::Ask { socket, words } => ask_words(rt, alloc, dialer, socket, &words, output),
+        Plan::Wait { socket, wish } => {
+            wait_as_told(rt, alloc, dialer, socket, &wish, output, notes)
+        }
+        Plan::Status { socket, names } => {
+            show_status(rt, alloc, dialer, socket, &names, output, notes)
+        }
+        Plan::Follow {
+            socket,
+            names,
+            pattern,
+            is_plain,
+            is_once,
+        } => {
+            let following = Following {
+                names,
+                pattern,
+                is_plain,
+                is_once,
+            };
+            follow_as_told(rt, alloc, dialer, socket, &following, output, notes)
+        }
+    }
+}
+
+/// Does what the words of the command line say, and returns the exit status.
+pub fn run<H, SR, SW, D, R, W, F>(
+    rt: &H,
+    alloc: Global,
+    dialer: &mut D,
+    input: &mut R,
+    output: &mut W,
+    notes: &mut F,
+) -> Result<u8, Ending>
+where
+    H: Runtime + Files<File = File> + AllocGlobal + Net + Threads + Wait + Copy + Send + 'static,
+    SR: Replies + Drop,
+    SW: Requests + Drop,
+    D: Dial<SR, SW>,
+    R: Source,
+    W: Sink,
+    F: Write,
+    // One plan is carried out. Or there is none, and everything is as it was.
+    ensures { Runs
+        (record { reaches = D.reaches; remaining = SR.remaining; contents = SW.contents })
+        (record { remaining = R.remaining; reads = R.reads; faults = R.faults })
+        (record { contents = W.contents; faults = W.faults })
+        (record { dialer = dialer.old; input = input.old; output = output.old; notes = notes.old })
+        (record { dialer = dialer.new; input = input.new; output = output.new; notes = notes.new })
+        result }
+{
+    let words = match own_words(rt, alloc) {
+        Ok(words) => words,
+        Err(error) if error.kind() == ErrorKind::OutOfMemory => return Err(Ending::Failed(
+            Fault::Memory,
+        )),
+        Err(_) => return Err(Ending::Refused(BadWords::NotText)),
+    };
+    let known = own_socket(rt)?;
+    match begin(rt, alloc, words.as_slice(), known.as_deref())? {
+        Start::Run(plan) => carry_out(rt, alloc, dialer, plan, input, output, notes),
+        Start::End(status) => Ok(status),
+    }
+}

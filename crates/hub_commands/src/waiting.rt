@@ -1,0 +1,66 @@
+//! The subcommand `wait`: one wait for services.
+ghost use Rattle.std.specs.Prelude.{◌≡◌, ℕ, ◌≤◌};
+ghost use Rattle.hub_ask.specs.Lines.{joined};
+ghost use Rattle.hub_ask.specs.Waiting.{questions, wait_words};
+ghost use Rattle.hub_ask.specs.declared.duration.TheConstants.{MOST_TURNS};
+ghost use Rattle.hub_commands.specs.Asking.{Waits};
+
+use crate::dialing::Dial;
+use crate::ending::{BadWords, Ending};
+use hub_arguments::Wish;
+use hub_ask::{GRACE, Replies, Requests, turns_of, wait_for, wait_line};
+use hub_io::Sink;
+use std::alloc::Global;
+use std::io::Write;
+use std::sync::Wait;
+
+/// Waits as the wish says at the hub at the socket, writes the reply, and returns the exit status for it. `notes` gets a line for
+/// each service that isn't as wanted. A duration that a wait can't have is refused, and so are names with a line feed.
+pub fn wait_as_told<H, SR, SW, D, W, F>(
+    rt: &H,
+    alloc: Global,
+    dialer: &mut D,
+    socket: &str,
+    wish: &Wish<'_>,
+    output: &mut W,
+    notes: &mut F,
+) -> Result<u8, Ending>
+where
+    H: Wait,
+    SR: Replies + Drop,
+    SW: Requests + Drop,
+    D: Dial<SR, SW>,
+    W: Sink,
+    F: Write,
+    // If the words are refused, no connection is made, and nothing is written. Else one connection is made, over which the line of
+    // the wait goes, and then at most the questions about its services. The reply is written, and has the status.
+    ensures { (turns : ℕ) × (turns ≤ MOST_TURNS) × Waits
+        (record { reaches = D.reaches; remaining = SR.remaining; contents = SW.contents })
+        dialer.old dialer.new socket.now
+        (wait_words wish.now.span.now wish.now.want.now turns
+        (joined (λ name. name.now) wish.now.names.items))
+        (questions wish.now.want.now (λ name. name.now) wish.now.names.items) turns
+        ((output.new ≡ output.old) × (notes.new ≡ notes.old))
+        (W.contents output.old) (W.contents output.new) result }
+{
+    let Some(turns) = turns_of(wish.patience) else {
+        return Err(Ending::Refused(BadWords::Duration));
+    };
+    let (want, names) = (wish.want, wish.names.as_slice());
+    let Some(line) = wait_line(alloc, wish.span, want, turns, names)? else {
+        return Err(Ending::Refused(BadWords::Name));
+    };
+    let (mut receive, mut send) = dialer.dial(socket, turns + GRACE)?;
+    let outcome = wait_for(
+        rt,
+        alloc,
+        &line,
+        want,
+        names,
+        &mut receive,
+        &mut send,
+        output,
+        notes,
+    )?;
+    Ok(outcome.status())
+}
