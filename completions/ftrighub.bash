@@ -1,40 +1,52 @@
 # Completions of ftrighub for bash. tests/install compares them with `--help`.
 
+# Sets `place` to the number of words before the one to complete that are no options, and `socket` to the option for the socket.
+_ftrighub_before() {
+    local at
+    place=0 socket=()
+    for ((at = 2; at < COMP_CWORD; at++)); do
+        case ${COMP_WORDS[at]} in
+        --socket) socket=(--socket "${COMP_WORDS[++at]}") ;;
+        --for | --pattern) at=$((at + 1)) ;;
+        -*) ;;
+        *) place=$((place + 1)) ;;
+        esac
+    done
+}
+
+# The names that the hub has. A hub that doesn't answer within a second has none.
+_ftrighub_names() {
+    local reply
+    reply=$(timeout 1 "${COMP_WORDS[0]}" ask "${socket[@]}" names 0 2>/dev/null)
+    case $reply in
+    "names "*) printf '%s\n' "${reply#names }" ;;
+    esac
+}
+
 _ftrighub() {
-    local word=${COMP_WORDS[COMP_CWORD]} command="" words=""
+    local word=${COMP_WORDS[COMP_CWORD]} command="" words="" place socket
     ((COMP_CWORD == 1)) || command=${COMP_WORDS[1]}
-    case $command:$word in
-    :-*) words="-h --help -V --version" ;;
-    serve:-*) words="-h --help --forever --idle --mode --ready-fd --sessions" ;;
-    call:-* | script:-*) words="-h --help" ;;
-    ask:-*) words="-h --help --socket" ;;
-    wait:-*) words="-h --help --socket --for" ;;
-    status:-*) words="-h --help --socket" ;;
-    follow:-*) words="-h --help --socket --pattern --plain --once" ;;
-    :* | help:*) words="script serve call ask wait status follow help" ;;
-    ask:* | wait:* | status:* | follow:*)
-        case $command:${COMP_WORDS[COMP_CWORD - 1]} in
-        *:--socket) ;;
-        wait:wait) words="all any" ;;
-        wait:all | wait:any) words="up ready down finished restarted restarted-ready" ;;
-        *) return 0 ;;
-        esac
-        if [ -n "$words" ]; then
-            mapfile -t COMPREPLY < <(compgen -W "$words" -- "$word")
-            return 0
-        fi
-        compopt -o filenames 2>/dev/null
-        mapfile -t COMPREPLY < <(compgen -f -- "$word")
-        return 0
-        ;;
-    serve:* | call:*)
-        case ${COMP_WORDS[COMP_CWORD - 1]} in
-        --sessions | --ready-fd | --idle) return 0 ;;
-        --mode)
-            mapfile -t COMPREPLY < <(compgen -W "0600 0620 0622 0660 0666" -- "$word")
-            return 0
-            ;;
-        esac
+    _ftrighub_before
+    case $command:${COMP_WORDS[COMP_CWORD - 1]} in
+    *:--socket) command=FILES ;;
+    serve:--sessions | serve:--ready-fd | serve:--idle | wait:--for | follow:--pattern) return 0 ;;
+    serve:--mode) command=MODE ;;
+    esac
+    case $command:$place:$word in
+    MODE:*) words="0600 0620 0622 0660 0666" ;;
+    :*:-*) words="-h --help -V --version" ;;
+    serve:*:-*) words="-h --help --forever --idle --mode --ready-fd --sessions" ;;
+    call:*:-* | script:*:-*) words="-h --help" ;;
+    ask:0:-*) words="-h --help --socket" ;;
+    wait:*:-*) words="-h --help --socket --for" ;;
+    status:*:-*) words="-h --help --socket" ;;
+    follow:*:-*) words="-h --help --socket --pattern --plain --once" ;;
+    :* | help:*) words="wait status follow ask serve call script help" ;;
+    wait:0:*) words="all any" ;;
+    wait:1:*) words="up ready down finished restarted restarted-ready" ;;
+    ask:0:*) words="dir svc sub pub take cancel close status listen poll await wait names" ;;
+    ask:* | wait:* | status:* | follow:*) words=$(_ftrighub_names) ;;
+    FILES:* | serve:* | call:*)
         compopt -o filenames 2>/dev/null
         mapfile -t COMPREPLY < <(compgen -f -- "$word")
         return 0

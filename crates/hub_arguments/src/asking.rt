@@ -52,9 +52,10 @@ pub struct Wish<'a> {
 
 /// The option for the path of the socket. It isn't needed if the environment has a path.
 fn path<'a>(alloc: Global, known: Option<&'a str>) -> Arg<'a> {
-    let argument = Arg::new(alloc, PATH).long(PATH).value_name("PATH").help(
-        "The path of the socket; without it FTRIGHUB_SOCKET has the path",
-    );
+    let argument = Arg::new(alloc, PATH)
+        .long(PATH)
+        .value_name("PATH")
+        .help("Socket of the hub (or else FTRIGHUB_SOCKET has it)");
     match known {
         Some(socket) => argument.default_value(socket).hide_default_value(true),
         None => argument.required(true),
@@ -85,22 +86,22 @@ pub(crate) fn wait_command<'a>(
 ) -> Result<Command<'a>, AllocError> {
     let span = Arg::new(alloc, SPAN)
         .value_name("SPAN")
-        .help("Whether all of the services are to be as wanted, or any of them")
+        .help("Wait for all of the services, or for any one of them")
         .value_parser(SPANS.as_slice())
         .required(true);
     let want = Arg::new(alloc, WANT)
         .value_name("WANT")
-        .help("What is wanted of a service")
+        .help("State to wait for")
         .value_parser(WANTS.as_slice())
         .required(true);
     let patience = Arg::new(alloc, PATIENCE)
         .long(PATIENCE)
         .value_name("DURATION")
-        .help("For how long at most, such as 5s, 2m or 500ms")
+        .help("Time limit, such as 500ms, 5s or 2m")
         .required(true);
     let names = Arg::new(alloc, NAMES)
         .value_name("NAME")
-        .help("The names of the services")
+        .help("Names of services")
         .required(true)
         .num_args(1..);
     Command::new(alloc, "wait")
@@ -119,7 +120,7 @@ pub(crate) fn status_command<'a>(
 ) -> Result<Command<'a>, AllocError> {
     let names = Arg::new(alloc, NAMES)
         .value_name("NAME")
-        .help("The names of the fifodirs; all of the hub if there is none")
+        .help("Names of fifodirs; without one, all of the hub")
         .num_args(0..);
     Command::new(alloc, "status")
         .about(STATUS_ABOUT)
@@ -146,7 +147,7 @@ pub(crate) fn follow_command<'a>(
         .help("End with the first letter, or the first hit");
     let names = Arg::new(alloc, NAMES)
         .value_name("NAME")
-        .help("The names of the fifodirs")
+        .help("Names of fifodirs")
         .required(true)
         .num_args(1..);
     Command::new(alloc, "follow")

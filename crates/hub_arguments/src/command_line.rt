@@ -68,13 +68,13 @@ pub enum Plan<'a> {
         socket: &'a str,
         words: Vec<&'a str>,
     },
-    /// Waits until the services are as wanted, by the server at the socket, writes the reply to standard output, and what
-    /// isn't as wanted to standard error.
+    /// Waits until the services are in a state, by the hub at the socket, writes the reply to standard output, and which of
+    /// them aren't to standard error.
     Wait {
         socket: &'a str,
         wish: Wish<'a>,
     },
-    /// Writes how these fifodirs are, or all of the server at the socket if there is none, to standard output.
+    /// Writes the state of these fifodirs, or of all of the hub at the socket if there is none, to standard output.
     Status {
         socket: &'a str,
         names: Vec<&'a str>,
@@ -92,7 +92,7 @@ pub enum Plan<'a> {
 fn socket<'a>(alloc: Global) -> Arg<'a> {
     Arg::new(alloc, SOCKET)
         .value_name("SOCKET")
-        .help("The path of the socket")
+        .help("Path of the socket")
         .required(true)
 }
 
@@ -101,7 +101,7 @@ fn sessions<'a>(alloc: Global, forever: bool) -> Arg<'a> {
     let argument = Arg::new(alloc, SESSIONS).long("sessions").value_name("N");
     if forever {
         argument
-            .help("How many sessions there may be at the same time, from 1 to 1024")
+            .help("How many clients at the same time, from 1 to 1024")
             .value_parser(value_parser!(u64).range(1..1025))
             .default_value("64")
     } else {
@@ -116,16 +116,14 @@ fn forever<'a>(alloc: Global) -> Arg<'a> {
     Arg::new(alloc, FOREVER)
         .long(FOREVER)
         .action(ArgAction::SetTrue)
-        .help(
-            "Serve for as long as the program runs, at most N (1 to 1024, or else 64) sessions at the same time",
-        )
+        .help("Run until stopped; N is then 1 to 1024, or else 64")
 }
 
 fn ready<'a>(alloc: Global) -> Result<Arg<'a>, AllocError> {
     Arg::new(alloc, READY)
         .long(READY)
         .value_name("D")
-        .help("With --forever: write a newline to descriptor D once the hub listens")
+        .help("With --forever: write a newline to descriptor D once it listens")
         .value_parser(value_parser!(u64).range(0..65536))
         .requires_arg(FOREVER)
 }
@@ -134,7 +132,7 @@ fn mode<'a>(alloc: Global) -> Result<Arg<'a>, AllocError> {
     Arg::new(alloc, MODE)
         .long(MODE)
         .value_name("MODE")
-        .help("With --forever: the mode of the socket's file")
+        .help("With --forever: mode of the socket file")
         .value_parser(MODES.as_slice())
         .requires_arg(FOREVER)
 }
@@ -143,7 +141,7 @@ fn idle<'a>(alloc: Global) -> Result<Arg<'a>, AllocError> {
     Arg::new(alloc, IDLE)
         .long(IDLE)
         .value_name("SECONDS")
-        .help("With --forever: end a session whose client was idle for so long (1 to 1000000)")
+        .help("With --forever: disconnect clients idle for so many seconds")
         .value_parser(value_parser!(u64).range(1..1000001))
         .requires_arg(FOREVER)
 }
@@ -179,7 +177,6 @@ fn program<'a>(alloc: Global) -> Command<'a> {
         .about(ABOUT)
         .long_about(LONG_ABOUT)
         .after_help(EXIT)
-        .after_long_help(SCRIPT_LINES)
         .subcommand_required(true)
 }
 
@@ -190,13 +187,13 @@ fn command<'a>(
     known: Option<&'a str>,
 ) -> Result<Command<'a>, AllocError> {
     program(alloc)
-        .subcommand(script_command(alloc))?
-        .subcommand(serve_command(alloc, is_forever)?)?
-        .subcommand(call_command(alloc)?)?
-        .subcommand(ask_command(alloc, known)?)?
         .subcommand(wait_command(alloc, known)?)?
         .subcommand(status_command(alloc, known)?)?
-        .subcommand(follow_command(alloc, known)?)
+        .subcommand(follow_command(alloc, known)?)?
+        .subcommand(ask_command(alloc, known)?)?
+        .subcommand(serve_command(alloc, is_forever)?)?
+        .subcommand(call_command(alloc)?)?
+        .subcommand(script_command(alloc))
 }
 
 /// Reads the words. The first word is the program's name, which the usage lines print. `known` is the path of the socket

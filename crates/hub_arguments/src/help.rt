@@ -1,140 +1,184 @@
-//! The texts of `--help`.
+//! The texts of `--help`, in lines of at most 80 columns.
 
 /// The program in one line.
 pub const ABOUT: &str =
-    "An event hub for service start-up: event directories (fifodirs) inside one program.";
+    "An event hub: lets scripts wait until services are up, ready, down or restarted.";
 
 /// The program, for a reader who doesn't know it.
 pub const LONG_ABOUT: &str = "\
-An event hub for service start-up: event directories (fifodirs) inside one program.
+An event hub: lets scripts wait until services are up, ready, down or restarted.
 
-Publishers and subscribers meet at a fifodir. The letters that are published there are a numbered list of events. A
-subscriber gets every event from then on, each once and in order. Events are pending until the slowest subscriber has
-taken them. No event is lost: if too many are pending, the publisher is refused (`no full`) and retries. If a fifodir
-was made with `evict`, such a subscriber is evicted in place of that, and is told so.
-
-These lines start a hub, make the service `db`, say that it is ready, wait for
+These lines start a hub, make the service db, say that it is ready, wait for
 it for five seconds at most, and end the hub:
 
   ftrighub serve hub.socket --forever & export FTRIGHUB_SOCKET=hub.socket
   until ftrighub ask svc db 64 1000000 1 2>refused; do sleep 0.1; done
   ftrighub ask pub db suU
   ftrighub wait all ready --for 5s db
-  kill $!; wait";
+  kill $!; wait
+
+Who starts a service publishes letters in its fifodir (a list of events, named
+after the event directories of s6): s (a supervisor runs), u (up), U (ready),
+d (down), D (cleaned up), O (failed, won't be restarted), x (the supervisor
+ended). Each subscriber gets every letter that is published after it
+subscribed, once and in order. A letter stays pending until the slowest
+subscriber has taken it. If too many are pending, `pub` gets `no full`, and you
+retry it. Or the slow subscriber is evicted, and told: see `evict` in
+`ftrighub script --help`.";
 
 /// The exit statuses.
 pub const EXIT: &str = "\
-Exit status: 0 all went well, 1 a fault while running (one line on standard error), 2 the command line was refused.";
+`ftrighub COMMAND --help` has examples, `ftrighub script --help` each request.
+
+Exit status: 0 all went well, 1 an error while running (one line on standard
+error), 2 the command line was refused. Those of a command are in its --help.";
 
 /// The subcommand `script` in one line.
 pub const SCRIPT_ABOUT: &str = "Answer the request lines of standard input on standard output";
 
 /// The request lines and their replies.
 pub const SCRIPT_LINES: &str = "\
-Each line of standard input is a request, and each gets one reply line, in order. N is a name of 1 to 32 bytes
-(letters, digits, `_`, `.`, `-`). Fields are separated by exactly one space.
+Each line of standard input is a request, and each gets one reply line, in
+order. N is a name of 1 to 32 bytes (letters, digits, `_`, `.`, `-`). Fields are
+separated by exactly one space. Each request below has an example and its reply.
 
-  dir N W T      make a fifodir: at most W events pending (1 to 4096), T in its life (1 to 10^12)
-                 dir web 64 1000000000000 ok
-  svc N W T R    make a service's fifodir, for letters in their lawful order; R is 1 if it reports readiness
-                 svc db 64 1000000000000 1 ok
-                 With the word `evict` at the end of a `dir` or `svc` line, slow subscriptions are evicted: if a `pub`
-                 leaves more than W events pending for one, each later `take` or `poll` of it replies `evicted`
-                 dir log 64 1000 evict  ok
-  sub N          subscribe; the reply has the handle
-                 sub web                ok 1
-  pub N LETTERS  publish letters (bytes from ! to ~); the reply has the number of the first event
-                 pub web ab             ok 0
-  take ID MAX    take at most MAX pending events (1 to 256) of a subscription
-                 take 1 256             got ab, or none, or end, or evicted
-  cancel ID      end a subscription or a listener
-                 cancel 1               ok
-  close N        close for events and subscriptions; pending events may still be taken
-                 close web              ok
-  status N       the number of events, the flags' code (up 1, settled 2, supervised 4, failed 8), open or closed
-                 status web             ok 2 0 open
-  listen N MODE PATTERN
-                 listen for a regular expression of 1 to 200 bytes, MODE once or repeat; the reply has the handle
-                 listen db once u.*U    ok 2
-  poll ID        look for a listener's next hit: the letters since the last one, up to where the pattern first matches
-                 poll 2                 hit suU, or none, or end, or evicted
-  await ID TURNS sleep until the next `take` or `poll` of a handle has something to do, for at most TURNS turns (0 to
-                 1000000); it takes nothing
-                 await 1 5000           ok, or late
+  dir N W T      make a fifodir. W: how many events may be pending (1 to 4096).
+                 T: how many it will ever accept (1 to 10^12)
+                 dir web 64 1000000000000      ok
+  svc N W T R    make a service's fifodir, which accepts letters in their lawful
+                 order. R is 1 if the service reports that it is ready, else 0
+                 svc db 64 1000000000000 1     ok
+                 Both may end with the word evict. Then, if a pub leaves more
+                 than W events pending for a subscription, it is evicted: each
+                 later take or poll of it gets `evicted`
+                 dir log 64 1000 evict         ok
+  pub N LETTERS  publish letters (bytes from ! to ~); the reply has the number
+                 of the first event
+                 pub web ab                    ok 0
+  status N       the number of events, the sum of the state's flags (up 1,
+                 settled 2, supervised 4, failed 8), and open or closed
+                 status web                    ok 2 0 open
   wait SPAN WANT TURNS N1 .. Nk
-                 wait until all or any (SPAN) of 1 to 32 services are up, ready, down, finished, restarted or
-                 restarted-ready (WANT: the last two are to be up, or ready, again), for at most TURNS turns (0 to
-                 1000000); the reply has each one's number of events, or `-` if it isn't so yet
-                 wait all ready 5000 db yes 3, or never, or late
-                 `never`: it can't come about any more, because one failed for good or is closed
-  names FROM     list the fifodirs' names in the order in which they were made, from place FROM on (the first has 0), as
-                 many as fit in a reply of 4101 bytes
-                 names 0                names web db log, or none
+                 wait until all or any (SPAN) of 1 to 32 services are up, ready,
+                 down, finished, restarted or restarted-ready (WANT), for at
+                 most TURNS turns (0 to 1000000) of about a millisecond. The
+                 reply has each one's number of events, or `-` if it isn't so
+                 wait all ready 5000 db        yes 3, or late, or never
+                 `never`: it is impossible, because one failed or is closed
+  sub N          subscribe; the reply has the handle
+                 sub web                       ok 1
+  take ID MAX    take at most MAX pending events (1 to 256) of a subscription
+                 take 1 256                    got ab, or none, end or evicted
+  listen N MODE PATTERN
+                 listen for a regular expression of 1 to 200 bytes, MODE once or
+                 repeat; the reply has the handle
+                 listen db once u.*U           ok 2
+  poll ID        a listener's next hit: the letters since the last one, up to
+                 where the pattern first matches
+                 poll 2                        hit suU, or none, end or evicted
+  await ID TURNS sleep until the next take or poll of a handle has something to
+                 do, for at most TURNS turns; it takes nothing
+                 await 1 5000                  ok, or late
+  cancel ID      end a subscription or a listener
+                 cancel 1                      ok
+  close N        accept no more events and subscriptions; what is pending may
+                 still be taken
+                 close web                     ok
+  names FROM     the names of the fifodirs in the order in which they were made,
+                 from place FROM on (the first has 0), as many as fit in a reply
+                 of 4101 bytes
+                 names 0                       names web db log, or none
 
-A line that can't be carried out is refused by `no` and one word, and changes nothing: long, text, word, form, range,
-name, exists, kind (a wait for a fifodir that isn't a service's), id, many, spent, closed, unlawful I, full, pattern
-(not a regular expression, or too large), overlong (4096 letters came since the last hit: cancel the listener),
-memory. The session goes on.
+A line that can't be carried out gets `no` and one word, and changes nothing:
 
-In `script` nothing can change during a `wait` or an `await`, so each answers immediately. In a session of `serve` it
-sleeps until something changes, for about a millisecond a turn, but this isn't promised.
+  long, text, word, form, range
+                 the line isn't a request: too long, with bytes that aren't
+                 ASCII, an unknown word, not the fields of its word, a number
+                 out of range
+  name, id       there is no such fifodir; no such handle
+  exists         there is a fifodir with this name
+  kind           a wait for a fifodir that isn't a service's
+  unlawful I     the letter at I (the first has 0) isn't in the lawful order
+  full           too many events would be pending: retry
+  spent          the fifodir has accepted all the events that it ever will
+  closed         it is closed
+  many           too many names, handles or subscriptions
+  pattern        not a regular expression, or too large
+  overlong       4096 letters came since the last hit: cancel the listener
+  memory         no memory is left
 
-Exit status: 0 all went well, 1 a fault while running (one line on standard error), 2 the command line was refused.";
+The session goes on after a refusal.
+
+In `script` nothing can change during a wait or an await, so each answers
+immediately. In a session of `serve` it sleeps until something changes, for
+about a millisecond a turn, but this isn't promised.
+
+Exit status: 0 all went well, 1 an error while running (one line on standard
+error), 2 the command line was refused.";
 
 /// The subcommand `serve` in one line.
-pub const SERVE_ABOUT: &str = "Serve sessions at a Unix socket, over one hub";
+pub const SERVE_ABOUT: &str = "Run a hub at a Unix socket";
 
 /// What `serve` does.
 pub const SERVE_LINES: &str = "\
-Makes the socket SOCKET, accepts N connections there, and serves all of them at the same time. Each is a session with
-the request lines of `script` (see `ftrighub script --help`). The sessions share one hub: all sessions see the fifodirs
-that one makes, and subscribers get the events that any session publishes. A session's subscriptions end with it. A
-fifodir stays as long as the server.
+With --forever it runs until it is stopped, and serves at most N clients at the
+same time; one more waits until another disconnects. This is how a supervisor
+such as s6 runs it, with a notification-fd of 3:
+
+  ftrighub serve /run/hub.sock --forever --ready-fd 3 --mode 0660
+
+A socket file that an earlier hub left is replaced. SOCKET.lock keeps a second
+hub away, and from the folder SOCKET.a the hub puts its socket file back if
+somebody removes it. A client that disconnects ends its session, with its
+subscriptions and waits; the fifodirs stay as long as the hub. With
+--idle SECONDS a client is disconnected if it sends no whole line for so many
+seconds while its session waits for one, or takes no whole reply. The time of a
+wait or an await doesn't count.
+
+Without --forever it accepts N connections, serves all of them at the same time,
+and ends when all have ended: N is the number of calls that a script makes.
 
   ftrighub serve /run/hub.sock --sessions 8 &
   printf 'svc db 64 1000000000000 1\\n' | ftrighub call /run/hub.sock
 
-It ends when N connections were made and all have ended, so N is the number of calls that a start-up makes in all.
-A connection ends when its client disconnects.
-
-The file SOCKET stays. If it exists before, the server can't listen: remove it first, once no server uses it.
+Then SOCKET has to be a free path. Remove the file that an earlier one left:
 
   rm -f /run/hub.sock
 
-With --forever it serves connections for as long as it runs, at most N at the same time; one more waits until a session
-ends. Then a file SOCKET that an earlier server left is no obstacle, and each session that stops gets its line at once.
-The file SOCKET.lock says that a server runs, and from the folder SOCKET.a it puts SOCKET back if somebody removes it. As a
-service of s6, with a notification-fd of 3:
+The request lines are those of `ftrighub script --help`. All clients share one
+hub: each sees the fifodirs that another one makes.
 
-  ftrighub serve /run/hub.sock --forever --ready-fd 3 --mode 0660
-
-With --idle SECONDS a session ends if its client sends no whole line for so long while the session waits for one, or takes no
-whole reply. The time of a `wait` or an `await` doesn't count.
-
-Exit status: 0 all went well, 2 the command line was refused, 1 a fault while running, with a line on standard error:
-`cannot listen`, `another server listens there`, `socket file lost`, `cannot notify`, `cannot accept`, `cannot start a session`,
-`out of memory`. When all sessions have ended, each that stopped gets a line such as `session 2: read failed` (write failed, too
-many reads, out of memory, idle).";
+Exit status: 0 all went well, 2 the command line was refused, 1 an error while
+running, with a line on standard error: `cannot listen`, `another server listens
+there`, `socket file lost`, `cannot notify`, `cannot accept`, `cannot start a
+session`, `out of memory`. A session that stopped gets a line such as
+`session 2: read failed` (or write failed, too many reads, out of memory, idle):
+at once with --forever, and otherwise at the end.";
 
 /// The subcommand `call` in one line.
-pub const CALL_ABOUT: &str = "Send the lines of standard input to a server, and write its replies";
+pub const CALL_ABOUT: &str = "Send the request lines of standard input to a hub";
 
 /// What `call` does.
 pub const CALL_LINES: &str = "\
-Connects to the server at SOCKET and sends it each line of standard input, once the line before has its reply. Each
-reply is written to standard output. At the end of input it disconnects, which ends its session and its subscriptions.
+Connects to the hub at SOCKET and sends it each line of standard input, once the
+line before has its reply. Each reply is written to standard output. At the end
+of input it disconnects, which ends its session and its subscriptions.
 
   printf 'pub db suU\\n' | ftrighub call /run/hub.sock
 
-A start-up script goes on if both services are ready, and gives up after about five seconds:
+A start-up script goes on if both services are ready, and gives up after about
+five seconds:
 
   case $(printf 'wait all ready 5000 db web\\n' | ftrighub call /run/hub.sock) in
   yes*) echo 'both are ready' ;;
   *) echo 'not ready' >&2; exit 1 ;;
   esac
 
-A refusal such as `no name` is a reply like any other: the status is 0.
+A refusal such as `no name` is a reply like any other: the status is 0. For one
+request, `ftrighub ask` says by its status what the reply was.
 
-Exit status: 0 each line has its reply, 2 the command line was refused, 1 a fault while running, with a line on
-standard error: `cannot connect` (no server is at SOCKET), `read failed` and `write failed` (its own input and output),
-`send failed`, `receive failed` and `connection ended` (the server's), `too many reads`, `out of memory`.";
+Exit status: 0 each line has its reply, 2 the command line was refused, 1 an
+error while running, with a line on standard error: `cannot connect` (no hub is
+at SOCKET), `read failed` and `write failed` (its own input and output), `send
+failed`, `receive failed` and `connection ended` (the hub's), `too many reads`,
+`out of memory`.";
