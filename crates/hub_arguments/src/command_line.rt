@@ -106,7 +106,7 @@ fn sessions<'a>(alloc: Global, forever: bool) -> Arg<'a> {
             .default_value("64")
     } else {
         argument
-            .help("How many connections to accept, from 1 to 64")
+            .help("How many connections, from 1 to 64")
             .value_parser(value_parser!(u64).range(1..65))
             .default_value("1")
     }
@@ -123,7 +123,7 @@ fn ready<'a>(alloc: Global) -> Result<Arg<'a>, AllocError> {
     Arg::new(alloc, READY)
         .long(READY)
         .value_name("D")
-        .help("With --forever: write a newline to descriptor D once it listens")
+        .help("With --forever: write a newline to D once it listens")
         .value_parser(value_parser!(u64).range(0..65536))
         .requires_arg(FOREVER)
 }
@@ -141,7 +141,7 @@ fn idle<'a>(alloc: Global) -> Result<Arg<'a>, AllocError> {
     Arg::new(alloc, IDLE)
         .long(IDLE)
         .value_name("SECONDS")
-        .help("With --forever: disconnect clients idle for so many seconds")
+        .help("With --forever: end sessions idle for SECONDS")
         .value_parser(value_parser!(u64).range(1..1000001))
         .requires_arg(FOREVER)
 }

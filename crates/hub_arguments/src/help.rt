@@ -19,7 +19,7 @@ it for five seconds at most, and end the hub:
 
 Who starts a service publishes letters in its fifodir (a list of events, named
 after the event directories of s6): s (a supervisor runs), u (up), U (ready),
-d (down), D (cleaned up), O (failed, won't be restarted), x (the supervisor
+d (down), D (wholly down), O (failed, won't be restarted), x (the supervisor
 ended). Each subscriber gets every letter that is published after it
 subscribed, once and in order. A letter stays pending until the slowest
 subscriber has taken it. If too many are pending, `pub` gets `no full`, and you
