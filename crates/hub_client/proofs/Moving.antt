@@ -1,9 +1,8 @@
 -- Bytes that move through a buffer.
-use Rattle.std.proofs.Common.{◌≡◌, ℕ, ◌+◌, ◌-◌, ◌<◌, ◌≤◌, List, [], ◌++◌, length, take, drop, Option, refl, sym, ap, ◌∙◌, subst, arith, append-nil, append_assoc, length-append, length-drop}
+use Rattle.std.proofs.Common.{◌≡◌, ℕ, ◌+◌, ◌-◌, ◌<◌, ◌≤◌, List, [], ◌++◌, length, take, drop, Option, sym, ap, ◌∙◌, subst, arith, append-nil, append_assoc, length-append, length-drop}
 use Rattle.std.proofs.lemmas.List.{length-take-le, drop-take, drop-drop}
-use Rattle.std.specs.Io.KnownBytes.{Keeps, Consumes}
-use Rattle.std.proofs.KnownBytes.{Consumes-nil, Consumes-trans, Consumes-kept}
-use Rattle.hub_io.specs.declared.reading.TheConstants.{CHUNK}
+use Rattle.std.specs.Io.KnownBytes.{Consumes}
+use Rattle.std.proofs.KnownBytes.{Consumes-nil, Consumes-trans}
 use Rattle.hub_io.specs.Telling.{Rises}
 use Rattle.hub_io.proofs.Told.{Grows-none, Rises-add}
 use Rattle.hub_client.specs.Passing.{Moves}
@@ -24,20 +23,6 @@ stays has makes p left slack = record {
 pub stays_so : (has : Option (List ℕ)) (makes : Option ℕ) (p q : List ℕ) (left slack : ℕ) → q ≡ p → Moves has has makes makes p q left left slack []
 stays_so has makes p q left slack e = subst (λ l. Moves has has makes makes p l left left slack []) (sym e) (stays has makes p left slack)
 
--- a read of some bytes, or of none
-pub reads_some : (had has : Option (List ℕ)) (made makes : Option ℕ) (left left' n : ℕ) (bytes : List ℕ) → n ≤ length bytes → length bytes ≤ CHUNK → Consumes had has (take n bytes) → left' + 1 ≡ left → Rises made makes 1
-    → Moves had has made makes [] (take n bytes) left left' (1 - n) []
-reads_some had has made makes left left' n bytes within few consumed spent told = record {
-  bytes = take n bytes;
-  reads = 1;
-  consumed = consumed;
-  kept = refl;
-  spent = spent;
-  told = told;
-  most = omega (arith, length-take-le n bytes within);
-  least = omega (arith, length-take-le n bytes within);
-}
-
 -- what was read follows what is pending
 pub reads_behind : {had has : Option (List ℕ)} {made makes : Option ℕ} {got : List ℕ} {left left' slack : ℕ} (before after : List ℕ) (slack' : ℕ) → Moves had has made makes [] got left left' slack [] → after ≡ before ++ got → slack ≤ slack'
     → Moves had has made makes before after left left' slack' []
@@ -55,33 +40,6 @@ reads_behind before after slack' m e le = record {
 -- a read that gave no byte
 pub reads_nothing : {had has : Option (List ℕ)} {made makes : Option ℕ} {left left' slack : ℕ} (before after : List ℕ) → Moves had has made makes [] [] left left' slack [] → after ≡ before → Moves had has made makes before after left left' slack []
 reads_nothing before after m e = reads_behind before after _ m (e ∙ sym (append-nil before)) (omega arith)
-
--- a read that failed
-pub reads_none : (had has : Option (List ℕ)) (made makes : Option ℕ) (before : List ℕ) (left left' : ℕ) → before ≡ [] → Keeps had has → left' + 1 ≡ left → Rises made makes 1
-    → Moves had has made makes before [] left left' 1 []
-reads_none had has made makes before left left' empty kept spent told = record {
-  bytes = [];
-  reads = 1;
-  consumed = Consumes-kept had had has [] (Consumes-nil had) kept;
-  kept = append-nil before ∙ empty;
-  spent = spent;
-  told = told;
-  most = omega arith;
-  least = omega arith;
-}
-
--- no read was left
-pub reads_no_more : (has : Option (List ℕ)) (makes : Option ℕ) (before : List ℕ) (left : ℕ) → before ≡ [] → Moves has has makes makes before [] left left 0 []
-reads_no_more has makes before left empty = record {
-  bytes = [];
-  reads = 0;
-  consumed = Consumes-nil has;
-  kept = append-nil before ∙ empty;
-  spent = omega arith;
-  told = Grows-none makes;
-  most = omega arith;
-  least = omega arith;
-}
 
 -- what is pending moves on
 pub moves_piece : {had has : Option (List ℕ)} {made makes : Option ℕ} {before mid : List ℕ} {left left' slack : ℕ} {passed : List ℕ} (piece after : List ℕ)

@@ -1,7 +1,6 @@
 -- Lists of events: prefixes, slices, and the letters of one publisher.
-use Rattle.std.proofs.Common.{◌≡◌, ◌≢◌, ◌⊎◌, ℕ, zero, suc, ◌+◌, ◌-◌, ◌≤◌, ◌==◌, List, [], ◌∷◌, ◌++◌, map, filter, length, take, drop, sym, refl, ap, ◌∙◌, subst, inl, inr, append_assoc, append-nil, arith, length-append, eq-eqb, ne_eqb, length-drop}
+use Rattle.std.proofs.Common.{◌≡◌, ◌≢◌, ◌⊎◌, ℕ, zero, suc, ◌+◌, ◌-◌, ◌≤◌, List, [], ◌∷◌, ◌++◌, map, length, take, drop, sym, refl, ap, ◌∙◌, subst, inl, inr, append_assoc, append-nil, arith, length-append, eq-eqb, ne_eqb, length-drop}
 use Rattle.std.proofs.lemmas.List.{take-append-le, drop-append-le, map-append, nil_from_length}
-use Rattle.std.proofs.lemmas.List.Elements.{filter-append}
 use lib.Seq.{take-add, drop-drop}
 use mathlib.Core.Option.{some, some-injective, some-ne-none}
 use lib.ListN.{get_elem?}
@@ -45,20 +44,6 @@ slice_join a b c xs p q =
 
 pub letters-append : (xs ys : List Event) → letters (xs ++ ys) ≡ letters xs ++ letters ys
 letters-append xs ys = map-append (λ (e : Event). e.letter) xs ys
-
-pub letters-stamped : (p : ℕ) (message : List ℕ) → letters (as_events p message) ≡ message
-letters-stamped p [] = refl
-letters-stamped p (x ∷ xs) = ap (λ (l : List ℕ). x ∷ l) (letters-stamped p xs)
-
-pub letters_longer : (log : List Event) (p : ℕ) (message : List ℕ) → letters (log ++ as_events p message) ≡ letters log ++ message
-letters_longer log p message = letters-append log (as_events p message) ∙ ap (λ (l : List ℕ). letters log ++ l) (letters-stamped p message)
-
-pub length-stamped : (p : ℕ) (message : List ℕ) → length (as_events p message) ≡ length message
-length-stamped p [] = refl
-length-stamped p (x ∷ xs) = ap suc (length-stamped p xs)
-
-pub by-append : (p : ℕ) (xs ys : List Event) → by p (xs ++ ys) ≡ by p xs ++ by p ys
-by-append p xs ys = ap (map (λ (e : Event). e.letter)) (filter-append (λ (e : Event). e.who == p) xs ys) ∙ map-append (λ (e : Event). e.letter) (filter (λ (e : Event). e.who == p) xs) (filter (λ (e : Event). e.who == p) ys)
 
 pub by_own : (p : ℕ) (message : List ℕ) → by p (as_events p message) ≡ message
 by_own p [] = refl

@@ -29,7 +29,10 @@ use Rattle.hub_fifodir.specs.Steps.{M, Locks, Gives, Grows, IsWriter, WritesMess
 use Rattle.hub_record.specs.declared.limits.Policy.{Policy}
 use Rattle.hub_record.specs.declared.limits.Policy.TheVariants.{Hold, Evict}
 use Rattle.hub_fifodir.specs.Passes.{IsRefusedBy, most_needed}
-use Rattle.hub_fifodir.proofs.Logs.{by-append, by_own, starts_more, letters_longer, length-stamped}
+use Rattle.hub_record.proofs.Since.{by-append}
+use Rattle.hub_record.proofs.Publishing.{letters_after}
+use Rattle.hub_record.proofs.Keeps.{length_stamped}
+use Rattle.hub_fifodir.proofs.Logs.{by_own, starts_more}
 use Rattle.hub_fifodir.proofs.Rests.{rests, same_book}
 
 true_apart : false ≡ true → ⊥
@@ -129,11 +132,11 @@ module _ (m0 m1 : M) (n : ℕ) (b : Locked) (w : IsWriter m0 n) (h : Locks book_
     sound_longer k =
         let total : length m1.0.sight.seen + length message ≤ m1.0.rules.limits.total =
         subst (λ (l : Limits). length m1.0.sight.seen + length message ≤ l.total) h.behind.limits (subst (λ (l : List Event). length l + length message ≤ h.behind.world.limits.total) h.behind.events r.0.within) in
-        let long : length (m1.0.sight.seen ++ as_events k message) ≡ length m1.0.sight.seen + length message = length-append m1.0.sight.seen (as_events k message) ∙ ap (λ (x : ℕ). length m1.0.sight.seen + x) (length-stamped k message) in
+        let long : length (m1.0.sight.seen ++ as_events k message) ≡ length m1.0.sight.seen + length message = length-append m1.0.sight.seen (as_events k message) ∙ ap (λ (x : ℕ). length m1.0.sight.seen + x) (length_stamped k message) in
         let word : List ℕ = letters m1.0.sight.seen ++ message in
         let lawful : IsLawfulIn m1.0.rules.kind (letters m1.0.sight.seen ++ message) =
         subst (λ (x : Kind). IsLawfulIn x (letters m1.0.sight.seen ++ message)) h.behind.kind (subst (λ (l : List Event). IsLawfulIn h.behind.world.kind (letters l ++ message)) h.behind.events r.0.lawful) in
-        (omega arith, subst (IsLawfulIn m1.0.rules.kind) (sym (letters_longer m1.0.sight.seen k message)) lawful)
+        (omega arith, subst (IsLawfulIn m1.0.rules.kind) (sym (letters_after m1.0.sight.seen k message)) lawful)
 
     pub may_write : (status : Status) (word : ℕ) → status ≡ status_of (after_publish h.behind.world n message (Ok first)) → word ≡ packed_word status.number status.closed status.flags
         → WritesMessage m1 word message (view_with_letters m1.0 (writing_of m1.0.role) message)
@@ -191,7 +194,7 @@ module _ (m0 m1 : M) (n : ℕ) (b : Locked) (w : IsWriter m0 n) (h : Locks book_
         )
 
         pub count_longer : first + length message ≡ length m3.0.sight.seen
-        count_longer = ap (λ (x : ℕ). x + length message) (r.1 ∙ ap length h.behind.events) ∙ sym (ap length seen_is ∙ length-append m1.0.sight.seen (as_events n message) ∙ ap (λ (x : ℕ). length m1.0.sight.seen + x) (length-stamped n message))
+        count_longer = ap (λ (x : ℕ). x + length message) (r.1 ∙ ap length h.behind.events) ∙ sym (ap length seen_is ∙ length-append m1.0.sight.seen (as_events n message) ∙ ap (λ (x : ℕ). length m1.0.sight.seen + x) (length_stamped n message))
 
   -- the record was closed
   module _ (b' : Locked) (shut : h.behind.world.closed ≡ false) (after : StandsForWorld b' (after_close h.behind.world)) (others : KeepsPublishers b b') (pos : 0 < n) where

@@ -16,7 +16,8 @@ use Rattle.hub_fifodir.specs.declared.views.Role.TheVariants.{Visitor, Note, Tic
 use Rattle.hub_fifodir.specs.Events.{front_word}
 use Rattle.hub_fifodir.specs.Rule.{LockState, held_by, lock_word, Account, IsGiven, IsPart, IsPartIfAny, InRole, IsSeat, Fits, Holds, sight, IsLive, HasId, HasSeen, HasHeld, HasClosed, At, IsNumbered, IsHome}
 use Rattle.hub_fifodir.specs.Steps.{view_with_letters, closing}
-use Rattle.hub_fifodir.proofs.Logs.{by-append, by_own, by_other, at_join, at_stamped}
+use Rattle.hub_record.proofs.Since.{by-append}
+use Rattle.hub_fifodir.proofs.Logs.{by_own, by_other, at_join, at_stamped}
 use Rattle.hub_fifodir.proofs.ViewLists.{all_set, at_kept, at_own, here}
 use Rattle.hub_fifodir.proofs.OneSeat.{part_whole, seated, fits_map, held_none, held_elsewhere, numbered_live, part_longer, any_longer, part_marked, any_marked}
 use Rattle.hub_fifodir.proofs.Looks.{Rule, its_seat}

@@ -1,5 +1,5 @@
 -- Subscriptions by id, if one is changed or a new one is added, and the cursors of a world.
-use Rattle.std.proofs.Common.{ℕ, suc, ◌≡◌, ◌≢◌, ◌+◌, ◌<◌, ◌≤◌, true, false, List, [], ◌∷◌, ◌++◌, length, Option, Some, None, nat_eq, refl, sym, ap, ◌∙◌, inl, inr, arith}
+use Rattle.std.proofs.Common.{ℕ, ◌≡◌, ◌≢◌, ◌+◌, ◌<◌, ◌≤◌, true, false, List, [], ◌∷◌, ◌++◌, length, Option, Some, None, nat_eq, refl, sym, ap, ◌∙◌, inl, inr, arith}
 use Rattle.std.proofs.lemmas.Bool.{ne_eqb, eq-eqb, eqb-true, cases_Bool}
 use Rattle.std.specs.Option.{option_map}
 use Rattle.hub_record.specs.World.{World, Subscription, subscription_in, found_from, changed_from, as_cancelled}
@@ -88,8 +88,3 @@ found_stands from (x ∷ rest) i s h =
       ]
       | inr e ↦ found_stands (from + 1) rest i s (simp e at h)
     ]
-
-pub length-changed : (f : Subscription → Subscription) (from : ℕ) (subs : List Subscription) (id : ℕ) → length (changed_from f from subs id) ≡ length subs
-length-changed f from [] id = refl
-length-changed f from (x ∷ rest) id =
-    elim (cases_Bool (nat_eq id from)) [ inl e ↦ simp e | inr e ↦ simp e (ap suc (length-changed f (from + 1) rest id)) ]

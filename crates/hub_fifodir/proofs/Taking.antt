@@ -21,7 +21,8 @@ use Rattle.hub_fifodir.specs.Steps.{M, Locks, Changes, Gives, IsInBook, IsTaker,
 use Rattle.hub_fifodir.specs.Passes.{is_evicted_by}
 use Rattle.hub_record.proofs.Taking.{AnswerShows, shows_by, answered}
 use Rattle.hub_fifodir.proofs.Logs.{slice_none, slice_join}
-use Rattle.hub_fifodir.proofs.Subscriptions.{found_changed, found_stopped, found_else, found_new, found_old, found_stands, length-changed, next_of, cursor_found, subscription_of}
+use Rattle.hub_record.proofs.Cursors.{length-changed}
+use Rattle.hub_fifodir.proofs.Subscriptions.{found_changed, found_stopped, found_else, found_new, found_old, found_stands, next_of, cursor_found, subscription_of}
 use Rattle.hub_fifodir.proofs.Publishing.{open_when, closed_when}
 use Rattle.hub_fifodir.proofs.Rests.{none_between, bounded_after}
 

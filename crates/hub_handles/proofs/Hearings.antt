@@ -6,22 +6,20 @@ use Rattle.hub_requests.specs.declared.reply.Reply.{Reply}
 use Rattle.hub_requests.specs.declared.reply.Reply.TheVariants as answer
 use Rattle.hub_fifodir.specs.Passes.{got, is_evicted_at}
 use Rattle.hub_fifodir.proofs.Logs.{letters-append}
-use Rattle.hub_listen.specs.Listening.{Listening, is_spent, spent_by, Feeds}
+use Rattle.hub_listen.specs.Listening.{Listening, Feeds}
 use Rattle.hub_listen.specs.Pieces.{counted_from}
 use Rattle.hub_listen.specs.declared.feed.Feed.{Feed}
 use Rattle.hub_listen.specs.declared.feed.Feed.TheVariants.{Hit, Quiet}
-use Rattle.hub_letters.specs.declared.mode.Mode.{Mode}
 use Rattle.hub_letters.specs.declared.mode.Mode.TheVariants.{Repeat}
 use Rattle.hub_listen.proofs.Cuts.{cuts_anywhere}
-use Rattle.hub_listen.proofs.Singly.{nothing_is_quiet}
+use Rattle.hub_listen.proofs.Singly.{never_spent, nothing_is_quiet}
 use Rattle.hub_record.specs.World.{letters}
 use Rattle.hub_handles.specs.declared.handles.Handles.{Handles}
 use Rattle.hub_handles.specs.declared.session_listener.SessionListener.{SessionListener}
-use Rattle.hub_handles.specs.declared.subscription.Subscription.{Subscription}
 use Rattle.hub_handles.specs.Taking.{HasLooked, IsSameTicket, TakesOne}
 use Rattle.hub_handles.proofs.Looks.{same_ticket, same_ticket_through}
-use Rattle.hub_handles.specs.Handles.{PollsAt, listener_of}
-use Rattle.hub_handles.specs.Hearings.{ends_by, held_letters, Comes, Hears, HearsQuietly, HasRoom, Stops, Gives, HearsOne, Polls}
+use Rattle.hub_handles.specs.Handles.{PollsAt, left_by, listener_of}
+use Rattle.hub_handles.specs.Hearings.{held_letters, Comes, Hears, HearsQuietly, HasRoom, Stops, Gives, HearsOne, Polls}
 
 -- ---- letters come
 
@@ -44,20 +42,6 @@ comes_on a b c come more p q = record {
       ∙ append_assoc come (held_letters b.held) q.taken ∙ ap (λ (l : List ℕ). come ++ l) q.once
       ∙ sym (append_assoc come more (held_letters c.held));
 }
-
--- the letter that was held
-pub gives_held : (old new : SessionListener) (letter : ℕ) → old.held ≡ Some letter → new.held ≡ None → new.subscription ≡ old.subscription → new.mode ≡ old.mode
-    → Gives old (Ok letter) new
-gives_held old new letter was is same mode = (
-  record {
-    ticket = subst (λ (s : Subscription). IsSameTicket old.subscription s) (sym same) (same_ticket old.subscription);
-    mode = mode;
-    taken = [];
-    took = ap (λ (s : Subscription). letters (got s.ticket)) same ∙ sym (append-nil (letters (got old.subscription.ticket)));
-    once = ap (λ (o : Option ℕ). held_letters o ++ []) was ∙ sym (ap (λ (o : Option ℕ). letter ∷ held_letters o) is);
-  },
-  is,
-)
 
 -- no letter came
 comes_nothing : (old new : SessionListener) → IsSameTicket old.subscription new.subscription → new.mode ≡ old.mode → got new.subscription.ticket ≡ got old.subscription.ticket → new.held ≡ old.held
@@ -87,31 +71,19 @@ gives_taken old new (Ok letter) was is mode takes =
 gives_taken old new (Err answer.Nothing) was is mode takes = (comes_nothing old new takes.same mode takes.shows.3 (is ∙ sym was), (is, (takes.shows.2 ∙ takes.shows.0, takes.shows.1)))
 gives_taken old new (Err answer.End) was is mode takes = (comes_nothing old new takes.same mode takes.shows.3 (is ∙ sym was), (is, (takes.shows.2 ∙ takes.shows.0, takes.shows.1)))
 gives_taken old new (Err answer.Evicted) was is mode takes = (comes_nothing old new takes.same mode takes.shows.2 (is ∙ sym was), (is, ap (is_evicted_at new.subscription.ticket) takes.shows.1 ∙ takes.shows.0))
-gives_taken old new (Err answer.Done) was is mode takes = absurd takes
-gives_taken old new (Err (answer.Number n)) was is mode takes = absurd takes
-gives_taken old new (Err (answer.State s)) was is mode takes = absurd takes
-gives_taken old new (Err (answer.Got l)) was is mode takes = absurd takes
-gives_taken old new (Err (answer.Hit l)) was is mode takes = absurd takes
-gives_taken old new (Err (answer.Yes l)) was is mode takes = absurd takes
-gives_taken old new (Err answer.Never) was is mode takes = absurd takes
-gives_taken old new (Err answer.Late) was is mode takes = absurd takes
-gives_taken old new (Err (answer.Listed l)) was is mode takes = absurd takes
-gives_taken old new (Err (answer.No r)) was is mode takes = absurd takes
+gives_taken old new (Err reply) was is mode takes = absurd takes
 
 -- ---- and are heard
 
-unspent : (l : Listening) → l.mode ≡ Repeat → is_spent l ≡ false
-unspent l e = ap (λ (m : Mode). spent_by m l.hit) e
-
 pub hears_none : (h : SessionListener) → h.listener.mode ≡ Repeat → length h.listener.gathered ≤ MOST_GATHERED → Hears h [] (Ok Quiet) h
-hears_none h repeats fits = record { comes = comes_none h; feeds = nothing_is_quiet h.listener (unspent h.listener repeats) fits }
+hears_none h repeats fits = record { comes = comes_none h; feeds = nothing_is_quiet h.listener (never_spent h.listener repeats) fits }
 
 -- what came wasn't heard: it is held, or there was none
 pub hears_nothing : (old new : SessionListener) → Comes old [] new → new.listener ≡ old.listener → old.listener.mode ≡ Repeat → length old.listener.gathered ≤ MOST_GATHERED
     → Hears old [] (Ok Quiet) new
 hears_nothing old new comes same repeats fits = record {
   comes = comes;
-  feeds = (unspent old.listener repeats, (hears_none old repeats fits).feeds.1, (hears_none old repeats fits).feeds.2, same ∙ (hears_none old repeats fits).feeds.3);
+  feeds = (never_spent old.listener repeats, (hears_none old repeats fits).feeds.1, (hears_none old repeats fits).feeds.2, same ∙ (hears_none old repeats fits).feeds.3);
 }
 
 -- it only looked
@@ -170,15 +142,7 @@ stop_polls a b c reply fed p q stops few room = polls reply stops
     polls answer.End stops = (left, heard, stops)
     polls answer.Evicted stops = (left, heard, stops)
     polls (answer.No refusal) stops = inr (stops.0, left, heard, inl stops.1)
-    polls answer.Done stops = absurd stops
-    polls (answer.Number n) stops = absurd stops
-    polls (answer.State s) stops = absurd stops
-    polls (answer.Got l) stops = absurd stops
-    polls (answer.Hit l) stops = absurd stops
-    polls (answer.Yes l) stops = absurd stops
-    polls answer.Never stops = absurd stops
-    polls answer.Late stops = absurd stops
-    polls (answer.Listed l) stops = absurd stops
+    polls reply stops = absurd stops
 
 -- ---- after a poll
 
@@ -192,7 +156,7 @@ stays_if h o false e stays = stays
 
 -- the listener under a number was polled, and was then put back or ended
 pub polls_here : (old new : Handles) (id : ℕ) (before after : SessionListener) (reply : Reply) → Some before ≡ listener_of old id → Polls before reply after
-    → listener_of new id ≡ (if ends_by after.mode reply then None else Some after) → ((other : ℕ) → nat_eq id other ≡ false → listener_of new other ≡ listener_of old other)
+    → listener_of new id ≡ left_by reply after → ((other : ℕ) → nat_eq id other ≡ false → listener_of new other ≡ listener_of old other)
     → new.subscriptions.entries ≡ old.subscriptions.entries → new.given ≡ old.given → PollsAt old id reply new
 polls_here old new id before after reply held polls kept others subscriptions given =
-    inl (record { before = before; after = after; held = sym held; polls = polls; kept = kept; others = others; subscriptions = subscriptions; given = given })
+    inl (record { under = record { before = before; after = after; held = sym held; step = polls; kept = kept; others = others }; subscriptions = subscriptions; given = given })

@@ -1,18 +1,17 @@
 -- Looks at the front word by a subscription's ticket, and takes after them.
-use Rattle.std.proofs.Common.{◌≡◌, ◌≢◌, ℕ, ◌+◌, ◌-◌, ◌<◌, min, ◌++◌, true, false, length, refl, nat_eq, Option, None, Some, subst, ap, sym, ◌∙◌, Err, inl, inr}
-use Rattle.std.proofs.lemmas.Bool.{cases_Bool, eqb-true}
+use Rattle.std.proofs.Common.{◌≡◌, ℕ, ◌+◌, ◌-◌, ◌<◌, min, ◌++◌, length, refl, Option, None, Some, subst, ap, sym, ◌∙◌}
 use Rattle.hub_requests.specs.declared.reply.Reply.{Reply}
 use Rattle.hub_requests.specs.declared.reply.Reply.TheVariants as answer
 use Rattle.hub_record.specs.declared.Taken.{Taken}
 use Rattle.hub_record.specs.declared.Taken.TheVariants.{Got, Nothing, End, Evicted}
 use Rattle.hub_record.specs.World.{letters}
 use Rattle.hub_fifodir.specs.declared.ticket.Ticket.{Ticket}
-use Rattle.hub_fifodir.specs.Events.{is_closed, slice}
-use Rattle.hub_fifodir.specs.Passes.{HasTaken, OnlyLooks, got, is_evicted_at, ticket_closed, ticket_next, ticket_seen, ticket_sight, ticket_view}
+use Rattle.hub_fifodir.specs.Events.{slice}
+use Rattle.hub_fifodir.specs.Passes.{HasTaken, OnlyLooks, got, is_evicted_at, ticket_next, ticket_seen, ticket_sight, ticket_view}
 use Rattle.hub_fifodir.specs.Steps.{Grows, got_of}
 use Rattle.hub_fifodir.proofs.Meeting.{grows_self, grows_through}
 use Rattle.hub_handles.specs.declared.subscription.Subscription.{Subscription}
-use Rattle.hub_handles.specs.Taking.{HasLooked, IsSameTicket, Shows, TakesFrom, TakesOne, name_of}
+use Rattle.hub_handles.specs.Taking.{HasLooked, IsSameTicket, Shows, TakesFrom, name_of}
 
 -- ---- the same ticket
 
@@ -45,30 +44,7 @@ looked old new named dir looks seen = record {
   got = ap got_of looks.role;
 }
 
-shut : (mark : ℕ) → true ≡ is_closed mark → mark ≢ 0
-shut mark e z = absurd (let k : true ≡ false = subst (λ (m : ℕ). true ≡ is_closed m) z e in let no : ⊥ = cc in no)
-
-unshut : (mark : ℕ) → false ≡ is_closed mark → mark ≡ 0
-unshut mark e =
-    elim (cases_Bool (nat_eq mark 0)) [
-      | inl t ↦ eqb-true mark 0 t
-      | inr f ↦ absurd (let k : false ≡ true = simp f at e in let no : ⊥ = cc in no)
-    ]
-
-pub looked_end : (old new : Subscription) → HasLooked old new → ticket_next new.ticket ≡ length (ticket_seen new.ticket) → true ≡ is_closed (ticket_closed new.ticket) → TakesOne old (Err answer.End) new
-looked_end old new looks all e = record { same = looks.same; shows = (sym looks.next ∙ all, shut _ e, looks.next, looks.got) }
-
-pub looked_nothing : (old new : Subscription) → HasLooked old new → ticket_next new.ticket ≡ length (ticket_seen new.ticket) → false ≡ is_closed (ticket_closed new.ticket) → TakesOne old (Err answer.Nothing) new
-looked_nothing old new looks all e = record { same = looks.same; shows = (sym looks.next ∙ all, unshut _ e, looks.next, looks.got) }
-
 -- ---- a take after a look
-
--- what a look answers is the answer of a take of any size
-pub takes_idle : (max : ℕ) (old new : Subscription) (reply : Reply) → TakesOne old (Err reply) new → TakesFrom max old reply new
-takes_idle max old new answer.Nothing takes = record { same = takes.same; shows = takes.shows }
-takes_idle max old new answer.End takes = record { same = takes.same; shows = takes.shows }
-takes_idle max old new answer.Evicted takes = record { same = takes.same; shows = takes.shows }
-takes_idle max old new reply takes = absurd takes
 
 -- what a ticket took after a look it took
 took_after_look : (old looked new : Ticket) (max : ℕ) (taken : Taken) → ticket_next looked ≡ ticket_next old → got looked ≡ got old → HasTaken looked max taken new → HasTaken old max taken new

@@ -1,6 +1,5 @@
 -- A handle under the next number.
-use Rattle.std.proofs.Common.{◌≡◌, ℕ, ◌+◌, List, Option, None, Some, false, nat_eq, refl, sym, subst, arith}
-use Rattle.hub_requests.specs.declared.reply.Refusal.{Refusal}
+use Rattle.std.proofs.Common.{◌≡◌, ℕ, ◌+◌, List, None, Some, false, nat_eq, refl, arith}
 use Rattle.hub_requests.proofs.NextHandle.{room_for_handle}
 use Rattle.hub_fifodir.specs.declared.fifodir.Fifodir.{Fifodir}
 use Rattle.hub_listen.specs.Listening.{new_listening}
@@ -10,7 +9,7 @@ use Rattle.hub_handles.specs.declared.handles.Handles.{Handles}
 use Rattle.hub_handles.specs.declared.session_listener.SessionListener.{SessionListener}
 use Rattle.hub_handles.specs.declared.subscription.Subscription.{Subscription}
 use Rattle.hub_handles.specs.Taking.{Begins}
-use Rattle.hub_handles.specs.Handles.{IsFirst, IsNext, AddsSubscription, AddsListener, refusal_of, standing, subscription_of, listener_of}
+use Rattle.hub_handles.specs.Handles.{IsNext, AddsSubscription, AddsListener, refusal_of, standing, subscription_of, listener_of}
 
 is_next : (old new : Handles) → refusal_of old ≡ None → new.given ≡ old.given + 1 → IsNext old (old.given + 1) new
 is_next old new room given =
@@ -38,13 +37,3 @@ pub adds_listener : (old new : Handles) (name : List ℕ) (fifodir : Fifodir) (m
     → AddsListener old name fifodir mode pattern (old.given + 1) new
 adds_listener old new name fifodir mode pattern h room begins heard mode_is unheld given subscriptions stands others =
     record { is_next = is_next old new room given; hearing = h; begins = begins; heard = heard; mode_is = mode_is; unheld = unheld; placed = stands; others = others; subscriptions = subscriptions }
-
--- ---- refusals
-
--- with no room for a handle, the refusal that says so comes first
-pub first_refusal : (first : Option Refusal) (IsOther : Refusal → Type 0) (refusal : Refusal) → first ≡ Some refusal → IsFirst first IsOther refusal
-first_refusal first IsOther refusal e = subst (λ (o : Option Refusal). IsFirst o IsOther refusal) (sym e) refl
-
--- and with room any other
-pub other_refusal : (first : Option Refusal) (IsOther : Refusal → Type 0) (refusal : Refusal) → first ≡ None → IsOther refusal → IsFirst first IsOther refusal
-other_refusal first IsOther refusal e other = subst (λ (o : Option Refusal). IsFirst o IsOther refusal) (sym e) other

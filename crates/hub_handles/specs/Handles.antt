@@ -110,49 +110,46 @@ Listens name fifodir mode pattern old (Number n) new = AddsListener old name fif
 Listens name fifodir mode pattern old (No refusal) new = IsStill old new × IsRefusedListener old refusal
 Listens name fifodir mode pattern old _ new = ⊥
 
--- ---- take
+-- ---- one handle changes, or none
 
--- the subscription under the number takes, and nothing else has changed
-pub record TakesHere (old : Handles) (id max : ℕ) (reply : Reply) (new : Handles) : Type 0 where
-  pub before : Subscription
-  pub after : Subscription
-  pub held : subscription_of old id ≡ Some before
-  pub takes : Takes max before reply after
-  pub kept : subscription_of new id ≡ Some after
-  pub others : (other : ℕ) → nat_eq id other ≡ false → subscription_of new other ≡ subscription_of old other
+-- what has the number takes this step, and this is left of it; what has another number hasn't changed
+pub record StepsUnder {A : Type 0} (Step : A → A → Type 0) (left : A → Option A) (id : ℕ) (old new : ℕ → Option A) : Type 0 where
+  pub before : A
+  pub after : A
+  pub held : old id ≡ Some before
+  pub step : Step before after
+  pub kept : new id ≡ left after
+  pub others : (other : ℕ) → nat_eq id other ≡ false → new other ≡ old other
+
+-- the subscription under the number takes this step, and nothing else has changed
+pub record SubscriptionSteps (Step : Subscription → Subscription → Type 0) (old : Handles) (id : ℕ) (new : Handles) : Type 0 where
+  pub under : StepsUnder Step Some id (subscription_of old) (subscription_of new)
   pub listeners : new.listeners.entries ≡ old.listeners.entries
   pub given : new.given ≡ old.given
 
--- no subscription has the number
-pub record TakesNone (old : Handles) (id : ℕ) (reply : Reply) (new : Handles) : Type 0 where
-  pub still : IsStill old new
-  pub unknown : subscription_of old id ≡ None
-  pub refused : reply ≡ No no.Id
-
-abbrev pub TakesAt : Handles → ℕ → ℕ → Reply → Handles → Type 0
-TakesAt old id max reply new = TakesHere old id max reply new ⊎ TakesNone old id reply new
-
--- ---- poll and cancel
-
--- the listener under the number is polled, and is gone where that was its one hit; nothing else has changed
-pub record PollsHere (old : Handles) (id : ℕ) (reply : Reply) (new : Handles) : Type 0 where
-  pub before : SessionListener
-  pub after : SessionListener
-  pub held : listener_of old id ≡ Some before
-  pub polls : Polls before reply after
-  pub kept : listener_of new id ≡ (if ends_by after.mode reply then None else Some after)
-  pub others : (other : ℕ) → nat_eq id other ≡ false → listener_of new other ≡ listener_of old other
+-- the listener under the number takes this step, and this is left of it; nothing else has changed
+pub record ListenerSteps (Step : SessionListener → SessionListener → Type 0) (left : SessionListener → Option SessionListener) (old : Handles) (id : ℕ) (new : Handles) : Type 0 where
+  pub under : StepsUnder Step left id (listener_of old) (listener_of new)
   pub subscriptions : new.subscriptions.entries ≡ old.subscriptions.entries
   pub given : new.given ≡ old.given
 
--- no listener has the number
-pub record PollsNone (old : Handles) (id : ℕ) (reply : Reply) (new : Handles) : Type 0 where
+-- no handle that may be asked so has the number
+pub record IsUnknown (Unknown : Type 0) (old : Handles) (reply : Reply) (new : Handles) : Type 0 where
   pub still : IsStill old new
-  pub unknown : listener_of old id ≡ None
+  pub unknown : Unknown
   pub refused : reply ≡ No no.Id
 
+-- ---- take, poll and cancel
+
+abbrev pub TakesAt : Handles → ℕ → ℕ → Reply → Handles → Type 0
+TakesAt old id max reply new = SubscriptionSteps (λ before after. Takes max before reply after) old id new ⊎ IsUnknown (subscription_of old id ≡ None) old reply new
+
+-- a listener is gone after the one hit of mode Once
+abbrev pub left_by : Reply → SessionListener → Option SessionListener
+left_by reply after = if ends_by after.mode reply then None else Some after
+
 abbrev pub PollsAt : Handles → ℕ → Reply → Handles → Type 0
-PollsAt old id reply new = PollsHere old id reply new ⊎ PollsNone old id reply new
+PollsAt old id reply new = ListenerSteps (λ before after. Polls before reply after) (left_by reply) old id new ⊎ IsUnknown (listener_of old id ≡ None) old reply new
 
 pub record Cancels (old : Handles) (id : ℕ) (reply : Reply) (new : Handles) : Type 0 where
   pub unknown : subscription_of old id ≡ None → listener_of old id ≡ None → (reply ≡ No no.Id) × IsStill old new

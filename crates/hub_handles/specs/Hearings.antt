@@ -5,7 +5,7 @@ use Rattle.hub_requests.specs.declared.reply.Refusal.TheVariants as no
 use Rattle.hub_requests.specs.declared.reply.Reply.{Reply}
 use Rattle.hub_requests.specs.declared.reply.Reply.TheVariants as answer
 use Rattle.hub_fifodir.specs.declared.ticket.Ticket.{Ticket}
-use Rattle.hub_fifodir.specs.Passes.{got, ticket_next, ticket_seen, ticket_closed, is_evicted_at}
+use Rattle.hub_fifodir.specs.Passes.{IsQuiet, got, ticket_next, ticket_seen, ticket_closed, is_evicted_at}
 use Rattle.hub_listen.specs.Listening.{Feeds, Listening}
 use Rattle.hub_listen.specs.declared.feed.Feed.{Feed}
 use Rattle.hub_listen.specs.declared.feed.Feed.TheVariants.{Hit, Quiet}
@@ -47,10 +47,7 @@ pub record Hears (old : SessionListener) (fed : List ℕ) (heard : Result Feed F
   pub comes : Comes old fed new
   pub feeds : Feeds old.listener fed heard new.listener
 
--- nothing waits for it, and the fifodir is open or closed
-abbrev pub IsIdle : Ticket → Type 0
-IsIdle t = (ticket_next t ≡ length (ticket_seen t)) × (ticket_closed t ≡ 0)
-
+-- nothing waits for it, and the fifodir is closed
 abbrev pub IsOver : Ticket → Type 0
 IsOver t = (ticket_next t ≡ length (ticket_seen t)) × (ticket_closed t ≢ 0)
 
@@ -64,7 +61,7 @@ HasMore h = (h.held ≢ None) ⊎ (ticket_next h.subscription.ticket ≢ length 
 
 -- why no further letter is heard
 abbrev pub Stops : Reply → SessionListener → Type 0
-Stops answer.Nothing h = (h.held ≡ None) × IsIdle h.subscription.ticket
+Stops answer.Nothing h = (h.held ≡ None) × IsQuiet h.subscription.ticket
 Stops answer.End h = (h.held ≡ None) × IsOver h.subscription.ticket
 Stops answer.Evicted h = (h.held ≡ None) × IsOut h.subscription.ticket
 Stops (answer.No refusal) h = (refusal ≡ no.Memory) × (h.held ≢ None)

@@ -21,21 +21,9 @@ AreAlive-start nfa states grows has q = (
   λ e. ⊎_elim (λ here. subst (Has states) (sym here.0) has) (λ r. let next = r.next in absurd (omega arith)) e,
 )
 
--- a list of the same states
-pub AreAlive-same : (nfa : Nfa) (text : List ℕ) (i : ℕ) (old new : List ℕ) → ((q : ℕ) → Has new q ↔ Has old q) → AreAlive nfa text i old → AreAlive nfa text i new
-AreAlive-same nfa text i old new same alive q = (λ h. (alive q).0 ((same q).0 h), λ e. (same q).1 ((alive q).1 e))
-
 module _ (nfa : Nfa) (text : List ℕ) (i : ℕ) where
   pub AreReached-alive : (old new : List ℕ) → ((q : ℕ) → Has new q ↔ Has old q) → AreAlive nfa text i old → AreReached nfa text i new
   AreReached-alive old new same alive q h = Reaches-entered nfa text q i ((alive q).0 ((same q).0 h))
-
-  pub closes_start : (seeds : List ℕ) → AreReached nfa text i seeds → ClosesBelow nfa text i seeds seeds 0
-  closes_start seeds reached = record {
-    keeps = λ q h. h;
-    reached = reached;
-    closed = λ k r below edge. absurd (omega arith);
-    unmatched = λ k below is. omega arith;
-  }
 
   pub closes_more : (seeds old new : List ℕ) (n p : ℕ) → n < length old → p ≡ slice_index old n → Grows (EmptyEdge nfa text i p) old new
       → ((q : ℕ) → EmptyEdge nfa text i p q → Has new q) → state_of nfa p ≢ Match → ClosesBelow nfa text i seeds old n

@@ -26,15 +26,13 @@ use Rattle.hub_listen.specs.Letters.{IsLetter, AreLetters, SameInLetters}
 use Rattle.hub_listen.specs.Searches.{finds_by, SearchesFor}
 use Rattle.hub_listen.specs.Alive.{Reaches, begins, reads, skips, AreAlive, HasMatch}
 use Rattle.hub_listen.proofs.Cutting.{ascii_of}
+use Rattle.hub_listen.proofs.Patterns.{bytes_of}
 use Rattle.hub_listen.proofs.Reached.{AreAlive-longer, HasMatch-prefix}
 
 -- ---- what the NFA of a pattern finds
 
 boundary : (text : List ℕ) → IsAscii text → (i : ℕ) → i ≤ length text → is_boundary text i ≡ true
 boundary text ascii i le = test_of_IsCharBoundary text i (le, λ inside high. absurd (omega (arith, ascii i)))
-
-bytes_of : (bs : List ℕ) → All (λ b. b < 128) bs → All (λ x. x < 256) bs
-bytes_of bs h = λ k d within. omega (arith, h k d within)
 
 pub find_str-finds_by : (nfa : Nfa) (re : Re) → Implements nfa re → (text : List ℕ) → IsAscii text → is_some (find_str re text 0) ≡ finds_by nfa text
 unfolding find_str find_in

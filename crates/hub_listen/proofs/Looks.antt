@@ -1,8 +1,8 @@
 -- What assertions see of a text if more text follows.
-use Rattle.std.proofs.Common.{◌≡◌, ℕ, zero, suc, ◌+◌, ◌<◌, List, [], ◌∷◌, ◌++◌, length, get_or, Option, Some, slice_get, refl, sym, ap₂, ◌∙◌, arith}
+use Rattle.std.proofs.Common.{◌≡◌, ℕ, zero, suc, ◌+◌, ◌<◌, List, [], ◌∷◌, ◌++◌, length, get_or, Some, slice_get, refl, sym, ap₂, ◌∙◌, arith}
 use Rattle.std.specs.Str.{IsAscii}
 use Rattle.std.proofs.lemmas.Option.{slice_get-get_or}
-use Rattle.regex_hir.specs.Looks.{Side, holds, holds_between, side_before, side_after}
+use Rattle.regex_hir.specs.Looks.{holds, holds_between, side_before, side_after}
 use Rattle.regex_hir.specs.Text.{byte_before, char_at, char_before}
 use Rattle.regex_hir.specs.declared.look.Look as look
 use Rattle.regex_hir.proofs.TextLemmas.{byte_before-zero, byte_before-add-one, char_at_ascii, char_before-zero, char_before_ascii}
@@ -29,9 +29,6 @@ module _ (text more : List ℕ) (ascii : IsAscii text) where
   char_before_next i h =
       char_before_ascii (text ++ more) (i + 1) _ (byte_before-add-one (text ++ more) i ∙ at i h) (ascii i)
       ∙ sym (char_before_ascii text (i + 1) _ (byte_before-add-one text i ∙ slice_get-get_or text i 0 h) (ascii i))
-
-  side : Option ℕ → Option ℕ → Side
-  side b c = record { byte = b; char = c }
 
   side_before-append : (i : ℕ) → i < length text → side_before (text ++ more) i ≡ side_before text i
   side_before-append zero h =

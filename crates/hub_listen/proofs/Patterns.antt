@@ -12,7 +12,7 @@ use Rattle.regex_syntax.proofs.CapturesLemmas.{spans, find_str_alike}
 use Rattle.regex_syntax.proofs.Written.{is_some-option_map}
 use Rattle.hub_listen.specs.Hit.{finds, IsPattern}
 
-bytes_of : (bs : List ℕ) → All (λ b. b < 128) bs → All (λ x. x < 256) bs
+pub bytes_of : (bs : List ℕ) → All (λ b. b < 128) bs → All (λ x. x < 256) bs
 bytes_of bs h = λ k d within. omega (arith, h k d within)
 
 by_reading : (a : Re) (most : ℕ) (names : Names) (hay : List ℕ) → All (λ x. x < 256) hay → (o : Option (Nested Re × Names))

@@ -2,8 +2,10 @@
 use Rattle.std.proofs.Common.{◌≡◌, ◌≢◌, ℕ, ◌+◌, ◌-◌, ◌<◌, ◌≤◌, false, List, [], ◌∷◌, ◌++◌, take, drop, length, length-append, slice_range, drop-cons, refl, sym, ap, subst, ◌∙◌, arith, ⊎_elim, Result, Ok, Err, true≢false}
 use Rattle.std.proofs.lemmas.List.{take_more, take-append-le, take-append-drop, length-take-le, append-nil}
 use Rattle.hub_letters.specs.declared.bounds.TheConstants.{MOST_GATHERED}
+use Rattle.hub_letters.specs.declared.mode.Mode.{Mode}
+use Rattle.hub_letters.specs.declared.mode.Mode.TheVariants.{Repeat}
 use Rattle.hub_listen.specs.Hit.{IsHit}
-use Rattle.hub_listen.specs.Listening.{Listening, Feeds, after_hit, is_spent}
+use Rattle.hub_listen.specs.Listening.{Listening, Feeds, after_hit, is_spent, spent_by}
 use Rattle.hub_listen.specs.Pieces.{counted_from, left_by, SinglyIsAtOnce}
 use Rattle.hub_listen.specs.declared.feed.Feed.{Feed}
 use Rattle.hub_listen.specs.declared.feed.Feed.TheVariants.{Spent, Hit, Quiet}
@@ -11,6 +13,10 @@ use Rattle.hub_listen.specs.declared.feed.FeedError.{FeedError}
 use Rattle.hub_listen.specs.declared.feed.FeedError.TheVariants.{Overlong, Memory}
 use Rattle.hub_listen.proofs.Cuts.{cuts_anywhere}
 use Rattle.hub_listen.proofs.Prefixes.{IsHit-append, HasNoHit-append}
+
+-- a listener that goes on after a hit is never spent
+pub never_spent : (l : Listening) → l.mode ≡ Repeat → is_spent l ≡ false
+never_spent l goes_on = ap (λ (m : Mode). spent_by m l.hit) goes_on
 
 -- ---- lists of letters
 

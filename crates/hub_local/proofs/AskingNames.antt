@@ -10,7 +10,7 @@ use Rattle.hub_requests.specs.declared.reply.Reply.{Reply}
 use Rattle.hub_requests.specs.declared.reply.Reply.TheVariants.{No}
 use Rattle.hub_requests.specs.declared.reply.Refusal.TheVariants.{Memory}
 use Rattle.hub_requests.specs.Listings.{fitting, names_shown, names_reply}
-use Rattle.hub_local.proofs.Asking.{by_carrying, by_lacking, still_lacking}
+use Rattle.hub_local.proofs.Asking.{by_carrying}
 use Rattle.std.specs.Prelude.{drop}
 
 -- the names that are kept are the model's, in the same order
@@ -35,6 +35,3 @@ names_listed local from reply is = by_carrying local local true _ _ _ reply (rea
   said = is ∙ ap (λ (names : List (List ℕ)). names_reply names from) (kept_names local.fifodirs d.fifodirs st.fifodirs);
   stands = st;
 })
-
-pub names_lacking : (local : Local) (from : ℕ) (reply : Reply) → reply ≡ No Memory → AsksWith false local (Names from) reply local
-names_lacking local from reply is = by_lacking local local true _ _ _ reply is refl (λ d st. still_lacking local d _ refl st)

@@ -6,7 +6,7 @@ use Rattle.std.specs.Map.{lookup, set_value}
 use Rattle.std.specs.Str.{bytes_eq}
 use Rattle.hub_letters.specs.declared.bounds.TheConstants.{MOST_GATHERED}
 use Rattle.hub_listen.specs.Hit.{HasNoHit}
-use Rattle.hub_listen.specs.Listening.{Listening, is_spent, spent_by, after_hit, after_quiet, fitting}
+use Rattle.hub_listen.specs.Listening.{Listening, after_hit, after_quiet, fitting}
 use Rattle.hub_letters.specs.declared.mode.Mode.{Mode}
 use Rattle.hub_letters.specs.declared.mode.Mode.TheVariants.{Once, Repeat}
 use Rattle.hub_listen.proofs.Lengths.{length_is_hit, no_length_is_no_hit}
@@ -74,10 +74,6 @@ module _ (old new : Local) (n : ℕ) (h : Holding) (was : Some h ≡ lookup (nat
 pub same_hearing : (es : List (ℕ × Holding)) (n : ℕ) (h : Holding) (o : Option LocalListener) → h.hearing ≡ o → lookup (nat_eq n) es ≡ Some h → set_value (nat_eq n) es (record h { hearing = o }) ≡ es
 same_hearing es n h o is there = ap (λ (x : Option LocalListener). set_value (nat_eq n) es (record h { hearing = x })) (sym is) ∙ set_value_same (nat_eq n) es h there
 
--- a listener that goes on is never spent
-pub never_spent : (l : Listening) → l.mode ≡ Repeat → is_spent l ≡ false
-never_spent l goes_on = ap (λ (m : Mode). spent_by m l.hit) goes_on
-
 -- ---- replies without a hit
 
 quiet_nothing : (count : ℕ) (closed out : Bool) → (MOST_GATHERED ≤ count) ⊎ ((closed ≡ false) × (out ≡ false)) → quiet_reply (nat_lt count MOST_GATHERED) out closed ≡ Nothing
@@ -93,10 +89,6 @@ quiet_evicted count closed out room is_out = simp (lt-ltb count MOST_GATHERED ro
 -- ---- refusals
 
 module _ (old new : Local) (n : ℕ) where
-  pub poll_unheld : None ≡ lookup (nat_eq n) old.holdings → new ≡ old → AsksWith false old (Poll n) (No no.Id) new
-  poll_unheld none same = by_refusing old new true _ _ _ _ no.Id refl (λ e. cc)
-      (λ d st. (let e : holding_at d n ≡ None = sym (none ∙ ap (lookup (nat_eq n)) st.holdings) in simp e)) (λ d st. stands_same old new d same st)
-
   module _ (h : Holding) (was : Some h ≡ lookup (nat_eq n) old.holdings) where
     there_held : (d : Desk) → StandsForDesk old d → holding_at d n ≡ Some h
     there_held d st = sym (was ∙ ap (lookup (nat_eq n)) st.holdings)

@@ -70,14 +70,6 @@ cancel_done old new n h was holdings fifodirs given = by_carrying old new false 
 
 -- ---- take
 
-pub take_unheld : (old new : Local) (n max : ℕ) → None ≡ lookup (nat_eq n) old.holdings → new ≡ old → AsksWith false old (Take n max) (No no.Id) new
-take_unheld old new n max none same = by_refusing old new true _ _ _ _ no.Id refl (λ e. cc)
-    (λ d st. (let e : holding_at d n ≡ None = sym (none ∙ ap (lookup (nat_eq n)) st.holdings) in simp e)) (λ d st. stands_same old new d same st)
-
-pub take_heard : (old new : Local) (n max : ℕ) (h : Holding) → Some h ≡ lookup (nat_eq n) old.holdings → is_some h.hearing ≡ true → new ≡ old → AsksWith false old (Take n max) (No no.Id) new
-take_heard old new n max h was heard same = by_refusing old new true _ _ _ _ no.Id refl (λ e. cc)
-    (λ d st. (let e : holding_at d n ≡ Some h = sym (was ∙ ap (lookup (nat_eq n)) st.holdings) in simp (e, heard))) (λ d st. stands_same old new d same st)
-
 shown_real : (letters : List ℕ) (r : Result Taken NoId) → take_shown letters r ≢ No no.Memory
 shown_real letters (Ok (taken.Got count)) = λ e. cc
 shown_real letters (Ok taken.Nothing) = λ e. cc

@@ -40,13 +40,7 @@ few_held : (o : Option ℕ) → length (option_to_list o) ≤ 1
 few_held None = omega arith
 few_held (Some x) = omega arith
 
-length-of-none : {X : Type 0} (xs : List X) → xs ≡ [] → length xs ≡ 0
-length-of-none xs e = ap length e
-
 module _ (g : LocalListener) (w : World) (id : ℕ) (s : Subscription) (is : subscription_in w id ≡ Some s) where
-  held_count : ℕ
-  held_count = length (option_to_list g.held)
-
   letters_count : length (to_hear g w id) ≡ length (option_to_list g.held) + length (behind w id)
   letters_count = length-append (option_to_list g.held) (behind w id)
 
@@ -59,10 +53,6 @@ module _ (g : LocalListener) (w : World) (id : ℕ) (s : Subscription) (is : sub
     held_is = refl;
     stands = (let t : count_to_take w s (0 - length (option_to_list g.held)) ≡ 0 = count_none w s _ (omega arith) in subst (StandsFor kept) (sym (take_none w id s is (0 - length (option_to_list g.held)) t)) stands);
   }
-
-  -- the subscription and the letters that are left
-  left_at : ℕ → Subscription
-  left_at n = moved_on w (n - length (option_to_list g.held)) s
 
   pub found_left : (n : ℕ) → subscription_in (taken_from g w id n) id ≡ Some (moved_on w (n - length (option_to_list g.held)) s)
   found_left n = found_then w id s is (n - length (option_to_list g.held))

@@ -3,7 +3,6 @@ use Rattle.std.proofs.Common.{◌≡◌, ℕ, ◌+◌, ◌<◌, ◌≤◌, false
 use Rattle.std.proofs.lemmas.Bool.{cases_Bool}
 use Rattle.std.proofs.lemmas.List.{drop_all, map-append, take_more}
 use Rattle.std.proofs.lemmas.List.Folds.{fold_stuck}
-use Rattle.std.proofs.lemmas.List.Sums.{fold_more}
 use Rattle.std.specs.Prelude.{unwrap_or}
 use Rattle.std.specs.Map.{lookup, set_value}
 use Rattle.std.specs.Str.{bytes_eq}
@@ -89,10 +88,6 @@ module _ (want : Want) (name : List ℕ) (es : List (List ℕ × LocalFifodir)) 
         )
 
 -- ---- one after another
-
-pub more_opens : (want : Want) (names : List (List ℕ)) (i : ℕ) (d : List ℕ) (fs now : List Fifodir) (posts : List LocalPost) → i < length names → opening_of want fs (take i names) ≡ so_far now posts
-    → opening_of want fs (take (i + 1) names) ≡ with_post want (so_far now posts) (get_or names i d)
-more_opens want names i d fs now posts below e = fold_more (with_post want) (so_far fs []) names i d below ∙ ap (λ (o : Opening). with_post want o (get_or names i d)) e
 
 -- if one is refused, none is opened after it
 pub opens_no_more : (want : Want) (names : List (List ℕ)) (i : ℕ) (d : List ℕ) (fs now : List Fifodir) (posts : List LocalPost) (refusal : Refusal) → i < length names → opening_of want fs (take i names) ≡ so_far now posts

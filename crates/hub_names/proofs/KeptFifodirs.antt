@@ -1,9 +1,6 @@
 -- What stays and what comes in the fifodirs that a session keeps.
-use Rattle.std.proofs.Common.{◌≡◌, ℕ, List, Option, None, Some, true, false, Result, Ok, Err, IfOk, IfErr, IfNone, IfSome, refl, sym, subst, ap, ◌∙◌, inl, inr, ⊎_elim}
-use Rattle.std.proofs.lemmas.Bool.{cases_Bool}
-use Rattle.std.proofs.lemmas.Slice.Eq.{bytes_eq-Decides}
+use Rattle.std.proofs.Common.{◌≡◌, ℕ, List, Option, None, Some, false, Result, Ok, Err, IfOk, IfErr, IfNone, IfSome, refl, subst, ◌∙◌, inl, inr}
 use Rattle.std.specs.Arc.{arc_value}
-use Rattle.std.specs.Map.{lookup}
 use Rattle.std.specs.Str.{bytes_eq}
 use Rattle.hub_requests.specs.declared.reply.Refusal.{Refusal}
 use Rattle.hub_requests.specs.declared.reply.Refusal.TheVariants as no
@@ -20,9 +17,6 @@ use Rattle.hub_names.specs.Fifodirs.{joined_at, IsFound, IsKeptAs, IsMissing, Is
 
 same_kept : (j k : Joined) (o : Option Joined) → o ≡ Some j → o ≡ Some k → j ≡ k
 same_kept j k o e f = cc
-
-not_both : (j : Joined) (o : Option Joined) → o ≡ Some j → o ≡ None → ⊥
-not_both j o e f = cc
 
 -- a name that was found just now
 pub joins_new : (hub : Hub) (old new : Fifodirs) (name key : List ℕ) (j : Joined) → joined_at old name ≡ None → j.publisher ≡ None → IsFoundIn hub name j.found → key ≡ name
@@ -84,50 +78,6 @@ lacking_copy fs name (Ok made) e = tt
 lacking_copy fs name (Err refusal) e = inr e
 
 -- ---- all are kept
-
-same_name : (name other : List ℕ) → bytes_eq name other ≡ true → name ≡ other
-same_name name other e = (bytes_eq-Decides name other).0 e
-
-keeps_each : (hub : Hub) (old new : Fifodirs) (name : List ℕ) → Joins hub old name new → (other : List ℕ) (j : Joined) → joined_at old other ≡ Some j → joined_at new other ≡ Some j
-keeps_each hub old new name joins other j e =
-    elim (cases_Bool (bytes_eq name other)) [
-      | inl t ↦ (let same = same_name name other t in
-          let at : joined_at old name ≡ Some j = subst (λ (n : List ℕ). joined_at old n ≡ Some j) (sym same) e in
-          ⊎_elim
-          (λ (h : joined_at old name ≡ Some joins.joined).
-          subst (λ (n : List ℕ). joined_at new n ≡ Some j) same (joins.keeps.here ∙ sym h ∙ at))
-          (λ (h : (joined_at old name ≡ None) × IsNewIn hub name joins.joined). absurd (not_both j (joined_at old name) at h.0))
-          joins.found)
-      | inr t ↦ joins.keeps.others other t ∙ e
-    ]
-
-keeps_fresh : (hub : Hub) (old new : Fifodirs) (name : List ℕ) → Joins hub old name new → (other : List ℕ) (j : Joined) → joined_at new other ≡ Some j → joined_at old other ≡ None → IsNewIn hub other j
-keeps_fresh hub old new name joins other j e none =
-    elim (cases_Bool (bytes_eq name other)) [
-      | inl t ↦ (let same = same_name name other t in
-          let is : joins.joined ≡ j = same_kept _ _ (joined_at new name) joins.keeps.here (subst (λ (n : List ℕ). joined_at new n ≡ Some j) (sym same) e) in
-          ⊎_elim
-          (λ (h : joined_at old name ≡ Some joins.joined).
-          absurd (not_both joins.joined (joined_at old name) h (subst (λ (n : List ℕ). joined_at old n ≡ None) (sym same) none)))
-          (λ (h : (joined_at old name ≡ None) × IsNewIn hub name joins.joined).
-          subst (λ (n : List ℕ). IsNewIn hub n j) same (subst (IsNewIn hub name) is h.1))
-          joins.found)
-      | inr t ↦ absurd (not_both j (joined_at new other) e (joins.keeps.others other t ∙ none))
-    ]
-
-pub joins_keep_all : (hub : Hub) (old new : Fifodirs) (name : List ℕ) → Joins hub old name new → KeepsAll hub old new
-joins_keep_all hub old new name joins = record { each = keeps_each hub old new name joins; fresh = keeps_fresh hub old new name joins }
-
-pub KeepsAll-refl : (hub : Hub) (fs : Fifodirs) → KeepsAll hub fs fs
-KeepsAll-refl hub fs = record { each = λ name j e. e; fresh = λ name j e none. absurd (not_both j (joined_at fs name) e none) }
-
-pub KeepsAll-same : (hub : Hub) (old new : Fifodirs) → IsAsBefore old new → KeepsAll hub old new
-KeepsAll-same hub old new same =
-    let at = λ (name : List ℕ). ap (lookup (bytes_eq name)) same in
-    record {
-      each = λ name j e. at name ∙ e;
-      fresh = λ name j e none. absurd (not_both j (joined_at old name) (sym (at name) ∙ e) none);
-    }
 
 pub KeepsAll-trans : (hub : Hub) (a b c : Fifodirs) → KeepsAll hub a b → KeepsAll hub b c → KeepsAll hub a c
 KeepsAll-trans hub a b c f g = record {

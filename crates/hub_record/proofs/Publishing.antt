@@ -1,5 +1,5 @@
 -- After a subscribe, a publish or a close a record stands for the world after it.
-use Rattle.std.proofs.Common.{ℕ, ◌≡◌, ◌+◌, ◌-◌, ◌<◌, ◌≤◌, ◌⊎◌, true, false, List, [], ◌∷◌, ◌++◌, length, drop, All, refl, sym, ap, subst, ◌∙◌, inl, inr, arith}
+use Rattle.std.proofs.Common.{ℕ, ◌≡◌, ◌+◌, ◌-◌, ◌<◌, ◌≤◌, ◌⊎◌, false, List, [], ◌∷◌, ◌++◌, length, drop, All, refl, sym, ap, subst, ◌∙◌, inl, inr, arith}
 use Rattle.std.proofs.lemmas.Bool.{cases_lt}
 use Rattle.std.proofs.lemmas.List.{map-append, length-append, length-drop, drop-append-le, drop-drop}
 use Rattle.std.specs.Map.{values_of}
@@ -10,7 +10,7 @@ use Rattle.hub_record.specs.declared.limits.Limits.{Limits}
 use Rattle.hub_record.specs.declared.limits.Policy.{Policy}
 use Rattle.hub_record.specs.declared.limits.Policy.TheVariants.{Hold, Evict}
 use Rattle.hub_record.specs.declared.Event.{Event}
-use Rattle.hub_record.specs.World.{World, IsWorld, current, standing, new_subscription, least, base, load, letters, as_events, IsLawfulIn, needed_by, needed, HasRoom, IsFull, MayPublish, after_close}
+use Rattle.hub_record.specs.World.{World, IsWorld, current, standing, new_subscription, least, base, load, letters, as_events, IsLawfulIn, needed_by, needed, HasRoom, IsFull, MayPublish}
 use Rattle.hub_record.specs.Backlog.{Held, IsStill, HasRoomFor, room_for, standing_in, lowest_in, with_new_id, with_events}
 use Rattle.hub_record.specs.Kept.{Kept, StandsFor, stage_in}
 use Rattle.hub_record.proofs.Cursors.{current-push, within_current, within_more, within-push}
@@ -163,19 +163,3 @@ pub follows : (r : Kept) (w : World) (message : List ℕ) (t : Stage) → Stands
 follows r w message t s h =
     subst (λ k. IsLawfulIn k (letters w.events ++ message) × (t ≡ stage_in k (letters w.events ++ message))) s.kind
     (h (letters w.events) (subst (λ k. IsLawfulIn k (letters w.events)) (sym s.kind) s.world.lawful) (ap (λ k. stage_in k (letters w.events)) s.kind ∙ sym s.stage))
-
--- ---- close
-
-pub close_stands : (r : Kept) (w : World) → StandsFor r w → StandsFor (record r { closed = true }) (after_close w)
-close_stands r w s = record {
-  world = record { within = s.world.within; loaded = s.world.loaded; given = s.world.given; lawful = s.world.lawful; each = s.world.each };
-  kind = s.kind;
-  limits = s.limits;
-  end = s.end;
-  events = s.events;
-  closed = refl;
-  given = s.given;
-  cursors = s.cursors;
-  stage = s.stage;
-  flags = s.flags;
-}

@@ -97,7 +97,7 @@ run_follows w (call ∷ calls) (said ∷ rest) h = run_follows (after_call w cal
 
 -- ---- each publisher's letters
 
-by-append : (p : ℕ) (a b : List Event) → by p (a ++ b) ≡ by p a ++ by p b
+pub by-append : (p : ℕ) (a b : List Event) → by p (a ++ b) ≡ by p a ++ by p b
 by-append p a b = ap (map (λ (e : Event). e.letter)) (filter-append (λ (e : Event). e.who == p) a b) ∙ map-append (λ (e : Event). e.letter) (filter (λ (e : Event). e.who == p) a) (filter (λ (e : Event). e.who == p) b)
 
 by-stamped : (p who : ℕ) (message : List ℕ) → by p (as_events who message) ≡ (if who == p then message else [])
@@ -140,12 +140,9 @@ own_call p w (Take id max) said = own_take p w id max (subscription_in w id)
 own_call p w (Cancel id) said = own_cancel p w id (subscription_in w id)
 own_call p w Close said = sym (append-nil (by p w.events))
 
-run_own : (p : ℕ) (w : World) (calls : List Call) (replies : List Said) → by p (world_after w calls replies).events ≡ by p w.events ++ letters_published p calls replies
-run_own p w [] replies = sym (append-nil (by p w.events))
-run_own p w (call ∷ calls) [] = sym (append-nil (by p w.events))
-run_own p w (call ∷ calls) (said ∷ rest) =
-    run_own p (after_call w call said) calls rest ∙ ap (λ z. z ++ letters_published p calls rest) (own_call p w call said)
-    ∙ append_assoc (by p w.events) (letters_accepted p call said) (letters_published p calls rest)
-
 pub run_published : (p : ℕ) (w : World) (calls : List Call) (replies : List Said) → by p (world_after w calls replies).events ≡ by p w.events ++ letters_published p calls replies
-run_published = run_own
+run_published p w [] replies = sym (append-nil (by p w.events))
+run_published p w (call ∷ calls) [] = sym (append-nil (by p w.events))
+run_published p w (call ∷ calls) (said ∷ rest) =
+    run_published p (after_call w call said) calls rest ∙ ap (λ z. z ++ letters_published p calls rest) (own_call p w call said)
+    ∙ append_assoc (by p w.events) (letters_accepted p call said) (letters_published p calls rest)

@@ -6,7 +6,7 @@ use Rattle.std.specs.Map.{lookup, set_value, remove_entry, values_of}
 use Rattle.hub_record.specs.World.{least, is_slow}
 use Rattle.hub_record.specs.Backlog.{standing_at, standing_in, lowest_in}
 use Rattle.hub_record.proofs.Standing.{one, none, standing_at-cons}
-use Rattle.hub_record.proofs.Least.{least_bound, least-push, least_met}
+use Rattle.hub_record.proofs.Least.{least-push, least_met}
 
 module _ (room end : ℕ) where
   slow_cons : (c : ℕ × ℕ) (cs : List (ℕ × ℕ)) → is_slow room end c.1 ≡ true → standing_in room end (c ∷ cs) ≡ standing_in room end cs
@@ -37,9 +37,6 @@ module _ (room end : ℕ) where
         | inl t ↦ (let l = ap (least end) (slow_cons c cs t) in omega arith)
         | inr t ↦ (let k = ltb-false room (end - c.1) t in let l = ap (least end) (near_cons c cs t) in omega arith)
       ]
-
-  pub lowest_within : (cs : List (ℕ × ℕ)) → lowest_in room end cs ≤ end
-  lowest_within cs = least_bound end (standing_in room end cs)
 
   pub lowest_bound_at : (test : ℕ → Bool) (cs : List (ℕ × ℕ)) (v : ℕ) → lookup test cs ≡ Some v → is_slow room end v ≡ false → lowest_in room end cs ≤ v
   lowest_bound_at test [] v e near = cc

@@ -6,7 +6,7 @@ use Rattle.std.specs.Map.{lookup}
 use Rattle.hub_record.specs.declared.limits.Limits.{Limits}
 use Rattle.hub_record.specs.World.{World, Subscription, IsWorld, current, current_from, standing, is_slow, subscription_in, pending_for, least, base}
 use Rattle.hub_record.specs.Backlog.{Held, pending, pending_if, lowest, lowest_in, with_cursors}
-use Rattle.hub_record.specs.Kept.{Kept, StandsFor, IsSound}
+use Rattle.hub_record.specs.Kept.{Kept, StandsFor}
 use Rattle.hub_record.proofs.Cursors.{lookup_current}
 use Rattle.hub_record.proofs.Policies.{base_is_lowest, evicted_is_slow}
 
@@ -16,9 +16,6 @@ held_of r room = record { room = room; end = r.end; events = r.events; given = r
 
 abbrev pub with_held : Kept → Held → Kept
 with_held r h = record r { end = h.end; events = h.events; given = h.given; cursors = h.cursors }
-
-pub sound_recut : (limits : Limits) (before after : Held) (cursors : List (ℕ × ℕ)) → IsSound limits before → after ≡ with_cursors before cursors → IsSound limits after
-sound_recut limits before after cursors s e = subst (IsSound limits) (sym e) (record { within = s.within; few = s.few; room = s.room })
 
 -- ---- the cursor of an id and the subscription
 

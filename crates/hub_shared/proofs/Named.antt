@@ -18,13 +18,12 @@ use Rattle.hub_names.specs.declared.fifodirs.Fifodirs.{Fifodirs}
 use Rattle.hub_names.specs.declared.joined.Joined.{Joined}
 use Rattle.hub_names.specs.Fifodirs.{AsksByName, KeepsAll, KeepsNone, joined_at}
 use Rattle.hub_names.specs.Hubs.{IsFoundIn}
-use Rattle.hub_names.specs.Looks.{AsksNames}
 use Rattle.hub_names.specs.Speaking.{AsksAsPublisher, fifodir_of}
 use Rattle.hub_handles.specs.declared.handles.Handles.{Handles}
 use Rattle.hub_handles.specs.declared.session_listener.SessionListener.{SessionListener}
 use Rattle.hub_handles.specs.declared.subscription.Subscription.{Subscription}
 use Rattle.hub_handles.specs.Awaiting.{AwaitsAt}
-use Rattle.hub_handles.specs.Handles.{Cancels, HoldsNone, IsStill, PollsAt, TakesAt, listener_of, subscription_of}
+use Rattle.hub_handles.specs.Handles.{Cancels, HoldsNone, IsStill, PollsAt, SubscriptionSteps, TakesAt, left_by, listener_of, subscription_of}
 use Rattle.hub_handles.specs.Hearings.{Polls, ends_by}
 use Rattle.hub_handles.specs.Taking.{IsSameTicket, Takes, name_of}
 use Rattle.hub_shared.specs.Desks.{CarriesOut, ListensTo, SubscribesTo}
@@ -68,6 +67,17 @@ all_still hub fs gs hs keeps n = record {
   listeners = λ id h at. named_still hub fs gs keeps h.subscription (n.listeners id h at);
 }
 
+-- the same is kept under each name
+named_as_before : (hub : Hub) (fs gs : Fifodirs) (hs : Handles) → ((key : List ℕ) → joined_at gs key ≡ joined_at fs key) → AreNamed hub fs hs → AreNamed hub gs hs
+named_as_before hub fs gs hs same n = record {
+  found = λ name j at. n.found name j (sym (same name) ∙ at);
+  subscriptions = λ id s at. still s (n.subscriptions id s at);
+  listeners = λ id h at. still h.subscription (n.listeners id h at);
+}
+  where
+    still : (s : Subscription) → IsNamed fs s → IsNamed gs s
+    still s was = record { joined = was.joined; kept_is = same (name_of s) ∙ was.kept_is; dir = was.dir }
+
 -- ---- a publisher speaks
 
 asked_found : (says : Publisher → Reply → Publisher → Type 0) (before after : Joined) (reply : Reply) → AsksAsPublisher says before reply after → after.found ≡ before.found
@@ -108,26 +118,7 @@ spoken_named hub says fs gs hs name reply (inl a) n =
       subscriptions = λ id s at. still s (n.subscriptions id s at);
       listeners = λ id h at. still h.subscription (n.listeners id h at);
     }
-spoken_named hub says fs gs hs name reply (inr u) n =
-    let as_before : (key : List ℕ) → joined_at gs key ≡ joined_at fs key = λ key. ap (lookup (bytes_eq key)) u.finding.before in
-    let still : (s : Subscription) → IsNamed fs s → IsNamed gs s = λ s was. record { joined = was.joined; kept_is = as_before (name_of s) ∙ was.kept_is; dir = was.dir } in
-    record {
-      found = λ other j at. n.found other j (sym (as_before other) ∙ at);
-      subscriptions = λ id s at. still s (n.subscriptions id s at);
-      listeners = λ id h at. still h.subscription (n.listeners id h at);
-    }
-
--- ---- a look at the names
-
-looked_named : (hub : Hub) (fs gs : Fifodirs) (hs : Handles) (from : ℕ) (reply : Reply) → AsksNames hub fs from reply gs → AreNamed hub fs hs → AreNamed hub gs hs
-looked_named hub fs gs hs from reply a n =
-    let as_before : (key : List ℕ) → joined_at gs key ≡ joined_at fs key = λ key. ap (λ (z : Fifodirs). lookup (bytes_eq key) z.by_name.entries) a.kept in
-    let still : (s : Subscription) → IsNamed fs s → IsNamed gs s = λ s was. record { joined = was.joined; kept_is = as_before (name_of s) ∙ was.kept_is; dir = was.dir } in
-    record {
-      found = λ other j at. n.found other j (sym (as_before other) ∙ at);
-      subscriptions = λ id s at. still s (n.subscriptions id s at);
-      listeners = λ id h at. still h.subscription (n.listeners id h at);
-    }
+spoken_named hub says fs gs hs name reply (inr u) n = named_as_before hub fs gs hs (λ key. ap (lookup (bytes_eq key)) u.finding.before) n
 
 -- ---- other handles
 
@@ -138,51 +129,44 @@ handles_still hub fs hs ks still n = record {
   listeners = λ id h at. n.listeners id h (sym (ap (lookup (nat_eq id)) still.listeners) ∙ at);
 }
 
+-- the subscription under one number has changed, and no other handle
+subscription_changed : (hub : Hub) (fs : Fifodirs) (hs ks : Handles) (id : ℕ) (s : Subscription) → IsNamed fs s → subscription_of ks id ≡ Some s
+    → ((other : ℕ) → nat_eq id other ≡ false → subscription_of ks other ≡ subscription_of hs other) → ks.listeners.entries ≡ hs.listeners.entries → AreNamed hub fs hs → AreNamed hub fs ks
+subscription_changed hub fs hs ks id s named here others listeners n = record {
+  found = n.found;
+  subscriptions = at_number (IsNamed fs) (subscription_of hs) (subscription_of ks) id (Some s) here (λ z is. subst (IsNamed fs) (one_of s z (Some s) refl is) named) others n.subscriptions;
+  listeners = λ other h at. n.listeners other h (sym (ap (lookup (nat_eq other)) listeners) ∙ at);
+}
+
+-- the listener under one number has changed or is gone, and no other handle has changed
+listener_changed : (hub : Hub) (fs : Fifodirs) (hs ks : Handles) (id : ℕ) (left : Option SessionListener) → ((h : SessionListener) → left ≡ Some h → IsNamed fs h.subscription) → listener_of ks id ≡ left
+    → ((other : ℕ) → nat_eq id other ≡ false → listener_of ks other ≡ listener_of hs other) → ks.subscriptions.entries ≡ hs.subscriptions.entries → AreNamed hub fs hs → AreNamed hub fs ks
+listener_changed hub fs hs ks id left named here others subscriptions n = record {
+  found = n.found;
+  subscriptions = λ other s at. n.subscriptions other s (sym (ap (lookup (nat_eq other)) subscriptions) ∙ at);
+  listeners = at_number (λ h. IsNamed fs h.subscription) (listener_of hs) (listener_of ks) id left here named others n.listeners;
+}
+
+-- and this one is left
+listener_left : (fs : Fifodirs) (h : SessionListener) → IsNamed fs h.subscription → (z : SessionListener) → Some h ≡ Some z → IsNamed fs z.subscription
+listener_left fs h named z is = subst (λ (h : SessionListener). IsNamed fs h.subscription) (one_of h z (Some h) refl is) named
+
 begun_named : (fs : Fifodirs) (name : List ℕ) (j : Joined) (s : Subscription) → joined_at fs name ≡ Some j → name_of s ≡ name → arc_value s.dir ≡ fifodir_of j → IsNamed fs s
 begun_named fs name j s at named dir = record { joined = j; kept_is = ap (joined_at fs) named ∙ at; dir = dir }
 
 subscribed_named : (hub : Hub) (fs : Fifodirs) (hs ks : Handles) (name : List ℕ) (reply : Reply) → SubscribesTo fs name hs reply ks → AreNamed hub fs hs → AreNamed hub fs ks
-subscribed_named hub fs hs ks name (answer.Number number) (inl (j, at, a)) n = record {
-  found = n.found;
-  subscriptions = at_number (IsNamed fs) (subscription_of hs) (subscription_of ks) number (Some a.subscription) a.placed
-      (λ s is. subst (IsNamed fs) (one_of a.subscription s (Some a.subscription) refl is) (begun_named fs name j a.subscription at a.begins.named a.begins.dir)) a.others n.subscriptions;
-  listeners = λ id h held. n.listeners id h (sym (ap (lookup (nat_eq id)) a.listeners) ∙ held);
-}
+subscribed_named hub fs hs ks name (answer.Number number) (inl (j, at, a)) n =
+    subscription_changed hub fs hs ks number a.subscription (begun_named fs name j a.subscription at a.begins.named a.begins.dir) a.placed a.others a.listeners n
 subscribed_named hub fs hs ks name (answer.No refusal) (inl (j, at, a)) n = handles_still hub fs hs ks a.0 n
-subscribed_named hub fs hs ks name answer.Done (inl (j, at, a)) n = absurd a
-subscribed_named hub fs hs ks name (answer.State s) (inl (j, at, a)) n = absurd a
-subscribed_named hub fs hs ks name (answer.Got l) (inl (j, at, a)) n = absurd a
-subscribed_named hub fs hs ks name (answer.Hit l) (inl (j, at, a)) n = absurd a
-subscribed_named hub fs hs ks name answer.Nothing (inl (j, at, a)) n = absurd a
-subscribed_named hub fs hs ks name answer.End (inl (j, at, a)) n = absurd a
-subscribed_named hub fs hs ks name answer.Evicted (inl (j, at, a)) n = absurd a
-subscribed_named hub fs hs ks name (answer.Yes l) (inl (j, at, a)) n = absurd a
-subscribed_named hub fs hs ks name answer.Never (inl (j, at, a)) n = absurd a
-subscribed_named hub fs hs ks name answer.Late (inl (j, at, a)) n = absurd a
-subscribed_named hub fs hs ks name (answer.Listed l) (inl (j, at, a)) n = absurd a
+subscribed_named hub fs hs ks name reply (inl (j, at, a)) n = absurd a
 subscribed_named hub fs hs ks name reply (inr (unfound, same)) n = subst (AreNamed hub fs) (sym same) n
 
 listened_named : (hub : Hub) (fs : Fifodirs) (hs ks : Handles) (name : List ℕ) (mode : Mode) (pattern : List ℕ) (reply : Reply) → ListensTo fs name mode pattern hs reply ks
     → AreNamed hub fs hs → AreNamed hub fs ks
-listened_named hub fs hs ks name mode pattern (answer.Number number) (inl (j, at, a)) n = record {
-  found = n.found;
-  subscriptions = λ id s held. n.subscriptions id s (sym (ap (lookup (nat_eq id)) a.subscriptions) ∙ held);
-  listeners = at_number (λ h. IsNamed fs h.subscription) (listener_of hs) (listener_of ks) number (Some a.hearing) a.placed
-      (λ h is. subst (λ (h : SessionListener). IsNamed fs h.subscription) (one_of a.hearing h (Some a.hearing) refl is) (begun_named fs name j a.hearing.subscription at a.begins.named a.begins.dir))
-      a.others n.listeners;
-}
+listened_named hub fs hs ks name mode pattern (answer.Number number) (inl (j, at, a)) n =
+    listener_changed hub fs hs ks number (Some a.hearing) (listener_left fs a.hearing (begun_named fs name j a.hearing.subscription at a.begins.named a.begins.dir)) a.placed a.others a.subscriptions n
 listened_named hub fs hs ks name mode pattern (answer.No refusal) (inl (j, at, a)) n = handles_still hub fs hs ks a.0 n
-listened_named hub fs hs ks name mode pattern answer.Done (inl (j, at, a)) n = absurd a
-listened_named hub fs hs ks name mode pattern (answer.State s) (inl (j, at, a)) n = absurd a
-listened_named hub fs hs ks name mode pattern (answer.Got l) (inl (j, at, a)) n = absurd a
-listened_named hub fs hs ks name mode pattern (answer.Hit l) (inl (j, at, a)) n = absurd a
-listened_named hub fs hs ks name mode pattern answer.Nothing (inl (j, at, a)) n = absurd a
-listened_named hub fs hs ks name mode pattern answer.End (inl (j, at, a)) n = absurd a
-listened_named hub fs hs ks name mode pattern answer.Evicted (inl (j, at, a)) n = absurd a
-listened_named hub fs hs ks name mode pattern (answer.Yes l) (inl (j, at, a)) n = absurd a
-listened_named hub fs hs ks name mode pattern answer.Never (inl (j, at, a)) n = absurd a
-listened_named hub fs hs ks name mode pattern answer.Late (inl (j, at, a)) n = absurd a
-listened_named hub fs hs ks name mode pattern (answer.Listed l) (inl (j, at, a)) n = absurd a
+listened_named hub fs hs ks name mode pattern reply (inl (j, at, a)) n = absurd a
 listened_named hub fs hs ks name mode pattern reply (inr (unfound, same)) n = subst (AreNamed hub fs) (sym same) n
 
 same_named : (fs : Fifodirs) (a b : Subscription) → IsSameTicket a b → IsNamed fs a → IsNamed fs b
@@ -193,13 +177,15 @@ still_that : (max : ℕ) (old new : Subscription) (reply : Reply) → Takes max 
 still_that max old new reply (inl takes) = takes.same
 still_that max old new reply (inr lacks) = lacks.looked.same
 
+-- the subscription under a number takes a step, by the same ticket
+stepped_named : (hub : Hub) (fs : Fifodirs) (hs ks : Handles) (id : ℕ) (Step : Subscription → Subscription → Type 0) → ((old new : Subscription) → Step old new → IsSameTicket old new)
+    → SubscriptionSteps Step hs id ks → AreNamed hub fs hs → AreNamed hub fs ks
+stepped_named hub fs hs ks id Step same t n =
+    let u = t.under in
+    subscription_changed hub fs hs ks id u.after (same_named fs u.before u.after (same u.before u.after u.step) (n.subscriptions id u.before u.held)) u.kept u.others t.listeners n
+
 taken_named : (hub : Hub) (fs : Fifodirs) (hs ks : Handles) (id max : ℕ) (reply : Reply) → TakesAt hs id max reply ks → AreNamed hub fs hs → AreNamed hub fs ks
-taken_named hub fs hs ks id max reply (inl t) n = record {
-  found = n.found;
-  subscriptions = at_number (IsNamed fs) (subscription_of hs) (subscription_of ks) id (Some t.after) t.kept
-      (λ s is. subst (IsNamed fs) (one_of t.after s (Some t.after) refl is) (same_named fs t.before t.after (still_that max t.before t.after reply t.takes) (n.subscriptions id t.before t.held))) t.others n.subscriptions;
-  listeners = λ other h held. n.listeners other h (sym (ap (lookup (nat_eq other)) t.listeners) ∙ held);
-}
+taken_named hub fs hs ks id max reply (inl t) n = stepped_named hub fs hs ks id _ (λ old new takes. still_that max old new reply takes) t n
 taken_named hub fs hs ks id max reply (inr t) n = handles_still hub fs hs ks t.still n
 
 polls_named : (fs : Fifodirs) (before after : SessionListener) (reply : Reply) → Polls before reply after → IsNamed fs before.subscription → IsNamed fs after.subscription
@@ -209,43 +195,25 @@ polls_named fs before after answer.End (few, (fed, hears), why) n = same_named f
 polls_named fs before after answer.Evicted (few, (fed, hears), why) n = same_named fs before.subscription after.subscription hears.comes.ticket n
 polls_named fs before after (answer.No refusal) (inl (e, full, same)) n = subst (λ (h : SessionListener). IsNamed fs h.subscription) (sym same) n
 polls_named fs before after (answer.No refusal) (inr (e, few, (fed, hears), more)) n = same_named fs before.subscription after.subscription hears.comes.ticket n
-polls_named fs before after answer.Done p n = absurd p
-polls_named fs before after (answer.Number k) p n = absurd p
-polls_named fs before after (answer.State s) p n = absurd p
-polls_named fs before after (answer.Got l) p n = absurd p
-polls_named fs before after (answer.Yes l) p n = absurd p
-polls_named fs before after answer.Never p n = absurd p
-polls_named fs before after answer.Late p n = absurd p
-polls_named fs before after (answer.Listed l) p n = absurd p
+polls_named fs before after reply p n = absurd p
 
 left_is : {A : Type 0} (ends : Bool) (after a : A) → (if ends then None else Some after) ≡ Some a → after ≡ a
 left_is true after a e = cc
 left_is false after a e = cc
 
 polled_named : (hub : Hub) (fs : Fifodirs) (hs ks : Handles) (id : ℕ) (reply : Reply) → PollsAt hs id reply ks → AreNamed hub fs hs → AreNamed hub fs ks
-polled_named hub fs hs ks id reply (inl p) n = record {
-  found = n.found;
-  subscriptions = λ other s held. n.subscriptions other s (sym (ap (lookup (nat_eq other)) p.subscriptions) ∙ held);
-  listeners = at_number (λ h. IsNamed fs h.subscription) (listener_of hs) (listener_of ks) id _ p.kept
-      (λ h is. subst (λ (h : SessionListener). IsNamed fs h.subscription) (left_is (ends_by p.after.mode reply) p.after h is) (polls_named fs p.before p.after reply p.polls (n.listeners id p.before p.held)))
-      p.others n.listeners;
-}
+polled_named hub fs hs ks id reply (inl p) n =
+    let u = p.under in
+    let named = polls_named fs u.before u.after reply u.step (n.listeners id u.before u.held) in
+    listener_changed hub fs hs ks id (left_by reply u.after) (λ h is. subst (λ (h : SessionListener). IsNamed fs h.subscription) (left_is (ends_by u.after.mode reply) u.after h is) named) u.kept u.others p.subscriptions n
 polled_named hub fs hs ks id reply (inr p) n = handles_still hub fs hs ks p.still n
 
 awaited_named : (hub : Hub) (fs : Fifodirs) (hs ks : Handles) (id : ℕ) (reply : Reply) → AwaitsAt hs id reply ks → AreNamed hub fs hs → AreNamed hub fs ks
-awaited_named hub fs hs ks id reply (inl a) n = record {
-  found = n.found;
-  subscriptions = at_number (IsNamed fs) (subscription_of hs) (subscription_of ks) id (Some a.after) a.kept
-      (λ s is. subst (IsNamed fs) (one_of a.after s (Some a.after) refl is) (same_named fs a.before a.after a.looked.same (n.subscriptions id a.before a.held))) a.others n.subscriptions;
-  listeners = λ other h held. n.listeners other h (sym (ap (lookup (nat_eq other)) a.listeners) ∙ held);
-}
-awaited_named hub fs hs ks id reply (inr (inl a)) n = record {
-  found = n.found;
-  subscriptions = λ other s held. n.subscriptions other s (sym (ap (lookup (nat_eq other)) a.subscriptions) ∙ held);
-  listeners = at_number (λ h. IsNamed fs h.subscription) (listener_of hs) (listener_of ks) id (Some a.after) a.kept
-      (λ h is. subst (λ (h : SessionListener). IsNamed fs h.subscription) (one_of a.after h (Some a.after) refl is) (same_named fs a.before.subscription a.after.subscription a.looked.looked.same (n.listeners id a.before a.held)))
-      a.others n.listeners;
-}
+awaited_named hub fs hs ks id reply (inl a) n = stepped_named hub fs hs ks id _ (λ old new step. step.0.same) a n
+awaited_named hub fs hs ks id reply (inr (inl a)) n =
+    let u = a.under in
+    let named = same_named fs u.before.subscription u.after.subscription u.step.0.looked.same (n.listeners id u.before u.held) in
+    listener_changed hub fs hs ks id (Some u.after) (listener_left fs u.after named) u.kept u.others a.subscriptions n
 awaited_named hub fs hs ks id reply (inr (inr a)) n = handles_still hub fs hs ks a.still n
 
 cancelled_named : (hub : Hub) (fs : Fifodirs) (hs ks : Handles) (id : ℕ) (reply : Reply) → Cancels hs id reply ks → AreNamed hub fs hs → AreNamed hub fs ks
@@ -277,7 +245,8 @@ asked_named hub fs gs hs ks (Listen name mode pattern) reply n (keeps, a) = list
 asked_named hub fs gs hs ks (Poll id) reply n (e, a) = subst (λ (z : Fifodirs). AreNamed hub z ks) (sym e) (polled_named hub fs hs ks id reply a n)
 asked_named hub fs gs hs ks (Await id turns) reply n (e, a) = subst (λ (z : Fifodirs). AreNamed hub z ks) (sym e) (awaited_named hub fs hs ks id reply a n)
 asked_named hub fs gs hs ks (Wait span want turns names) reply n (keeps, why, f) = subst (AreNamed hub gs) (sym f) (all_still hub fs gs hs keeps n)
-asked_named hub fs gs hs ks (Names from) reply n (a, f) = subst (AreNamed hub gs) (sym f) (looked_named hub fs gs hs from reply a n)
+asked_named hub fs gs hs ks (Names from) reply n (a, f) =
+    subst (AreNamed hub gs) (sym f) (named_as_before hub fs gs hs (λ key. ap (λ (z : Fifodirs). lookup (bytes_eq key) z.by_name.entries) a.kept) n)
 
 new_named : (hub : Hub) (fs : Fifodirs) (hs : Handles) → KeepsNone fs → HoldsNone hs → AreNamed hub fs hs
 new_named hub fs hs none holds = record {

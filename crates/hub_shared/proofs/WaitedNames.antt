@@ -1,5 +1,5 @@
 -- The names of a wait as its session finds them, and the posts that it opens.
-use Rattle.std.proofs.Common.{◌≡◌, ℕ, ◌+◌, ◌<◌, List, [], ◌∷◌, ◌++◌, length, take, get_or, Bool, true, false, refl, sym, ap, ◌∙◌, subst, inl, inr, ⊎_elim, arith}
+use Rattle.std.proofs.Common.{◌≡◌, ℕ, ◌+◌, ◌<◌, List, [], ◌∷◌, ◌++◌, length, take, get_or, Bool, true, false, sym, ap, ◌∙◌, subst, arith}
 use Rattle.std.proofs.lemmas.Grind.{common_steps}
 use Rattle.std.proofs.lemmas.List.{take_more}
 use Rattle.std.proofs.lemmas.List.Elements.{All-push, All-weaker}
@@ -9,8 +9,6 @@ use Rattle.std.specs.List.{Any, AllZip}
 use Rattle.hub_letters.specs.declared.want.Want.{Want}
 use Rattle.hub_record.specs.declared.Kind.{Kind}
 use Rattle.hub_record.specs.declared.Kind.TheVariants.{Plain, Service}
-use Rattle.hub_requests.specs.declared.reply.Refusal.{Refusal}
-use Rattle.hub_requests.specs.declared.reply.Refusal.TheVariants as no
 use Rattle.hub_fifodir.specs.declared.fifodir.Fifodir.{Fifodir}
 use Rattle.hub_fifodir.specs.Passes.{kind_of}
 use Rattle.hub_wait.specs.declared.post.Post.{Post}
@@ -19,7 +17,7 @@ use Rattle.hub_names.specs.declared.hub.Hub.{Hub}
 use Rattle.hub_names.specs.declared.hub.Made.{Made}
 use Rattle.hub_names.specs.declared.fifodirs.Fifodirs.{Fifodirs}
 use Rattle.hub_names.specs.Fifodirs.{IsKeptAs, KeepsAll}
-use Rattle.hub_shared.specs.Waits.{IsKnown, IsOfKind, AreFound, AreOpened, AreSeen, IsPostRefused, IsWaitRefused, IsPostAt, ArePosts}
+use Rattle.hub_shared.specs.Waits.{IsKnown, IsOfKind, AreFound, AreOpened, AreSeen, IsPostAt, ArePosts}
 
 Any-weaker : {X : Type 0} (P Q : X → Type 0) → ((x : X) → P x → Q x) → (xs : List X) → Any P xs → Any Q xs
 Any-weaker P Q f xs (k, x, within, at, p) = (k, x, within, at, f x p)
@@ -59,15 +57,6 @@ service_more : (fs : Fifodirs) (names : List (List ℕ)) (name : List ℕ) (plai
 service_more fs names name true (known, some) f =
     (All-push (IsKnown fs) names name known (known_of_kind fs Service name f), Any-then (IsOfKind fs Plain) names name some)
 service_more fs names name false each f = All-push (IsOfKind fs Service) names name each f
-
--- where each is a service's, only a post may still be refused
-pub refused_by_post : (fs : Fifodirs) (names : List (List ℕ)) (refusal : Refusal) → AreSeen fs names false → IsPostRefused refusal → IsWaitRefused fs names refusal
-refused_by_post fs names refusal seen refused =
-    ⊎_elim (λ (e : refusal ≡ no.Closed). subst (IsWaitRefused fs names) (sym e) (inl refl, seen))
-    (⊎_elim (λ (e : refusal ≡ no.Many). subst (IsWaitRefused fs names) (sym e) (inr (inl refl), seen))
-    (⊎_elim (λ (e : refusal ≡ no.Spent). subst (IsWaitRefused fs names) (sym e) (inr (inr (inl refl)), seen))
-    (λ (e : refusal ≡ no.Memory). subst (IsWaitRefused fs names) (sym e) tt)))
-    refused
 
 -- ---- posts
 

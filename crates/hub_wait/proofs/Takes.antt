@@ -2,7 +2,6 @@
 use Rattle.std.proofs.Common.{◌≡◌, ◌≢◌, ℕ, ◌+◌, ◌-◌, ◌≤◌, Bool, true, false, ◌||◌, ◌&&◌, Option, unwrap_or, inl, inr, List, ◌++◌, take, drop, length, sym, refl, ap, subst, ◌∙◌, arith}
 use Rattle.std.proofs.lemmas.Bool.{cases_Bool, ltb-true, lt-ltb}
 use Rattle.std.proofs.lemmas.List.{take_all, take-append-le, length-append, length-take-le, length-drop, length-map, drop-take, take-take, drop-map, take-map, map-append}
-use Rattle.hub_letters.specs.declared.want.Want.{Want}
 use Rattle.hub_letters.specs.Falls.{has_fall}
 use Rattle.hub_letters.specs.Flags.{flags_of}
 use Rattle.hub_record.specs.declared.Event.{Event}
@@ -13,11 +12,11 @@ use Rattle.hub_fifodir.specs.declared.ticket.Ticket.{Ticket}
 use Rattle.hub_fifodir.specs.Events.{StartsWith, slice}
 use Rattle.hub_fifodir.specs.Passes.{ticket_mark, ticket_next, ticket_seen, ticket_closed, ticket_sight, ticket_rules, ticket_view, is_evicted_by, is_evicted_at, OnlyLooks, HasTaken, IsStatusOf, slice_after_take}
 use Rattle.hub_fifodir.specs.Steps.{Grows}
-use Rattle.hub_wait.specs.Watching.{Watching, new_watching, watching_after_step, renewed_by}
+use Rattle.hub_wait.specs.Watching.{Watching, watching_after_step, renewed_by}
 use Rattle.hub_wait.specs.Histories.{ShowsFlagsOf, ShowsFallsOf, MissesNoFall, has_fall_between, IsSlice}
 use Rattle.hub_wait.specs.Reading.{Reads}
 use Rattle.hub_fifodir.proofs.Publishing.{closed_when}
-use Rattle.hub_wait.proofs.Steps.{ShowsFlagsOf-stepped, ShowsFallsOf-stepped, MissesNoFall-stepped, ShowsFallsOf-renewed, begin_at_any_status}
+use Rattle.hub_wait.proofs.Steps.{ShowsFlagsOf-stepped, ShowsFallsOf-stepped, MissesNoFall-stepped, ShowsFallsOf-renewed}
 
 -- ---- evicted tickets
 
@@ -152,36 +151,6 @@ at_end new w r all =
     let reached = r.reached in
     let inside : w.at ≤ length (ticket_seen new) = subst (λ k. w.at ≤ k) (length-map (ticket_seen new) _) r.follows.within in
     omega (arith, all, reached, inside)
-
--- after a take that reported the close
-pub Reads-ended : (new : Ticket) (w : Watching) → Reads new w → ticket_next new ≡ length (ticket_seen new) → ticket_closed new ≢ 0 → Reads new (record w { ended = true })
-Reads-ended new w r all closed = record {
-  follows = record { within = r.follows.within; flags = r.follows.flags };
-  falls = record { begun = r.falls.begun; only = r.falls.only };
-  misses_no_fall = λ no. r.misses_no_fall no;
-  marked = r.marked;
-  reached = r.reached;
-  ended = λ is. (closed, at_end new w r all);
-}
-
--- at the status of what the ticket has seen, before it has taken anything
-pub Reads-opened : (t : Ticket) (want : Want) (notifies : Bool) (status : Status) → ticket_mark t ≤ length (ticket_seen t) → ticket_next t ≡ ticket_mark t → IsStatusOf status (ticket_sight t)
-    → Reads t (new_watching want notifies status)
-Reads-opened t want notifies status marked next is =
-    let all : length (letters (ticket_seen t)) ≡ length (ticket_seen t) = length-map (ticket_seen t) _ in
-    let number = is.0 in
-    let begins = begin_at_any_status (letters (ticket_seen t)) want notifies status (record {
-      within = omega (arith, all, number);
-      flags = is.1 ∙ ap flags_of (sym (take_all status.number (letters (ticket_seen t)) (omega (arith, all, number))));
-    }) in
-    record {
-      follows = begins.follows;
-      falls = begins.falls;
-      misses_no_fall = λ no. begins.misses_no_fall;
-      marked = omega (arith, number, marked);
-      reached = omega (arith, number, marked, next);
-      ended = λ e. (closed_when (ticket_closed t) status.closed is.2 e, number);
-    }
 
 -- after a status of what the ticket has seen, if it is evicted
 pub Reads-renewed : (old new : Ticket) (w : Watching) (status : Status) → Reads old w → Grows (ticket_sight old) (ticket_sight new) → ticket_mark new ≡ ticket_mark old → ticket_next new ≡ ticket_next old

@@ -14,13 +14,14 @@ pub returns-in-Some : goal.returns-in-Some
 returns-in-Some g c =
     let put = (c.get_mut.follows.holds c.await_more.new.self).3 (subst (λ (o : Option Subscription). IsSome o) c.in-Some.ensures.value refl) in
     inl (record {
-      before = c.in-Some.subscription.now;
-      after = c.await_more.new.self;
-      held = sym c.in-Some.ensures.value;
-      looked = c.await_more.ensures.looked;
-      tells = told _ _ c.await_more.result _ c.reply_of.ensures c.await_more.ensures.more;
-      kept = put.1;
-      others = put.2;
+      under = record {
+        before = c.in-Some.subscription.now;
+        after = c.await_more.new.self;
+        held = sym c.in-Some.ensures.value;
+        step = (c.await_more.ensures.looked, told _ _ c.await_more.result _ c.reply_of.ensures c.await_more.ensures.more);
+        kept = put.1;
+        others = put.2;
+      };
       listeners = refl;
       given = refl;
     })
@@ -29,13 +30,14 @@ pub returns : goal.returns
 returns g c =
     let put = (c.get_mut-2.follows.holds c.await_more-2.new.self).3 (subst (λ (o : Option SessionListener). IsSome o) c.in-Some-get_mut.ensures.value refl) in
     inr (inl (record {
-      before = c.in-Some-get_mut.listener.now;
-      after = c.await_more-2.new.self;
-      held = sym c.in-Some-get_mut.ensures.value;
-      looked = c.await_more-2.ensures.looked;
-      tells = told _ _ c.await_more-2.result _ c.reply_of-2.ensures c.await_more-2.ensures.more;
-      kept = put.1;
-      others = put.2;
+      under = record {
+        before = c.in-Some-get_mut.listener.now;
+        after = c.await_more-2.new.self;
+        held = sym c.in-Some-get_mut.ensures.value;
+        step = (c.await_more-2.ensures.looked, told _ _ c.await_more-2.result _ c.reply_of-2.ensures c.await_more-2.ensures.more);
+        kept = put.1;
+        others = put.2;
+      };
       subscriptions = search (rules, c.get_mut.follows);
       given = refl;
     }))

@@ -1,7 +1,8 @@
 use Rattle.std.proofs.Common.{◌≡◌, ℕ, List, ◌++◌, length, Some, refl, sym, ap, ◌∙◌, arith}
 use Rattle.hub_local.specs.Standing.{Local}
 use Rattle.hub_local.proofs.Asking.{answers_from, same_parts, stands_on}
-use Rattle.hub_local.proofs.AskingPolls.{HasLooked, same_hearing, never_spent, poll_plain, poll_overlong, unspent, poll_lacks, poll_nothing, poll_end, poll_evicted, poll_stops, hit_stands, poll_ended, poll_goes_on}
+use Rattle.hub_listen.proofs.Singly.{never_spent}
+use Rattle.hub_local.proofs.AskingPolls.{HasLooked, same_hearing, poll_plain, poll_overlong, unspent, poll_lacks, poll_nothing, poll_end, poll_evicted, poll_stops, hit_stands, poll_ended, poll_goes_on}
 use Rattle.hub_local.proofs.AskingSubscriptions.{held_somewhere, has_subscription}
 use Rattle.hub_local.proofs.local_desk.LocalDesk.poll.Goals as goal
 use Rattle.hub_local.proofs.local_desk.LocalDesk.poll.Goals.{After-hear, in-Once+in-Got-1, in-Once+in-Hit-1, in-Once+in-Yes-1, in-Once+in-Listed-1, in-Once+in-Done-1, in-Repeat}
