@@ -1,21 +1,24 @@
 //! The desk of one session among several.
-ghost use Rattle.std.specs.Prelude.{IfOk};
+ghost use Rattle.std.specs.Prelude.{◌≤◌, IfOk, length};
 ghost use Rattle.std.specs.Arc.{arc_value};
+ghost use Rattle.hub_requests.specs.declared.bounds.TheConstants.{MOST_SERVICES};
+ghost use Rattle.hub_requests.specs.declared.request.Request.TheVariants as asked;
 
 use hub_handles::Handles;
 use hub_io::Client;
+use hub_letters::{Mode, Span, Want};
 use hub_names::{Fifodirs, Hub, HubError, Speech};
 use hub_record::{Kind, Limits};
-use hub_requests::{Desk, Name, Refusal, Reply, Request, limits};
+use hub_requests::{Desk, Name, Names, PatternText, Refusal, Reply, Request, limits};
 use hub_wait::Pause;
 use std::alloc::{AllocError, Global};
 use std::sync::{Arc, Wait};
 
+mod client_pause;
 mod waits;
-mod watched;
 
+use client_pause::ClientPause;
 use waits::Posts;
-use watched::Watched;
 
 /// One session over a hub. It keeps the fifodir that it first found under a name, and makes its publisher there at its
 /// first `pub`, `close` or `status` of that name; `status` is one load through that publisher and waits for nobody.
@@ -34,7 +37,7 @@ pub struct SharedDesk<P: Pause + Copy> {
 }
 
 impl<P: Pause + Copy> SharedDesk<P> {
-    ghost use Rattle.hub_shared.specs.Desks.{IsMadeReply, IsNewDesk, Watches};
+    ghost use Rattle.hub_shared.specs.Desks.{Asks, IsMadeReply, IsNewDesk, Watches};
 
     /// A session that has found no fifodir and has no handle.
     pub fn new(alloc: Global, hub: Arc<Hub, Global>, pause: P) -> Result<SharedDesk<P>, AllocError>
@@ -90,6 +93,55 @@ impl<P: Pause + Copy> SharedDesk<P> {
             Err(HubError::Memory) => Reply::No(Refusal::Memory),
         }
     }
+
+    fn subscribe<H: Wait>(&mut self, rt: &H, name: &Name) -> Reply
+        ensures { Asks self.old (asked.Sub name.now) result self.new }
+    {
+        match self.fifodirs.find(rt, &self.hub, name) {
+            Ok(found) => self.handles.subscribe(rt, name, found.dir),
+            Err(refusal) => Reply::No(refusal),
+        }
+    }
+
+    fn listen<H: Wait>(&mut self, rt: &H, name: &Name, mode: Mode, pattern: &PatternText) -> Reply
+        ensures { Asks self.old (asked.Listen name.now mode pattern.now) result self.new }
+    {
+        match self.fifodirs.find(rt, &self.hub, name) {
+            Ok(found) => self.handles.listen(rt, name, found.dir, mode, pattern),
+            Err(refusal) => Reply::No(refusal),
+        }
+    }
+
+    /// Waits for the lock only if the session has no publisher there yet.
+    fn status<H: Wait>(&mut self, rt: &H, name: &Name) -> Reply
+        ensures { Asks self.old (asked.Status name.now) result self.new }
+    {
+        match self.fifodirs.status(name) {
+            Some(reply) => reply,
+            None => self.fifodirs.speak(rt, &self.hub, name, Speech::Status),
+        }
+    }
+
+    fn await_more<H: Wait>(&mut self, rt: &H, id: u64, turns: u64) -> Reply
+        ensures { Asks self.old (asked.Await id turns) result self.new }
+    {
+        let mut pause = ClientPause::new(self.pause, self.client.as_ref());
+        self.handles.await_more(rt, id, turns, &mut pause)
+    }
+
+    fn wait<H: Wait>(&mut self, rt: &H, span: Span, want: Want, turns: u64, names: &Names) -> Reply
+        requires { length names.now ≤ MOST_SERVICES }
+        ensures { Asks self.old (asked.Wait span want turns names.now) result self.new }
+    {
+        let fifodirs = &mut self.fifodirs;
+        match Posts::open(rt, self.alloc, fifodirs, &self.hub, want, names.items()) {
+            Ok(posts) => {
+                let pause = ClientPause::new(self.pause, self.client.as_ref());
+                posts.settle(rt, span, turns, pause)
+            }
+            Err(refusal) => Reply::No(refusal),
+        }
+    }
 }
 
 impl<P: Pause + Copy> Desk for SharedDesk<P> {
@@ -106,30 +158,21 @@ impl<P: Pause + Copy> Desk for SharedDesk<P> {
                 waiting,
                 total,
                 evict,
-            } => self.make(
-                rt,
-                name,
-                Kind::Plain,
-                false,
-                limits(*waiting, *total, *evict),
-            ),
+            } => {
+                let room = limits(*waiting, *total, *evict);
+                self.make(rt, name, Kind::Plain, false, room)
+            }
             Request::Svc {
                 name,
                 waiting,
                 total,
                 notifies,
                 evict,
-            } => self.make(
-                rt,
-                name,
-                Kind::Service,
-                *notifies,
-                limits(*waiting, *total, *evict),
-            ),
-            Request::Sub { name } => match self.fifodirs.find(rt, &self.hub, name) {
-                Ok(found) => self.handles.subscribe(rt, name, found.dir),
-                Err(refusal) => Reply::No(refusal),
-            },
+            } => {
+                let room = limits(*waiting, *total, *evict);
+                self.make(rt, name, Kind::Service, *notifies, room)
+            }
+            Request::Sub { name } => self.subscribe(rt, name),
             Request::Pub { name, letters } => {
                 self.fifodirs
                     .speak(rt, &self.hub, name, Speech::Publish(letters))
@@ -137,46 +180,20 @@ impl<P: Pause + Copy> Desk for SharedDesk<P> {
             Request::Take { id, max } => self.handles.take(rt, *id, *max),
             Request::Cancel { id } => self.handles.cancel(rt, *id),
             Request::Close { name } => self.fifodirs.speak(rt, &self.hub, name, Speech::Close),
-            Request::Status { name } => match self.fifodirs.status(name) {
-                Some(reply) => reply,
-                None => self.fifodirs.speak(rt, &self.hub, name, Speech::Status),
-            },
+            Request::Status { name } => self.status(rt, name),
             Request::Listen {
                 name,
                 mode,
                 pattern,
-            } => match self.fifodirs.find(rt, &self.hub, name) {
-                Ok(found) => self.handles.listen(rt, name, found.dir, *mode, pattern),
-                Err(refusal) => Reply::No(refusal),
-            },
+            } => self.listen(rt, name, *mode, pattern),
             Request::Poll { id } => self.handles.poll(rt, *id),
-            Request::Await { id, turns } => self.handles.await_more(
-                rt,
-                *id,
-                *turns,
-                &mut Watched::new(self.pause, self.client.as_ref()),
-            ),
+            Request::Await { id, turns } => self.await_more(rt, *id, *turns),
             Request::Wait {
                 span,
                 want,
                 turns,
                 names,
-            } => match Posts::open(
-                rt,
-                self.alloc,
-                &mut self.fifodirs,
-                &self.hub,
-                *want,
-                names.items(),
-            ) {
-                Ok(posts) => posts.settle(
-                    rt,
-                    *span,
-                    *turns,
-                    Watched::new(self.pause, self.client.as_ref()),
-                ),
-                Err(refusal) => Reply::No(refusal),
-            },
+            } => self.wait(rt, *span, *want, *turns, names),
             Request::Names { from } => self.fifodirs.list(rt, &self.hub, *from),
         }
     }

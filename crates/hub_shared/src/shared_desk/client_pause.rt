@@ -1,4 +1,4 @@
-//! A wait that ends if its client is gone.
+//! The pause of a wait that ends if its client is gone.
 
 use hub_fifodir::Bell;
 use hub_io::Client;
@@ -7,19 +7,19 @@ use std::sync::Wait;
 
 /// A pause that has no more patience if the client is gone. It looks before each pause of its own.
 #[derive(Drop)]
-pub struct Watched<'a, P> {
+pub struct ClientPause<'a, P> {
     pause: P,
     client: Option<&'a Client>,
 }
 
-impl<P> Watched<'_, P> {
+impl<P> ClientPause<'_, P> {
     /// A pause that looks after the client, if there is one.
-    pub fn new(pause: P, client: Option<&Client>) -> Watched<'_, P> {
-        Watched { pause, client }
+    pub fn new(pause: P, client: Option<&Client>) -> ClientPause<'_, P> {
+        ClientPause { pause, client }
     }
 }
 
-impl<P: Pause> Pause for Watched<'_, P> {
+impl<P: Pause> Pause for ClientPause<'_, P> {
     fn pause<R: Wait>(&mut self, rt: &R) -> Go {
         if self.client.is_some_and(Client::is_gone) {
             return Go::Expired;
