@@ -7,7 +7,7 @@ use Rattle.hub_fifodir.specs.declared.views.Book.{Book}
 use Rattle.hub_fifodir.specs.declared.views.Sight.{Sight}
 use Rattle.hub_fifodir.specs.declared.views.View.{View}
 use Rattle.hub_fifodir.specs.declared.views.Role.{Role}
-use Rattle.hub_fifodir.specs.declared.views.Role.TheVariants.{Visitor, Note, Ticket, Publisher, Spent}
+use Rattle.hub_fifodir.specs.declared.views.Role.TheVariants.{Ticket, Publisher, Spent}
 use Rattle.hub_fifodir.specs.Rule.{LockState, free, held_by, Account, IsPart, IsPartIfAny, IsGiven, InRole, IsSeat, IsSeatOr, Holds, IsSane, sight, view, IsLive, IsNumbered}
 use Rattle.hub_fifodir.specs.Steps.{Grows, GrowsIfAny, IsInBook}
 use Rattle.hub_fifodir.proofs.Logs.{starts_self, starts_more, starts_length, slice_longer}
@@ -17,33 +17,23 @@ module _ {B : Type 0} (rules : Rules) (a : Account B) where
   part_whole = (starts_self a.log, λ _. (refl, refl))
 
   pub live_seat : (j : ℕ) (v : View) (r : Role) → IsLive r → IsSeatOr rules a j v r → IsSeat rules a j v
-  live_seat j v Visitor l h = h
-  live_seat j v Note l h = h
-  live_seat j v (Ticket t) l h = h
-  live_seat j v (Publisher p) l h = h
   live_seat j v Spent l h = absurd l
+  live_seat j v r l h = h
 
   pub seated : (j : ℕ) (v : View) (r : Role) → IsSeat rules a j v → IsSeatOr rules a j v r
-  seated j v Visitor h = h
-  seated j v Note h = h
-  seated j v (Ticket t) h = h
-  seated j v (Publisher p) h = h
   seated j v Spent h = tt
+  seated j v r h = h
 
   pub renew_role : (j : ℕ) (s : Sight) (r : Role) → IsPart a.log a.mark s → InRole a.book a.log a.ticket_at a.writer_at j s.seen r → InRole a.book a.log a.ticket_at a.writer_at j a.log r
-  renew_role j s Visitor p h = tt
-  renew_role j s Note p h = tt
   renew_role j s (Ticket t) p h = let l = starts_length a.log s.seen p.0 in let m = h.sane in
       record { its_seat = h.its_seat; given = h.given; sane = (m.0, omega arith, m.2 ∙ sym (slice_longer t.mark t.next s.seen a.log p.0 m.0 m.1)); cursor = h.cursor }
   renew_role j s (Publisher p) q h = record { its_seat = h.its_seat; given = h.given; all = h.all; known = h.all; standing = h.standing }
-  renew_role j s Spent p h = tt
+  renew_role j s r p h = tt
 
   pub role_sane : (j : ℕ) (seen : List Event) (r : Role) → InRole a.book a.log a.ticket_at a.writer_at j seen r → IsSane seen r
-  role_sane j s Visitor h = tt
-  role_sane j s Note h = tt
   role_sane j s (Ticket t) h = h.sane
   role_sane j s (Publisher p) h = h.known
-  role_sane j s Spent h = tt
+  role_sane j s r h = tt
 
   pub renew : (j : ℕ) (v : View) (held : Option Book) → IsSeat rules a j v → Holds rules a j (sight a.log a.mark) held → IsSeat rules a j (view v.rules (sight a.log a.mark) v.role held None)
   renew j v held h k = record { ruled = h.ruled; part = part_whole; met_part = tt; holds = k; in_role = renew_role j v.sight v.role h.part h.in_role }
@@ -72,18 +62,12 @@ module _ {B : Type 0} (rules : Rules) (a : Account B) where
 
 pub numbered_live : (n : ℕ) (r : Role) → IsNumbered n r → IsLive r
 numbered_live n (Publisher p) h = tt
-numbered_live n Visitor h = absurd h
-numbered_live n Note h = absurd h
-numbered_live n (Ticket t) h = absurd h
-numbered_live n Spent h = absurd h
+numbered_live n r h = absurd h
 
 module _ {B : Type 0} (rules : Rules) (a a' : Account B) where
   pub fits_map : (j : ℕ) (v : View) (r : Role) → (IsSeat rules a j v → IsSeat rules a' j v) → IsSeatOr rules a j v r → IsSeatOr rules a' j v r
-  fits_map j v Visitor f h = f h
-  fits_map j v Note f h = f h
-  fits_map j v (Ticket t) f h = f h
-  fits_map j v (Publisher p) f h = f h
   fits_map j v Spent f h = tt
+  fits_map j v r f h = f h
 
 -- a record that isn't closed grows, or is closed
 pub part_longer : (log x : List Event) (s : Sight) → IsPart log 0 s → IsPart (log ++ x) 0 s
@@ -102,21 +86,13 @@ any_marked log m (Some s) p = part_marked log m s p
 
 pub number_given : (k : Book) (log : List Event) (f g : ℕ → ℕ) (j n : ℕ) (seen : List Event) (r : Role) → IsNumbered n r → InRole k log f g j seen r → IsGiven n k.numbers
 number_given k log f g j n s (Publisher p) is h = subst (λ (m : ℕ). IsGiven m k.numbers) is h.given
-number_given k log f g j n s Visitor is h = absurd is
-number_given k log f g j n s Note is h = absurd is
-number_given k log f g j n s (Ticket t) is h = absurd is
-number_given k log f g j n s Spent is h = absurd is
+number_given k log f g j n s r is h = absurd is
 
 pub number_seat : (k : Book) (log : List Event) (f g : ℕ → ℕ) (j n : ℕ) (seen : List Event) (r : Role) → IsNumbered n r → InRole k log f g j seen r → g n ≡ j
 number_seat k log f g j n s (Publisher p) is h = ap g (sym is) ∙ h.its_seat
-number_seat k log f g j n s Visitor is h = absurd is
-number_seat k log f g j n s Note is h = absurd is
-number_seat k log f g j n s (Ticket t) is h = absurd is
-number_seat k log f g j n s Spent is h = absurd is
+number_seat k log f g j n s r is h = absurd is
 
 pub in_book : (k : Book) (log : List Event) (f g : ℕ → ℕ) (j : ℕ) (seen : List Event) (r : Role) → InRole k log f g j seen r → IsInBook k r
-in_book k log f g j s Visitor h = tt
-in_book k log f g j s Note h = tt
 in_book k log f g j s (Ticket t) h = (h.given, h.cursor)
 in_book k log f g j s (Publisher p) h = (h.given, h.standing)
-in_book k log f g j s Spent h = tt
+in_book k log f g j s r h = tt

@@ -12,7 +12,7 @@ use Rattle.hub_fifodir.specs.declared.views.Writing.{Writing}
 use Rattle.hub_fifodir.specs.declared.views.Sight.{Sight}
 use Rattle.hub_fifodir.specs.declared.views.View.{View}
 use Rattle.hub_fifodir.specs.declared.views.Role.{Role}
-use Rattle.hub_fifodir.specs.declared.views.Role.TheVariants.{Visitor, Note, Ticket, Publisher, Spent}
+use Rattle.hub_fifodir.specs.declared.views.Role.TheVariants.{Ticket, Publisher}
 use Rattle.hub_fifodir.specs.Events.{front_word}
 use Rattle.hub_fifodir.specs.Rule.{LockState, held_by, lock_word, Account, IsGiven, IsPart, IsPartIfAny, InRole, IsSeat, Fits, Holds, sight, IsLive, HasId, HasSeen, HasHeld, HasClosed, At, IsNumbered, IsHome}
 use Rattle.hub_fifodir.specs.Steps.{view_with_letters, closing}
@@ -24,13 +24,11 @@ use Rattle.hub_fifodir.proofs.Looks.{Rule, its_seat}
 
 -- a publisher's own letters after a message of p: those of another publisher stay
 role_longer : (book : Book) (log : List Event) (f g : ℕ → ℕ) (id j p : ℕ) (message : List ℕ) (seen : List Event) (r : Role) → j ≢ id → g p ≡ id → InRole book log f g j seen r → InRole book (log ++ as_events p message) f g j seen r
-role_longer book log f g id j p message s Visitor n own h = tt
-role_longer book log f g id j p message s Note n own h = tt
 role_longer book log f g id j p message s (Ticket t) n own h = h
 role_longer book log f g id j p message s (Publisher q) n own h =
     let other : p ≢ q.number = λ e. n (sym h.its_seat ∙ ap g (sym e) ∙ own) in
     record { its_seat = h.its_seat; given = h.given; all = by-append q.number log (as_events p message) ∙ ap (λ (l : List ℕ). by q.number log ++ l) (by_other q.number p message other) ∙ append-nil (by q.number log) ∙ h.all; known = h.known; standing = h.standing }
-role_longer book log f g id j p message s Spent n own h = tt
+role_longer book log f g id j p message s r n own h = tt
 
 module _ {B : Type 0} (book_of : B → Book) (stands_for : Rules → List Event → ℕ → B → Type 0) (sound : Rules → List Event → Type 0) (rules : Rules) where
   abbrev St : Type 0

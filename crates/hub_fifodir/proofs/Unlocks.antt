@@ -13,7 +13,7 @@ use Rattle.hub_fifodir.specs.declared.views.Book.{Book}
 use Rattle.hub_fifodir.specs.declared.views.Sight.{Sight}
 use Rattle.hub_fifodir.specs.declared.views.View.{View}
 use Rattle.hub_fifodir.specs.declared.views.Role.{Role}
-use Rattle.hub_fifodir.specs.declared.views.Role.TheVariants.{Visitor, Note, Ticket, Publisher, Spent}
+use Rattle.hub_fifodir.specs.declared.views.Role.TheVariants.{Ticket, Publisher}
 use Rattle.hub_fifodir.specs.Locks.{is_current}
 use Rattle.hub_fifodir.specs.Rule.{free, Account, IsGiven, InRole, IsSeat, Fits, Holds, sight, resting, HasId, HasSeen, HasClosed, At, IsNumbered, cursor_of}
 use Rattle.hub_fifodir.specs.Steps.{with_value_at, Changes}
@@ -43,22 +43,18 @@ given_more n most more up g = (g.0, let a = g.1 in omega arith)
 role_ported : (k k' : Book) (log : List Event) (f g : ℕ → ℕ) (i0 n0 id j : ℕ) (seen : List Event) (r : Role) → k.ids ≤ k'.ids → k.numbers ≤ k'.numbers
     → ((i : ℕ) → i ≢ i0 → cursor_of k'.cursors i ≡ cursor_of k.cursors i) → ((n : ℕ) → n ≢ n0 → is_current k'.standing n ≡ is_current k.standing n)
     → (k.ids < i0) ⊎ (f i0 ≡ id) → (k.numbers < n0) ⊎ (g n0 ≡ id) → j ≢ id → InRole k log f g j seen r → InRole k' log (with_value_at f i0 id) (with_value_at g n0 id) j seen r
-role_ported k k' log f g i0 n0 id j s Visitor iu nu cs ss oi on ne h = tt
-role_ported k k' log f g i0 n0 id j s Note iu nu cs ss oi on ne h = tt
 role_ported k k' log f g i0 n0 id j s (Ticket t) iu nu cs ss oi on ne h =
     record { its_seat = put_same f i0 id k.ids t.id oi h.given.1 ∙ h.its_seat; given = given_more t.id k.ids k'.ids iu h.given; sane = h.sane; cursor = cs t.id (apart f i0 id j k.ids t.id oi h.given.1 h.its_seat ne) ∙ h.cursor }
 role_ported k k' log f g i0 n0 id j s (Publisher p) iu nu cs ss oi on ne h =
     record { its_seat = put_same g n0 id k.numbers p.number on h.given.1 ∙ h.its_seat; given = given_more p.number k.numbers k'.numbers nu h.given; all = h.all; known = h.known; standing = ss p.number (apart g n0 id j k.numbers p.number on h.given.1 h.its_seat ne) ∙ h.standing }
-role_ported k k' log f g i0 n0 id j s Spent iu nu cs ss oi on ne h = tt
+role_ported k k' log f g i0 n0 id j s r iu nu cs ss oi on ne h = tt
 
 -- what a seat shows of itself, after `with_value_at` has given it its id and its number
 own_ported : (k : Book) (log : List Event) (f g : ℕ → ℕ) (i0 n0 id : ℕ) (seen : List Event) (r : Role) → (k.ids < i0) ⊎ (f i0 ≡ id) → (k.numbers < n0) ⊎ (g n0 ≡ id)
     → InRole k log f g id seen r → InRole k log (with_value_at f i0 id) (with_value_at g n0 id) id seen r
-own_ported k log f g i0 n0 id s Visitor oi on h = tt
-own_ported k log f g i0 n0 id s Note oi on h = tt
 own_ported k log f g i0 n0 id s (Ticket t) oi on h = record { its_seat = put_same f i0 id k.ids t.id oi h.given.1 ∙ h.its_seat; given = h.given; sane = h.sane; cursor = h.cursor }
 own_ported k log f g i0 n0 id s (Publisher p) oi on h = record { its_seat = put_same g n0 id k.numbers p.number on h.given.1 ∙ h.its_seat; given = h.given; all = h.all; known = h.known; standing = h.standing }
-own_ported k log f g i0 n0 id s Spent oi on h = tt
+own_ported k log f g i0 n0 id s r oi on h = tt
 
 -- what was given has its seat, and what is given now has this one
 owners : (P : ℕ → View → Type 0) (views : List View) (f : ℕ → ℕ) (n0 id most more : ℕ) (v w : View) → get_elem? views id ≡ maybe.some v

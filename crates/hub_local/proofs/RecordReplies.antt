@@ -1,6 +1,7 @@
 -- A record's replies are those that the functions give.
 use Rattle.std.proofs.Common.{◌≡◌, ◌≢◌, ℕ, zero, ◌+◌, ◌<◌, true, false, List, [], ◌∷◌, ◌++◌, length, map, take, Option, Some, None, is_some, Result, Ok, Err, nat_eq, nat_lt, nat_le, refl, sym, ap, subst, ◌∙◌, inl, inr, suc, true≢false, append_assoc, append-nil, arith}
 use Rattle.std.proofs.lemmas.Bool.{cases_Bool, le-leb, lt-leb, lt-ltb, le-ltb, ne_eqb, leb-true, leb-false, ltb-true, ltb-false, eqb-true, eqb-false}
+use Rattle.std.proofs.lemmas.List.{nil_from_length}
 use Rattle.std.specs.Option.{option_map}
 use Rattle.hub_letters.specs.Marks.{Mark, mark}
 use Rattle.hub_letters.specs.Lawful.{IsLawful, IsFirstUnlawful}
@@ -94,13 +95,9 @@ first_unlawful_some Service word message i h = first_in word message i h
 no_room : (w : World) (n : ℕ) → IsFull w n → is_full w n ≡ true
 no_room w n h =
     elim (cases_Bool (nat_eq (length (standing w)) 0)) [
-      | inl e ↦ absurd (h.0 (length-none (standing w) (eqb-true _ 0 e)))
+      | inl e ↦ absurd (h.0 (nil_from_length (standing w) (eqb-true _ 0 e)))
       | inr e ↦ simp (e, lt-ltb w.limits.waiting _ h.1)
     ]
-  where
-    length-none : (xs : List (ℕ × ℕ)) → length xs ≡ 0 → xs ≡ []
-    length-none [] e = refl
-    length-none (x ∷ xs) e = absurd (let no : ⊥ = omega arith in no)
 
 room : (w : World) (n : ℕ) → HasRoom w n → is_full w n ≡ false
 room w n (inl none) = simp none

@@ -1,7 +1,7 @@
 -- Takes of the letters behind a cursor, one at a time.
 use Rattle.std.proofs.Common.{◌≡◌, if◌then◌else◌, ℕ, zero, suc, ◌+◌, ◌-◌, ◌<◌, ◌≤◌, Bool, true, false, List, [], ◌∷◌, ◌++◌, length, take, drop, get_or, min, nat_eq, Option, Some, is_some, Ok, refl, sym, ap, subst, ◌∙◌, inl, inr, true≢false, append_assoc, append-nil, ⊎_elim, arith}
 use Rattle.std.proofs.lemmas.Bool.{cases_Bool, cases_lt}
-use Rattle.std.proofs.lemmas.List.{length-drop, length-map, drop-drop, drop-map}
+use Rattle.std.proofs.lemmas.List.{length-drop, length-map, drop-drop, drop-map, nil_from_length}
 use Rattle.hub_record.specs.Kept.{Kept, StandsFor}
 use Rattle.hub_record.specs.World.{World, Subscription, letters, is_evicted, subscription_in, found_from, changed_from, with_changed, count_to_take, events_to_take, moved_on, reply_for, take_reply, take_events, moved_for, after_take, after_take_for}
 use Rattle.hub_record.specs.declared.Event.{Event}
@@ -48,10 +48,6 @@ take-then {X = X} [] (suc m) n = by n (suc m + n)
 take-then (x ∷ xs) zero n = let e : n ≡ 0 + n = omega arith in ap (λ (k : ℕ). take k (x ∷ xs)) e
 take-then (x ∷ xs) (suc m) n = let e : suc m + n ≡ suc (m + n) = omega arith in
     ap (λ (z : List _). x ∷ z) (take-then xs m n) ∙ sym (ap (λ (k : ℕ). take k (x ∷ xs)) e)
-
-length-none : {X : Type 0} (xs : List X) → length xs ≡ 0 → xs ≡ []
-length-none [] e = refl
-length-none (x ∷ xs) e = absurd (let no : ⊥ = omega arith in no)
 
 -- ---- a subscription that is changed
 
@@ -225,7 +221,7 @@ module _ (w : World) (id : ℕ) (s : Subscription) (is : subscription_in w id �
   -- none is pending
   module _ (none : length w.events ≤ s.next) (kept : Kept) (stands : StandsFor kept (after_take w id 1)) where
     pub none_behind : behind w id ≡ []
-    none_behind = let l = length-up (end_up w s.next none) in length-none (behind w id) (omega arith)
+    none_behind = let l = length-up (end_up w s.next none) in nil_from_length (behind w id) (omega arith)
 
     pub still_stands : StandsFor kept w
     still_stands = let c = count_within w s 1 in let t : count_to_take w s 1 ≡ 0 = omega arith in subst (StandsFor kept) (take_none w id s is 1 t) stands

@@ -15,8 +15,8 @@ use Rattle.hub_names.specs.Says.{says_status}
 use Rattle.hub_names.specs.Speaking.{AsksAsPublisher, found_of, fifodir_of, publisher_of}
 use Rattle.hub_names.specs.Fifodirs.{joined_at, IsFound, IsKeptAs, IsMissing, IsNewIn, IsSilent, Joins, IsAsBefore, AsksByName, KeepsAll}
 
-same_kept : (j k : Joined) (o : Option Joined) → o ≡ Some j → o ≡ Some k → j ≡ k
-same_kept j k o e f = cc
+pub one_of : {A : Type 0} (a b : A) (o : Option A) → o ≡ Some a → o ≡ Some b → a ≡ b
+one_of a b o e f = cc
 
 -- a name that was found just now
 pub joins_new : (hub : Hub) (old new : Fifodirs) (name key : List ℕ) (j : Joined) → joined_at old name ≡ None → j.publisher ≡ None → IsFoundIn hub name j.found → key ≡ name
@@ -45,7 +45,7 @@ asks_kept hub says old mid new name was now reply joins at here others asked =
     inl (record {
       before = was;
       after = now;
-      found = subst (IsFound hub old name) (same_kept joins.joined was (joined_at mid name) joins.keeps.here at) joins.found;
+      found = subst (IsFound hub old name) (one_of joins.joined was (joined_at mid name) joins.keeps.here at) joins.found;
       asked = asked;
       keeps = record { here = here; others = λ other h. others other h ∙ joins.keeps.others other h };
     })
@@ -64,7 +64,7 @@ pub status_silent : (old new : Fifodirs) (name : List ℕ) (was now : Joined) (t
     → IfNone told ((publisher_of was ≡ None) × (now ≡ was)) → IfNone told (IsSilent old name × IsAsBefore old new)
 status_silent old new name was now (Some reply) at before h = tt
 status_silent old new name was now None at before (silent, same) =
-    (λ j here. subst (λ (k : Joined). publisher_of k ≡ None) (same_kept was j (joined_at old name) at here) silent, before same)
+    (λ j here. subst (λ (k : Joined). publisher_of k ≡ None) (one_of was j (joined_at old name) at here) silent, before same)
 
 -- ---- a copy of what is kept
 
@@ -88,4 +88,4 @@ KeepsAll-trans hub a b c f g = record {
     between : (name : List ℕ) (j : Joined) → joined_at c name ≡ Some j → joined_at a name ≡ None → (o : Option Joined) → joined_at b name ≡ o → IsNewIn hub name j
     between name j e none None at = g.fresh name j e at
     between name j e none (Some k) at =
-        subst (IsNewIn hub name) (same_kept k j (joined_at c name) (g.each name k at) e) (f.fresh name k at none)
+        subst (IsNewIn hub name) (one_of k j (joined_at c name) (g.each name k at) e) (f.fresh name k at none)

@@ -1,5 +1,5 @@
 -- Every run keeps the bounds of a world, and an empty message changes nothing.
-use Rattle.std.proofs.Common.{ℕ, ◌≡◌, ◌≤◌, false, List, [], ◌∷◌, length, Option, Some, None, Ok, Err, refl, sym, ap, subst, inr, append-nil, arith}
+use Rattle.std.proofs.Common.{ℕ, ◌≡◌, ◌≤◌, false, List, [], ◌∷◌, length, Option, Some, None, Ok, refl, sym, ap, subst, inr, append-nil, arith}
 use Rattle.hub_record.specs.declared.Kind.{Kind}
 use Rattle.hub_record.specs.declared.Kind.TheVariants.{Plain, Service}
 use Rattle.hub_record.specs.declared.limits.Limits.{Limits}
@@ -8,7 +8,7 @@ use Rattle.hub_record.specs.declared.limits.Policy.TheVariants.{Hold, Evict}
 use Rattle.hub_record.specs.declared.runs.Call.{Call}
 use Rattle.hub_record.specs.declared.runs.Call.TheVariants.{Subscribe, Publish, Take, Cancel, Close}
 use Rattle.hub_record.specs.declared.runs.Said.{Said}
-use Rattle.hub_record.specs.declared.runs.Said.TheVariants.{Subscribed, Published, Took, Cancelled, Shut}
+use Rattle.hub_record.specs.declared.runs.Said.TheVariants.{Subscribed, Published}
 use Rattle.hub_record.specs.World.{World, Subscription, IsWorld, IsLawfulIn, MayPublish, subscription_in, needed, needed_by, letters, empty_world, after_take_for, after_cancel_for}
 use Rattle.hub_record.specs.Runs.{SaidTo, after_call, IsRun, world_after}
 use Rattle.hub_record.proofs.Publishing.{subscribed, published}
@@ -25,20 +25,11 @@ left w id (Some s) at i = (cancelled w id s i at).1
 
 pub call_keeps : (w : World) (call : Call) (said : Said) → IsWorld w → SaidTo w call said → IsWorld (after_call w call said)
 call_keeps w Subscribe (Subscribed (Ok given)) i said = subscribed w i said.0.left
-call_keeps w Subscribe (Subscribed (Err e)) i said = i
-call_keeps w Subscribe (Published r) i said = i
-call_keeps w Subscribe (Took r) i said = i
-call_keeps w Subscribe (Cancelled r) i said = i
-call_keeps w Subscribe (Shut r) i said = i
 call_keeps w (Publish who message) (Published (Ok first)) i said = published w who message i said.0
-call_keeps w (Publish who message) (Published (Err e)) i said = i
-call_keeps w (Publish who message) (Subscribed r) i said = i
-call_keeps w (Publish who message) (Took r) i said = i
-call_keeps w (Publish who message) (Cancelled r) i said = i
-call_keeps w (Publish who message) (Shut r) i said = i
 call_keeps w (Take id max) said i h = taken w id max (subscription_in w id) refl i
 call_keeps w (Cancel id) said i h = left w id (subscription_in w id) refl i
 call_keeps w Close said i h = record { within = i.within; loaded = i.loaded; given = i.given; lawful = i.lawful; each = i.each }
+call_keeps w call said i h = i
 
 run_keeps : (w : World) (calls : List Call) (replies : List Said) → IsWorld w → IsRun w calls replies → IsWorld (world_after w calls replies)
 run_keeps w [] replies i run = i
@@ -58,11 +49,7 @@ runs_keep kind limits calls replies run =
 
 pub nothing_changes : (w : World) (who : ℕ) (said : Said) → after_call w (Publish who []) said ≡ w
 nothing_changes w who (Published (Ok first)) = ap (λ z. record w { events = z }) (append-nil w.events)
-nothing_changes w who (Published (Err e)) = refl
-nothing_changes w who (Subscribed r) = refl
-nothing_changes w who (Took r) = refl
-nothing_changes w who (Cancelled r) = refl
-nothing_changes w who (Shut r) = refl
+nothing_changes w who said = refl
 
 nothing_needed : (w : World) (p : Policy) → w.limits.policy ≡ p → IsWorld w → needed w 0 ≤ w.limits.waiting
 nothing_needed w Hold is i = let k = ap (λ p. needed_by p w 0) is in let loaded = i.loaded in omega arith

@@ -42,26 +42,7 @@ go_on w (Take id max ∷ calls) (Took reply ∷ rest) k d run h =
 go_on w (Cancel id ∷ calls) (Cancelled reply ∷ rest) k d run h =
     go_on (after_call w (Cancel id) (Cancelled reply)) calls rest k d run.1 h ∙ ap (λ n. n + k + 1) (given_left w id (subscription_in w id))
 go_on w (Close ∷ calls) (Shut reply ∷ rest) k d run h = go_on (after_call w Close (Shut reply)) calls rest k d run.1 h
-go_on w (Subscribe ∷ calls) (Published r ∷ rest) k d run h = absurd run.0
-go_on w (Subscribe ∷ calls) (Took r ∷ rest) k d run h = absurd run.0
-go_on w (Subscribe ∷ calls) (Cancelled r ∷ rest) k d run h = absurd run.0
-go_on w (Subscribe ∷ calls) (Shut r ∷ rest) k d run h = absurd run.0
-go_on w (Publish who message ∷ calls) (Subscribed r ∷ rest) k d run h = absurd run.0
-go_on w (Publish who message ∷ calls) (Took r ∷ rest) k d run h = absurd run.0
-go_on w (Publish who message ∷ calls) (Cancelled r ∷ rest) k d run h = absurd run.0
-go_on w (Publish who message ∷ calls) (Shut r ∷ rest) k d run h = absurd run.0
-go_on w (Take id max ∷ calls) (Subscribed r ∷ rest) k d run h = absurd run.0
-go_on w (Take id max ∷ calls) (Published r ∷ rest) k d run h = absurd run.0
-go_on w (Take id max ∷ calls) (Cancelled r ∷ rest) k d run h = absurd run.0
-go_on w (Take id max ∷ calls) (Shut r ∷ rest) k d run h = absurd run.0
-go_on w (Cancel id ∷ calls) (Subscribed r ∷ rest) k d run h = absurd run.0
-go_on w (Cancel id ∷ calls) (Published r ∷ rest) k d run h = absurd run.0
-go_on w (Cancel id ∷ calls) (Took r ∷ rest) k d run h = absurd run.0
-go_on w (Cancel id ∷ calls) (Shut r ∷ rest) k d run h = absurd run.0
-go_on w (Close ∷ calls) (Subscribed r ∷ rest) k d run h = absurd run.0
-go_on w (Close ∷ calls) (Published r ∷ rest) k d run h = absurd run.0
-go_on w (Close ∷ calls) (Took r ∷ rest) k d run h = absurd run.0
-go_on w (Close ∷ calls) (Cancelled r ∷ rest) k d run h = absurd run.0
+go_on w (call ∷ calls) (said ∷ rest) k d run h = absurd run.0
 
 pub counted : (kind : Kind) (limits : Limits) (calls : List Call) (replies : List Said) (k d : ℕ) → IsRun (empty_world kind limits) calls replies → k < length (ids_given replies)
     → get_or (ids_given replies) k d ≡ k + 1

@@ -65,22 +65,19 @@ same_subscribed w (Ok x) (Ok y) h k = ap Ok (h.1 ∙ sym k.1)
 same_subscribed w (Ok x) (Err sub.Closed) h k = let p = h.0.is_open in let q = k in cc
 same_subscribed w (Ok x) (Err sub.Many) h k = let p0 = h.0.few in let p1 = h.0.left in let p2 = k.1 in absurd (omega arith)
 same_subscribed w (Ok x) (Err sub.Spent) h k = let p0 = h.0.few in let p1 = h.0.left in let p2 = k.1 in let p3 = k.2 in absurd (omega arith)
-same_subscribed w (Ok x) (Err sub.Memory) h k = absurd k
 same_subscribed w (Err sub.Closed) (Ok y) h k = let p = h in let q = k.0.is_open in cc
 same_subscribed w (Err sub.Closed) (Err sub.Closed) h k = refl
 same_subscribed w (Err sub.Closed) (Err sub.Many) h k = let p = h in let q = k.0 in cc
 same_subscribed w (Err sub.Closed) (Err sub.Spent) h k = let p = h in let q = k.0 in cc
-same_subscribed w (Err sub.Closed) (Err sub.Memory) h k = absurd k
 same_subscribed w (Err sub.Many) (Ok y) h k = let p0 = h.1 in let p1 = k.0.few in let p2 = k.0.left in absurd (omega arith)
 same_subscribed w (Err sub.Many) (Err sub.Closed) h k = let p = h.0 in let q = k in cc
 same_subscribed w (Err sub.Many) (Err sub.Many) h k = refl
 same_subscribed w (Err sub.Many) (Err sub.Spent) h k = let p0 = h.1 in let p1 = k.1 in let p2 = k.2 in absurd (omega arith)
-same_subscribed w (Err sub.Many) (Err sub.Memory) h k = absurd k
 same_subscribed w (Err sub.Spent) (Ok y) h k = let p0 = h.1 in let p1 = h.2 in let p2 = k.0.few in let p3 = k.0.left in absurd (omega arith)
 same_subscribed w (Err sub.Spent) (Err sub.Closed) h k = let p = h.0 in let q = k in cc
 same_subscribed w (Err sub.Spent) (Err sub.Many) h k = let p0 = h.1 in let p1 = h.2 in let p2 = k.1 in absurd (omega arith)
 same_subscribed w (Err sub.Spent) (Err sub.Spent) h k = refl
-same_subscribed w (Err sub.Spent) (Err sub.Memory) h k = absurd k
+same_subscribed w a (Err sub.Memory) h k = absurd k
 same_subscribed w (Err sub.Memory) b h k = absurd h
 
 same_published : (w : World) (who : ℕ) (message : List ℕ) (a b : Result ℕ PubError) → SaidTo w (Publish who message) (Published a) → SaidTo w (Publish who message) (Published b) → a ≡ b
@@ -112,50 +109,16 @@ same_published w who message (Err post.Full) (Err post.Full) h k = refl
 
 pub same_reply : (w : World) (call : Call) (one other : Said) → SaidTo w call one → SaidTo w call other → one ≡ other
 same_reply w Subscribe (Subscribed a) (Subscribed b) h k = ap Subscribed (same_subscribed w a b h k)
-same_reply w Subscribe (Subscribed a) (Published b) h k = absurd k
-same_reply w Subscribe (Subscribed a) (Took b) h k = absurd k
-same_reply w Subscribe (Subscribed a) (Cancelled b) h k = absurd k
-same_reply w Subscribe (Subscribed a) (Shut b) h k = absurd k
-same_reply w Subscribe (Published a) other h k = absurd h
-same_reply w Subscribe (Took a) other h k = absurd h
-same_reply w Subscribe (Cancelled a) other h k = absurd h
-same_reply w Subscribe (Shut a) other h k = absurd h
-same_reply w (Publish who message) (Subscribed a) other h k = absurd h
-same_reply w (Publish who message) (Published a) (Subscribed b) h k = absurd k
 same_reply w (Publish who message) (Published a) (Published b) h k = ap Published (same_published w who message a b h k)
-same_reply w (Publish who message) (Published a) (Took b) h k = absurd k
-same_reply w (Publish who message) (Published a) (Cancelled b) h k = absurd k
-same_reply w (Publish who message) (Published a) (Shut b) h k = absurd k
-same_reply w (Publish who message) (Took a) other h k = absurd h
-same_reply w (Publish who message) (Cancelled a) other h k = absurd h
-same_reply w (Publish who message) (Shut a) other h k = absurd h
-same_reply w (Take id max) (Subscribed a) other h k = absurd h
-same_reply w (Take id max) (Published a) other h k = absurd h
-same_reply w (Take id max) (Took a) (Subscribed b) h k = absurd k
-same_reply w (Take id max) (Took a) (Published b) h k = absurd k
 same_reply w (Take id max) (Took a) (Took b) h k = ap Took (h ∙ sym k)
-same_reply w (Take id max) (Took a) (Cancelled b) h k = absurd k
-same_reply w (Take id max) (Took a) (Shut b) h k = absurd k
-same_reply w (Take id max) (Cancelled a) other h k = absurd h
-same_reply w (Take id max) (Shut a) other h k = absurd h
-same_reply w (Cancel id) (Subscribed a) other h k = absurd h
-same_reply w (Cancel id) (Published a) other h k = absurd h
-same_reply w (Cancel id) (Took a) other h k = absurd h
-same_reply w (Cancel id) (Cancelled a) (Subscribed b) h k = absurd k
-same_reply w (Cancel id) (Cancelled a) (Published b) h k = absurd k
-same_reply w (Cancel id) (Cancelled a) (Took b) h k = absurd k
 same_reply w (Cancel id) (Cancelled a) (Cancelled b) h k = ap Cancelled (h ∙ sym k)
-same_reply w (Cancel id) (Cancelled a) (Shut b) h k = absurd k
-same_reply w (Cancel id) (Shut a) other h k = absurd h
-same_reply w Close (Subscribed a) other h k = absurd h
-same_reply w Close (Published a) other h k = absurd h
-same_reply w Close (Took a) other h k = absurd h
-same_reply w Close (Cancelled a) other h k = absurd h
-same_reply w Close (Shut a) (Subscribed b) h k = absurd k
-same_reply w Close (Shut a) (Published b) h k = absurd k
-same_reply w Close (Shut a) (Took b) h k = absurd k
-same_reply w Close (Shut a) (Cancelled b) h k = absurd k
 same_reply w Close (Shut a) (Shut b) h k = ap Shut (h ∙ sym k)
+same_reply w Subscribe (Subscribed a) other h k = absurd k
+same_reply w (Publish who message) (Published a) other h k = absurd k
+same_reply w (Take id max) (Took a) other h k = absurd k
+same_reply w (Cancel id) (Cancelled a) other h k = absurd k
+same_reply w Close (Shut a) other h k = absurd k
+same_reply w call one other h k = absurd h
 
 pub same_world : (w : World) (call : Call) (one other : Said) → SaidTo w call one → SaidTo w call other → after_call w call one ≡ after_call w call other
 same_world w call one other h k = ap (after_call w call) (same_reply w call one other h k)

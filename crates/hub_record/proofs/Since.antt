@@ -7,9 +7,9 @@ use Rattle.hub_record.specs.declared.Event.{Event}
 use Rattle.hub_record.specs.declared.SubError.{SubError}
 use Rattle.hub_record.specs.declared.PubError.{PubError}
 use Rattle.hub_record.specs.declared.runs.Call.{Call}
-use Rattle.hub_record.specs.declared.runs.Call.TheVariants.{Subscribe, Publish, Take, Cancel, Close}
+use Rattle.hub_record.specs.declared.runs.Call.TheVariants.{Subscribe, Publish, Take, Cancel}
 use Rattle.hub_record.specs.declared.runs.Said.{Said}
-use Rattle.hub_record.specs.declared.runs.Said.TheVariants.{Subscribed, Published, Took, Cancelled, Shut}
+use Rattle.hub_record.specs.declared.runs.Said.TheVariants.{Subscribed, Published}
 use Rattle.hub_record.specs.World.{World, Subscription, subscription_in, changed_from, new_subscription, as_events, moved_on, count_to_take, as_cancelled, after_subscribe, after_publish, after_take_for, after_cancel_for}
 use Rattle.hub_record.proofs.Policies.{count_within}
 use Rattle.hub_record.specs.Runs.{after_call, world_after, GathersSinceMark, EachGathersSinceMark, AllGatherSinceMark, by, letters_accepted, letters_published}
@@ -77,18 +77,10 @@ follows_publish w who message (Err e) h = h
 
 follows_call : (w : World) (call : Call) (said : Said) → AllGatherSinceMark w → AllGatherSinceMark (after_call w call said)
 follows_call w Subscribe (Subscribed r) h = follows_subscribe w r h
-follows_call w Subscribe (Published r) h = h
-follows_call w Subscribe (Took r) h = h
-follows_call w Subscribe (Cancelled r) h = h
-follows_call w Subscribe (Shut r) h = h
 follows_call w (Publish who message) (Published r) h = follows_publish w who message r h
-follows_call w (Publish who message) (Subscribed r) h = h
-follows_call w (Publish who message) (Took r) h = h
-follows_call w (Publish who message) (Cancelled r) h = h
-follows_call w (Publish who message) (Shut r) h = h
 follows_call w (Take id max) said h = follows_take w id max (subscription_in w id) h
 follows_call w (Cancel id) said h = follows_cancel w id (subscription_in w id) h
-follows_call w Close said h = h
+follows_call w call said h = h
 
 pub run_follows : (w : World) (calls : List Call) (replies : List Said) → AllGatherSinceMark w → AllGatherSinceMark (world_after w calls replies)
 run_follows w [] replies h = h
@@ -127,18 +119,10 @@ own_publish p w who message (Err e) = sym (append-nil (by p w.events))
 
 own_call : (p : ℕ) (w : World) (call : Call) (said : Said) → by p (after_call w call said).events ≡ by p w.events ++ letters_accepted p call said
 own_call p w Subscribe (Subscribed r) = own_subscribe p w r
-own_call p w Subscribe (Published r) = sym (append-nil (by p w.events))
-own_call p w Subscribe (Took r) = sym (append-nil (by p w.events))
-own_call p w Subscribe (Cancelled r) = sym (append-nil (by p w.events))
-own_call p w Subscribe (Shut r) = sym (append-nil (by p w.events))
 own_call p w (Publish who message) (Published r) = own_publish p w who message r
-own_call p w (Publish who message) (Subscribed r) = sym (append-nil (by p w.events))
-own_call p w (Publish who message) (Took r) = sym (append-nil (by p w.events))
-own_call p w (Publish who message) (Cancelled r) = sym (append-nil (by p w.events))
-own_call p w (Publish who message) (Shut r) = sym (append-nil (by p w.events))
 own_call p w (Take id max) said = own_take p w id max (subscription_in w id)
 own_call p w (Cancel id) said = own_cancel p w id (subscription_in w id)
-own_call p w Close said = sym (append-nil (by p w.events))
+own_call p w call said = sym (append-nil (by p w.events))
 
 pub run_published : (p : ℕ) (w : World) (calls : List Call) (replies : List Said) → by p (world_after w calls replies).events ≡ by p w.events ++ letters_published p calls replies
 run_published p w [] replies = sym (append-nil (by p w.events))

@@ -18,6 +18,7 @@ use Rattle.hub_names.specs.declared.fifodirs.Fifodirs.{Fifodirs}
 use Rattle.hub_names.specs.declared.joined.Joined.{Joined}
 use Rattle.hub_names.specs.Fifodirs.{AsksByName, KeepsAll, KeepsNone, joined_at}
 use Rattle.hub_names.specs.Hubs.{IsFoundIn}
+use Rattle.hub_names.proofs.KeptFifodirs.{one_of}
 use Rattle.hub_names.specs.Speaking.{AsksAsPublisher, fifodir_of}
 use Rattle.hub_handles.specs.declared.handles.Handles.{Handles}
 use Rattle.hub_handles.specs.declared.session_listener.SessionListener.{SessionListener}
@@ -28,9 +29,6 @@ use Rattle.hub_handles.specs.Hearings.{Polls, ends_by}
 use Rattle.hub_handles.specs.Taking.{IsSameTicket, Takes, name_of}
 use Rattle.hub_shared.specs.Desks.{CarriesOut, ListensTo, SubscribesTo}
 use Rattle.hub_shared.specs.Named.{AreNamed, IsNamed, StaysNamed}
-
-one_of : {A : Type 0} (a b : A) (o : Option A) → o ≡ Some a → o ≡ Some b → a ≡ b
-one_of a b o e f = cc
 
 not_both : {A : Type 0} (a : A) (o : Option A) → o ≡ Some a → o ≡ None → ⊥
 not_both a o e f = cc

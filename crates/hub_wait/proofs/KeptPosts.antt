@@ -1,5 +1,6 @@
 -- Posts that are kept and that catch up, one by one and all together, and the states that they name.
-use Rattle.std.proofs.Common.{◌≡◌, ℕ, suc, ◌+◌, ◌<◌, ◌≤◌, Bool, true, false, ◌&&◌, Some, None, List, [], ◌∷◌, ◌++◌, if◌then◌else◌, inl, inr, append-nil, length, get_or, slice_set, refl, sym, subst, ⊎_elim, ◌∙◌, ap, append_assoc, arith, get_or-set_other}
+use Rattle.std.proofs.Common.{◌≡◌, ℕ, suc, ◌+◌, ◌<◌, ◌≤◌, Bool, true, false, Some, None, List, [], ◌∷◌, ◌++◌, if◌then◌else◌, inl, inr, append-nil, length, get_or, slice_set, refl, sym, subst, ⊎_elim, ◌∙◌, ap, append_assoc, arith, get_or-set_other}
+use Rattle.std.proofs.Math.Bool.{and-false}
 use Rattle.std.specs.Prelude.{All, Any}
 use Rattle.std.specs.List.{list_all, list_any}
 use Rattle.std.proofs.lemmas.Bool.{cases_Bool, cases_eq}
@@ -9,7 +10,7 @@ use Rattle.std.proofs.lemmas.Grind.{get_or-set_at}
 use Rattle.hub_wait.specs.declared.post.Post.{Post}
 use Rattle.hub_letters.specs.declared.flags.Flags.{Flags}
 use Rattle.hub_letters.specs.declared.want.Want.{Want}
-use Rattle.hub_letters.specs.declared.want.Want.TheVariants.{Up, Ready, Down, Finished, Restarted, RestartedReady}
+use Rattle.hub_letters.specs.declared.want.Want.TheVariants.{Restarted, RestartedReady}
 use Rattle.hub_letters.specs.Flags.{flags_of}
 use Rattle.hub_letters.specs.Wants.{is_met}
 use Rattle.hub_letters.specs.declared.span.Span.{Span}
@@ -105,17 +106,10 @@ CaughtUpBelow-set old posts i now was below count c one = let inside : i < lengt
 
 -- ---- what a yes names
 
-and_false : (b : Bool) → (b && false) ≡ false
-and_false true = refl
-and_false false = refl
-
 met_by_fall : (want : Want) (flags : Flags) (notifies : Bool) → is_met want flags notifies false ≡ true → is_met want flags notifies true ≡ true
-met_by_fall Up flags notifies e = e
-met_by_fall Ready flags notifies e = e
-met_by_fall Down flags notifies e = e
-met_by_fall Finished flags notifies e = e
-met_by_fall Restarted flags notifies e = absurd (let z = sym (and_false flags.up) ∙ e in cc)
-met_by_fall RestartedReady flags notifies e = absurd (let z = sym (and_false _) ∙ e in cc)
+met_by_fall Restarted flags notifies e = absurd (let z = sym (and-false flags.up) ∙ e in cc)
+met_by_fall RestartedReady flags notifies e = absurd (let z = sym (and-false _) ∙ e in cc)
+met_by_fall want flags notifies e = e
 
 -- what is met without a fall is met with one
 still_met : (want : Want) (flags : Flags) (notifies fell falls : Bool) → (fell ≡ true → falls ≡ true) → is_met want flags notifies fell ≡ true → is_met want flags notifies falls ≡ true

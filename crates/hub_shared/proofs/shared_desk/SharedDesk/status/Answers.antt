@@ -8,16 +8,9 @@ use Rattle.hub_shared.proofs.shared_desk.SharedDesk.status.Goals as goal
 
 pub returns-in-None : goal.returns-in-None
 returns-in-None g c =
-    let name = c.args.name.now in
-    let reply = c.speak.result in
+    let handles = c.args.self.now.handles in
+    let fifodirs = c.args.self.now.fifodirs in
     let new = c.speak.new.self in
-    let said = subst (λ (hub : Hub). AsksByName hub says_status c.status.new.self name reply new) c.deref.ensures c.speak.ensures in
-    record {
-      hub = refl;
-      pause = refl;
-      client = refl;
-      answers = (
-        asks_as_before (arc_value c.args.self.now.hub) says_status c.args.self.now.fifodirs c.status.new.self new name reply c.in-None.ensures.none.1 said,
-        refl {a = c.args.self.now.handles},
-      );
-    }
+    let said = subst (λ (hub : Hub). AsksByName hub says_status c.status.new.self c.args.name.now c.speak.result new) c.deref.ensures c.speak.ensures in
+    let asked = asks_as_before (arc_value c.args.self.now.hub) says_status fifodirs c.status.new.self new c.args.name.now c.speak.result c.in-None.ensures.none.1 said in
+    record { hub = refl; pause = refl; client = refl; answers = (asked, refl {a = handles}) }

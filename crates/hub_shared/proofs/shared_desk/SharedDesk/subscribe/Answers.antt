@@ -5,12 +5,7 @@ use Rattle.hub_shared.proofs.Handling.{subscribes_to}
 use Rattle.hub_shared.proofs.shared_desk.SharedDesk.subscribe.Goals as goal
 
 pub returns-in-Ok : goal.returns-in-Ok
-returns-in-Ok g c = record {
-  hub = refl;
-  pause = refl;
-  client = refl;
-  answers = (
-    subst (λ (hub : Hub). KeepsAll hub c.args.self.now.fifodirs c.find.new.self) c.deref.ensures c.in-Ok.ensures.kept,
-    subscribes_to c.find.new.self c.args.name.now c.in-Ok.found c.args.self.now.handles c.subscribe.new.self c.subscribe.result c.in-Ok.ensures.ok c.subscribe.ensures,
-  );
-}
+returns-in-Ok g c =
+    let kept = subst (λ (hub : Hub). KeepsAll hub c.args.self.now.fifodirs c.find.new.self) c.deref.ensures c.in-Ok.ensures.kept in
+    let given = subscribes_to c.find.new.self c.args.name.now c.in-Ok.found c.args.self.now.handles c.subscribe.new.self c.subscribe.result c.in-Ok.ensures.ok c.subscribe.ensures in
+    record { hub = refl; pause = refl; client = refl; answers = (kept, given) }
