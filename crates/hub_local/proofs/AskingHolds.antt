@@ -1,6 +1,7 @@
 -- The requests that begin a subscription or a listener: one more handle.
-use Rattle.std.proofs.Common.{◌≡◌, ℕ, ◌+◌, Bool, true, false, List, [], ◌∷◌, ◌++◌, length, nat_eq, Option, Some, None, is_some, Result, Ok, Err, refl, sym, ap, subst, ◌∙◌, inl, inr, length-append, true≢false, arith}
+use Rattle.std.proofs.Common.{◌≡◌, ℕ, ◌+◌, Bool, true, false, List, [], ◌∷◌, ◌++◌, length, nat_eq, Option, Some, None, is_some, Result, Ok, Err, refl, sym, ap, subst, ◌∙◌, inl, inr, true≢false, arith}
 use Rattle.std.proofs.lemmas.Slice.Eq.{bytes_eq-Decides}
+use Rattle.std.proofs.lemmas.List.{length_push}
 use Rattle.std.specs.Map.{lookup, set_value}
 use Rattle.std.specs.Str.{bytes_eq}
 use Rattle.hub_listen.specs.Listening.{Listening, new_listening}
@@ -12,7 +13,7 @@ use Rattle.hub_record.specs.Kept.{Kept, StandsFor}
 use Rattle.hub_record.specs.World.{World, new_subscription, SubscribeReply, after_subscribe}
 use Rattle.hub_local.specs.Beginning.{Begins}
 use Rattle.hub_local.specs.DeskAnswers.{in_world, refusal_to_hold, refusal_to_listen, subscribe_answer}
-use Rattle.hub_local.specs.Desks.{Fifodir, Desk, Handle, standing, world_of, with_world, subscription_of, AreHeld, AreApart, GoesOn, AllGoOn, refusal_answer}
+use Rattle.hub_local.specs.Desks.{Fifodir, Desk, standing, world_of, with_world, subscription_of, AreHeld, AreApart, GoesOn, AllGoOn, refusal_answer}
 use Rattle.hub_local.specs.Opening.{is_there}
 use Rattle.hub_local.specs.Replies.{subscribe_reply}
 use Rattle.hub_requests.specs.Refusals.{refusal_of_sub}
@@ -34,9 +35,6 @@ use Rattle.hub_local.proofs.Worlds.{found-push, found_new}
 
 same_name : (name : List ℕ) → bytes_eq name name ≡ true
 same_name name = (bytes_eq-Decides name name).1 refl
-
-length-push : (hs : List Handle) (h : Handle) → length (hs ++ h ∷ []) ≡ length hs + 1
-length-push hs h = length-append hs (h ∷ [])
 
 -- ---- the desk's own refusal
 
@@ -134,7 +132,7 @@ module _ (old new : Local) (name : List ℕ) (hearing : Option LocalListener) (m
         stands = record {
           fifodirs = subst (λ (r : Result (ℕ × ℕ) SubError). AreKept new.fifodirs (with_world d.fifodirs name (after_subscribe w r))) b.said b.kept;
           holdings = holdings ∙ ap (λ (es : List (ℕ × Holding)). es ++ (old.given + 1, h) ∷ []) st.holdings ∙ sym stood;
-          given = number ∙ same ∙ sym (length-push d.handles _);
+          given = number ∙ same ∙ sym (length_push d.handles _);
           is_desk = record {
             held = subst (AreHeld fs) (sym stood) (held_push fs (standing d) (old.given + 1, h) still there_now);
             apart = subst AreApart (sym stood) (apart_push d.fifodirs (standing d) (old.given + 1, h) st.is_desk.apart st.is_desk.held

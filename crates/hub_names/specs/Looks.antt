@@ -8,15 +8,15 @@ use Rattle.hub_requests.specs.declared.reply.Refusal.TheVariants as no
 use Rattle.hub_requests.specs.declared.reply.Reply.{Reply}
 use Rattle.hub_requests.specs.declared.reply.Reply.TheVariants.{No}
 use Rattle.hub_names.specs.declared.hub.Hub.{Hub}
-use Rattle.hub_names.specs.declared.hub.Look.{Look}
+use Rattle.hub_names.specs.declared.hub.NamesLook.{NamesLook}
 use Rattle.hub_names.specs.declared.fifodirs.Fifodirs.{Fifodirs}
 
 -- the names that were seen, in the order in which they were made
-abbrev pub names_seen : Look → List (List ℕ)
+abbrev pub names_seen : NamesLook → List (List ℕ)
 names_seen look = keys look.named.value.fifodirs
 
 -- at this hub at most 256 names were seen, and none twice
-pub record IsLookAt (hub : Hub) (look : Look) : Type 0 where
+pub record IsLookAt (hub : Hub) (look : NamesLook) : Type 0 where
   pub hub_is : look.hub.value ≡ hub
   pub few : length (names_seen look) ≤ MOST_NAMES
   pub unlike : IsUnique bytes_eq look.named.value.fifodirs
@@ -27,7 +27,7 @@ Lists names from reply = (reply ≡ names_reply names from) ⊎ ((reply ≡ No n
 
 -- the session has looked at its hub, is told what it saw there, and keeps what it kept
 pub record AsksNames (hub : Hub) (old : Fifodirs) (from : ℕ) (reply : Reply) (new : Fifodirs) : Type 0 where
-  pub look : Look
+  pub look : NamesLook
   pub looked : IsLookAt hub look
   pub lists : Lists (names_seen look) from reply
   pub kept : new ≡ record old { look = Some look }

@@ -3,7 +3,7 @@ ghost use Rattle.std.specs.Prelude.{◌≡◌, None, IfErr, IfNone, IfSome, OnOk
 ghost use Rattle.hub_names.specs.Says.{says, says_status};
 ghost use Rattle.hub_names.specs.declared.hub.Hub.{Hub};
 
-use crate::hub::{Hub, Look, Made};
+use crate::hub::{Hub, Made, NamesLook};
 use crate::joined::Joined;
 use crate::speech::Speech;
 use hub_requests::{Name, Refusal, Reply};
@@ -20,7 +20,7 @@ pub struct Fifodirs {
     alloc: Global,
     by_name: IndexMap<Name, Joined>,
     /// What the session last saw of its hub's names.
-    look: Option<Look>,
+    look: Option<NamesLook>,
 }
 
 impl Fifodirs {

@@ -109,22 +109,22 @@ impl Found {
 
 /// What a session saw of a hub's names at one moment, as contracts see it: it has no bytes. Only [`Hub::list`] makes one.
 #[derive(Drop)]
-pub struct Look {
+pub struct NamesLook {
     hub: Snapshot<Hub>,
     /// What was under the hub's lock.
     named: Snapshot<Named>,
 }
 
-impl Look {
+impl NamesLook {
     ghost use Rattle.hub_names.specs.Looks.{IsLookAt, names_seen};
 
     /// A look at what the hub has under its lock.
-    fn at(hub: &Hub, named: &Named) -> Look
+    fn at(hub: &Hub, named: &Named) -> NamesLook
         ensures at { IsLookAt hub.now result }
         ensures seen { names_seen result ≡ keys named.now.fifodirs }
     {
         prove!(named.fifodirs.len() <= MOST_NAMES);
-        Look {
+        NamesLook {
             hub: Snapshot::of(hub),
             named: Snapshot::of(named),
         }
@@ -271,11 +271,11 @@ impl Hub {
 
     /// The names from place `from` on, in the order in which they were made and as many as fit in one reply, with the look at
     /// the hub that saw them.
-    pub fn list<H: Wait>(&self, rt: &H, from: u64) -> (Look, Reply)
+    pub fn list<H: Wait>(&self, rt: &H, from: u64) -> (NamesLook, Reply)
         ensures at { IsLookAt self.now result.0 }
         ensures lists { Lists (names_seen result.0) from result.1 }
     {
         let named = self.named.read(rt);
-        (Look::at(self, &named), named.list(from))
+        (NamesLook::at(self, &named), named.list(from))
     }
 }

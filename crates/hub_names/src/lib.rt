@@ -14,5 +14,5 @@ mod joined;
 mod speech;
 
 pub use fifodirs::Fifodirs;
-pub use hub::{Found, Hub, HubError, Look, Made};
+pub use hub::{Found, Hub, HubError, Made, NamesLook};
 pub use speech::Speech;

@@ -1,7 +1,8 @@
 -- What letters add to a watch, and a watch along a history.
 use Rattle.std.proofs.Common.{◌≡◌, ℕ, ◌+◌, ◌-◌, ◌<◌, ◌≤◌, List, [], ◌∷◌, ◌++◌, map, take, drop, length, max, Bool, true, false, ◌||◌, Option, Some, None, if◌then◌else◌, length-drop, append-nil, subst, refl, ⊎_elim, sym, ap, ◌∙◌, arith}
+use Rattle.std.proofs.Math.Bool.{or-false, or-true, or_assoc}
 use Rattle.std.specs.List.{list_any}
-use Rattle.std.proofs.lemmas.Bool.{cases_lt}
+use Rattle.std.proofs.lemmas.Bool.{or_parts, cases_lt}
 use Rattle.std.proofs.lemmas.List.{map-append, drop_all, take_all, take-append-drop, drop-append-le, drop-drop, take-take, length-take, length-take-le}
 use Rattle.std.proofs.lemmas.List.Folds.{list_any-append}
 use Rattle.hub_letters.specs.declared.flags.Flags.{Flags}
@@ -187,18 +188,6 @@ begin_at_any_status history want notifies status is = record {
   misses_no_fall = λ e. sym (none_fell history status.number) ∙ e;
 }
 
-or_assoc : (a b c : Bool) → ((a || b) || c) ≡ (a || (b || c))
-or_assoc true b c = refl
-or_assoc false b c = refl
-
-or_false : (a : Bool) → a ≡ (a || false)
-or_false true = refl
-or_false false = refl
-
-or_true : (a : Bool) → true ≡ (a || true)
-or_true true = refl
-or_true false = refl
-
 -- what moves have made of a watch, after one more move before them
 after_first : (history : List ℕ) (m : Move) (ms : List Move) (w v new : Watching) → HasMoved history ms v new
     → (is_renewal m ≡ false → MissesNoFall w history → MissesNoFall v history) → v.since ≡ w.since → v.at ≡ reach w.at m → v.want ≡ w.want → v.notifies ≡ w.notifies
@@ -213,18 +202,14 @@ after_first history m ms w v new rest first since at want notifies ended = recor
   notifies = rest.notifies ∙ notifies;
   ended = rest.ended ∙ ap (λ e. e || list_any is_end ms) ended ∙ or_assoc w.ended (is_end m) (list_any is_end ms);
 }
-  where
-    or_parts : (a b : Bool) → (a || b) ≡ false → (a ≡ false) × (b ≡ false)
-    or_parts false b e = (refl, e)
-    or_parts true b e = absurd (let z = e in cc)
 
 pub follow_any_slices : FollowAnySlices
-follow_any_slices history [] w f g are = record { follows = f; falls = g; misses_no_fall = λ kept none. none; since = refl; at = refl; want = refl; notifies = refl; ended = or_false w.ended }
+follow_any_slices history [] w f g are = record { follows = f; falls = g; misses_no_fall = λ kept none. none; since = refl; at = refl; want = refl; notifies = refl; ended = sym (or-false w.ended) }
 follow_any_slices history (Step first letters ∷ ms) w f g are =
     let follows = ShowsFlagsOf-stepped w history letters first are.0.0 f are.0.1 in
     let rest = follow_any_slices history ms (watching_after_step w first letters) follows (ShowsFallsOf-stepped w history letters first are.0.0 f.within g are.0.1) are.1 in
     after_first history (Step first letters) ms w (watching_after_step w first letters) _ rest
-    (λ kept none. MissesNoFall-stepped w history letters first are.0.0 f.within g.begun are.0.1 none) refl refl refl refl (or_false w.ended)
+    (λ kept none. MissesNoFall-stepped w history letters first are.0.0 f.within g.begun are.0.1 none) refl refl refl refl (sym (or-false w.ended))
 follow_any_slices history (Renew status ∷ ms) w f g are =
     let follows : ShowsFlagsOf (renewed_by w status) history = record { within = are.0.1.within; flags = are.0.1.flags } in
     let rest = follow_any_slices history ms (renewed_by w status) follows (ShowsFallsOf-renewed w history status f.within are.0.0 g) are.1 in
@@ -233,4 +218,4 @@ follow_any_slices history (End ∷ ms) w f g are =
     let ended = record w { ended = true } in
     let follows : ShowsFlagsOf ended history = record { within = f.within; flags = f.flags } in
     let rest = follow_any_slices history ms ended follows (record { begun = g.begun; only = g.only }) are.1 in
-    after_first history End ms w ended _ rest (λ kept none. none) refl refl refl refl (or_true w.ended)
+    after_first history End ms w ended _ rest (λ kept none. none) refl refl refl refl (sym (or-true w.ended))
