@@ -37,12 +37,12 @@ abbrev pub listener_of : Handles → ℕ → Option SessionListener
 listener_of hs id = lookup (nat_eq id) hs.listeners.entries
 
 -- how many handles are current
-abbrev pub standing : Handles → ℕ
-standing hs = index_map_len hs.subscriptions + index_map_len hs.listeners
+abbrev pub current_handles : Handles → ℕ
+current_handles hs = index_map_len hs.subscriptions + index_map_len hs.listeners
 
 -- why no further handle may be given; none if one may
 abbrev pub refusal_of : Handles → Option Refusal
-refusal_of hs = refusal_of_handle (standing hs) (given_of hs)
+refusal_of hs = refusal_of_handle (current_handles hs) (given_of hs)
 
 -- it comes before any other
 abbrev pub IsFirst : Option Refusal → (Refusal → Type 0) → Refusal → Type 0
@@ -71,7 +71,7 @@ pub record IsStill (old new : Handles) : Type 0 where
 
 -- the number is the next one, which was never given
 pub record IsNext (old : Handles) (number : ℕ) (new : Handles) : Type 0 where
-  pub few : standing old < MOST_HANDLES
+  pub few : current_handles old < MOST_HANDLES
   pub next : number ≡ old.given + 1
   pub within : number ≤ MOST_NUMBERS
   pub given : new.given ≡ number

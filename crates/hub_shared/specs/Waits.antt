@@ -80,7 +80,7 @@ Shows span posts answer.Never = IsAnswer span (watches_of posts) verdict.Never
 Shows span posts answer.Late = IsAnswer span (watches_of posts) verdict.Late
 Shows span posts _ = ⊥
 
--- that of the posts that were opened, as they stood in the end
+-- that of the posts that were opened, as they were in the end
 pub record Settles (span : Span) (opened : List Post) (reply : Reply) : Type 0 where
   pub posts : List Post
   pub kept : AreKept opened posts
