@@ -20,6 +20,8 @@ TOP = os.path.dirname(os.path.dirname(os.path.realpath(__file__)))
 CONNECT = "ftrighub: cannot connect\n"
 NO_ANSWER = "ftrighub: no answer\n"
 UNKNOWN = "ftrighub: unknown reply\n"
+# What has to happen happens within so many seconds, also on a slow machine with much else to do.
+PATIENCE = 60
 
 
 def show_stacks(then=signal.SIG_DFL):
@@ -42,7 +44,7 @@ def the_program():
     return os.path.abspath(sys.argv[1] if len(sys.argv) > 1 else f"{TOP}/crates/hub_cli/out/hub_cli")
 
 
-def seen_by(check, seconds=10, of=None):
+def seen_by(check, seconds=PATIENCE, of=None):
     """Whether the check holds within so many seconds, and before the process that it is of has ended."""
     deadline = time.monotonic() + seconds
     while not check():
@@ -53,14 +55,14 @@ def seen_by(check, seconds=10, of=None):
 
 
 class Client:
-    """A connection to the hub. If nobody listens yet, it tries for ten seconds, or until the hub's process has ended, and then fails."""
+    """A connection to the hub. If nobody listens yet, it tries until the hub's process has ended, or for a minute, and then fails."""
 
     def __init__(self, path, process=None):
         self.stream = socket.socket(socket.AF_UNIX)
         if not seen_by(lambda: self.stream.connect_ex(path) == 0, of=process):
             ended = f", and the hub has ended with status {process.returncode}" if process and process.poll() is not None else ""
             raise ConnectionRefusedError(f"nobody listens at {path}{ended}")
-        self.stream.settimeout(60)
+        self.stream.settimeout(PATIENCE)
         self.replies = self.stream.makefile("rb")
 
     def send(self, text):
@@ -82,8 +84,7 @@ class Client:
         return [self.reply() for _ in texts]
 
     def rest(self):
-        """The replies up to the end of the connection, or nothing if it doesn't end in ten seconds."""
-        self.stream.settimeout(10)
+        """The replies up to the end of the connection, or nothing if it doesn't end in a minute."""
         try:
             return self.replies.read().decode()
         except TimeoutError:
@@ -109,7 +110,7 @@ class Hub:
         if files is not None:
             resource.prlimit(self.process.pid, resource.RLIMIT_NOFILE, (files, files))
 
-    def told(self, seconds=60):
+    def told(self, seconds=PATIENCE):
         """Waits for so long until the hub has written to its descriptor or has ended, and returns what it wrote."""
         return os.read(self.ready, 16) if select.select([self.ready], [], [], seconds)[0] else b""
 
@@ -133,6 +134,10 @@ class Hub:
 
     def switches(self):
         return switches(self.process.pid)
+
+    def descriptors(self):
+        """How many descriptors it has open. Each session has one."""
+        return len(os.listdir(f"/proc/{self.process.pid}/fd"))
 
 
 def number_of(task, what):
@@ -163,7 +168,7 @@ class Program:
         """Runs the program with these words, and returns its status, its output and what it says on standard error. In its
         environment `known` is the path of the socket. The status is None if it doesn't end in a minute."""
         try:
-            done = subprocess.run([self.path, *words], env=environment(known), stdin=subprocess.DEVNULL, timeout=60, check=False,
+            done = subprocess.run([self.path, *words], env=environment(known), stdin=subprocess.DEVNULL, timeout=PATIENCE, check=False,
                                   **{"stdout": subprocess.PIPE, "stderr": subprocess.PIPE, **streams})
         except subprocess.TimeoutExpired:
             return None, "", ""

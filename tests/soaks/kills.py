@@ -9,7 +9,7 @@ import signal
 import tempfile
 import time
 
-from hubs import Client, Hub
+from hubs import PATIENCE, Client, Hub, seen_by
 from soaks.workers import Worker, started
 
 # Four clients publish frames of so many letters: the client's own letter, and the frame's number.
@@ -69,9 +69,7 @@ class Signs:
         return all(os.path.exists(f"{self.folder}/{word}") for word in words)
 
     def wait_for(self, *words):
-        deadline = time.monotonic() + 20
-        while not self.are_given(*words) and time.monotonic() < deadline:
-            time.sleep(0.01)
+        seen_by(lambda: self.are_given(*words))
 
 
 def publish(client, letter, numbers):
@@ -155,16 +153,17 @@ def check(program, folder, report, is_long):
     signs = Signs(tempfile.mkdtemp(dir=folder))
     steady = [Worker(f"{folder}/kills-{it}", lambda it=it: steady_client(hub.path, it, signs)) for it in STEADY]
     signs.wait_for(*ALL_BEGUN)
-    begun = time.monotonic()
+    begun, descriptors = time.monotonic(), hub.descriptors()
     early = kill_clients(hub.path, count)
     print(f"soak: {count} clients were killed in {time.monotonic() - begun:.0f} s", flush=True)
     report.same("kills: clients that ended by themselves", early, 0)
-    time.sleep(2)  # (until the last sessions of these have ended, so that nobody publishes but the four)
+    # (then nobody publishes but the four)
+    report.same("kills: all their sessions have ended", seen_by(lambda: hub.descriptors() <= descriptors), True)
     signs.give("over")
-    results = [it.result(time.monotonic() + 60) for it in steady]
+    results = [it.result(time.monotonic() + 2 * PATIENCE) for it in steady]
     judge(report, results, int(maker.ask("status sure").split()[1]))
     maker.close()
-    time.sleep(1)
+    seen_by(lambda: hub.descriptors() <= descriptors - 1 - len(STEADY))
     check_room(hub, report)
     time.sleep(0.5)
     lines = hub.end().splitlines()
