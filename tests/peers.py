@@ -9,7 +9,7 @@ import socket
 import threading
 import time
 
-from hubs import Hub, hub_at
+from hubs import PATIENCE, Hub, hub_at
 
 
 class Peer:
@@ -51,7 +51,7 @@ class Peer:
         """All that it was sent, once its client has ended. A client that didn't come before that comes no more."""
         with contextlib.suppress(OSError):  # (it is closed if the client came)
             self.listener.shutdown(socket.SHUT_RDWR)
-        self.thread.join(5)
+        self.thread.join(PATIENCE)
         return self.sent
 
 
@@ -120,9 +120,8 @@ class Silent:
             hub.end()
 
 
-def check_at_once(program, report, cases):
-    """Runs commands at the same time. Each case has a name, the words, the path of the peer, what is wanted, and for how many seconds the
-    command runs at least and at most."""
+def run_at_once(program, cases):
+    """Runs commands at the same time. Returns, by the name of each, what it did and how many seconds it took."""
     found = {}
 
     def run(name, words, path):
@@ -134,6 +133,16 @@ def check_at_once(program, report, cases):
         thread.start()
     for thread in threads:
         thread.join()
+    return found
+
+
+def check_at_once(program, report, cases):
+    """Runs commands at the same time. Each case has a name, the words, the path of the peer, what is wanted, and for how many seconds the
+    command runs at least and at most. On a busy machine it may take longer: then it is run once more, and once more after that."""
+    found = run_at_once(program, cases)
+    for _ in range(2):
+        slow = [case for case in cases if found[case[0]][0] == case[3] and found[case[0]][1] > case[5]]
+        found |= run_at_once(program, slow)
     for name, _, _, wanted, least, most in cases:
         result, seconds = found[name]
         report.same(name, result, wanted)
