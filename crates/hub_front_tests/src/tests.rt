@@ -1,6 +1,7 @@
 mod parsing;
 mod relay_sizes;
 mod relays;
+mod replies;
 mod scripts;
 mod serving;
 mod told;

@@ -25,7 +25,8 @@ first_word-fields line field more e = elim (cases_lt (position_or_len is_space l
 
 -- ---- forms
 
-fields_of-join : (field : List ℕ) (fields : List (List ℕ)) → AllVisible (field ∷ fields) → fields_of (join_with_byte 32 (field ∷ fields)) ≡ field ∷ fields
+-- pieces are read back from their line
+pub fields_of-join : (field : List ℕ) (fields : List (List ℕ)) → AllVisible (field ∷ fields) → fields_of (join_with_byte 32 (field ∷ fields)) ≡ field ∷ fields
 fields_of-join field [] visible = fields_of-one field (one_field field visible.0)
 fields_of-join field (next ∷ fields) visible =
     fields_of-more field (join_with_byte 32 (next ∷ fields)) (one_field field visible.0) ∙ ap (λ fs. field ∷ fs) (fields_of-join next fields visible.1)

@@ -9,3 +9,7 @@ pub mod FormRequests
 pub mod OneReading
 pub mod LineForms
 pub mod RequestTexts
+pub mod Counts
+pub mod ReplyTexts
+pub mod SameReplies
+pub mod ReplyReadings

@@ -10,7 +10,8 @@ use Rattle.hub_protocol.specs.Spelling.{Field, Last, fields_of, pieces_of_last, 
 use Rattle.hub_protocol.specs.Writing.{field_told}
 use Rattle.hub_protocol.proofs.Splits.{some_fields}
 
-join-pieces : (word : List ℕ) (pieces : List (List ℕ)) → join_with_byte 32 (word ∷ pieces) ≡ word ++ names_text pieces
+-- the pieces of a line, each but the first behind a space
+pub join-pieces : (word : List ℕ) (pieces : List (List ℕ)) → join_with_byte 32 (word ∷ pieces) ≡ word ++ names_text pieces
 join-pieces word [] = sym (append-nil word)
 join-pieces word (piece ∷ pieces) = ap (λ l. word ++ 32 ∷ l) (join-pieces piece pieces)
 

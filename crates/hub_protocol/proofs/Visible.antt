@@ -1,10 +1,12 @@
 -- Names, numerals, letters, words, and the pieces between the spaces of a text, are of visible bytes: bytes that may be
 -- in a line and aren't spaces.
-use Rattle.std.proofs.Common.{◌≡◌, ◌≢◌, ℕ, ◌≤◌, List, [], ◌∷◌, ◌++◌, map, Bool, true, false, cond, not, nat_lt, refl, subst, arith, rules}
+use Rattle.std.proofs.Common.{◌≡◌, ◌≢◌, ℕ, ◌<◌, ◌≤◌, ◌^◌, List, [], ◌∷◌, ◌++◌, map, Bool, true, false, cond, not, nat_lt, refl, subst, arith, rules}
 use Rattle.std.specs.Prelude.{All, codes}
 use Rattle.std.specs.Fmt.{decimal}
 use Rattle.std.specs.List.{list_all, onto_first, AllZip}
 use Rattle.std.specs.Char.{is_ascii_digit}
+use Rattle.std.specs.Str.{all_ascii_digits}
+use Rattle.std.proofs.lemmas.Fmt.{digits_decimal}
 use Rattle.std.proofs.lemmas.Bool.{and_parts, or_cases, eqb-true, eqb-false, ne_eqb, not-true, ltb-false}
 use Rattle.std.proofs.lemmas.List.Elements.{All-nil, All-cons, All-head, All-tail, All-weaker}
 use Rattle.hub_letters.specs.declared.want.Want as wants
@@ -21,7 +23,7 @@ use Rattle.hub_protocol.specs.declared.table.Ending.TheVariants as ending
 use Rattle.hub_protocol.specs.Table.{IsWord, table}
 use Rattle.hub_protocol.specs.Spelling.{Form, Field, Name, Number, Letters, Mode, Span, Want, Last, Nothing, Names, Pattern, Evict, IsForm, IsOf, EndsAs, IsName, IsNumeral, text_of_mode, text_of_span, text_of_want, text_of_field, pieces_of_last, is_space, fields_of, fields_of_evict, fields_in}
 use Rattle.hub_protocol.specs.Reading.{IsTextByte}
-use Rattle.hub_protocol.proofs.Numerals.{digits_of_numeral}
+use Rattle.hub_protocol.proofs.Numerals.{own, fits}
 use Rattle.hub_protocol.proofs.Splits.{IsOneField}
 use Rattle.hub_protocol.proofs.Rows.{EachRow, of_word, word_at}
 
@@ -57,8 +59,17 @@ visible_digit b e = grind arith
 pub visible_name : (name : List ℕ) → IsName name → AreVisible name
 visible_name name h = visible_by is_name_byte visible_name_byte name (and_parts _ (list_all is_name_byte name) h).1
 
+pub visible_decimal : (n : ℕ) → n < 2 ^ 64 → AreVisible (decimal n)
+visible_decimal n h = visible_by is_ascii_digit visible_digit (decimal n) (digits_decimal own n h)
+
+pub digits_all : (n : ℕ) → n < 2 ^ 64 → all_ascii_digits (decimal n) ≡ true
+digits_all n h = digits_decimal own n h
+
+pub visible_dash : AreVisible (codes "-")
+visible_dash = visible_name (codes "-") refl
+
 pub visible_numeral : (n : ℕ) → IsNumeral n → AreVisible (decimal n)
-visible_numeral n h = visible_by is_ascii_digit visible_digit (decimal n) (digits_of_numeral n h)
+visible_numeral n h = visible_decimal n (fits n h)
 
 each_is_named : EachRow (λ row. IsName row.word) table
 each_is_named = search rules

@@ -4,3 +4,5 @@ pub mod Reading
 pub mod Fields
 pub mod Lines
 pub mod Writing
+pub mod Replies
+pub mod ReplyLines

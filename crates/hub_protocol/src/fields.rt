@@ -92,13 +92,13 @@ pub fn are_names(text: &[u8]) -> bool
     spaces(text) < MOST_SERVICES && fields_are_names(text)
 }
 
-fn spaces(text: &[u8]) -> usize
+pub fn spaces(text: &[u8]) -> usize
     ensures { result ≡ count_by is_space text.now }
 {
     text.iter().filter(|b| **b == b' ').count()
 }
 
-fn fields_are_names(text: &[u8]) -> bool
+pub fn fields_are_names(text: &[u8]) -> bool
     ensures { MatchBool result (All IsName (fields_of text.now))
         (All IsName (fields_of text.now) → ⊥) }
 {

@@ -8,6 +8,8 @@
 mod fields;
 mod line;
 mod parsing;
+mod replies;
+mod reply_pieces;
 mod requests;
 mod spelling;
 mod table;
@@ -16,6 +18,7 @@ mod words;
 mod writing;
 
 pub use parsing::{Bad, LONGEST_LINE, parse};
+pub use replies::{BorrowedReply, read_reply};
 pub use spelling::{
     each_form_has_a_line, each_line_is_read_in_one_way, each_request_is_read_as_itself,
     no_line_is_spelled_twice,

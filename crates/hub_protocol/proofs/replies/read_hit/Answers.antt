@@ -1,0 +1,9 @@
+use Rattle.std.proofs.Common.{refl}
+use Rattle.hub_requests.specs.declared.reply.Reply.TheVariants.{Hit}
+use Rattle.hub_protocol.proofs.ReplyReadings.{no_hit}
+use Rattle.hub_protocol.proofs.replies.read_hit.Goals as goal
+
+pub returns : goal.returns
+returns c =
+    let is = c.in_ok-letters.ensures in
+    record { reply = Hit c.in_ok-letters.letters.now; sound = is.0; head = refl; behind = is.1; shows = refl }
