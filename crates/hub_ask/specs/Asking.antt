@@ -8,7 +8,7 @@ use Rattle.hub_io.specs.Faults.{AppendsPart}
 use Rattle.hub_io.specs.Lines.{lines_of}
 use Rattle.hub_ask.specs.declared.outcome.Outcome.{Outcome}
 use Rattle.hub_ask.specs.declared.fault.AskError.{AskError}
-use Rattle.hub_ask.specs.declared.fault.AskError.TheVariants.{Relay, NoAnswer, Unknown, Words}
+use Rattle.hub_ask.specs.declared.fault.AskError.TheVariants.{Relay, Unknown, Words}
 
 -- The line was sent with an LF, and then a reply came: one line, which is the first of what was read. sent and sends are what was sent
 -- to the peer before and after, had and has what was left of the peer's stream.

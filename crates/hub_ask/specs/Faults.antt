@@ -1,5 +1,5 @@
 -- The text of each error.
-use Rattle.std.specs.Prelude.{◌≡◌, ⊤, ℕ, List, codes, Bool, true, false, Option, None, Some, Result, Ok, Err}
+use Rattle.std.specs.Prelude.{◌≡◌, ⊤, ℕ, List, codes, Bool, true, Option, Some, Result, Ok, Err}
 use Rattle.hub_client.specs.Faults.{relay_text}
 use Rattle.hub_client.specs.declared.fault.RelayError.{RelayError}
 use Rattle.hub_client.specs.declared.fault.RelayError.TheVariants.{Output, Send, Receive, Memory}

@@ -1,57 +1,13 @@
 -- How a request went.
-use Rattle.std.specs.Prelude.{◌≡◌, ◌⊎◌, ⊤, ℕ, Bool, List, ◌==◌, ◌||◌, take, length, position, unwrap_or, codes, Option, MatchOption}
+use Rattle.std.specs.Prelude.{◌≡◌, ◌≢◌, ⊤, ℕ, List, Bool, true, false, Option, MatchOption}
+use Rattle.hub_requests.specs.Texts.{text_of}
 use Rattle.hub_requests.specs.declared.reply.Reply.{Reply}
 use Rattle.hub_requests.specs.declared.reply.Reply.TheVariants as reply
+use Rattle.hub_protocol.specs.declared.replies.BorrowedReply.{BorrowedReply}
+use Rattle.hub_protocol.specs.declared.replies.BorrowedReply.TheVariants as shown
+use Rattle.hub_protocol.specs.Replies.{IsOfHub}
 use Rattle.hub_ask.specs.declared.outcome.Outcome.{Outcome}
 use Rattle.hub_ask.specs.declared.outcome.Outcome.TheVariants.{Done, Refused, Never, Late, Nothing}
-
--- a space or an LF
-abbrev pub ends_word : ℕ → Bool
-ends_word b = (b == 32) || (b == 10)
-
--- the bytes before the first of these
-abbrev pub first_word : List ℕ → List ℕ
-first_word reply = take (unwrap_or (position ends_word reply) (length reply)) reply
-
--- the first words of the replies to a request that went so
-abbrev pub IsWordOf : List ℕ → Outcome → Type 0
-IsWordOf word Done = (word ≡ codes "ok") ⊎ (word ≡ codes "got") ⊎ (word ≡ codes "hit") ⊎ (word ≡ codes "yes") ⊎ (word ≡ codes "names")
-IsWordOf word Refused = word ≡ codes "no"
-IsWordOf word Never = word ≡ codes "never"
-IsWordOf word Late = word ≡ codes "late"
-IsWordOf word Nothing = (word ≡ codes "none") ⊎ (word ≡ codes "end") ⊎ (word ≡ codes "evicted")
-
--- the request of this reply went so; or it went in no known way, and the reply isn't a hub's
-abbrev pub Tells : List ℕ → Option Outcome → Type 0
-Tells reply outcome = MatchOption outcome ((o : Outcome) → IsWordOf (first_word reply) o → ⊥) (λ o. IsWordOf (first_word reply) o)
-
--- the first words of the replies to a wait that went so
-abbrev pub IsWordOfWait : List ℕ → Outcome → Type 0
-IsWordOfWait word Done = word ≡ codes "yes"
-IsWordOfWait word Refused = word ≡ codes "no"
-IsWordOfWait word Never = word ≡ codes "never"
-IsWordOfWait word Late = word ≡ codes "late"
-IsWordOfWait word Nothing = ⊥
-
--- the wait of this reply went so; or it went in no known way, and the reply isn't one of a hub to a wait
-abbrev pub TellsOfWait : List ℕ → Option Outcome → Type 0
-TellsOfWait reply outcome = MatchOption outcome ((o : Outcome) → IsWordOfWait (first_word reply) o → ⊥) (λ o. IsWordOfWait (first_word reply) o)
-
--- the replies of a hub to a wait
-abbrev pub RepliesToWait : Reply → Type 0
-RepliesToWait (reply.Yes numbers) = ⊤
-RepliesToWait reply.Never = ⊤
-RepliesToWait reply.Late = ⊤
-RepliesToWait (reply.No refusal) = ⊤
-RepliesToWait other = ⊥
-
--- the exit status
-abbrev pub status_of : Outcome → ℕ
-status_of Done = 0
-status_of Refused = 3
-status_of Never = 4
-status_of Late = 5
-status_of Nothing = 6
 
 -- how a request went that a hub answered so
 abbrev pub outcome_of : Reply → Outcome
@@ -62,3 +18,56 @@ outcome_of reply.Nothing = Nothing
 outcome_of reply.End = Nothing
 outcome_of reply.Evicted = Nothing
 outcome_of answer = Done
+
+-- the exit status
+abbrev pub status_of : Outcome → ℕ
+status_of Done = 0
+status_of Refused = 3
+status_of Never = 4
+status_of Late = 5
+status_of Nothing = 6
+
+-- the replies of a hub to a wait
+abbrev pub RepliesToWait : Reply → Type 0
+RepliesToWait (reply.Yes numbers) = ⊤
+RepliesToWait reply.Never = ⊤
+RepliesToWait reply.Late = ⊤
+RepliesToWait (reply.No refusal) = ⊤
+RepliesToWait other = ⊥
+
+-- what is read of a line, as the code has it
+abbrev pub outcome_read : BorrowedReply → Outcome
+outcome_read (shown.No refusal) = Refused
+outcome_read shown.Never = Never
+outcome_read shown.Late = Late
+outcome_read shown.Nothing = Nothing
+outcome_read shown.End = Nothing
+outcome_read shown.Evicted = Nothing
+outcome_read read = Done
+
+abbrev pub replies_to_wait : BorrowedReply → Bool
+replies_to_wait (shown.Yes numbers) = true
+replies_to_wait shown.Never = true
+replies_to_wait shown.Late = true
+replies_to_wait (shown.No refusal) = true
+replies_to_wait read = false
+
+-- the text is that of a reply of a hub, of this kind, and the request of that reply went so
+pub record IsTold (Kind : Reply → Type 0) (text : List ℕ) (outcome : Outcome) : Type 0 where
+  pub reply : Reply
+  pub of_hub : IsOfHub reply
+  pub kind : Kind reply
+  pub spelled : text ≡ text_of reply
+  pub went : outcome ≡ outcome_of reply
+
+-- How the request went that has this reply; none if the text is that of no reply of a hub of this kind.
+abbrev pub TellsBy : (Reply → Type 0) → List ℕ → Option Outcome → Type 0
+TellsBy Kind text outcome = MatchOption outcome ((reply : Reply) → IsOfHub reply → Kind reply → text ≢ text_of reply) (IsTold Kind text)
+
+-- any reply of a hub
+abbrev pub Tells : List ℕ → Option Outcome → Type 0
+Tells text outcome = TellsBy (λ reply. ⊤) text outcome
+
+-- a reply of a hub to a wait
+abbrev pub TellsOfWait : List ℕ → Option Outcome → Type 0
+TellsOfWait text outcome = TellsBy RepliesToWait text outcome

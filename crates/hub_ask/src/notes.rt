@@ -1,12 +1,14 @@
 //! The lines about services that aren't as wanted.
 
 use crate::state::State;
+use hub_protocol::{BorrowedReply, read_reply};
+use hub_requests::Refusal;
 use std::alloc::{AllocError, Global};
 use std::io::{self, Write};
 
 // How a service is, by the reply to its `status`.
-fn state_of(want: &str, reply: &str) -> &'static str {
-    match State::of(reply) {
+fn state_of(want: &str, line: &[u8]) -> &'static str {
+    match State::of(line) {
         None => "down",
         Some(state) if state.is_closed => "closed",
         Some(state) if state.flags.failed => "failed, won't be restarted",
@@ -25,12 +27,14 @@ fn state_with(want: &str, is_up: bool) -> &'static str {
     }
 }
 
-// Why a service isn't as wanted, by the replies to a wait for it alone and to its `status`. None if it is.
+// Why a service isn't as wanted, by the reply lines to a wait for it alone and to its `status`. None if it is.
 fn reason_of(want: &str, met: &[u8], status: &[u8]) -> Option<&'static str> {
-    match met {
-        b"no name" => Some("no such service"),
-        b"no kind" => Some("not a service"),
-        b"late" | b"never" | b"no closed" => Some(state_of(want, str::from_utf8(status).ok()?)),
+    match read_reply(met) {
+        Some(BorrowedReply::No(Refusal::Name)) => Some("no such service"),
+        Some(BorrowedReply::No(Refusal::Kind)) => Some("not a service"),
+        Some(BorrowedReply::No(Refusal::Closed) | BorrowedReply::Late | BorrowedReply::Never) => {
+            Some(state_of(want, status))
+        }
         _ => None,
     }
 }
@@ -44,11 +48,12 @@ pub(crate) fn tell_states<F: Write>(
     replies: &[u8],
     notes: &mut F,
 ) -> Result<(), AllocError> {
-    let mut lines = replies.split(|byte| *byte == b'\n');
+    let mut lines = replies.split_inclusive(|byte| *byte == b'\n');
     for name in names {
-        let (Some(met), Some(status)) = (lines.next(), lines.next()) else {
+        let Some(met) = lines.next() else {
             return Ok(());
         };
+        let status = lines.next().unwrap_or(b"");
         if let Some(reason) = reason_of(want, met, status) {
             let line = format!(in alloc; "{name}: {reason}\n")?;
             let _: io::Result<()> = notes.write_all(line.as_bytes());

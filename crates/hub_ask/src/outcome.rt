@@ -1,84 +1,76 @@
 //! How a request went.
-ghost use Rattle.std.specs.Prelude.{ℕ, List, Some, ◌≡◌, position, MatchOption};
+ghost use Rattle.std.specs.Prelude.{◌≡◌, ℕ, List, Some};
 ghost use Rattle.hub_ask.specs.declared.outcome.Outcome.{Outcome as outcome};
 ghost use Rattle.hub_requests.specs.Texts.{text_of};
 ghost use Rattle.hub_requests.specs.declared.reply.Reply.{Reply as reply};
-ghost use Rattle.hub_ask.specs.Outcomes.{outcome_of, status_of, ends_word, first_word, IsWordOf, IsWordOfWait, Tells, TellsOfWait, RepliesToWait};
+ghost use Rattle.hub_protocol.specs.Replies.{IsOfHub};
+ghost use Rattle.hub_ask.specs.Outcomes.{outcome_of, outcome_read, replies_to_wait, status_of, Tells, TellsOfWait, RepliesToWait};
 
-/// How a request went, by the first word of its reply.
+use hub_protocol::{BorrowedReply, read_reply};
+
+/// How a request went, by its reply.
 #[derive(Clone, Copy, Debug, PartialEq, Eq)]
 pub enum Outcome {
-    /// It was carried out: `ok`, `got`, `hit`, `yes` or `names`.
+    /// It was carried out.
     Done,
-    /// The hub refused it: `no`.
+    /// The hub refused it.
     Refused,
-    /// What is wanted can't come about any more: `never`.
+    /// What is wanted can't come about any more.
     Never,
-    /// It isn't known in time: `late`.
+    /// It isn't known in time.
     Late,
-    /// There is nothing to have: `none`, `end` or `evicted`.
+    /// There is nothing to have: nothing is pending, or nothing will be any more.
     Nothing,
 }
 
-// The place of the first space or LF.
-fn end_of_word(reply: &[u8]) -> Option<usize>
-    ensures { result ≡ position ends_word reply.now }
+// How a request went that has this reply.
+fn outcome_of(read: BorrowedReply<'_>) -> Outcome
+    ensures { result ≡ outcome_read read.entry }
 {
-    reply
-        .iter()
-        .position(|byte| *byte == b' ' || *byte == b'\n')
-}
-
-// The bytes before that, or all.
-fn word_of(reply: &[u8]) -> &[u8]
-    ensures { result.now ≡ first_word reply.now }
-{
-    match end_of_word(reply) {
-        Some(end) => &reply[..end],
-        None => reply,
+    match read {
+        BorrowedReply::Done
+        | BorrowedReply::Number(_)
+        | BorrowedReply::State(_)
+        | BorrowedReply::Got(_)
+        | BorrowedReply::Hit(_)
+        | BorrowedReply::Yes(_)
+        | BorrowedReply::Listed(_) => Outcome::Done,
+        BorrowedReply::No(_) => Outcome::Refused,
+        BorrowedReply::Never => Outcome::Never,
+        BorrowedReply::Late => Outcome::Late,
+        BorrowedReply::Nothing | BorrowedReply::End | BorrowedReply::Evicted => Outcome::Nothing,
     }
 }
 
-// How a request went that has this word as the first of its reply.
-fn outcome_with(word: &[u8]) -> Option<Outcome>
-    ensures { MatchOption result ((o : outcome) → IsWordOf word.now o → ⊥) (λ o. IsWordOf word.now o) }
+// Whether a hub may reply so to a wait.
+fn replies_to_wait(read: BorrowedReply<'_>) -> bool
+    ensures { result ≡ replies_to_wait read.entry }
 {
-    Some(match word {
-        b"ok" | b"got" | b"hit" | b"yes" | b"names" => Outcome::Done,
-        b"no" => Outcome::Refused,
-        b"never" => Outcome::Never,
-        b"late" => Outcome::Late,
-        b"none" | b"end" | b"evicted" => Outcome::Nothing,
-        _ => return None,
-    })
-}
-
-// How a wait went whose reply begins with this word.
-fn wait_with(word: &[u8]) -> Option<Outcome>
-    ensures { MatchOption result ((o : outcome) → IsWordOfWait word.now o → ⊥) (λ o. IsWordOfWait word.now o) }
-{
-    match word {
-        b"yes" => Some(Outcome::Done),
-        b"no" => Some(Outcome::Refused),
-        b"never" => Some(Outcome::Never),
-        b"late" => Some(Outcome::Late),
-        _ => None,
-    }
+    matches!(
+        read,
+        BorrowedReply::Yes(_) | BorrowedReply::Never | BorrowedReply::Late | BorrowedReply::No(_)
+    )
 }
 
 impl Outcome {
-    /// How the request of this reply went. None if the reply isn't a hub's.
-    pub fn of(reply: &[u8]) -> Option<Outcome>
-        ensures { Tells reply.now result }
+    /// How the request of this reply line went. None if the line isn't that of a reply of a hub.
+    pub fn of(line: &[u8]) -> Option<Outcome>
+        ensures { Tells line.now result }
     {
-        outcome_with(word_of(reply))
+        let read = read_reply(line)?;
+        Some(outcome_of(read))
     }
 
-    /// How the wait of this reply went. None if a hub doesn't reply so to a wait.
-    pub fn of_wait(reply: &[u8]) -> Option<Outcome>
-        ensures { TellsOfWait reply.now result }
+    /// How the wait of this reply line went. None if a hub doesn't reply so to a wait.
+    pub fn of_wait(line: &[u8]) -> Option<Outcome>
+        ensures { TellsOfWait line.now result }
     {
-        wait_with(word_of(reply))
+        let read = read_reply(line)?;
+        if replies_to_wait(read) {
+            Some(outcome_of(read))
+        } else {
+            None
+        }
     }
 
     /// The exit status.
@@ -94,22 +86,23 @@ impl Outcome {
         }
     }
 
-    /// A law: a reply tells one outcome at most.
-    #[tactic(auto, using(crate::proofs::Words::one))]
+    /// A law: a line tells one outcome at most.
+    #[tactic(auto, using(crate::proofs::Tellings::one))]
     pub fn is_one()
-        ensures { (reply : List ℕ) (one other : outcome) → Tells reply (Some one)
-            → Tells reply (Some other) → one ≡ other }
+        ensures { (line : List ℕ) (one other : outcome) → Tells line (Some one)
+            → Tells line (Some other) → one ≡ other }
     {}
 
     /// A law: each reply of a hub tells the outcome of its kind.
-    #[tactic(auto, using(crate::proofs::Words::of_reply))]
+    #[tactic(auto, using(crate::proofs::Tellings::of_reply))]
     pub fn is_that_of_the_reply()
-        ensures { (it : reply) → Tells (text_of it) (Some (outcome_of it)) }
+        ensures { (it : reply) → IsOfHub it → Tells (text_of it) (Some (outcome_of it)) }
     {}
 
     /// A law: so does each reply of a hub to a wait, as the reply to a wait.
-    #[tactic(auto, using(crate::proofs::Words::of_wait))]
+    #[tactic(auto, using(crate::proofs::Tellings::of_wait))]
     pub fn is_that_of_the_wait()
-        ensures { (it : reply) → RepliesToWait it → TellsOfWait (text_of it) (Some (outcome_of it)) }
+        ensures { (it : reply) → IsOfHub it → RepliesToWait it
+            → TellsOfWait (text_of it) (Some (outcome_of it)) }
     {}
 }

@@ -1,16 +1,16 @@
 //! Looks at one fifodir.
 ghost use Rattle.std.specs.Prelude.{◌≡◌};
 
-use crate::answer::{Answer, text_of};
 use crate::look::Look;
 use crate::peer::Peer;
 use crate::stop::{Stop, tell_refusal};
 use hub_ask::{AskError, Outcome, Replies, Requests, State};
+use hub_protocol::{BorrowedReply, read_reply};
 use std::alloc::Global;
 use std::io::Write;
 use std::sync::Wait;
 
-/// Sends a look at this fifodir that is answered with `ok` or refused, and returns the reply. If it is refused, that is told, and
+/// Sends a look at this fifodir that is answered with `ok`, with a handle or not, or refused, and returns the reply. If it is refused, that is told, and
 /// the command ends.
 pub(crate) fn ask_about<H: Wait, SR: Replies, SW: Requests, F: Write>(
     rt: &H,
@@ -24,10 +24,10 @@ pub(crate) fn ask_about<H: Wait, SR: Replies, SW: Requests, F: Write>(
     ensures { peer.new.begun ≡ peer.old.begun }
 {
     let reply = peer.ask(rt, alloc, look, rest)?;
-    match Answer::of(&reply) {
-        Some(Answer::Done(_)) => Ok(reply),
-        Some(Answer::Refused(why)) => {
-            tell_refusal(alloc, name, why, notes)?;
+    match read_reply(&reply) {
+        Some(BorrowedReply::Done | BorrowedReply::Number(_)) => Ok(reply),
+        Some(BorrowedReply::No(refusal)) => {
+            tell_refusal(alloc, name, refusal, &reply, notes)?;
             Err(Stop::Reply(Outcome::Refused))
         }
         _ => Err(Stop::Fault(AskError::Unknown)),
@@ -45,11 +45,11 @@ pub(crate) fn state_of<H: Wait, SR: Replies, SW: Requests, F: Write>(
     ensures { peer.new.begun ≡ peer.old.begun }
 {
     let reply = peer.ask(rt, alloc, Look::Status, name)?;
-    if let Some(Answer::Refused(why)) = Answer::of(&reply) {
-        tell_refusal(alloc, name, why, notes)?;
+    if let Some(BorrowedReply::No(refusal)) = read_reply(&reply) {
+        tell_refusal(alloc, name, refusal, &reply, notes)?;
         return Ok(None);
     }
-    match text_of(&reply).and_then(State::of) {
+    match State::of(&reply) {
         Some(state) => Ok(Some(state)),
         None => Err(Stop::Fault(AskError::Unknown)),
     }

@@ -4,7 +4,6 @@
 //! through a [`Peer`], which sends nothing but the requests of a [`Look`]: so they publish nothing, and make and close no fifodir.
 #![tactic(auto)]
 
-mod answer;
 mod asking;
 mod events;
 mod following;

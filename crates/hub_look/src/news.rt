@@ -1,7 +1,6 @@
 //! The letters of fifodirs as they come.
 ghost use Rattle.std.specs.Prelude.{◌≡◌};
 
-use crate::answer::Answer;
 use crate::following::Following;
 use crate::look::Look;
 use crate::peer::Peer;
@@ -9,10 +8,12 @@ use crate::stop::{Stop, tell, tell_refusal, write_text};
 use crate::subscribing::{Followed, subscribe};
 use hub_ask::{AskError, Outcome, Replies, Requests};
 use hub_io::Sink;
+use hub_protocol::{BorrowedReply, read_reply};
 use hub_requests::MOST_TAKEN;
 use std::alloc::{AllocError, Global};
 use std::io::Write;
 use std::rt::Clock;
+use std::str;
 use std::sync::Wait;
 
 /// How many turns it takes at most to look at each of several fifodirs once, if nothing comes.
@@ -27,9 +28,12 @@ fn write_letters<C: Clock, W: Sink>(
     alloc: Global,
     following: &Following<'_>,
     followed: &mut Followed<'_>,
-    letters: &str,
+    letters: &[u8],
     output: &mut W,
 ) -> Result<(), Stop> {
+    let Ok(letters) = str::from_utf8(letters) else {
+        return Err(Stop::Fault(AskError::Unknown));
+    };
     let lines = following.lines(clock, alloc, followed.name, followed.next, letters)?;
     write_text(output, lines.as_str())?;
     let count = letters.len() as u64;
@@ -51,11 +55,11 @@ fn comes<H: Wait, SR: Replies, SW: Requests, F: Write>(
     let handle = followed.handle.as_str();
     let words = format!(in alloc; "{handle} {turns}")?;
     let reply = peer.ask(rt, alloc, Look::Await, words.as_str())?;
-    match Answer::of(&reply) {
-        Some(Answer::Done(_)) => Ok(true),
-        Some(Answer::Late) => Ok(false),
-        Some(Answer::Refused(why)) => {
-            tell_refusal(alloc, followed.name, why, notes)?;
+    match read_reply(&reply) {
+        Some(BorrowedReply::Done) => Ok(true),
+        Some(BorrowedReply::Late) => Ok(false),
+        Some(BorrowedReply::No(refusal)) => {
+            tell_refusal(alloc, followed.name, refusal, &reply, notes)?;
             Err(Stop::Reply(Outcome::Refused))
         }
         _ => Err(Stop::Fault(AskError::Unknown)),
@@ -93,8 +97,8 @@ fn take_and_write<H: Wait + Clock, SR: Replies, SW: Requests, W: Sink, F: Write>
     ensures { peer.new.begun ≡ peer.old.begun }
 {
     let reply = take(rt, alloc, following, followed.handle.as_str(), peer)?;
-    match Answer::of(&reply) {
-        Some(Answer::Letters(letters)) => {
+    match read_reply(&reply) {
+        Some(BorrowedReply::Got(letters) | BorrowedReply::Hit(letters)) => {
             write_letters(rt, alloc, following, followed, letters, output)?;
             if following.is_once {
                 Err(Stop::Reply(Outcome::Done))
@@ -102,17 +106,17 @@ fn take_and_write<H: Wait + Clock, SR: Replies, SW: Requests, W: Sink, F: Write>
                 Ok(true)
             }
         }
-        Some(Answer::Nothing) => Ok(false),
-        Some(Answer::End) => {
+        Some(BorrowedReply::Nothing) => Ok(false),
+        Some(BorrowedReply::End) => {
             followed.is_over = true;
             Ok(false)
         }
-        Some(Answer::Evicted) => {
+        Some(BorrowedReply::Evicted) => {
             tell(alloc, followed.name, "evicted", notes)?;
             Err(Stop::Reply(Outcome::Nothing))
         }
-        Some(Answer::Refused(why)) => {
-            tell_refusal(alloc, followed.name, why, notes)?;
+        Some(BorrowedReply::No(refusal)) => {
+            tell_refusal(alloc, followed.name, refusal, &reply, notes)?;
             Err(Stop::Reply(Outcome::Refused))
         }
         _ => Err(Stop::Fault(AskError::Unknown)),

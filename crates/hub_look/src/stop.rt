@@ -7,8 +7,10 @@ ghost use Rattle.hub_look.specs.declared.stop.Stop.TheVariants.{Fault};
 use hub_ask::{AskError, Outcome};
 use hub_client::RelayError;
 use hub_io::{Sink, write_whole};
+use hub_requests::Refusal;
 use std::alloc::{AllocError, Global};
 use std::io::{self, Write};
+use std::str;
 
 /// Why a command ends before its work is done.
 #[derive(Clone, Copy, Debug, PartialEq, Eq)]
@@ -53,17 +55,26 @@ pub(crate) fn write_text<W: Sink>(output: &mut W, text: &str) -> Result<(), Stop
     }
 }
 
-/// Writes a line that says what the hub refuses of this name, by the words behind `no`.
+/// Writes a line that says what the hub refuses of this name. The line of its reply has the words.
 pub(crate) fn tell_refusal<F: Write>(
     alloc: Global,
     name: &str,
-    why: &str,
+    refusal: Refusal,
+    line: &[u8],
     notes: &mut F,
 ) -> Result<(), AllocError> {
-    match why {
-        "name" => tell(alloc, name, "no such fifodir", notes),
-        "closed" => tell(alloc, name, "closed", notes),
-        _ => tell(alloc, name, format!(in alloc; "no {why}")?.as_str(), notes),
+    match refusal {
+        Refusal::Name => tell(alloc, name, "no such fifodir", notes),
+        Refusal::Closed => tell(alloc, name, "closed", notes),
+        _ => tell(alloc, name, words_of(line), notes),
+    }
+}
+
+// The words of a reply's line. None of its bytes is beyond ASCII.
+fn words_of(line: &[u8]) -> &str {
+    match str::from_utf8(line) {
+        Ok(words) => words.trim_end(),
+        Err(_) => "",
     }
 }
 

@@ -1,13 +1,13 @@
 //! The beginning of a follow: a handle for each fifodir.
 ghost use Rattle.std.specs.Prelude.{◌≡◌};
 
-use crate::answer::Answer;
 use crate::asking::{ask_about, state_of};
 use crate::following::Following;
 use crate::look::Look;
 use crate::peer::Peer;
 use crate::stop::Stop;
 use hub_ask::{AskError, Outcome, Replies, Requests};
+use hub_protocol::{BorrowedReply, read_reply};
 use std::alloc::Global;
 use std::io::Write;
 use std::sync::Wait;
@@ -19,7 +19,7 @@ const TRIES: u64 = 100;
 #[derive(Drop, Debug, PartialEq, Eq)]
 pub(crate) struct Followed<'a> {
     pub(crate) name: &'a str,
-    /// The handle of the subscription or the listener, as the hub gave it.
+    /// The handle of the subscription or the listener, as a word.
     pub(crate) handle: String,
     /// The number of the next event, if it is known.
     pub(crate) next: Option<u64>,
@@ -56,8 +56,8 @@ fn handle_for<H: Wait, SR: Replies, SW: Requests, F: Write>(
     ensures { peer.new.begun ≡ peer.old.begun }
 {
     let reply = ask_about(rt, alloc, look, name, rest, peer, notes)?;
-    match Answer::of(&reply) {
-        Some(Answer::Done(handle)) => Ok(handle.to_string(alloc)?),
+    match read_reply(&reply) {
+        Some(BorrowedReply::Number(handle)) => Ok(handle.to_string(alloc)?),
         _ => Err(Stop::Fault(AskError::Unknown)),
     }
 }

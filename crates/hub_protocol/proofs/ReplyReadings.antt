@@ -1,5 +1,5 @@
 -- What the pieces of a line show about its reply.
-use Rattle.std.proofs.Common.{◌≡◌, ◌≢◌, ℕ, ◌≤◌, List, [], ◌∷◌, ◌++◌, length, map, codes, Bool, Option, None, Some, refl, sym, ap, ◌∙◌, subst, arith}
+use Rattle.std.proofs.Common.{◌≡◌, ◌≢◌, ℕ, ◌≤◌, List, [], ◌∷◌, ◌++◌, length, map, codes, Bool, Option, None, Some, refl, sym, ap, ◌∙◌, subst}
 use Rattle.std.specs.Prelude.{All, MatchOption}
 use Rattle.std.specs.Fmt.{decimal}
 use Rattle.std.specs.List.{join_with_byte}
@@ -17,7 +17,7 @@ use Rattle.hub_protocol.specs.declared.replies.BorrowedReply.{BorrowedReply}
 use Rattle.hub_protocol.specs.declared.reply_pieces.Head as heads
 use Rattle.hub_protocol.specs.declared.reply_pieces.Head.TheVariants as head
 use Rattle.hub_protocol.specs.Spelling.{IsName, fields_of}
-use Rattle.hub_protocol.specs.Replies.{AreCounts, IsCount, IsLetter, IsOfHub, IsReadReply, IsSoundRefusal, IsSoundReply, Shows}
+use Rattle.hub_protocol.specs.Replies.{IsCount, IsLetter, IsOfHub, IsReadReply, IsSoundRefusal, IsSoundReply, Shows}
 use Rattle.hub_protocol.specs.ReplyLines.{AreCountTexts, IsBehind, IsCountText, IsPlain, IsPlainOf, IsRefusalOf, IsSaid, behind_of, head_of, text_of_head, words_of}
 use Rattle.hub_protocol.proofs.Counts.{numbers_of, texts_of}
 use Rattle.hub_protocol.proofs.ReplyTexts.{line-pieces, pieces-line, visible_openness}

@@ -1,17 +1,16 @@
 -- The line of a reply, as its list of pieces.
 use Rattle.std.proofs.Common.{◌≡◌, ℕ, ◌<◌, ◌≤◌, List, [], ◌∷◌, ◌++◌, map, codes, Bool, true, false, Option, refl, sym, ap, ◌∙◌, arith}
-use Rattle.std.specs.Prelude.{All}
 use Rattle.std.specs.List.{join_with_byte}
 use Rattle.hub_letters.specs.declared.flags.Flags.{Flags}
 use Rattle.hub_letters.specs.Flags.{code_of, digit}
 use Rattle.hub_requests.specs.Names.{names_text}
 use Rattle.hub_requests.specs.Texts.{line_of, number_or_dash, numbers_text, openness, word_of}
 use Rattle.hub_requests.specs.declared.reply.Reply.{Reply}
-use Rattle.hub_requests.specs.declared.reply.Reply.TheVariants.{Done, Number, State, Got, Hit, Nothing, End, Evicted, Yes, Never, Late, Listed, No}
+use Rattle.hub_requests.specs.declared.reply.Reply.TheVariants.{Done, Number, State, Got, Hit, Yes, Listed, No}
 use Rattle.hub_requests.specs.declared.reply.Refusal.{Refusal}
 use Rattle.hub_requests.specs.declared.reply.Refusal.TheVariants.{Unlawful}
 use Rattle.hub_protocol.specs.Spelling.{fields_of}
-use Rattle.hub_protocol.specs.Replies.{IsCount, IsLetter, IsSoundRefusal, IsSoundReply}
+use Rattle.hub_protocol.specs.Replies.{IsCount, IsSoundRefusal, IsSoundReply}
 use Rattle.hub_protocol.specs.ReplyLines.{behind_of, head_of, words_of}
 use Rattle.hub_protocol.proofs.Counts.{visible_counts}
 use Rattle.hub_protocol.proofs.FormLines.{fields_of-join}

@@ -1,6 +1,5 @@
 -- The replies of a hub, and what a line is read as.
-use Rattle.std.specs.Prelude.{◌≡◌, ◌≢◌, ℕ, ◌<◌, ◌≤◌, ◌^◌, List, [], ◌∷◌, length, map, All, Option, MatchOption}
-use Rattle.std.specs.Fmt.{decimal}
+use Rattle.std.specs.Prelude.{◌≡◌, ◌≢◌, ℕ, ◌<◌, ◌≤◌, ◌^◌, List, length, map, All, Option, MatchOption}
 use Rattle.std.specs.List.{join_with_byte}
 use Rattle.hub_requests.specs.declared.bounds.TheConstants.{LONGEST_REPLY, MOST_SERVICES}
 use Rattle.hub_requests.specs.declared.reply.Reply.{Reply}

@@ -1,5 +1,5 @@
 -- The pieces of a reply's line: its first word, and what is behind it.
-use Rattle.std.specs.Prelude.{◌≡◌, ◌≢◌, ℕ, List, [], ◌∷◌, length, map, codes, All, Option, MatchOption, ◌<◌, ◌≤◌}
+use Rattle.std.specs.Prelude.{◌≡◌, ◌≢◌, ℕ, List, [], ◌∷◌, length, map, codes, All, Option, MatchOption, ◌≤◌}
 use Rattle.std.specs.Fmt.{decimal}
 use Rattle.hub_letters.specs.Flags.{code_of}
 use Rattle.hub_requests.specs.declared.bounds.TheConstants.{MOST_SERVICES}

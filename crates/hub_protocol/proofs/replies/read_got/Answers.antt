@@ -1,6 +1,5 @@
 use Rattle.std.proofs.Common.{refl}
 use Rattle.hub_requests.specs.declared.reply.Reply.TheVariants.{Got}
-use Rattle.hub_protocol.proofs.ReplyReadings.{no_got}
 use Rattle.hub_protocol.proofs.replies.read_got.Goals as goal
 
 pub returns : goal.returns

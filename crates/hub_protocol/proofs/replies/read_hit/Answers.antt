@@ -1,6 +1,5 @@
 use Rattle.std.proofs.Common.{refl}
 use Rattle.hub_requests.specs.declared.reply.Reply.TheVariants.{Hit}
-use Rattle.hub_protocol.proofs.ReplyReadings.{no_hit}
 use Rattle.hub_protocol.proofs.replies.read_hit.Goals as goal
 
 pub returns : goal.returns

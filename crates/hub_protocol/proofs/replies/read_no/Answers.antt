@@ -1,6 +1,5 @@
 use Rattle.std.proofs.Common.{refl}
 use Rattle.hub_requests.specs.declared.reply.Reply.TheVariants.{No}
-use Rattle.hub_protocol.proofs.ReplyReadings.{no_refusal}
 use Rattle.hub_protocol.proofs.replies.read_no.Goals as goal
 
 pub returns : goal.returns

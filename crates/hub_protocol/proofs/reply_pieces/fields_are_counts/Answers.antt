@@ -1,4 +1,4 @@
-use Rattle.std.proofs.Common.{◌≡◌, ◌<◌, ℕ, List, [], length, get_or, Bool, true, false, All, MatchBool, rules, tests}
+use Rattle.std.proofs.Common.{◌<◌, ℕ, List, [], length, Bool, true, false, All, MatchBool, rules, tests}
 use Rattle.std.specs.List.{AllWithin, HoldsAt}
 use Rattle.std.proofs.lemmas.Iterator.{cases_from_all}
 use Rattle.std.proofs.lemmas.Iterator.Splits.{YieldsList-from_slice_split}
