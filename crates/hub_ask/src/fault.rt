@@ -16,7 +16,7 @@ pub enum AskError {
     Relay(RelayError),
     /// No reply came in time, or the peer didn't take the request in time.
     NoAnswer,
-    /// The reply doesn't begin with a word of a hub, or is longer than any reply of one.
+    /// The line is no reply of a hub to this request, or is longer than any reply of one.
     Unknown,
     /// A word of a look has a line feed, so it wasn't sent.
     Words,

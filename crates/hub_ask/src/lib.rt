@@ -1,7 +1,7 @@
 //! The client's side for people and scripts that ask for one thing: a request is made of words, and the reply says how it went.
 //!
-//! [`ask`] sends one [`Line`] to a hub and writes the reply line. The [`Outcome`] is what the first word of the reply says, and
-//! has the exit status. A peer whose reply begins with another word is no hub: that is an [`AskError`], as is a fault of a
+//! [`ask`] sends one [`Line`] to a hub and writes the reply line. The [`Outcome`] is that of the reply, and
+//! has the exit status. A peer whose line is no reply of a hub is none: that is an [`AskError`], as is a fault of a
 //! stream.
 //!
 //! The peer's stream is read until the LF of the reply, and nothing of a reply is written before its LF has come. [`halves`] of a
