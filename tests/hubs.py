@@ -97,13 +97,13 @@ class Client:
 
 class Hub:
     """A hub at a path that serves without end, until the test ends. It may open so many files, and runs in this folder, with this
-    umask."""
+    umask, and as this user."""
 
-    def __init__(self, program, path, *words, files=None, cwd=None, umask=-1):
+    def __init__(self, program, path, *words, files=None, cwd=None, umask=-1, user=None):
         ready, told = os.pipe()
         self.process = subprocess.Popen(
             [program, "serve", path, "--forever", "--ready-fd", str(told), *words],
-            pass_fds=[told], stderr=subprocess.PIPE, text=True, cwd=cwd, umask=umask)
+            pass_fds=[told], stderr=subprocess.PIPE, text=True, cwd=cwd, umask=umask, user=user)
         os.close(told)
         self.ready, self.path = ready, path
         atexit.register(self.kill)

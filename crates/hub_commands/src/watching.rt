@@ -5,7 +5,7 @@ ghost use Rattle.hub_commands.specs.Faults.{rest_of};
 
 use crate::fault::Fault;
 use hub_io::{FrontError, Sink, Source};
-use hub_server::{Desks, Journal, Session};
+use hub_server::{Desks, Journal, ServeError, Session};
 use std::alloc::{AllocError, Global};
 use std::rt::Clock;
 use std::sync::atomic::{AtomicBool, AtomicU64, Ordering};
@@ -17,7 +17,7 @@ use std::time::Duration;
 /// How many faults are told at once. The rest are counted.
 const MOST_TOLD: usize = 5;
 
-/// How many milliseconds a thread waits after a failed accept.
+/// How many milliseconds a thread waits before it tries again what failed.
 const RETRY: u64 = 100;
 
 /// For how many seconds who tells faults waits for one.
@@ -66,7 +66,7 @@ impl Pending {
 #[derive(Drop)]
 struct Shared {
     begun: AtomicU64,
-    /// Whether the last accept failed.
+    /// Whether an accept failed, or the start of a thread, since the last session began.
     fails: AtomicBool,
     pending: Mutex<Pending>,
     came: Condvar,
@@ -96,6 +96,14 @@ impl<C: Clock + Copy> Watcher<C> {
     fn put<H: Wait>(&self, rt: &H, fault: Fault) {
         self.shared.pending.lock(rt).put(fault);
         self.shared.came.notify_one();
+    }
+
+    // Something failed that is tried again after a moment. It is told once, until a session begins.
+    fn fail<H: Wait>(&self, rt: &H, fault: Fault) {
+        if !self.shared.fails.swap(true, Ordering::Relaxed) {
+            self.put(rt, fault);
+        }
+        thread::sleep(&self.clock, Duration::from_millis(RETRY));
     }
 
     /// Waits until there are faults, or for a moment, and takes what there is.
@@ -142,9 +150,10 @@ impl<C: Clock + Copy> Journal for Watcher<C> {
     }
 
     fn failed<H: Wait>(&mut self, rt: &H) {
-        if !self.shared.fails.swap(true, Ordering::Relaxed) {
-            self.put(rt, Fault::Accept);
-        }
-        thread::sleep(&self.clock, Duration::from_millis(RETRY));
+        self.fail(rt, Fault::Accept);
+    }
+
+    fn unstarted<H: Wait>(&mut self, rt: &H) {
+        self.fail(rt, Fault::Serve(ServeError::Spawn));
     }
 }

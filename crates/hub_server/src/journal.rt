@@ -29,4 +29,7 @@ pub trait Journal {
 
     /// The gate failed, or there was no memory for a session. Either is tried again when this returns, so it waits for a moment.
     fn failed<H: Wait>(&mut self, rt: &H);
+
+    /// No thread could be started in the place of one that has ended. It is tried again when this returns, so it waits for a moment.
+    fn unstarted<H: Wait>(&mut self, rt: &H);
 }

@@ -1,81 +1,38 @@
 //! Sessions one after the other, without end.
-ghost use Rattle.std.specs.Prelude.{◌≡◌, IfOk, vec_len};
+ghost use Rattle.std.specs.Prelude.{◌≡◌, ◌≢◌, ◌↔◌, ◌<◌, IsTrue, IfOk, IfErr, Err, true, false};
 
-use crate::connection::{Connection, Timed};
+use crate::connection::Timed;
 use crate::desks::Desks;
-use crate::door::SharedDoor;
 use crate::gate::{Gate, Next};
 use crate::journal::Journal;
 use crate::promise::Session;
-use crate::report::ServeError;
-use crate::together::STACK_SIZE;
 use hub_io::{FrontError, Sink, Source};
 use std::alloc::Global;
-use std::rt::Clock;
 use std::snapshot::Snapshot;
 use std::sync::Wait;
-use std::thread::{Builder, JoinHandle, Threads};
 
 /// How often a session is tried at most if there is no memory for it. The journal waits for a moment after each try.
 const TRIES: u64 = 600;
 
-/// Starts so many threads, each of which serves one session of the door after the other, for as long as the program runs.
-/// Each session has a desk of its own, and the journal learns how it ended.
-///
-/// If a thread couldn't be started, those before it serve nevertheless.
-pub fn start_workers<H, C, O, J>(
-    rt: &H,
-    alloc: Global,
-    desks: &O,
-    door: &SharedDoor<C>,
-    journal: &J,
-    count: u64,
-) -> Result<Vec<JoinHandle<()>>, ServeError>
-where
-    H: Threads + Wait + Copy + Send + 'static,
-    C: Clock + Copy + Send + Drop + 'static,
-    O: Desks + Send + Drop + 'static,
-    J: Journal + Send + Drop + 'static,
-    ensures { IfOk result (λ workers. vec_len workers ≡ count) }
+/// A session of more lines may leave so much behind that its thread isn't kept.
+const FEW_LINES: u64 = 16;
+
+// Whether a session that ended so may have left much in what the C library keeps for its thread. It isn't known how many lines a
+// session had that stopped.
+fn may_leave_much(ended: Result<u64, FrontError>) -> bool
+    ensures lines { IfOk ended (λ lines. IsTrue result ↔ FEW_LINES < lines) }
+    ensures memory { ended ≡ Err FrontError.Memory → result ≡ false }
+    ensures stopped { IfErr ended (λ fault. fault ≢ FrontError.Memory → result ≡ true) }
 {
-    let mut workers = Vec::new(alloc);
-    'workers: for _worker in 0..count {
-        workers.reserve(1)?;
-        let (desks, door, journal) = (desks.share()?, door.share()?, journal.share()?);
-        let worker = start_worker(*rt, alloc, desks, door, journal).ok_or(ServeError::Spawn)?;
-        workers.push_reserved(worker);
+    match ended {
+        Ok(lines) => lines > FEW_LINES,
+        Err(FrontError::Memory) => false,
+        Err(_) => true,
     }
-    Ok(workers)
 }
 
-fn start_worker<H, C, O, J>(
-    rt: H,
-    alloc: Global,
-    desks: O,
-    mut door: SharedDoor<C>,
-    mut journal: J,
-) -> Option<JoinHandle<()>>
-where
-    H: Threads + Wait + Copy + Send + 'static,
-    C: Clock + Copy + Send + Drop + 'static,
-    O: Desks + Send + Drop + 'static,
-    J: Journal + Send + Drop + 'static,
-{
-    Builder::new()
-        .stack_size(STACK_SIZE)
-        .spawn(&rt, move || {
-            serve_on::<H, Connection<C>, Connection<C>, SharedDoor<C>, O, J>(
-                &rt,
-                alloc,
-                &desks,
-                &mut door,
-                &mut journal,
-            )
-        })
-        .ok()
-}
-
-/// Serves the sessions of a gate, each after the one before it has ended, until the gate is over.
+/// Serves the sessions of a gate, each after the one before it has ended, until the gate is over. It also returns after a session
+/// that may have left much in what the C library keeps for the thread, since the thread's end gives that back.
 pub fn serve_on<H, R, W, G, O, J>(rt: &H, alloc: Global, desks: &O, gate: &mut G, journal: &mut J)
 where
     H: Wait,
@@ -87,7 +44,11 @@ where
 {
     'sessions: for _ in rt.forever() {
         match gate.next(rt) {
-            Next::Session(reader, writer) => serve_next(rt, alloc, desks, journal, reader, writer),
+            Next::Session(reader, writer) => {
+                if serve_next(rt, alloc, desks, journal, reader, writer) {
+                    break;
+                }
+            }
             Next::Failed => journal.failed(rt),
             Next::Over => break,
         }
@@ -95,7 +56,7 @@ where
 }
 
 // Serves one session. If there was no memory for its desk and its buffers, nothing of it was read, and it is tried again: its client
-// waits, and isn't turned away. Its reader and its writer are dropped here.
+// waits, and isn't turned away. Its reader and its writer are dropped here. Returns whether it may have left much.
 fn serve_next<H, R, W, O, J>(
     rt: &H,
     alloc: Global,
@@ -103,7 +64,7 @@ fn serve_next<H, R, W, O, J>(
     journal: &mut J,
     mut reader: R,
     mut writer: W,
-)
+) -> bool
 where
     H: Wait,
     R: Source + Timed + Drop,
@@ -113,7 +74,7 @@ where
 {
     let number = journal.begins();
     'tries: for left in (0..TRIES).rev() {
-        if try_session(
+        if let Some(ended) = try_session(
             rt,
             alloc,
             desks,
@@ -123,14 +84,15 @@ where
             &mut reader,
             &mut writer,
         ) {
-            break;
+            return may_leave_much(ended);
         }
         journal.failed(rt);
     }
+    false
 }
 
 // Serves a session, and tells the journal how it ended. If there was no memory for it, and a try is left, it tells nothing. Returns
-// whether it told.
+// what it told.
 fn try_session<H, R, W, O, J>(
     rt: &H,
     alloc: Global,
@@ -140,7 +102,7 @@ fn try_session<H, R, W, O, J>(
     left: u64,
     reader: &mut R,
     writer: &mut W,
-) -> bool
+) -> Option<Result<u64, FrontError>>
 where
     H: Wait,
     R: Source + Timed,
@@ -155,9 +117,9 @@ where
     };
     let ended = desks.serve(rt, alloc, reader, writer);
     if left > 0 && ended == Err(FrontError::Memory) {
-        return false;
+        return None;
     }
     let timed_out = reader.has_timed_out() || writer.has_timed_out();
     journal.ended(rt, number, &session, ended, timed_out);
-    true
+    Some(ended)
 }

@@ -18,13 +18,15 @@ mod promise;
 mod report;
 mod started;
 mod together;
+mod workers;
 
 pub use connection::{Connection, Timed};
 pub use desks::Desks;
 pub use door::{Door, SharedDoor};
 pub use gate::{Gate, Next};
 pub use journal::Journal;
-pub use lasting::{serve_on, start_workers};
+pub use lasting::serve_on;
 pub use promise::Session;
 pub use report::{Report, ServeError};
 pub use together::{STACK_SIZE, serve_each};
+pub use workers::start_workers;

@@ -195,6 +195,8 @@ impl Journal for Telling {
     fn failed<H: Wait>(&mut self, _rt: &H) {
         self.steps.add(Step::Fails);
     }
+
+    fn unstarted<H: Wait>(&mut self, _rt: &H) {}
 }
 
 static EVENTS: [Event; 5] = [

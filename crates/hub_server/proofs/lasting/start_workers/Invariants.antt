@@ -1,5 +1,0 @@
-use Rattle.std.proofs.Common.{◌≡◌, vec_len}
-use Rattle.hub_server.proofs.lasting.start_workers.Given as goal
-
-abbrev pub invariant-workers : goal.invariant-workers
-invariant-workers g l = vec_len l.workers ≡ l._worker
