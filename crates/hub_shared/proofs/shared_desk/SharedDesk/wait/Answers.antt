@@ -1,4 +1,4 @@
-use Rattle.std.proofs.Common.{◌≡◌, ℕ, List, inl, refl, subst}
+use Rattle.std.proofs.Common.{ℕ, List, inl, refl, subst}
 use Rattle.hub_names.specs.declared.hub.Hub.{Hub}
 use Rattle.hub_names.specs.Fifodirs.{KeepsAll}
 use Rattle.hub_shared.specs.Waits.{WaitsFor}
