@@ -3,7 +3,6 @@ use Rattle.std.proofs.Common.{◌≡◌, ℕ, List, [], ◌∷◌, ◌++◌, Opt
 use Rattle.std.proofs.lemmas.List.Elements.{All-nil, All-push}
 use Rattle.std.specs.Io.KnownBytes.{Appends}
 use Rattle.std.proofs.KnownBytes.{Appends-nil, Appends-trans}
-use Rattle.hub_client.specs.Relaying.{ended_lines}
 use Rattle.hub_client.proofs.EndedLines.{ended_more}
 use Rattle.hub_ask.specs.Asking.{IsAnswered, IsBrokenOff}
 use Rattle.hub_look.specs.Looking.{IsLook}
