@@ -58,8 +58,8 @@ struct Means<C, O: Drop, J: Drop> {
     bell: Arc<Bell, Global>,
 }
 
-/// How many bytes a worker takes and frees as it begins and as it leaves. When so large a piece is freed, the C library joins all
-/// pieces that are free, and returns the end of the thread's heap to the system.
+/// How many bytes a worker takes as it leaves. Once it has ended they are freed. When so large a piece is freed, the C library joins all
+/// free pieces of the heap that it is from, and returns the end of that heap to the system.
 const PIECE: usize = 100_000;
 
 /// What a worker shares with who puts another one in its place.
@@ -67,7 +67,7 @@ const PIECE: usize = 100_000;
 struct Seat {
     /// The worker sets this as its last step.
     has_left: AtomicBool,
-    /// Where the piece is for a moment. (The compiler leaves out a piece that nobody else could see.)
+    /// What the worker has taken of its heap as it left.
     piece: Mutex<Option<Vec<u8>>>,
 }
 
@@ -79,9 +79,11 @@ impl Seat {
         }
     }
 
-    // Has the C library return what it can of the memory that this thread has freed.
-    fn give_back<H: Wait>(&self, rt: &H, alloc: Global) {
+    fn take_piece<H: Wait>(&self, rt: &H, alloc: Global) {
         *self.piece.lock(rt) = Vec::with_capacity(alloc, PIECE).ok();
+    }
+
+    fn free_piece<H: Wait>(&self, rt: &H) {
         *self.piece.lock(rt) = None;
     }
 }
@@ -145,7 +147,6 @@ where
         mut journal,
         bell,
     } = means;
-    seat.give_back(&rt, alloc);
     serve_on::<H, Connection<C>, Connection<C>, SharedDoor<C>, O, J>(
         &rt,
         alloc,
@@ -153,7 +154,7 @@ where
         &mut door,
         &mut journal,
     );
-    seat.give_back(&rt, alloc);
+    seat.take_piece(&rt, alloc);
     seat.has_left.store(true, Ordering::Release);
     bell.ring(&rt);
 }
@@ -171,6 +172,7 @@ impl Place {
             if let Some(thread) = self.thread.take() {
                 thread.join(rt);
             }
+            self.seat.free_piece(rt);
         }
         if self.thread.is_none() {
             self.thread = means.start(rt, &self.seat).ok();
