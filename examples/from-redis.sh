@@ -10,7 +10,8 @@
 #     examples/from-redis.sh SOCKET NAME STREAM [WORD ..]     WORDs are for redis-cli, such as -s /run/redis.sock
 [ $# -ge 3 ] || { echo "usage: from-redis.sh SOCKET NAME STREAM [WORD ..]" >&2; exit 2; }
 LC_ALL=C
-ftrighub=${FTRIGHUB:-$(dirname "$(readlink -f "$0")")/../ftrighub}
+ftrighub=${FTRIGHUB:-ftrighub}
+command -v "$ftrighub" >/dev/null || { echo "from-redis: can't run $ftrighub; FTRIGHUB may name the program" >&2; exit 1; }
 socket=$1 name=$2 stream=$3 words=("${@:4}")
 [[ $name =~ ^[A-Za-z0-9_.-]{1,32}$ ]] || { printf 'from-redis: %q is no name of a fifodir\n' "$name" >&2; exit 2; }
 declare -A told=() # the IDs of entries that were refused

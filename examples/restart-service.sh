@@ -7,13 +7,14 @@
 # COMMAND restarts the service NAME, for example `s6-svc -r DIR`; its letters come to the hub at SOCKET, for example by
 # s6-bridge.sh. The script takes one of the hub's sessions. From the environment: PATIENCE is how many tenths of a second it
 # waits, 300 if it isn't given. READY is the letter to wait for, `u` for a service that doesn't report readiness. FTRIGHUB is the
-# program.
+# program, or else it is `ftrighub` on the path.
 set -u
 [ $# -ge 3 ] || {
     echo "usage: restart-service.sh SOCKET NAME COMMAND.." >&2
     exit 2
 }
-ftrighub=${FTRIGHUB:-$(dirname "$(readlink -f "$0")")/../ftrighub}
+ftrighub=${FTRIGHUB:-ftrighub}
+command -v "$ftrighub" >/dev/null || { echo "restart-service: can't run $ftrighub; FTRIGHUB may name the program" >&2; exit 1; }
 socket=$1
 name=$2
 shift 2

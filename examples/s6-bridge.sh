@@ -4,15 +4,16 @@
 #     examples/s6-bridge.sh SERVICEDIR SOCKET [NAME]
 #
 # NAME is the service's name at the hub, or SERVICEDIR's last part if it isn't given. The bridge takes one of the hub's
-# sessions. FTRIGHUB in the environment is the program. The bridge runs until it is killed; if the hub ends, it connects to
-# the next hub at SOCKET. See docs/s6-bridge.md.
+# sessions. FTRIGHUB in the environment is the program, or else `ftrighub` on the path. The bridge runs until it is killed; if the
+# hub ends, it connects to the next hub at SOCKET. See docs/s6-bridge.md.
 set -u
 [ $# -eq 2 ] || [ $# -eq 3 ] || {
     echo "usage: s6-bridge.sh SERVICEDIR SOCKET [NAME]" >&2
     exit 2
 }
 LC_ALL=C
-ftrighub=${FTRIGHUB:-$(dirname "$(readlink -f "$0")")/../ftrighub}
+ftrighub=${FTRIGHUB:-ftrighub}
+command -v "$ftrighub" >/dev/null || { echo "s6-bridge: can't run $ftrighub; FTRIGHUB may name the program" >&2; exit 1; }
 service=$1
 socket=$2
 name=${3:-$(basename "$service")}

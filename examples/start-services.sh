@@ -6,9 +6,10 @@
 #     examples/start-services.sh SOCKET      uses the hub that listens at SOCKET; it needs four of its sessions
 #
 # From the environment: DB and WEB are the commands that make the two services ready, or fail. PATIENCE is how long the wait may
-# take, such as 5s. FTRIGHUB is the program.
+# take, such as 5s. FTRIGHUB is the program, or else it is `ftrighub` on the path.
 set -u
-ftrighub=${FTRIGHUB:-$(dirname "$0")/../ftrighub}
+ftrighub=${FTRIGHUB:-ftrighub}
+command -v "$ftrighub" >/dev/null || { echo "start-services: can't run $ftrighub; FTRIGHUB may name the program" >&2; exit 1; }
 db=${DB:-sleep 0.2}
 web=${WEB:-sleep 0.4}
 patience=${PATIENCE:-5s}
@@ -38,8 +39,6 @@ start() {
         if "$@" </dev/null >&2; then echo "pub $name U"; else echo "pub $name dOD"; fi
     } | "$ftrighub" call "$socket" 2>>"$work/faults" | grep '^no ' >&2 &
 }
-
-"$ftrighub" --help >/dev/null || exit 1 # if the program isn't built yet, this builds it
 
 if [ $# -eq 0 ]; then
     # Four sessions: one makes the services, each of them publishes in one, and one waits.

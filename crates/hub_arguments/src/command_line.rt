@@ -22,7 +22,7 @@ use std::{env, io};
 const NAME: &str = "ftrighub";
 
 /// The program's version, which `--version` prints after its name.
-const VERSION: &str = "0.3.0";
+const VERSION: &str = "0.4.0-dev";
 
 const SOCKET: &str = "socket";
 
