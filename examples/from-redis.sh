@@ -11,9 +11,9 @@
 [ $# -ge 3 ] || { echo "usage: from-redis.sh SOCKET NAME STREAM [WORD ..]" >&2; exit 2; }
 LC_ALL=C
 ftrighub=${FTRIGHUB:-ftrighub}
-command -v "$ftrighub" >/dev/null || { echo "from-redis: can't run $ftrighub; FTRIGHUB may name the program" >&2; exit 1; }
 socket=$1 name=$2 stream=$3 words=("${@:4}")
 [[ $name =~ ^[A-Za-z0-9_.-]{1,32}$ ]] || { printf 'from-redis: %q is no name of a fifodir\n' "$name" >&2; exit 2; }
+command -v "$ftrighub" >/dev/null || { echo "from-redis: can't run $ftrighub; FTRIGHUB may name the program" >&2; exit 1; }
 declare -A told=() # the IDs of entries that were refused
 trap '' PIPE
 

@@ -13,7 +13,6 @@ set -u
 }
 LC_ALL=C
 ftrighub=${FTRIGHUB:-ftrighub}
-command -v "$ftrighub" >/dev/null || { echo "s6-bridge: can't run $ftrighub; FTRIGHUB may name the program" >&2; exit 1; }
 service=$1
 socket=$2
 name=${3:-$(basename "$service")}
@@ -21,6 +20,7 @@ name=${3:-$(basename "$service")}
     printf 's6-bridge: %q is no name of a fifodir\n' "$name" >&2
     exit 2
 }
+command -v "$ftrighub" >/dev/null || { echo "s6-bridge: can't run $ftrighub; FTRIGHUB may name the program" >&2; exit 1; }
 reports=0
 [ ! -f "$service/notification-fd" ] || reports=1
 pipe=

@@ -9,9 +9,9 @@
 [ $# -ge 2 ] || { echo "usage: to-redis.sh SOCKET NAME [WORD ..]" >&2; exit 2; }
 LC_ALL=C
 ftrighub=${FTRIGHUB:-ftrighub}
-command -v "$ftrighub" >/dev/null || { echo "to-redis: can't run $ftrighub; FTRIGHUB may name the program" >&2; exit 1; }
 socket=$1 name=$2 words=("${@:3}")
 [[ $name =~ ^[A-Za-z0-9_.-]{1,32}$ ]] || { printf 'to-redis: %q is no name of a fifodir\n' "$name" >&2; exit 2; }
+command -v "$ftrighub" >/dev/null || { echo "to-redis: can't run $ftrighub; FTRIGHUB may name the program" >&2; exit 1; }
 trap '' PIPE
 
 # Adds the letters from number ARGV[1] on that the stream doesn't have yet, and returns the number that it needs next.

@@ -2,6 +2,7 @@
 imports this shows where it is if SIGTERM ends it, as tests/within does when its time is over."""
 
 import atexit
+import contextlib
 import faulthandler
 import os
 import re
@@ -95,6 +96,21 @@ class Client:
         self.stream.close()
 
 
+# Each hub that was started.
+HUBS = []
+
+
+@contextlib.contextmanager
+def folder_of_hubs(prefix=None):
+    """A folder. The hubs end before it is removed, since a hub puts the file of its socket back."""
+    with tempfile.TemporaryDirectory(prefix=prefix) as folder:
+        try:
+            yield folder
+        finally:
+            for hub in HUBS:
+                hub.kill()
+
+
 class Hub:
     """A hub at a path that serves without end, until the test ends. It may open so many files, and runs in this folder, with this
     umask, and as this user."""
@@ -107,6 +123,7 @@ class Hub:
         os.close(told)
         self.ready, self.path = ready, path
         atexit.register(self.kill)
+        HUBS.append(self)
         if files is not None:
             resource.prlimit(self.process.pid, resource.RLIMIT_NOFILE, (files, files))
 
@@ -227,7 +244,7 @@ class Report:
 def checked(checks, report=None, kind=str):
     """Makes these checks of the program in one folder, and returns the status of the test. The program is a path, or what is made of it."""
     program, report = kind(the_program()), report or Report()
-    with tempfile.TemporaryDirectory() as folder:
+    with folder_of_hubs() as folder:
         for check in checks:
             report.tried(check.__name__, check, program, folder, report)
     return report.end()
