@@ -1,89 +1,30 @@
 -- The first 513 bytes of each line are enough to answer it.
-use Rattle.std.proofs.Common.{◌≡◌, ℕ, ◌+◌, ◌≤◌, ◌<◌, ◌⊎◌, inl, inr, List, [], ◌∷◌, ◌++◌, length, take, map, ◌==◌, ◌||◌, Bool, true, false, cond, Option, Result, Ok, Err, refl, sym, ap, ◌∙◌, subst, append_assoc, append-nil, length-append, arith, rules}
-use Rattle.std.specs.List.{list_any}
-use Rattle.std.proofs.lemmas.List.{take-append-le, map-append, take_all, length-take-le, length-map}
-use Rattle.std.proofs.lemmas.Bool.{lt-ltb, le-ltb}
+use Rattle.std.proofs.Common.{◌≡◌, ℕ, ◌≤◌, ◌<◌, inl, inr, List, [], ◌∷◌, ◌++◌, length, map, Option, Result, Ok, Err, refl, sym, ap, ◌∙◌, subst, arith}
+use Rattle.std.proofs.lemmas.List.{map-append, take_all, length-take-le, length-map}
 use Rattle.hub_requests.specs.declared.reply.Reply.{Reply}
 use Rattle.hub_requests.specs.declared.request.Request.{Request}
 use Rattle.hub_requests.specs.declared.reply.Refusal.{Refusal}
 use Rattle.hub_requests.specs.declared.reply.Refusal.TheVariants.{Long, Text, Word, Form, Range, Memory}
 use Rattle.hub_protocol.specs.Reading.{IsReading}
-use Rattle.hub_io.specs.Lines.{onto_first, complete_of, rest_of, last_line, lines_of}
-use Rattle.hub_front.specs.Pieces.{keep, complete_pieces, piece_left, pieces_of}
+use Rattle.hub_io.specs.Lines.{complete_of, rest_of, last_line, lines_of}
+use Rattle.hub_io.proofs.Lines.{onto_first-nil, rest_after-nil}
+use Rattle.hub_front.specs.Pieces.{cut, complete_pieces, piece_left, pieces_of}
 use Rattle.hub_front.specs.Serving.{Asking, AnswersLine, Run, Served, BreaksOff}
-
--- what is kept of a line
-abbrev pub cut : List ℕ → List ℕ
-cut line = take 513 line
-
-short_or_long : (n k : ℕ) → (n < k) ⊎ (k ≤ n)
-short_or_long n k = search rules
+use Rattle.hub_front.proofs.Cuts.{short_or_long}
 
 -- ---- of each line its first 513 bytes are kept
-
-keep_short : (p : List ℕ) (b : ℕ) → length p < 513 → keep (cut p) b ≡ cut (p ++ b ∷ [])
-keep_short p b h =
-    let whole : take 513 p ≡ p = take_all 513 p (omega arith) in
-    let one : length (p ++ b ∷ []) ≡ length p + 1 = length-append p (b ∷ []) in
-    let more : take 513 (p ++ b ∷ []) ≡ p ++ b ∷ [] = take_all 513 (p ++ b ∷ []) (omega arith) in
-    ap (λ l. keep l b) whole ∙ ap (λ t. cond t (p ++ b ∷ []) p) (lt-ltb (length p) 513 h) ∙ sym more
-
-keep_long : (p : List ℕ) (b : ℕ) → 513 ≤ length p → keep (cut p) b ≡ cut (p ++ b ∷ [])
-keep_long p b h =
-    let size : length (take 513 p) ≡ 513 = length-take-le 513 p h in
-    ap (λ t. cond t (take 513 p ++ b ∷ []) (take 513 p)) (le-ltb (length (take 513 p)) 513 (omega arith)) ∙ sym (take-append-le 513 p (b ∷ []) h)
-
-keep-cut : (p : List ℕ) (b : ℕ) → keep (cut p) b ≡ cut (p ++ b ∷ [])
-keep-cut p b = elim (short_or_long (length p) 513) [ inl h ↦ keep_short p b h | inr h ↦ keep_long p b h ]
-
-onto_first-nil : (ls : List (List ℕ)) → onto_first [] ls ≡ ls
-onto_first-nil [] = refl
-onto_first-nil (l ∷ ls) = refl
-
-onto_first-append : (p q : List ℕ) (ls : List (List ℕ)) → onto_first p (onto_first q ls) ≡ onto_first (p ++ q) ls
-onto_first-append p q [] = refl
-onto_first-append p q (l ∷ ls) = ap (λ x. x ∷ ls) (sym (append_assoc p q l))
-
-done-cut : (bs p : List ℕ) → complete_pieces bs (cut p) ≡ map cut (onto_first p (complete_of bs))
-done-cut [] p = refl
-done-cut (b ∷ bs) p =
-    elim (b == 10) as (λ t. cond t (cut p ∷ complete_pieces bs []) (complete_pieces bs (keep (cut p) b)) ≡ map cut (onto_first p (cond t ([] ∷ complete_of bs) (onto_first (b ∷ []) (complete_of bs))))) [
-      | true ↦
-          let rest : complete_pieces bs [] ≡ map cut (complete_of bs) = done-cut bs [] ∙ ap (map cut) (onto_first-nil (complete_of bs)) in
-          ap (λ l. cut l ∷ complete_pieces bs []) (sym (append-nil p)) ∙ ap (λ ls. cut (p ++ []) ∷ ls) rest
-      | false ↦ ap (complete_pieces bs) (keep-cut p b) ∙ done-cut bs (p ++ b ∷ []) ∙ ap (map cut) (sym (onto_first-append p (b ∷ []) (complete_of bs)))
-    ]
-
-abbrev has_lf : List ℕ → Bool
-has_lf bs = list_any (λ x. x == 10) bs
-
-rest_or_all : (bs : List ℕ) → cond (has_lf bs) (rest_of bs) bs ≡ rest_of bs
-rest_or_all [] = refl
-rest_or_all (b ∷ bs) = elim (has_lf (b ∷ bs)) as (λ t. cond t (cond t (rest_of bs) (b ∷ bs)) (b ∷ bs) ≡ cond t (rest_of bs) (b ∷ bs)) [ true ↦ refl | false ↦ refl ]
-
-left-cut : (bs p : List ℕ) → piece_left bs (cut p) ≡ cut (cond (has_lf bs) (rest_of bs) (p ++ bs))
-left-cut [] p = ap cut (sym (append-nil p))
-left-cut (b ∷ bs) p =
-    elim (b == 10) as (λ t. cond t (piece_left bs []) (piece_left bs (keep (cut p) b)) ≡ cut (cond (t || has_lf bs) (cond (t || has_lf bs) (rest_of bs) (b ∷ bs)) (p ++ b ∷ bs))) [
-      | true ↦ left-cut bs [] ∙ ap cut (rest_or_all bs)
-      | false ↦ ap (piece_left bs) (keep-cut p b) ∙ left-cut bs (p ++ b ∷ []) ∙
-          elim (has_lf bs) as (λ t. cut (cond t (rest_of bs) ((p ++ b ∷ []) ++ bs)) ≡ cut (cond t (cond t (rest_of bs) (b ∷ bs)) (p ++ b ∷ bs))) [
-            | true ↦ refl
-            | false ↦ ap cut (append_assoc p (b ∷ []) bs)
-          ]
-    ]
 
 last_line-cut : (r : List ℕ) → last_line (cut r) ≡ map cut (last_line r)
 last_line-cut [] = refl
 last_line-cut (b ∷ bs) = refl
 
 pub done-whole : (bs : List ℕ) → complete_pieces bs [] ≡ map cut (complete_of bs)
-done-whole bs = done-cut bs [] ∙ ap (map cut) (onto_first-nil (complete_of bs))
+done-whole bs = ap (map cut) (onto_first-nil (complete_of bs))
 
 pub pieces-whole : (bs : List ℕ) → pieces_of bs ≡ map cut (lines_of bs)
 pieces-whole bs =
     ap (λ ls. ls ++ last_line (piece_left bs [])) (done-whole bs)
-    ∙ ap (λ l. map cut (complete_of bs) ++ last_line l) (left-cut bs [] ∙ ap cut (rest_or_all bs))
+    ∙ ap (λ l. map cut (complete_of bs) ++ last_line (cut l)) (rest_after-nil bs)
     ∙ ap (λ ls. map cut (complete_of bs) ++ ls) (last_line-cut (rest_of bs))
     ∙ sym (map-append cut (complete_of bs) (last_line (rest_of bs)))
 

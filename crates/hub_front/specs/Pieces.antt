@@ -1,22 +1,20 @@
 -- Lines as a session sees them: it keeps the first 513 bytes of each.
-use Rattle.std.specs.Prelude.{◌≡◌, ℕ, ◌≤◌, List, [], ◌∷◌, ◌++◌, ◌==◌, length, nat_lt, if◌then◌else◌, Option}
+use Rattle.std.specs.Prelude.{◌≡◌, ℕ, ◌≤◌, List, [], ◌++◌, length, map, take, Option}
 use Rattle.std.specs.Io.KnownBytes.{Consumes}
-use Rattle.hub_io.specs.Lines.{last_line}
+use Rattle.hub_io.specs.Lines.{complete_after, rest_after, last_line}
 use Rattle.hub_front.specs.Serving.{Asking, Served}
 
--- what is kept of a line after one more byte
-abbrev pub keep : List ℕ → ℕ → List ℕ
-keep kept b = if nat_lt (length kept) 513 then kept ++ b ∷ [] else kept
+-- what is kept of a line
+abbrev pub cut : List ℕ → List ℕ
+cut line = take 513 line
 
--- the lines that end within the bytes; kept is what was kept of the first one
-abbrev pub complete_pieces : List ℕ → List ℕ → List (List ℕ)
-complete_pieces [] kept = []
-complete_pieces (b ∷ bs) kept = if b == 10 then kept ∷ complete_pieces bs [] else complete_pieces bs (keep kept b)
+-- the lines that end within the bytes, each as it is kept; kept is what was kept of the first one before
+abbrev pub complete_pieces : (bytes kept : List ℕ) → List (List ℕ)
+complete_pieces bytes kept = map cut (complete_after kept bytes)
 
 -- what is kept of the unfinished line after the bytes
-abbrev pub piece_left : List ℕ → List ℕ → List ℕ
-piece_left [] kept = kept
-piece_left (b ∷ bs) kept = if b == 10 then piece_left bs [] else piece_left bs (keep kept b)
+abbrev pub piece_left : (bytes kept : List ℕ) → List ℕ
+piece_left bytes kept = cut (rest_after kept bytes)
 
 -- all lines of an input, the first 513 bytes of each
 abbrev pub pieces_of : List ℕ → List (List ℕ)

@@ -71,8 +71,8 @@ fn serve_lines<H: Wait, D: Desk, R: Source, W: Sink>(
         (W.contents writer.old) (W.contents writer.new) desk.new) }
     ensures err { IfErr result (λ e. (input : List ℕ)
         × Consumes (R.remaining reader.old) (R.remaining reader.new) input
-        × StopsAt (most_reads stay) D.asks desk.old input (W.contents writer.old) (W.contents writer.new)
-        (R.remaining reader.new) desk.new e) }
+        × StopsAt (most_reads stay) D.asks desk.old input
+        (W.contents writer.old) (W.contents writer.new) (R.remaining reader.new) desk.new e) }
     ensures memory { result ≡ Err FrontError.Memory → (reader.new ≡ reader.old)
         × (writer.new ≡ writer.old) }
     ensures reads { ReadsWithin (most_reads stay) (R.reads reader.old) (R.reads reader.new) result }

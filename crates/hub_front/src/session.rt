@@ -1,14 +1,14 @@
 //! What a session keeps between two reads, and how it answers the bytes of one read.
-ghost use Rattle.std.specs.Prelude.{◌≡◌, ◌+◌, ◌<◌, ◌≤◌, ◌^◌, List, [], ◌∷◌, length, OnOk, OnErr, IfOk, IfErr, vec_len, vec_capacity};
+ghost use Rattle.std.specs.Prelude.{◌≡◌, ◌+◌, ◌<◌, ◌≤◌, ◌^◌, List, [], ◌∷◌, ◌++◌, length, OnOk, OnErr, IfOk, IfErr, vec_len, vec_capacity};
 ghost use Rattle.std.specs.Io.KnownBytes.{Appends};
 ghost use Rattle.hub_requests.specs.declared.bounds.TheConstants.{LONGEST_REPLY};
 ghost use Rattle.hub_io.specs.Lines.{last_line};
 ghost use Rattle.hub_io.specs.Telling.{Rises};
 ghost use Rattle.hub_io.specs.Faults.{AppendsPart, write_faults};
 ghost use Rattle.hub_front.specs.Serving.{AnswersLine, Served, BreaksOff};
-ghost use Rattle.hub_front.specs.Pieces.{complete_pieces, piece_left};
+ghost use Rattle.hub_front.specs.Pieces.{cut, complete_pieces, piece_left};
 
-use hub_io::{FrontError, Sink, write_whole};
+use hub_io::{FrontError, Sink, first_line, write_whole};
 use hub_protocol::{parse, write_reply};
 use hub_requests::{Desk, LONGEST_REPLY, Reply};
 use std::alloc::{AllocError, Global};
@@ -16,8 +16,6 @@ use std::sync::Wait;
 
 // One byte more than a line may have, which is enough to know that a line is too long.
 const KEPT: usize = 513;
-
-const LF: u8 = b'\n';
 
 /// What a session keeps between two reads: the first 513 bytes of the unfinished line, room for the text of a reply,
 /// and how many lines were answered.
@@ -69,41 +67,23 @@ impl Session {
         ensures fault { IfErr result (λ e. e ≡ FrontError.Write) }
         ensures told { Rises (W.faults writer.old) (W.faults writer.new) (write_faults result) }
     {
-        for byte in bytes {
-            self.take_byte(rt, desk, writer, *byte)?;
+        let mut left = bytes;
+        'lines: while let Some((end, rest)) = first_line(left) {
+            self.keep(end);
+            self.answer_line(rt, desk, writer)?;
+            left = rest;
         }
+        self.keep(left);
         Ok(())
     }
 
-    // Takes one more byte of the input, which may end a line.
-    fn take_byte<H: Wait, D: Desk, W: Sink>(
-        &mut self,
-        rt: &H,
-        desk: &mut D,
-        writer: &mut W,
-        byte: u8,
-    ) -> Result<(), FrontError>
-        requires { self.old.count + 1 < 2 ^ 64 }
-        ensures ok { OnOk result
-            (Served D.asks desk.old (complete_pieces (byte ∷ []) self.old.line.items)
-            (W.contents writer.old) (W.contents writer.new) desk.new) }
-        ensures line { OnOk result
-            (self.new.line.items ≡ piece_left (byte ∷ []) self.old.line.items) }
-        ensures count { OnOk result (self.new.count ≡ self.old.count + length
-            (complete_pieces (byte ∷ []) self.old.line.items)) }
-        ensures err { OnErr result
-            (BreaksOff D.asks desk.old (complete_pieces (byte ∷ []) self.old.line.items)
-            (W.contents writer.old) (W.contents writer.new) desk.new) }
-        ensures fault { IfErr result (λ e. e ≡ FrontError.Write) }
-        ensures told { Rises (W.faults writer.old) (W.faults writer.new) (write_faults result) }
+    // Keeps as much of the unfinished line's next bytes as there is room for.
+    fn keep(&mut self, piece: &[u8])
+        ensures line { self.new.line.items ≡ cut (self.old.line.items ++ piece.now) }
+        ensures count { self.new.count ≡ self.old.count }
     {
-        if byte == LF {
-            return self.answer_line(rt, desk, writer);
-        }
-        if self.line.len() < KEPT {
-            self.line.push(byte).unwrap();
-        }
-        Ok(())
+        let fits = piece.len().min(KEPT - self.line.len());
+        self.line.extend_from_slice(&piece[..fits]).unwrap();
     }
 
     /// Answers the unfinished last line of the input, if there is one. Returns how many lines were answered in all.

@@ -1,40 +1,56 @@
-use Rattle.std.proofs.Common.{◌≡◌, ℕ, ◌≤◌, ◌<◌, ◌+◌, List, [], ◌∷◌, ◌++◌, length, take, drop, get_or, arith, sym, ap, ◌∙◌, refl, take-append-drop, drop-cons, add-one}
-use Rattle.std.proofs.lemmas.List.{take_more, length-take-le}
-use Rattle.hub_front.specs.Pieces.{complete_pieces, piece_left}
-use Rattle.hub_front.proofs.Cuts.{done_few, served_on, left_on, count_on, breaks_on}
+use Rattle.std.proofs.Common.{◌≡◌, ℕ, ◌+◌, ◌≤◌, List, [], ◌∷◌, ◌++◌, false, length, refl, sym, ap, ◌∙◌, arith, length-append}
+use Rattle.std.proofs.lemmas.Option.{MatchOption-at_none}
+use Rattle.hub_io.specs.Lines.{has_lf}
 use Rattle.hub_io.proofs.Outcomes.{OnErr-known}
-use Rattle.hub_front.proofs.Runs.{served_same, breaks_same}
-use Rattle.hub_io.proofs.Told.{Rises-trans}
+use Rattle.hub_io.proofs.Told.{Grows-none, Rises-trans}
+use Rattle.hub_front.specs.Pieces.{cut, complete_pieces, piece_left}
+use Rattle.hub_front.proofs.Cuts.{done_few, left-begins, done_more, done_before, done_all, breaks_among}
+use Rattle.hub_front.proofs.Runs.{served_none, served_same, served_then, breaks_same}
 use Rattle.hub_front.proofs.session.Session.take_bytes.Goals as goal
 
-pub take_byte-requires : goal.take_byte-requires
-take_byte-requires g c =
-    let so_far = take c.loop-byte.byte-index c.args.bytes.now in
-    let few : length (complete_pieces so_far c.args.self.now.line.items) ≤ length so_far = done_few _ _ in
-    let short : length so_far ≡ c.loop-byte.byte-index = length-take-le c.loop-byte.byte-index c.args.bytes.now c.loop-byte.auto.byte-index-end in
-    omega (arith, c.requires, c.loop-byte.invariant.count, c.loop-byte-test.true)
+abbrev one : List ℕ → List (List ℕ)
+one line = line ∷ []
 
-split_at_byte : (xs : List ℕ) (i : ℕ) → i < length xs → take i xs ++ ((get_or xs i 0 ∷ []) ++ drop (i + 1) xs) ≡ xs
-split_at_byte xs i h = ap (λ l. take i xs ++ l) (rw (add-one, drop-cons xs i 0) refl) ∙ take-append-drop i xs
+pub lines-init : goal.lines-init
+lines-init g c = ([], record { served = served_none _ _ _; all = refl; line = refl; count = omega arith; quiet = Grows-none _ })
 
-pub returns-in_err-take_byte-clause-err : goal.returns-in_err-take_byte-clause-err
-returns-in_err-take_byte-clause-err g c =
-    let xs = c.args.bytes.now in
-    let i = c.loop-byte.byte-index in
-    OnErr-known _ (breaks_same (ap (λ bytes. complete_pieces bytes c.args.self.now.line.items) (split_at_byte xs i c.loop-byte-test.true))
-    (breaks_on (take i xs) (get_or xs i 0 ∷ []) (drop (i + 1) xs) _ _ c.loop-byte.invariant.line c.loop-byte.invariant.served c.in_err-take_byte.ensures.err))
+pub answer_line-requires : goal.answer_line-requires
+answer_line-requires g c =
+    let (done, so_far) = c.lines.invariant in
+    let all = complete_pieces c.args.bytes.now c.args.self.now.line.items in
+    let more : length done + 1 ≤ length c.args.bytes.now = done_before all done _ _ _ _ _ (done_few c.args.bytes.now c.args.self.now.line.items) so_far.all c.in-Some.ensures in
+    omega (arith, c.requires, so_far.count, c.keep.ensures.count)
 
-pub loop-byte-preserved : goal.loop-byte-preserved
-loop-byte-preserved g c =
-    let xs = c.args.bytes.now in
-    let i = c.loop-byte.byte-index in
-    let kept = c.args.self.now.line.items in
-    let more : take i xs ++ get_or xs i 0 ∷ [] ≡ take (i + 1) xs = sym (take_more xs i 0 c.loop-byte-test.true) in
-    record {
-      served = served_same (ap (λ bytes. complete_pieces bytes kept) more)
-          (served_on (take i xs) (get_or xs i 0 ∷ []) kept _ c.loop-byte.invariant.line c.loop-byte.invariant.served c.in_ok-take_byte.ensures.ok);
-      line = left_on (take i xs) (get_or xs i 0 ∷ []) kept _ _ c.loop-byte.invariant.line c.in_ok-take_byte.ensures.line ∙ ap (λ bytes. piece_left bytes kept) more;
-      count = count_on (take i xs) (get_or xs i 0 ∷ []) kept _ _ _ _ c.loop-byte.invariant.line c.loop-byte.invariant.count c.in_ok-take_byte.ensures.count
-          ∙ ap (λ bytes. c.args.self.now.count + length (complete_pieces bytes kept)) more;
-      quiet = Rises-trans _ _ _ 0 c.loop-byte.invariant.quiet c.in_ok-take_byte.ensures.told;
-    }
+pub returns-in_err-answer_line-clause-err : goal.returns-in_err-answer_line-clause-err
+returns-in_err-answer_line-clause-err g c =
+    let (done, so_far) = c.lines.invariant in
+    OnErr-known _ (breaks_among _ done _ _ _ _ so_far.all c.in-Some.ensures so_far.served (breaks_same (ap one c.keep.ensures.line) c.in_err-answer_line.ensures.err))
+
+pub lines-preserved : goal.lines-preserved
+lines-preserved g c =
+    let (done, so_far) = c.lines.invariant in
+    let line = c.lines.self.line.items in
+    let rest = c.in-Some.rest.now in
+    let piece = cut (line ++ c.in-Some.end.now) in
+    let more = done ++ piece ∷ [] in (
+      more,
+      record {
+        served = served_then so_far.served (served_same (ap one c.keep.ensures.line) c.in_ok-answer_line.ensures.ok);
+        all = done_more _ done _ _ _ _ so_far.all c.in-Some.ensures ∙ ap (λ l. more ++ complete_pieces rest l) (sym c.in_ok-answer_line.ensures.line);
+        line = ap (piece_left rest) c.in_ok-answer_line.ensures.line ∙ sym (left-begins _ _ rest line c.in-Some.ensures) ∙ so_far.line;
+        count = omega (arith, so_far.count, c.keep.ensures.count, c.in_ok-answer_line.ensures.count, length-append done (piece ∷ []));
+        quiet = Rises-trans _ _ _ 0 so_far.quiet c.in_ok-answer_line.ensures.told;
+      },
+    )
+
+pub returns-clause-ok : goal.returns-clause-ok
+returns-clause-ok g c =
+    let (done, so_far) = c.lines.invariant in
+    let none : has_lf c.lines.left.now ≡ false = MatchOption-at_none _ _ c.in_default.is c.first_line.ensures in
+    served_same (sym (done_all _ done c.lines.left.now c.lines.self.line.items so_far.all none)) so_far.served
+
+pub returns-clause-count : goal.returns-clause-count
+returns-clause-count g c =
+    let (done, so_far) = c.lines.invariant in
+    let none : has_lf c.lines.left.now ≡ false = MatchOption-at_none _ _ c.in_default.is c.first_line.ensures in
+    omega (arith, so_far.count, c.keep-2.ensures.count, ap length (done_all _ done c.lines.left.now c.lines.self.line.items so_far.all none))
