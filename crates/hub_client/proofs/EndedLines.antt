@@ -1,58 +1,12 @@
--- Lines with their LFs, and how bytes are cut into them.
-use Rattle.std.proofs.Common.{◌≡◌, ℕ, ◌<◌, ◌≤◌, Bool, true, false, ◌||◌, cond, List, [], ◌∷◌, ◌++◌, ◌==◌, length, inl, inr, refl, sym, ap, ◌∙◌, subst, arith, append-nil, append_assoc, length-append}
+-- Lines with their LFs.
+use Rattle.std.proofs.Common.{◌≡◌, ℕ, ◌<◌, ◌≤◌, false, ◌||◌, List, [], ◌∷◌, ◌++◌, ◌==◌, length, inl, inr, refl, sym, ap, ◌∙◌, subst, arith, append-nil, append_assoc, length-append}
 use Rattle.std.proofs.lemmas.Bool.{cases_Bool, eqb-true}
-use Rattle.std.proofs.lemmas.List.Folds.{list_any-append}
 use Rattle.std.proofs.lemmas.Grind.{flat_map-append}
-use Rattle.hub_io.specs.Lines.{onto_first, complete_of, rest_of, last_line, lines_of}
-use Rattle.hub_client.specs.Passing.{has_lf}
+use Rattle.hub_io.specs.Lines.{has_lf, complete_of, rest_of, last_line, lines_of}
+use Rattle.hub_io.proofs.Lines.{complete-line, rest-line, lines-line, lines-part}
+pub use Rattle.hub_io.proofs.Lines.{complete-none, first_line}
 use Rattle.hub_client.specs.Relaying.{ended_lines, line_count}
 use Rattle.hub_client.specs.UnderWay.{AreCut}
-
-or_left : (a b : Bool) → (a || b) ≡ false → a ≡ false
-or_left true b e = cc
-or_left false b e = refl
-
-or_right : (a b : Bool) → (a || b) ≡ false → b ≡ false
-or_right true b e = cc
-or_right false b e = e
-
-or_true : (a : Bool) → (a || true) ≡ true
-or_true true = refl
-or_true false = refl
-
--- ---- one line
-
-complete-line : (line rest : List ℕ) → has_lf line ≡ false → complete_of (line ++ 10 ∷ rest) ≡ line ∷ complete_of rest
-complete-line [] rest cut = refl
-complete-line (b ∷ bs) rest cut =
-    ap (λ t. cond t ([] ∷ complete_of (bs ++ 10 ∷ rest)) (onto_first (b ∷ []) (complete_of (bs ++ 10 ∷ rest)))) (or_left (b == 10) (has_lf bs) cut)
-    ∙ ap (onto_first (b ∷ [])) (complete-line bs rest (or_right (b == 10) (has_lf bs) cut))
-
-pub complete-none : (part : List ℕ) → has_lf part ≡ false → complete_of part ≡ []
-complete-none [] cut = refl
-complete-none (b ∷ bs) cut =
-    ap (λ t. cond t ([] ∷ complete_of bs) (onto_first (b ∷ []) (complete_of bs))) (or_left (b == 10) (has_lf bs) cut)
-    ∙ ap (onto_first (b ∷ [])) (complete-none bs (or_right (b == 10) (has_lf bs) cut))
-
-pub has_lf-line : (line rest : List ℕ) → has_lf (line ++ 10 ∷ rest) ≡ true
-has_lf-line line rest = list_any-append (λ b. b == 10) line (10 ∷ rest) ∙ or_true (has_lf line)
-
-rest-line : (line rest : List ℕ) → rest_of (line ++ 10 ∷ rest) ≡ rest_of rest
-rest-line [] rest = refl
-rest-line (b ∷ bs) rest =
-    ap (λ t. cond t (rest_of (bs ++ 10 ∷ rest)) (b ∷ (bs ++ 10 ∷ rest))) (has_lf-line (b ∷ bs) rest) ∙ rest-line bs rest
-
-pub rest-none : (part : List ℕ) → has_lf part ≡ false → rest_of part ≡ part
-rest-none [] cut = refl
-rest-none (b ∷ bs) cut = ap (λ t. cond t (rest_of bs) (b ∷ bs)) cut
-
-lines-line : (line rest : List ℕ) → has_lf line ≡ false → lines_of (line ++ 10 ∷ rest) ≡ line ∷ lines_of rest
-lines-line line rest cut =
-    ap (λ ls. ls ++ last_line (rest_of (line ++ 10 ∷ rest))) (complete-line line rest cut)
-    ∙ ap (λ r. (line ∷ complete_of rest) ++ last_line r) (rest-line line rest)
-
-lines-part : (part : List ℕ) → has_lf part ≡ false → lines_of part ≡ last_line part
-lines-part part cut = ap (λ ls. ls ++ last_line (rest_of part)) (complete-none part cut) ∙ ap last_line (rest-none part cut)
 
 last-some : (part : List ℕ) → 1 ≤ length part → last_line part ≡ part ∷ []
 last-some [] h = absurd (omega arith)
@@ -90,16 +44,6 @@ lines-ended (l ∷ ls) rest c =
 pub rest-ended : (lines : List (List ℕ)) (rest : List ℕ) → AreCut lines → rest_of (ended_lines lines ++ rest) ≡ rest_of rest
 rest-ended [] rest c = refl
 rest-ended (l ∷ ls) rest c = ap rest_of (ended_first l ls rest) ∙ rest-line l (ended_lines ls ++ rest) ∙ rest-ended ls rest c.1
-
--- up to the first LF
-pub first_line : (bytes : List ℕ) → has_lf bytes ≡ true → (line after : List ℕ) × (has_lf line ≡ false) × (bytes ≡ line ++ 10 ∷ after)
-first_line [] e = cc
-first_line (b ∷ bs) e = elim (cases_Bool (b == 10)) [
-  | inl lf ↦ ([], bs, refl, ap (λ x. x ∷ bs) (eqb-true b 10 lf))
-  | inr other ↦
-      let (line, after, cut, is) = first_line bs (sym (ap (λ t. t || has_lf bs) other) ∙ e) in
-      (b ∷ line, after, ap (λ t. t || has_lf line) other ∙ cut, ap (λ l. b ∷ l) is)
-]
 
 -- lines, and a part of one
 pub lines-ended_part : (lines : List (List ℕ)) (part : List ℕ) → AreCut lines → has_lf part ≡ false → 1 ≤ length part → lines_of (ended_lines lines ++ part) ≡ lines ++ part ∷ []

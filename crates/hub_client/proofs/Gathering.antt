@@ -1,5 +1,5 @@
 -- Bytes that come after what is pending, until there is an LF.
-use Rattle.std.proofs.Common.{◌≡◌, ℕ, ◌+◌, ◌-◌, ◌<◌, ◌≤◌, true, false, is_some, List, [], ◌∷◌, ◌++◌, ◌==◌, length, take, drop, Vec, Option, None, Some, position, refl, sym, ap, ◌∙◌, subst, arith, append-nil, length-take, length-drop}
+use Rattle.std.proofs.Common.{◌≡◌, ℕ, ◌+◌, ◌-◌, ◌<◌, ◌≤◌, Bool, true, false, List, [], ◌∷◌, ◌++◌, length, take, drop, Vec, Option, refl, sym, ap, ◌∙◌, subst, arith, append-nil, length-take, length-drop}
 use Rattle.std.proofs.lemmas.List.{append_cancel_left, take_at, drop_at, take-append-le, drop-append-le, drop-take, length-take-le, with_items_is}
 use Rattle.std.specs.Vec.{with_items}
 use Rattle.std.specs.Io.KnownBytes.{IsAtEnd}
@@ -8,21 +8,11 @@ use borrow.Rule.Slice.PartMut.{post_of}
 use lib.Seq.{take-add}
 use Rattle.hub_client.specs.declared.buffer.Came.{Came}
 use Rattle.hub_client.specs.declared.buffer.Came.TheVariants.{Lf, Bytes, End}
-use Rattle.hub_client.specs.Passing.{has_lf, Moves, ComesAs, EndsWhen, IsShort, slack_when}
-use Rattle.hub_client.proofs.Feeds.{some, none}
+use Rattle.hub_io.specs.Lines.{has_lf}
+use Rattle.hub_io.proofs.Lines.{has_lf-append}
+use Rattle.hub_client.specs.Passing.{Moves, ComesAs, EndsWhen, IsShort, slack_when}
 use Rattle.hub_client.proofs.Moving.{reads_behind, between_none}
 use Rattle.hub_client.proofs.Pieces.{between}
-use Rattle.hub_client.proofs.OnTheWay.{has_lf-append}
-
--- ---- an LF, or none
-
-pub found : (o : Option ℕ) (bs : List ℕ) → o ≡ position (λ b. b == 10) bs → is_some o ≡ true → has_lf bs ≡ true
-found None bs e is = cc
-found (Some k) bs e is = some bs k e
-
-pub not_found : (o : Option ℕ) (bs : List ℕ) → o ≡ position (λ b. b == 10) bs → is_some o ≡ false → has_lf bs ≡ false
-not_found None bs e is = none bs e
-not_found (Some k) bs e is = cc
 
 lf_some : (bs : List ℕ) → has_lf bs ≡ true → 1 ≤ length bs
 lf_some [] e = cc
@@ -92,11 +82,8 @@ module _ {had has : Option (List ℕ)} {made makes : Option ℕ} {left left' : �
 
 -- ---- the loop
 
-pub found_between : (o : Option ℕ) (items seen : List ℕ) (start end : ℕ) → seen ≡ items → o ≡ position (λ b. b == 10) (between seen start end) → is_some o ≡ true → has_lf (between items start end) ≡ true
-found_between o items seen start end same e is = found o (between items start end) (e ∙ ap (λ l. position (λ b. b == 10) (between l start end)) same) is
-
-pub not_found_between : (o : Option ℕ) (items seen : List ℕ) (start end : ℕ) → seen ≡ items → o ≡ position (λ b. b == 10) (between seen start end) → is_some o ≡ false → has_lf (between items start end) ≡ false
-not_found_between o items seen start end same e is = not_found o (between items start end) (e ∙ ap (λ l. position (λ b. b == 10) (between l start end)) same) is
+pub lf_between : (items seen : List ℕ) (start end : ℕ) (found : Bool) → seen ≡ items → found ≡ has_lf (between seen start end) → has_lf (between items start end) ≡ found
+lf_between items seen start end found same e = sym (e ∙ ap (λ l. has_lf (between l start end)) same)
 
 -- nothing more came
 pub stays_short : (items : List ℕ) (start end : ℕ) (after : List ℕ) → after ≡ between items start end → has_lf (between items start end) ≡ false → end < CHUNK → IsShort after

@@ -5,10 +5,11 @@ use Rattle.std.proofs.KnownBytes.{Appends-nil, Appends-trans}
 use Rattle.hub_io.specs.declared.reading.TheConstants.{CHUNK}
 use Rattle.hub_io.specs.declared.fault.FrontError.{FrontError}
 use Rattle.hub_io.specs.declared.fault.FrontError.TheVariants.{Read, Write, Turns, Memory}
-use Rattle.hub_client.specs.Passing.{has_lf, IsLine, Moves, IsInPieces, IsReady, IsShort, slack_at, FailsAs, FailsInPieces}
+use Rattle.hub_io.specs.Lines.{has_lf, IsLine}
+use Rattle.hub_io.proofs.Lines.{has_lf-append}
+use Rattle.hub_client.specs.Passing.{Moves, IsInPieces, IsReady, IsShort, slack_at, FailsAs, FailsInPieces}
 use Rattle.hub_client.specs.Relaying.{writable}
 use Rattle.hub_client.proofs.Moving.{stays, moves_piece, moves_reads, moves_more}
-use Rattle.hub_client.proofs.OnTheWay.{has_lf-append}
 use Rattle.hub_client.proofs.Writable.{writable-front, due}
 
 pub begins : (has held : Option (List ℕ)) (makes : Option ℕ) (p : List ℕ) (left : ℕ) → IsInPieces has has held held makes makes p p left left

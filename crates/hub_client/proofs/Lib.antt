@@ -1,9 +1,9 @@
 pub mod EndedLines
-pub mod Feeds
 pub mod Moving
 pub mod Pieces
 pub mod OnTheWay
 pub mod Gathering
 pub mod Writable
 pub mod InPieces
+pub mod Directions
 pub mod Turns

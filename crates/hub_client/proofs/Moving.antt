@@ -1,9 +1,7 @@
 -- Bytes that move through a buffer.
 use Rattle.std.proofs.Common.{◌≡◌, ℕ, ◌+◌, ◌-◌, ◌<◌, ◌≤◌, List, [], ◌++◌, length, take, drop, Option, sym, ap, ◌∙◌, subst, arith, append-nil, append_assoc, length-append, length-drop}
 use Rattle.std.proofs.lemmas.List.{length-take-le, drop-take, drop-drop}
-use Rattle.std.specs.Io.KnownBytes.{Consumes}
 use Rattle.std.proofs.KnownBytes.{Consumes-nil, Consumes-trans}
-use Rattle.hub_io.specs.Telling.{Rises}
 use Rattle.hub_io.proofs.Told.{Grows-none, Rises-add}
 use Rattle.hub_client.specs.Passing.{Moves}
 

@@ -1,13 +1,14 @@
 -- A line on its way through a buffer.
-use Rattle.std.proofs.Common.{◌≡◌, ℕ, ◌+◌, ◌≤◌, Bool, true, false, ◌||◌, List, [], ◌∷◌, ◌++◌, ◌==◌, length, Option, MatchBool, if◌then◌else◌, refl, sym, ap, ◌∙◌, subst, arith, append_assoc, length-append}
+use Rattle.std.proofs.Common.{◌≡◌, ℕ, ◌+◌, ◌≤◌, Bool, true, false, List, [], ◌∷◌, ◌++◌, length, Option, MatchBool, if◌then◌else◌, refl, sym, ap, ◌∙◌, subst, arith, append_assoc, length-append}
 use Rattle.std.specs.Io.KnownBytes.{Appends, IsAtEnd}
 use Rattle.std.proofs.KnownBytes.{Appends-nil, Appends-trans}
-use Rattle.std.proofs.lemmas.List.Folds.{list_any-append}
 use Rattle.hub_io.specs.declared.fault.FrontError.{FrontError}
 use Rattle.hub_io.specs.declared.fault.FrontError.TheVariants.{Write}
-use Rattle.hub_client.specs.declared.buffer.Passed.{Passed}
-use Rattle.hub_client.specs.declared.buffer.Passed.TheVariants.{Part, Nothing}
-use Rattle.hub_client.specs.Passing.{has_lf, IsLine, Moves, IsOnItsWay, slack_of, slack_at, EndsAs, FailsAs}
+use Rattle.hub_client.specs.declared.passing.Passed.{Passed}
+use Rattle.hub_client.specs.declared.passing.Passed.TheVariants.{Part, Nothing}
+use Rattle.hub_io.specs.Lines.{has_lf, IsLine}
+use Rattle.hub_io.proofs.Lines.{has_lf-append}
+use Rattle.hub_client.specs.Passing.{Moves, IsOnItsWay, slack_of, slack_at, EndsAs, FailsAs}
 use Rattle.hub_client.proofs.Moving.{stays, moves_piece, moves_reads, moves_more}
 
 pub on_true : (P Q : Type 0) (b : Bool) → b ≡ true → MatchBool b P Q → P
@@ -15,9 +16,6 @@ on_true P Q b e h = subst (λ t. MatchBool t P Q) e h
 
 pub on_false : (P Q : Type 0) (b : Bool) → b ≡ false → MatchBool b P Q → Q
 on_false P Q b e h = subst (λ t. MatchBool t P Q) e h
-
-pub has_lf-append : (front bs : List ℕ) → has_lf front ≡ false → has_lf (front ++ bs) ≡ has_lf bs
-has_lf-append front bs e = list_any-append (λ b. b == 10) front bs ∙ ap (λ t. t || has_lf bs) e
 
 pub begins : (has held : Option (List ℕ)) (makes : Option ℕ) (p : List ℕ) (left : ℕ) → IsOnItsWay has has held held makes makes p p left left false
 begins has held makes p left = record { passed = []; moved = stays has makes p left 0; written = Appends-nil held; cut = refl; begun = refl }

@@ -3,12 +3,12 @@ use Rattle.std.proofs.Common.{◌≡◌, ℕ, ◌+◌, ◌*◌, ◌/◌, ◌<◌
 use Rattle.std.proofs.lemmas.Bool.{cases_Bool}
 use Rattle.std.proofs.lemmas.List.{take_at}
 use Rattle.hub_io.specs.declared.reading.TheConstants.{CHUNK}
-use Rattle.hub_io.specs.Lines.{complete_of, rest_of}
-use Rattle.hub_client.specs.Passing.{has_lf, IsReady}
+use Rattle.hub_io.specs.Lines.{has_lf, complete_of, rest_of}
+use Rattle.hub_io.proofs.Lines.{has_lf-append, complete-none, rest-none, first_line}
+use Rattle.hub_client.specs.Passing.{IsReady}
 use Rattle.hub_client.specs.Relaying.{ended_lines, full_buffers, writable}
 use Rattle.hub_client.specs.UnderWay.{AreCut}
-use Rattle.hub_client.proofs.EndedLines.{complete-none, rest-none, complete-ended, rest-ended, ended-append, ended_first, first_line}
-use Rattle.hub_client.proofs.OnTheWay.{has_lf-append}
+use Rattle.hub_client.proofs.EndedLines.{complete-ended, rest-ended, ended-append, ended_first}
 
 -- whole buffers, and less than one more
 full-front : (front rest : List ℕ) (buffers : ℕ) → length front ≡ buffers * CHUNK → length rest < CHUNK → full_buffers (front ++ rest) ≡ front

@@ -1,25 +1,15 @@
 -- How the bytes of a line pass through a buffer.
-use Rattle.std.specs.Prelude.{◌≡◌, ◌⊎◌, ℕ, ◌<◌, ◌+◌, ◌*◌, ◌≤◌, Bool, true, false, List, [], ◌∷◌, ◌++◌, ◌==◌, length, Option, MatchBool}
-use Rattle.std.specs.List.{list_any}
+use Rattle.std.specs.Prelude.{◌≡◌, ◌⊎◌, ℕ, ◌<◌, ◌+◌, ◌*◌, ◌≤◌, Bool, true, false, List, [], ◌++◌, length, Option, MatchBool}
 use Rattle.std.specs.Io.KnownBytes.{Appends, Consumes, IsAtEnd}
 use Rattle.hub_io.specs.declared.reading.TheConstants.{CHUNK}
+pub use Rattle.hub_io.specs.Lines.{has_lf, IsLine}
 use Rattle.hub_io.specs.Telling.{Rises}
 use Rattle.hub_io.specs.declared.fault.FrontError.{FrontError}
 use Rattle.hub_io.specs.declared.fault.FrontError.TheVariants.{Read, Write, Turns, Memory}
 use Rattle.hub_client.specs.declared.buffer.Came.{Came}
 use Rattle.hub_client.specs.declared.buffer.Came.TheVariants.{Lf, Bytes, End}
-use Rattle.hub_client.specs.declared.buffer.Passed.{Passed}
-use Rattle.hub_client.specs.declared.buffer.Passed.TheVariants.{Line, Part, Nothing}
-
--- whether there is an LF among the bytes
-abbrev pub has_lf : List ℕ → Bool
-has_lf bytes = list_any (λ b. b == 10) bytes
-
--- a line with its LF
-pub record IsLine (bytes : List ℕ) : Type 0 where
-  pub line : List ℕ
-  pub cut : has_lf line ≡ false
-  pub ends : bytes ≡ line ++ 10 ∷ []
+use Rattle.hub_client.specs.declared.passing.Passed.{Passed}
+use Rattle.hub_client.specs.declared.passing.Passed.TheVariants.{Line, Part, Nothing}
 
 -- Reads were made, and bytes left the buffer. had is what the reader had left before, and has what it has left after.
 -- made and makes are how often it was called before and after. before and after are what was pending then. left and

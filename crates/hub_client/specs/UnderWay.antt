@@ -2,13 +2,12 @@
 use Rattle.std.specs.Prelude.{◌≡◌, ℕ, ◌+◌, ◌*◌, ◌≤◌, List, [], ◌∷◌, ◌++◌, length, false, Option}
 use Rattle.std.specs.Io.KnownBytes.{Appends, Consumes, IsAtEnd}
 use Rattle.hub_io.specs.declared.reading.TheConstants.{CHUNK, MAX_READS}
-use Rattle.hub_io.specs.Lines.{lines_of}
 use Rattle.hub_io.specs.Telling.{Rises}
 use Rattle.hub_client.specs.declared.fault.RelayError.{RelayError}
 use Rattle.hub_client.specs.declared.fault.RelayError.TheVariants.{Input, Output, Send, Receive, Ended, Turns, Memory}
-use Rattle.hub_client.specs.declared.buffer.Passed.{Passed}
-use Rattle.hub_client.specs.declared.buffer.Passed.TheVariants.{Line, Part, Nothing}
-use Rattle.hub_client.specs.Passing.{has_lf}
+use Rattle.hub_client.specs.declared.passing.Passed.{Passed}
+use Rattle.hub_client.specs.declared.passing.Passed.TheVariants.{Line, Part, Nothing}
+use Rattle.hub_io.specs.Lines.{has_lf, lines_of}
 use Rattle.hub_client.specs.Relaying.{ended_lines}
 
 -- what is sent of a line; a last part gets an LF

@@ -1,27 +1,14 @@
-//! Lines on their way through a buffer, from a reader to a writer.
-ghost use Rattle.std.specs.Prelude.{◌≡◌, ◌≢◌, ◌+◌, ◌-◌, ◌<◌, ◌≤◌, ℕ, List, [], ◌++◌, ◌==◌, length, take, position, true, false, OnErr, IfOk, IfErr, IsTrue, MatchBool, vec_len};
+//! A buffer between a reader and a writer.
+ghost use Rattle.std.specs.Prelude.{◌≡◌, ◌+◌, ◌-◌, ◌<◌, ◌≤◌, List, ℕ, [], ◌++◌, length, take, false, OnErr, IfOk, IfErr, MatchBool, vec_len};
 ghost use Rattle.std.specs.Io.KnownBytes.{Appends, IsAtEnd};
 ghost use Rattle.hub_io.specs.declared.reading.TheConstants.{CHUNK};
 ghost use Rattle.hub_io.specs.Telling.{Rises};
 ghost use Rattle.hub_io.specs.Faults.{read_faults, write_faults};
-ghost use Rattle.hub_client.specs.Passing.{has_lf, IsLine, Moves, slack_of, slack_at, slack_when, EndsAs, EndsWhen, ComesAs, FailsAs, FailsInPieces, IsReady, IsShort};
-ghost use Rattle.hub_client.specs.Relaying.{writable};
+ghost use Rattle.hub_io.specs.Lines.{has_lf, IsLine};
+ghost use Rattle.hub_client.specs.Passing.{Moves, slack_at, slack_when, EndsWhen, ComesAs, FailsAs, IsReady, IsShort};
 
-use hub_io::{CHUNK, FrontError, Sink, Source, new_chunk, write_whole};
+use hub_io::{CHUNK, FrontError, Sink, Source, first_line, new_chunk, write_whole};
 use std::alloc::{AllocError, Global};
-
-const LF: u8 = b'\n';
-
-/// How much of a line passed.
-#[derive(Clone, Copy, Debug, PartialEq, Eq)]
-pub(crate) enum Passed {
-    /// The line passed, with its LF.
-    Line,
-    /// The stream ended after some bytes of a line.
-    Part,
-    /// The stream ended before the first byte of a line.
-    Nothing,
-}
 
 // What a read gave.
 #[derive(Clone, Copy, Debug, PartialEq, Eq)]
@@ -45,11 +32,23 @@ pub(crate) struct Buffer {
     ghost size: { vec_len bytes ≡ CHUNK },
 }
 
-// The place of the first LF.
-fn line_feed(bytes: &[u8]) -> Option<usize>
-    ensures { result ≡ position (λ b. b == 10) bytes.now }
+// Whether there is an LF among the bytes.
+fn has_line(bytes: &[u8]) -> bool
+    ensures { result ≡ has_lf bytes.now }
 {
-    bytes.iter().position(|byte| *byte == LF)
+    first_line(bytes).is_some()
+}
+
+// How many bytes there are up to the first LF and including it, or in all, and whether there is an LF.
+fn first_piece(bytes: &[u8]) -> (usize, bool)
+    ensures within { result.0 ≤ length bytes.now }
+    ensures piece { MatchBool result.1 (IsLine (take result.0 bytes.now))
+        ((has_lf bytes.now ≡ false) × (result.0 ≡ length bytes.now)) }
+{
+    match first_line(bytes) {
+        Some((line, _)) => (line.len() + 1, true),
+        None => (bytes.len(), false),
+    }
 }
 
 // Reads once, unless no read is left.
@@ -95,85 +94,12 @@ impl Buffer {
         })
     }
 
-    /// Passes bytes on, each piece as it comes, up to the LF of a line and including it. What was read beyond the LF
-    /// stays.
-    pub(crate) fn pass_line<R: Source, W: Sink>(
+    /// Reads on until an LF is pending or the buffer is full. Returns whether that came before the stream's end.
+    pub(crate) fn gather<R: Source>(
         &mut self,
         reader: &mut R,
-        writer: &mut W,
-        left: &mut u64,
-    ) -> Result<Passed, FrontError>
-        ensures ok { IfOk result (λ end. (passed : List ℕ)
-            × Moves (R.remaining reader.old) (R.remaining reader.new)
-            (R.reads reader.old) (R.reads reader.new) (pending self.old) (pending self.new)
-            left.old left.new (slack_of end) passed
-            × EndsAs end passed (pending self.new) (R.remaining reader.new)
-            × Appends (W.contents writer.old) (W.contents writer.new) passed) }
-        ensures err { IfErr result (λ e. (passed rest : List ℕ)
-            × Moves (R.remaining reader.old) (R.remaining reader.new)
-            (R.reads reader.old) (R.reads reader.new)
-            (pending self.old) rest left.old left.new (slack_at e) passed
-            × FailsAs e rest left.new × (has_lf passed ≡ false)
-            × Appends (W.contents writer.old) (W.contents writer.new) passed) }
-        ensures read_faults { Rises (R.faults reader.old) (R.faults reader.new)
-            (read_faults result) }
-        ensures write_faults { Rises (W.faults writer.old) (W.faults writer.new)
-            (write_faults result) }
-    {
-        let mut some = false;
-        'pieces: loop {
-            if !self.fill(reader, left)? {
-                return Ok(Passed::at_end(some));
-            }
-            if self.pass_piece(writer)? {
-                return Ok(Passed::Line);
-            }
-            some = true;
-        }
-    }
-
-    /// Passes a reply on, up to its LF and including it. Returns whether the LF came before the stream's end. Nothing
-    /// passes before the LF has come, except the full buffers of a longer reply. What was read beyond the LF stays.
-    pub(crate) fn pass_reply<R: Source, W: Sink>(
-        &mut self,
-        reader: &mut R,
-        writer: &mut W,
         left: &mut u64,
     ) -> Result<bool, FrontError>
-        ensures ok { IfOk result
-            (λ whole. (passed : List ℕ) × Appends (W.contents writer.old) (W.contents writer.new)
-            passed × MatchBool whole
-            (Moves (R.remaining reader.old) (R.remaining reader.new)
-            (R.reads reader.old) (R.reads reader.new) (pending self.old) (pending self.new)
-            left.old left.new 0 passed × IsLine passed)
-            (Moves (R.remaining reader.old) (R.remaining reader.new)
-            (R.reads reader.old) (R.reads reader.new) (pending self.old) (pending self.new)
-            left.old left.new 1 passed × (has_lf passed ≡ false)
-            × (writable (passed ++ pending self.new) ≡ passed) × (has_lf (pending self.new) ≡ false)
-            × IsAtEnd (R.remaining reader.new))) }
-        ensures err { IfErr result (λ e. (passed rest due : List ℕ)
-            × Moves (R.remaining reader.old) (R.remaining reader.new)
-            (R.reads reader.old) (R.reads reader.new)
-            (pending self.old) rest left.old left.new (slack_at e) passed × (has_lf passed ≡ false)
-            × (writable (passed ++ rest) ≡ passed ++ due) × FailsInPieces e due rest left.new
-            × Appends (W.contents writer.old) (W.contents writer.new) passed) }
-        ensures read_faults { Rises (R.faults reader.old) (R.faults reader.new)
-            (read_faults result) }
-        ensures write_faults { Rises (W.faults writer.old) (W.faults writer.new)
-            (write_faults result) }
-    {
-        'pieces: loop {
-            if !self.gather(reader, left)? {
-                return Ok(false);
-            }
-            if self.pass_piece(writer)? {
-                return Ok(true);
-            }
-        }
-    }
-
-    // Reads on until an LF is pending or the buffer is full. Returns whether that came before the stream's end.
-    fn gather<R: Source>(&mut self, reader: &mut R, left: &mut u64) -> Result<bool, FrontError>
         ensures ok { IfOk result (λ ready. MatchBool ready
             (Moves (R.remaining reader.old) (R.remaining reader.new)
             (R.reads reader.old) (R.reads reader.new) (pending self.old) (pending self.new)
@@ -189,7 +115,7 @@ impl Buffer {
             × IsShort (pending self.new)) }
         ensures told { Rises (R.faults reader.old) (R.faults reader.new) (read_faults result) }
     {
-        if line_feed(&self.bytes[self.start..self.end]).is_some() {
+        if has_line(&self.bytes[self.start..self.end]) {
             return Ok(true);
         }
         self.move_to_front();
@@ -236,9 +162,13 @@ impl Buffer {
         Ok(Came::of(&self.bytes[end..end + n]))
     }
 
-    // Reads once if nothing is pending. Returns whether there is a byte to pass on: there is none if the stream has
-    // ended.
-    fn fill<R: Source>(&mut self, reader: &mut R, left: &mut u64) -> Result<bool, FrontError>
+    /// Reads once if nothing is pending. Returns whether there is a byte to pass on: there is none if the stream has
+    /// ended.
+    pub(crate) fn fill<R: Source>(
+        &mut self,
+        reader: &mut R,
+        left: &mut u64,
+    ) -> Result<bool, FrontError>
         ensures ok { IfOk result (λ ready. MatchBool ready
             (Moves (R.remaining reader.old) (R.remaining reader.new)
             (R.reads reader.old) (R.reads reader.new) (pending self.old) (pending self.new)
@@ -263,8 +193,8 @@ impl Buffer {
         Ok(n > 0)
     }
 
-    // Passes the pending bytes on, up to the first LF and including it. Returns whether there was one.
-    fn pass_piece<W: Sink>(&mut self, writer: &mut W) -> Result<bool, FrontError>
+    /// Passes the pending bytes on, up to the first LF and including it. Returns whether there was one.
+    pub(crate) fn pass_piece<W: Sink>(&mut self, writer: &mut W) -> Result<bool, FrontError>
         ensures ok { IfOk result (λ whole. (piece : List ℕ)
             × (pending self.old ≡ piece ++ pending self.new)
             × MatchBool whole (IsLine piece) ((has_lf piece ≡ false) × (pending self.new ≡ []))
@@ -276,19 +206,11 @@ impl Buffer {
         ensures fault { IfErr result (λ e. e ≡ FrontError.Write) }
         ensures told { Rises (W.faults writer.old) (W.faults writer.new) (write_faults result) }
     {
-        let piece = &self.bytes[self.start..self.end];
-        match line_feed(piece) {
-            Some(place) => {
-                write_whole(writer, &piece[..=place])?;
-                self.start += place + 1;
-                Ok(true)
-            }
-            None => {
-                write_whole(writer, piece)?;
-                self.start = self.end;
-                Ok(false)
-            }
-        }
+        let pending = &self.bytes[self.start..self.end];
+        let (size, whole) = first_piece(pending);
+        write_whole(writer, &pending[..size])?;
+        self.start += size;
+        Ok(whole)
     }
 }
 
@@ -297,23 +219,11 @@ impl Came {
         ensures { ComesAs result bytes.now }
     {
         if bytes.is_empty() {
-            return Came::End;
+            Came::End
+        } else if has_line(bytes) {
+            Came::Lf
+        } else {
+            Came::Bytes
         }
-        match line_feed(bytes) {
-            Some(_) => Came::Lf,
-            None => Came::Bytes,
-        }
-    }
-}
-
-impl Passed {
-    ghost use Rattle.std.specs.Prelude.{if◌then◌else◌};
-    ghost use Rattle.hub_client.specs.declared.buffer.Passed.TheVariants.{Part, Nothing};
-
-    // How much of a line passed whose stream has ended: some bytes, or none.
-    fn at_end(some: bool) -> Passed
-        ensures { result ≡ (if some then Part else Nothing) }
-    {
-        if some { Passed::Part } else { Passed::Nothing }
     }
 }

@@ -14,6 +14,7 @@
 
 mod buffer;
 mod fault;
+mod passing;
 mod relaying;
 
 pub use fault::RelayError;

@@ -1,15 +1,17 @@
 //! The turns of a relay.
 ghost use Rattle.std.specs.Prelude.{◌≡◌, ◌≢◌, ℕ, List, [], ◌++◌, length, false, Err, OnOk, IfOk, IfErr};
 ghost use Rattle.std.specs.Io.KnownBytes.{Appends};
+ghost use Rattle.hub_io.specs.Lines.{has_lf, IsLine};
 ghost use Rattle.hub_io.specs.Telling.{Rises};
 ghost use Rattle.hub_client.specs.Faults.{input_faults, output_faults, send_faults, receive_faults};
 ghost use Rattle.hub_client.specs.Relaying.{writable, Finished, Stopped, ReadsWithin};
 ghost use Rattle.hub_client.specs.Pending.{pending};
-ghost use Rattle.hub_client.specs.Passing.{has_lf, IsLine, Moves, slack_of, EndsAs};
+ghost use Rattle.hub_client.specs.Passing.{Moves, slack_of, EndsAs};
 ghost use Rattle.hub_client.specs.UnderWay.{sent_of, slack_for, FailsToSend, FailsToReceive};
 
-use crate::buffer::{Buffer, Passed};
+use crate::buffer::Buffer;
 use crate::fault::{RelayError, of_receiving, of_sending};
+use crate::passing::Passed;
 use hub_io::{MAX_READS, Sink, Source, write_whole};
 use std::alloc::Global;
 use std::sync::Wait;

@@ -2,7 +2,8 @@ use Rattle.std.proofs.Common.{◌≡◌, ◌+◌, Err, refl, arith, rules}
 use Rattle.hub_io.specs.declared.reading.TheConstants.{MAX_READS}
 use Rattle.hub_io.proofs.Told.{Grows-none, Rises-add, Rises-trans}
 use Rattle.hub_io.proofs.Outcomes.{IfErr-known}
-use Rattle.hub_client.proofs.Turns.{begins, stops_at_once, send_stops, receive_stops, sent_lines, sent_part, sent_all, passes_line, finish, goes_on, within, send_turns, receive_turns, send_needs_none, receive_needs_none}
+use Rattle.hub_client.proofs.Directions.{sent_lines, sent_part, sent_all, passes_line}
+use Rattle.hub_client.proofs.Turns.{begins, stops_at_once, send_stops, receive_stops, finish, goes_on, within, send_turns, receive_turns, send_needs_none, receive_needs_none}
 use Rattle.hub_client.proofs.relaying.relay.Goals as goal
 
 pub returns-in_default-clause-stopped : goal.returns-in_default-clause-stopped

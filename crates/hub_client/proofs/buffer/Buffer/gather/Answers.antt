@@ -1,16 +1,16 @@
-use Rattle.std.proofs.Common.{◌≡◌, Err, inl, sym, ap, ◌∙◌, rules}
+use Rattle.std.proofs.Common.{◌≡◌, Err, true, false, inl, ap, ◌∙◌, rules}
 use Rattle.hub_io.proofs.Told.{Grows-none, Rises-trans}
 use Rattle.hub_io.proofs.Outcomes.{IfErr-known}
 use Rattle.hub_client.specs.Pending.{pending}
-use Rattle.hub_client.specs.Passing.{has_lf}
+use Rattle.hub_io.specs.Lines.{has_lf}
 use Rattle.hub_client.proofs.Moving.{stays, stays_so, moves_reads}
-use Rattle.hub_client.proofs.Gathering.{found_between, not_found_between, stays_short, ends_short, has_more, has_none_more}
+use Rattle.hub_client.proofs.Gathering.{lf_between, stays_short, ends_short, has_more, has_none_more}
 use Rattle.hub_client.proofs.buffer.Buffer.gather.Goals as goal
 
-pub returns-then-is_some-clause-ok : goal.returns-then-is_some-clause-ok
-returns-then-is_some-clause-ok g c =
+pub returns-then-has_line-clause-ok : goal.returns-then-has_line-clause-ok
+returns-then-has_line-clause-ok g c =
     let buffer = c.args.self.now in
-    (stays _ _ _ _ _, inl (found_between c.line_feed.result buffer.bytes.items c.deref.result.now buffer.start buffer.end c.deref.ensures.value c.line_feed.ensures (sym c.is_some.ensures ∙ c.if-is_some.true)))
+    (stays _ _ _ _ _, inl (lf_between buffer.bytes.items c.deref.result.now buffer.start buffer.end true c.deref.ensures.value c.if-has_line.ensures))
 
 pub reads-init : goal.reads-init
 reads-init g c =
@@ -18,7 +18,7 @@ reads-init g c =
     record {
       moved = stays_so _ _ (pending buffer) (pending c.move_to_front.new.self) _ 0 c.move_to_front.ensures.kept;
       front = c.move_to_front.ensures.front;
-      cut = ap has_lf c.move_to_front.ensures.kept ∙ not_found_between c.line_feed.result buffer.bytes.items c.deref.result.now buffer.start buffer.end c.deref.ensures.value c.line_feed.ensures (sym c.is_some.ensures ∙ c.if-is_some.false);
+      cut = ap has_lf c.move_to_front.ensures.kept ∙ lf_between buffer.bytes.items c.deref.result.now buffer.start buffer.end false c.deref.ensures.value c.if-has_line.ensures;
       no_fault = Grows-none _;
     }
 

@@ -1,7 +1,8 @@
 use Rattle.std.proofs.Common.{◌≡◌, false, []}
 use Rattle.hub_io.specs.Telling.{Rises}
 use Rattle.hub_client.specs.Pending.{pending}
-use Rattle.hub_client.specs.Passing.{has_lf, Moves}
+use Rattle.hub_io.specs.Lines.{has_lf}
+use Rattle.hub_client.specs.Passing.{Moves}
 use Rattle.hub_client.proofs.buffer.Buffer.gather.Given as goal
 
 -- the pending bytes are at the beginning of the buffer and have no LF, and there was no fault
