@@ -1,9 +1,8 @@
 -- What stays and what comes in the fifodirs that a session keeps.
-use Rattle.std.proofs.Common.{◌≡◌, ℕ, List, Option, None, Some, false, Result, Ok, Err, IfOk, IfErr, IfNone, IfSome, refl, subst, ◌∙◌, inl, inr}
+use Rattle.std.proofs.Common.{◌≡◌, ℕ, List, Option, None, Some, false, Result, Ok, Err, IfOk, IfNone, IfSome, refl, subst, inl, inr}
 use Rattle.std.specs.Arc.{arc_value}
 use Rattle.std.specs.Str.{bytes_eq}
 use Rattle.hub_requests.specs.declared.reply.Refusal.{Refusal}
-use Rattle.hub_requests.specs.declared.reply.Refusal.TheVariants as no
 use Rattle.hub_requests.specs.declared.reply.Reply.{Reply}
 use Rattle.hub_fifodir.specs.declared.publisher.Publisher.{Publisher}
 use Rattle.hub_names.specs.declared.hub.Hub.{Hub}
@@ -13,7 +12,7 @@ use Rattle.hub_names.specs.declared.joined.Joined.{Joined}
 use Rattle.hub_names.specs.Hubs.{IsFoundIn}
 use Rattle.hub_names.specs.Says.{says_status}
 use Rattle.hub_names.specs.Speaking.{AsksAsPublisher, found_of, fifodir_of, publisher_of}
-use Rattle.hub_names.specs.Fifodirs.{joined_at, IsFound, IsKeptAs, IsMissing, IsNewIn, IsSilent, Joins, IsAsBefore, AsksByName, KeepsAll}
+use Rattle.hub_names.specs.Fifodirs.{joined_at, IsFound, IsKeptAs, IsNewIn, IsSilent, Joins, Keeps, IsAsBefore, AsksByName, KeepsAll}
 
 pub one_of : {A : Type 0} (a b : A) (o : Option A) → o ≡ Some a → o ≡ Some b → a ≡ b
 one_of a b o e f = cc
@@ -30,25 +29,10 @@ joins_new hub old new name key j unknown silent found same here others = record 
   };
 }
 
--- what is written through the loan of a name that was known
-pub asks_known : (hub : Hub) (says : Publisher → Reply → Publisher → Type 0) (old new : Fifodirs) (name : List ℕ) (was now : Joined) (reply : Reply)
-    → joined_at old name ≡ Some was → joined_at new name ≡ Some now → ((other : List ℕ) → bytes_eq name other ≡ false → joined_at new other ≡ joined_at old other) → AsksAsPublisher says was reply now
-    → AsksByName hub says old name reply new
-asks_known hub says old new name was now reply at here others asked =
-    inl (record { before = was; after = now; found = inl at; asked = asked; keeps = record { here = here; others = others } })
-
--- and of one that was joined
-pub asks_kept : (hub : Hub) (says : Publisher → Reply → Publisher → Type 0) (old mid new : Fifodirs) (name : List ℕ) (was now : Joined) (reply : Reply)
-    → Joins hub old name mid → joined_at mid name ≡ Some was → joined_at new name ≡ Some now
-    → ((other : List ℕ) → bytes_eq name other ≡ false → joined_at new other ≡ joined_at mid other) → AsksAsPublisher says was reply now → AsksByName hub says old name reply new
-asks_kept hub says old mid new name was now reply joins at here others asked =
-    inl (record {
-      before = was;
-      after = now;
-      found = subst (IsFound hub old name) (one_of joins.joined was (joined_at mid name) joins.keeps.here at) joins.found;
-      asked = asked;
-      keeps = record { here = here; others = λ other h. others other h ∙ joins.keeps.others other h };
-    })
+-- what is kept under a name, or was found by it, was asked and is kept as it then is
+pub asks_kept : (hub : Hub) (says : Publisher → Reply → Publisher → Type 0) (old new : Fifodirs) (name : List ℕ) (was now : Joined) (reply : Reply)
+    → IsFound hub old name was → Keeps old name now new → AsksAsPublisher says was reply now → AsksByName hub says old name reply new
+asks_kept hub says old new name was now reply found keeps asked = inl (record { before = was; after = now; found = found; asked = asked; keeps = keeps })
 
 -- ---- a status without the lock
 
@@ -56,7 +40,7 @@ asks_kept hub says old mid new name was now reply joins at here others asked =
 pub status_known : (old new : Fifodirs) (name : List ℕ) (was now : Joined) (told : Option Reply) → joined_at old name ≡ Some was → joined_at new name ≡ Some now
     → ((other : List ℕ) → bytes_eq name other ≡ false → joined_at new other ≡ joined_at old other) → IfSome told (λ reply. AsksAsPublisher says_status was reply now)
     → IfSome told (λ reply. (hub : Hub) → AsksByName hub says_status old name reply new)
-status_known old new name was now (Some reply) at here others asked = λ hub. asks_known hub says_status old new name was now reply at here others asked
+status_known old new name was now (Some reply) at here others asked = λ hub. asks_kept hub says_status old new name was now reply (inl at) (record { here = here; others = others }) asked
 status_known old new name was now None at here others asked = tt
 
 -- or not told, where none is kept
@@ -72,10 +56,6 @@ pub kept_copy : (fs : Fifodirs) (name : List ℕ) (j : Joined) (copy : Result Ma
     → IfOk copy (λ made. made.notifies ≡ (found_of j).notifies) → IfOk copy (IsKeptAs fs name)
 kept_copy fs name j (Ok made) at dir notifies = record { joined = j; kept_is = at; dir = dir; notifies = notifies }
 kept_copy fs name j (Err refusal) at dir notifies = tt
-
-pub lacking_copy : (fs : Fifodirs) (name : List ℕ) (copy : Result Made Refusal) → IfErr copy (λ refusal. refusal ≡ no.Memory) → IfErr copy (IsMissing fs name)
-lacking_copy fs name (Ok made) e = tt
-lacking_copy fs name (Err refusal) e = inr e
 
 -- ---- all are kept
 

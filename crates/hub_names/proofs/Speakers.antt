@@ -1,18 +1,30 @@
 -- A publisher that spoke.
-use Rattle.std.proofs.Common.{◌≡◌, ◌≢◌, inl, refl, sym, subst, ap, ◌∙◌, arith}
+use Rattle.std.proofs.Common.{◌≡◌, ◌≢◌, Some, inl, refl, sym, subst, ap, ◌∙◌, arith}
 use Rattle.hub_requests.specs.declared.reply.Reply.{Reply}
+use Rattle.hub_requests.specs.declared.reply.Reply.TheVariants.{State}
+use Rattle.hub_record.specs.declared.Status.{Status}
+use Rattle.hub_fifodir.specs.declared.fifodir.Fifodir.{Fifodir}
 use Rattle.hub_fifodir.specs.declared.publisher.Publisher.{Publisher}
 use Rattle.hub_fifodir.specs.declared.views.Sight.{Sight}
-use Rattle.hub_fifodir.specs.Passes.{OnlyLooks, KnewOwnClose, publisher_number, publisher_view, closed_mark}
+use Rattle.hub_fifodir.specs.Passes.{IsStatusOf, OnlyLooks, KnewOwnClose, Remains, publisher_number, publisher_sight, publisher_view, closed_mark}
 use Rattle.hub_fifodir.specs.Rule.{IsNumbered}
+use Rattle.hub_fifodir.specs.Steps.{mine_of}
 use Rattle.hub_names.specs.declared.joined.Joined.{Joined}
-use Rattle.hub_names.specs.Speaking.{HasSpoken, AsksAsPublisher}
+use Rattle.hub_names.specs.Says.{says_status}
+use Rattle.hub_names.specs.Speaking.{AsksAsPublisher, IsSpeaker, fifodir_of, publisher_of}
 
-pub spoke : (says : Publisher → Reply → Publisher → Type 0) (old new : Joined) (reply : Reply) (p q : Publisher) → HasSpoken old p q new → says p reply q → AsksAsPublisher says old reply new
-spoke says old new reply p q h s = inl (record { before = p; after = q; spoken = h; said = s })
+-- it was kept or is new, and is kept as it is after a call of its fifodir
+pub spoke : (says : Publisher → Reply → Publisher → Type 0) (dir : Fifodir) (old new : Joined) (reply : Reply) (p q : Publisher) → IsSpeaker (fifodir_of old) (publisher_of old) p
+    → new.found ≡ old.found → publisher_of new ≡ Some q → Remains dir (publisher_view p) (publisher_view q) → says p reply q → AsksAsPublisher says old reply new
+spoke says dir old new reply p q speaker found kept remains said = inl (record {
+  before = p;
+  after = q;
+  spoken = record { found = found; speaker = speaker; kept = kept; same = remains.number; seen = remains.seen };
+  said = said;
+})
 
 -- one that only looked knew of its own close, as one that spoke does
-pub knew : (p q : Publisher) → OnlyLooks (publisher_view p) (publisher_view q) → KnewOwnClose p q
+knew : (p q : Publisher) → OnlyLooks (publisher_view p) (publisher_view q) → KnewOwnClose p q
 knew p q looks e z =
     let number = publisher_number p in
     let numbered : IsNumbered number (publisher_view p).role = subst (IsNumbered number) (sym p.is_writer.role) refl in
@@ -21,3 +33,7 @@ knew p q looks e z =
     let some : number ≢ 0 = λ w. absurd (omega (arith, w, positive)) in
     let alike = looks.own number numbered closes some in
     some (sym closes ∙ sym (ap (λ (s : Sight). s.closed) alike) ∙ z)
+
+-- so it is told the status
+pub told : (p q : Publisher) (status : Status) → OnlyLooks (publisher_view p) (publisher_view q) → IsStatusOf status (publisher_sight q) → says_status p (State status) q
+told p q status looks is = (is, knew p q looks, ap mine_of looks.role)

@@ -4,3 +4,4 @@ pub mod Says
 pub mod Speaking
 pub mod Fifodirs
 pub mod Looks
+pub mod Lending

@@ -7,8 +7,6 @@ use Rattle.hub_requests.specs.declared.reply.Reply.TheVariants.{Done, Number, St
 use Rattle.hub_fifodir.specs.declared.publisher.Publisher.{Publisher}
 use Rattle.hub_fifodir.specs.Passes.{IsStatusOf, IsRefusedAt, HasPublished, KnewOwnClose, closed_mark, mine, publisher_number, publisher_sight}
 use Rattle.hub_record.specs.declared.PubError.{PubError}
-use Rattle.hub_names.specs.declared.speech.Speech.{Speech}
-use Rattle.hub_names.specs.declared.speech.Speech.TheVariants.{Publish, Close, Status}
 
 -- ---- a publisher that was `p` is now `q`
 
@@ -29,8 +27,3 @@ says_closed p _ q = ⊥
 abbrev pub says_status : Publisher → Reply → Publisher → Type 0
 says_status p (State status) q = IsStatusOf status (publisher_sight q) × KnewOwnClose p q × (mine q ≡ mine p)
 says_status p _ q = ⊥
-
-abbrev pub says : Speech → Publisher → Reply → Publisher → Type 0
-says (Publish letters) = says_published letters.now
-says Close = says_closed
-says Status = says_status

@@ -1,11 +1,12 @@
 //! The fifodirs that a session found, by name.
 ghost use Rattle.std.specs.Prelude.{◌≡◌, None, IfErr, IfNone, IfSome, OnOk, IfOk};
-ghost use Rattle.hub_names.specs.Says.{says, says_status};
+ghost use Rattle.std.specs.Borrow.{sem};
+ghost use Rattle.hub_names.specs.Says.{says_closed, says_published, says_status};
 ghost use Rattle.hub_names.specs.declared.hub.Hub.{Hub};
 
 use crate::hub::{Hub, Made, NamesLook};
 use crate::joined::Joined;
-use crate::speech::Speech;
+use hub_record::Letters;
 use hub_requests::{Name, Refusal, Reply};
 use indexmap::IndexMap;
 use std::alloc::Global;
@@ -25,7 +26,8 @@ pub struct Fifodirs {
 
 impl Fifodirs {
     ghost use Rattle.hub_names.specs.Looks.{AsksNames};
-    ghost use Rattle.hub_names.specs.Fifodirs.{AsksByName, IsAsBefore, IsSilent, IsKeptAs, KeepsAll, KeepsNone, Joins, IsFinding, IsMissing, joined_at};
+    ghost use Rattle.hub_names.specs.Lending.{LendsJoined};
+    ghost use Rattle.hub_names.specs.Fifodirs.{AsksByName, IsAsBefore, IsSilent, IsKeptAs, KeepsAll, KeepsNone, Joins, IsFinding, IsMissing, IsFound, joined_at};
 
     /// Those of a new session: it has found none.
     pub fn new(alloc: Global) -> Fifodirs
@@ -66,36 +68,48 @@ impl Fifodirs {
         }
     }
 
+    /// What is kept under this name, to be asked. A name that isn't known yet is looked up in the hub.
+    fn joined<H: Wait>(&mut self, rt: &H, hub: &Hub, name: &Name) -> Result<&mut Joined, Refusal>
+        ensures* writes_back { sem 𝓛 (LendsJoined self.entry name.now result) }
+        ensures found { IfOk result (λ joined. IsFound hub.now self.old name.now joined.now) }
+    {
+        if !self.by_name.contains_key(name) {
+            self.join(rt, hub, name)?;
+        }
+        match self.by_name.get_mut(name) {
+            Some(joined) => Ok(joined),
+            None => unreachable!(),
+        }
+    }
+
     /// The fifodir of this name, to be kept beside a pass.
     pub fn find<H: Wait>(&mut self, rt: &H, hub: &Hub, name: &Name) -> Result<Made, Refusal>
         ensures ok { IfOk result (λ found. IsKeptAs self.new name.now found) }
         ensures kept { KeepsAll hub.now self.old self.new }
         ensures missing { IfErr result (IsMissing self.new name.now) }
     {
-        if let Some(joined) = self.by_name.get(name) {
-            return joined.copy();
-        }
-        self.join(rt, hub, name)?;
-        let Some(joined) = self.by_name.get(name) else {
-            unreachable!()
-        };
-        joined.copy()
+        self.joined(rt, hub, name)?.copy()
     }
 
-    /// Answers by the session's publisher at the fifodir of this name.
-    pub fn speak<H: Wait>(&mut self, rt: &H, hub: &Hub, name: &Name, speech: Speech<'_>) -> Reply
-        ensures { AsksByName hub.now (says speech.entry) self.old name.now result self.new }
+    /// Publishes by the session's publisher at the fifodir of this name.
+    pub fn publish<H: Wait>(&mut self, rt: &H, hub: &Hub, name: &Name, letters: &Letters) -> Reply
+        ensures { AsksByName hub.now (says_published letters.now)
+            self.old name.now result self.new }
     {
-        if let Some(joined) = self.by_name.get_mut(name) {
-            return joined.speak(rt, speech);
+        match self.joined(rt, hub, name) {
+            Ok(joined) => joined.publish(rt, letters),
+            Err(refusal) => Reply::No(refusal),
         }
-        if let Err(refusal) = self.join(rt, hub, name) {
-            return Reply::No(refusal);
+    }
+
+    /// Closes the fifodir of this name by the session's publisher there.
+    pub fn close<H: Wait>(&mut self, rt: &H, hub: &Hub, name: &Name) -> Reply
+        ensures { AsksByName hub.now says_closed self.old name.now result self.new }
+    {
+        match self.joined(rt, hub, name) {
+            Ok(joined) => joined.close(rt),
+            Err(refusal) => Reply::No(refusal),
         }
-        let Some(joined) = self.by_name.get_mut(name) else {
-            unreachable!()
-        };
-        joined.speak(rt, speech)
     }
 
     /// Answers the status by the session's publisher at the fifodir of this name. None if it has no publisher there yet. It
@@ -109,6 +123,16 @@ impl Fifodirs {
             return None;
         };
         joined.status()
+    }
+
+    /// Answers the status by the session's publisher at the fifodir of this name, which it makes if it has none there yet.
+    pub fn first_status<H: Wait>(&mut self, rt: &H, hub: &Hub, name: &Name) -> Reply
+        ensures { AsksByName hub.now says_status self.old name.now result self.new }
+    {
+        match self.joined(rt, hub, name) {
+            Ok(joined) => joined.first_status(rt),
+            Err(refusal) => Reply::No(refusal),
+        }
     }
 
     /// The hub's names from place `from` on, as many as fit in one reply.

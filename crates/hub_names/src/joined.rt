@@ -4,11 +4,11 @@ ghost use Rattle.std.specs.Arc.{arc_value};
 ghost use Rattle.hub_fifodir.specs.Passes.{IsPublisherOf, HasSoundSight, publisher_view};
 ghost use Rattle.hub_fifodir.specs.declared.publisher.Publisher.{Publisher};
 ghost use Rattle.hub_names.specs.Refusals.{refusal_of_pass};
-ghost use Rattle.hub_names.specs.Says.{says, says_status};
+ghost use Rattle.hub_names.specs.Says.{says_closed, says_published, says_status};
 
 use crate::hub::{Found, Made};
-use crate::speech::{Speech, status_reply};
 use hub_fifodir::{PassError, Publisher};
+use hub_record::{Closed, Letters};
 use hub_requests::{Refusal, Reply};
 use std::mem;
 use std::sync::Wait;
@@ -76,20 +76,40 @@ impl Joined {
         let None = before else { unreachable!() };
     }
 
-    /// Answers by the publisher that it keeps, or by a new one, which it keeps from then on.
-    pub fn speak<H: Wait>(&mut self, rt: &H, speech: Speech<'_>) -> Reply
-        ensures { AsksAsPublisher (says speech.entry) self.old result self.new }
+    /// Publishes by the publisher that it keeps, or by a new one, which it keeps from then on.
+    pub fn publish<H: Wait>(&mut self, rt: &H, letters: &Letters) -> Reply
+        ensures { AsksAsPublisher (says_published letters.now) self.old result self.new }
     {
         let mut publisher = match self.speaker(rt) {
             Ok(publisher) => publisher,
             Err(error) => return Reply::No(refusal_of_pass(error)),
         };
-        let reply = speech.say(rt, &self.found.dir, &mut publisher);
+        let published = self.found.dir.publish(rt, &mut publisher, letters.items());
         self.keep(publisher);
-        reply
+        match published {
+            Ok(first) => Reply::Number(first),
+            Err(error) => Reply::No(Refusal::from(error)),
+        }
     }
 
-    /// Answers the status by the publisher that it keeps. None if it keeps none.
+    /// Closes the fifodir by the publisher that it keeps, or by a new one, which it keeps from then on.
+    pub fn close<H: Wait>(&mut self, rt: &H) -> Reply
+        ensures { AsksAsPublisher says_closed self.old result self.new }
+    {
+        let mut publisher = match self.speaker(rt) {
+            Ok(publisher) => publisher,
+            Err(error) => return Reply::No(refusal_of_pass(error)),
+        };
+        let closed = self.found.dir.close(rt, &mut publisher);
+        self.keep(publisher);
+        match closed {
+            Ok(()) => Reply::Done,
+            Err(Closed) => Reply::No(Refusal::Closed),
+        }
+    }
+
+    /// Answers the status by the publisher that it keeps. None if it keeps none. It gets no `rt`, and so can't wait for the
+    /// lock.
     pub fn status(&mut self) -> Option<Reply>
         ensures step { IfSome result (λ reply. AsksAsPublisher says_status
             self.old reply self.new) }
@@ -98,9 +118,22 @@ impl Joined {
         let Some(mut publisher) = self.publisher.take() else {
             return None;
         };
-        let reply = status_reply(&self.found.dir, &mut publisher);
+        let status = self.found.dir.status(&mut publisher);
         self.keep(publisher);
-        Some(reply)
+        Some(Reply::State(status))
+    }
+
+    /// Answers the status by the publisher that it keeps, or by a new one, which it keeps from then on.
+    pub fn first_status<H: Wait>(&mut self, rt: &H) -> Reply
+        ensures { AsksAsPublisher says_status self.old result self.new }
+    {
+        let mut publisher = match self.speaker(rt) {
+            Ok(publisher) => publisher,
+            Err(error) => return Reply::No(refusal_of_pass(error)),
+        };
+        let status = self.found.dir.status(&mut publisher);
+        self.keep(publisher);
+        Reply::State(status)
     }
 
     /// Ends the publisher, if there is one.

@@ -11,8 +11,6 @@
 mod fifodirs;
 mod hub;
 mod joined;
-mod speech;
 
 pub use fifodirs::Fifodirs;
 pub use hub::{Found, Hub, HubError, Made, NamesLook};
-pub use speech::Speech;

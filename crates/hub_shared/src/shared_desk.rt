@@ -7,7 +7,7 @@ ghost use Rattle.hub_requests.specs.declared.request.Request.TheVariants as aske
 use hub_handles::Handles;
 use hub_io::Client;
 use hub_letters::{Mode, Span, Want};
-use hub_names::{Fifodirs, Hub, HubError, Speech};
+use hub_names::{Fifodirs, Hub, HubError};
 use hub_record::{Kind, Limits};
 use hub_requests::{Desk, Name, Names, PatternText, Refusal, Reply, Request, limits};
 use hub_wait::Pause;
@@ -118,7 +118,7 @@ impl<P: Pause + Copy> SharedDesk<P> {
     {
         match self.fifodirs.status(name) {
             Some(reply) => reply,
-            None => self.fifodirs.speak(rt, &self.hub, name, Speech::Status),
+            None => self.fifodirs.first_status(rt, &self.hub, name),
         }
     }
 
@@ -173,13 +173,10 @@ impl<P: Pause + Copy> Desk for SharedDesk<P> {
                 self.make(rt, name, Kind::Service, *notifies, room)
             }
             Request::Sub { name } => self.subscribe(rt, name),
-            Request::Pub { name, letters } => {
-                self.fifodirs
-                    .speak(rt, &self.hub, name, Speech::Publish(letters))
-            }
+            Request::Pub { name, letters } => self.fifodirs.publish(rt, &self.hub, name, letters),
             Request::Take { id, max } => self.handles.take(rt, *id, *max),
             Request::Cancel { id } => self.handles.cancel(rt, *id),
-            Request::Close { name } => self.fifodirs.speak(rt, &self.hub, name, Speech::Close),
+            Request::Close { name } => self.fifodirs.close(rt, &self.hub, name),
             Request::Status { name } => self.status(rt, name),
             Request::Listen {
                 name,
