@@ -5,7 +5,7 @@
 #
 # NAME is the service's name at the hub, or SERVICEDIR's last part if it isn't given. The bridge takes one of the hub's
 # sessions. FTRIGHUB in the environment is the program, or else `ftrighub` on the path. The bridge runs until it is killed; if the
-# hub ends, it connects to the next hub at SOCKET. See docs/s6-bridge.md.
+# hub ends, it connects to the next hub at SOCKET. See docs/manual/s6-bridge.md, or `man ftrighub-s6-bridge`.
 set -u
 [ $# -eq 2 ] || [ $# -eq 3 ] || {
     echo "usage: s6-bridge.sh SERVICEDIR SOCKET [NAME]" >&2
