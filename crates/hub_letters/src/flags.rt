@@ -71,7 +71,8 @@ impl Flags {
     /// Adds more letters.
     #[inline(always)]
     pub fn add_all(&mut self, letters: &[Letter])
-        ensures { (word : List ℕ) → flags_of word ≡ self.old → self.new ≡ flags_of (word ++ letters.now) }
+        ensures { (word : List ℕ) → flags_of word ≡ self.old
+            → self.new ≡ flags_of (word ++ letters.now) }
     {
         for letter in letters {
             self.add(*letter);

@@ -164,7 +164,8 @@ impl Named {
             (get bytes_eq self.new.fifodirs name.now)) }
         ensures others { OnOk result ((other : List ℕ) → bytes_eq name.now other ≡ false
             → get bytes_eq self.new.fifodirs other ≡ get bytes_eq self.old.fifodirs other) }
-        ensures last { OnOk result (keys self.new.fifodirs ≡ keys self.old.fifodirs ++ name.now ∷ []) }
+        ensures last { OnOk result (keys self.new.fifodirs
+            ≡ keys self.old.fifodirs ++ name.now ∷ []) }
         ensures err { OnErr result (self.new.fifodirs.entries ≡ self.old.fifodirs.entries) }
     {
         if self.fifodirs.contains_key(name) {

@@ -14,14 +14,16 @@ pub fn no_line_is_spelled_twice()
 
 /// Unless memory runs out, a line is read in one way.
 pub fn each_line_is_read_in_one_way()
-    ensures { (line : List ℕ) (a b : Result Request Refusal) → a ≢ Err Refusal.Memory → b ≢ Err Refusal.Memory
+    ensures { (line : List ℕ) (a b : Result Request Refusal)
+        → a ≢ Err Refusal.Memory → b ≢ Err Refusal.Memory
         → IsReading line a → IsReading line b → a ≡ b }
 {}
 
 /// Each sound request has a form, and each form has a line, which begins with its word. If the line isn't too long, it is
 /// read as the form's request, or as out of range.
 pub fn each_form_has_a_line()
-    ensures formed { (request : Request) → IsSoundForm (form_of request) → IsForm (form_of request) }
+    ensures formed { (request : Request)
+        → IsSoundForm (form_of request) → IsForm (form_of request) }
     ensures word { (form : Form) → IsForm form → first_word (spelling form) ≡ form.word }
     ensures within { (request : Request) → IsForm (form_of request) → IsInRange request
         → length (spelling (form_of request)) ≤ 512 → Spells (spelling (form_of request)) request }

@@ -244,8 +244,10 @@ fn append(
     requires over { (over ≤ length ring.old.items) × (over < length counts.old.items) }
     requires events { length ring.old.items - over + length letters.now ≤ ring.old.capacity }
     requires counts { length counts.old.items - over + length letters.now ≤ counts.old.capacity }
-    ensures events { ring.new ≡ buffer (drop over ring.old.items ++ as_events who letters.now) ring.old.capacity }
-    ensures counts { counts.new ≡ buffer (drop over counts.old.items ++ replicate (length letters.now) 0) counts.old.capacity }
+    ensures events { ring.new ≡ buffer
+        (drop over ring.old.items ++ as_events who letters.now) ring.old.capacity }
+    ensures counts { counts.new ≡ buffer
+        (drop over counts.old.items ++ replicate (length letters.now) 0) counts.old.capacity }
 {
     // Many messages have one letter that fits.
     if over == 0 && letters.len() == 1 {

@@ -114,7 +114,8 @@ pub fn cut_places(counts: &mut Counts, count: usize)
 #[inline(always)]
 pub fn keep_last(counts: &mut Counts, there: u64)
     requires { there ≡ get_or counts.old.items (length counts.old.items - 1) 0 }
-    ensures { counts.new ≡ buffer (drop (length counts.old.items - 1) counts.old.items) counts.old.capacity }
+    ensures { counts.new ≡ buffer
+        (drop (length counts.old.items - 1) counts.old.items) counts.old.capacity }
 {
     counts.first = there;
     counts.later.clear();
@@ -127,7 +128,8 @@ pub fn one_more(counts: &mut Counts, place: usize) -> u64
     requires place { place < length counts.old.items }
     requires few { get_or counts.old.items place 0 ≤ MOST_PASSES }
     ensures there { result ≡ get_or counts.old.items place 0 + 1 }
-    ensures counts { counts.new ≡ buffer (with_one_more counts.old.items place) counts.old.capacity }
+    ensures counts { counts.new ≡ buffer
+        (with_one_more counts.old.items place) counts.old.capacity }
 {
     if place == 0 {
         counts.first += 1;
@@ -155,7 +157,8 @@ fn more_at(counts: &mut HeapCircularBuffer<u64>, place: usize) -> u64
     requires place { place < length counts.old.items }
     requires few { get_or counts.old.items place 0 ≤ MOST_PASSES }
     ensures there { result ≡ get_or counts.old.items place 0 + 1 }
-    ensures counts { counts.new ≡ buffer (with_one_more counts.old.items place) counts.old.capacity }
+    ensures counts { counts.new ≡ buffer
+        (with_one_more counts.old.items place) counts.old.capacity }
 {
     let Some(count) = counts.get_mut(place) else {
         unreachable!()
@@ -170,7 +173,8 @@ pub fn one_less(counts: &mut Counts, place: usize) -> u64
     requires place { place < length counts.old.items }
     requires some { 0 < get_or counts.old.items place 0 }
     ensures left { result ≡ get_or counts.old.items place 0 - 1 }
-    ensures counts { counts.new ≡ buffer (with_one_less counts.old.items place) counts.old.capacity }
+    ensures counts { counts.new ≡ buffer
+        (with_one_less counts.old.items place) counts.old.capacity }
 {
     if place == 0 {
         counts.first -= 1;
@@ -196,7 +200,8 @@ fn less_at(counts: &mut HeapCircularBuffer<u64>, place: usize) -> u64
     requires place { place < length counts.old.items }
     requires some { 0 < get_or counts.old.items place 0 }
     ensures left { result ≡ get_or counts.old.items place 0 - 1 }
-    ensures counts { counts.new ≡ buffer (with_one_less counts.old.items place) counts.old.capacity }
+    ensures counts { counts.new ≡ buffer
+        (with_one_less counts.old.items place) counts.old.capacity }
 {
     let Some(count) = counts.get_mut(place) else {
         unreachable!()

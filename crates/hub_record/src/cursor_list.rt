@@ -83,7 +83,8 @@ impl CursorList {
     /// Moves the cursor at a place.
     pub fn set(&mut self, place: usize, next: u64)
         requires { place < length self.old }
-        ensures { IfSome (slice_get self.old place) (λ c. self.new ≡ set_value (nat_eq c.0) self.old next) }
+        ensures { IfSome (slice_get self.old place)
+            (λ c. self.new ≡ set_value (nat_eq c.0) self.old next) }
     {
         let id = self.list[place].0;
         self.list[place] = (id, next);
@@ -119,7 +120,8 @@ impl CursorList {
 #[inline(never)]
 fn search(list: &[(u64, u64)], id: u64) -> usize
     requires { IsRising list.now }
-    ensures { IsPartitionPoint (λ c. nat_lt c.0 id ≡ true) (λ c. nat_lt c.0 id ≡ false) list.now result }
+    ensures { IsPartitionPoint (λ c. nat_lt c.0 id ≡ true) (λ c. nat_lt c.0 id ≡ false)
+        list.now result }
 {
     list.partition_point(|cursor| cursor.0 < id)
 }

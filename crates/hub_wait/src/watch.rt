@@ -23,9 +23,25 @@ impl Model for Watch {
 
     ghost Value = { Watching };
 
-    ghost view = { λ w. record { want = w.want; notifies = w.notifies; since = w.since; at = w.at; flags = w.flags; fell = w.fell; ended = w.ended } };
+    ghost view = { λ w. record {
+      want = w.want;
+      notifies = w.notifies;
+      since = w.since;
+      at = w.at;
+      flags = w.flags;
+      fell = w.fell;
+      ended = w.ended;
+    } };
 
-    ghost inverse = { λ v. record { want = v.want; notifies = v.notifies; since = v.since; at = v.at; flags = v.flags; fell = v.fell; ended = v.ended } };
+    ghost inverse = { λ v. record {
+      want = v.want;
+      notifies = v.notifies;
+      since = v.since;
+      at = v.at;
+      flags = v.flags;
+      fell = v.fell;
+      ended = v.ended;
+    } };
 }
 
 impl Watch {
