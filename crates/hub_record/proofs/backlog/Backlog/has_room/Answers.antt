@@ -2,7 +2,7 @@ use Rattle.std.proofs.Common.{refl, inl, subst, arith}
 use Rattle.std.proofs.lemmas.Bool.{leb-true, le-leb}
 use Rattle.hub_record.specs.declared.limits.Policy.TheVariants.{Hold, Evict}
 use Rattle.hub_record.specs.Backlog.{IsStill}
-use Rattle.hub_record.proofs.Keeps.{is_still, not_still, fits_behind, room_told}
+use Rattle.hub_record.proofs.Moves.{is_still, not_still, fits_behind, room_told}
 use Rattle.hub_record.proofs.backlog.Backlog.has_room.Goals as goal
 
 pub returns-then-more-capacity : goal.returns-then-more-capacity

@@ -5,7 +5,8 @@ use Rattle.hub_record.specs.declared.Event.{Event}
 use Rattle.hub_record.specs.World.{least, as_events}
 use Rattle.hub_record.specs.Backlog.{Held}
 use Rattle.hub_record.proofs.Slow.{slow_stay}
-use Rattle.hub_record.proofs.Keeps.{is_still, fits_if, none_at_base, kept_still, kept_pushed, kept_more, pushed_all, pushed_held, pushed_still, length_stamped}
+use Rattle.hub_record.proofs.Keeps.{kept_still, kept_pushed, kept_more, length_stamped}
+use Rattle.hub_record.proofs.Moves.{is_still, fits_if, none_at_base, pushed_all, pushed_held, pushed_still}
 use Rattle.hub_record.proofs.backlog.Backlog.push.Goals as goal
 
 pub invariant_of-self : goal.invariant_of-self

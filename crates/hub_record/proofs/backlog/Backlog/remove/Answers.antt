@@ -2,7 +2,8 @@ use Rattle.std.proofs.Common.{◌-◌, length, nat_eq, refl, sym, ap, arith}
 use Rattle.circular_buffer.specs.Buffer.{Buffer}
 use Rattle.hub_record.specs.declared.Event.{Event}
 use Rattle.hub_record.proofs.Counted.{some_at_place}
-use Rattle.hub_record.proofs.Keeps.{cursor_within, slow_below, kept_remove_entry, kept_remove_slow, end_after_cut, cut_held, removes, removes_slow}
+use Rattle.hub_record.proofs.Keeps.{cursor_within, slow_below}
+use Rattle.hub_record.proofs.Moves.{kept_remove_entry, kept_remove_slow, end_after_cut, cut_held, removes, removes_slow}
 use Rattle.hub_record.proofs.backlog.Backlog.remove.Goals as goal
 
 pub invariant_of-self-then-next-self : goal.invariant_of-self-then-next-self

@@ -1,7 +1,8 @@
 use Rattle.std.proofs.Common.{◌+◌, [], ◌∷◌, ◌++◌, ◌<◌, length, refl, sym, ap, subst, ◌∙◌, arith}
 use Rattle.hub_record.specs.declared.limits.TheConstants.{MOST_PASSES}
 use Rattle.hub_record.specs.Backlog.{Held}
-use Rattle.hub_record.proofs.Keeps.{new_id_above, kept_stand, stood}
+use Rattle.hub_record.proofs.Keeps.{new_id_above, kept_stand}
+use Rattle.hub_record.proofs.Moves.{stood}
 use Rattle.hub_record.proofs.backlog.Backlog.stand.Goals as goal
 
 pub push-requires : goal.push-requires

@@ -7,7 +7,8 @@ use Rattle.circular_buffer.specs.Buffer.{Buffer, buffer}
 use Rattle.hub_record.specs.declared.Event.{Event}
 use Rattle.hub_record.specs.Backlog.{Held, first_place}
 use Rattle.hub_record.proofs.Counted.{some_at_place}
-use Rattle.hub_record.proofs.Keeps.{cursor_within, slow_below, few_at_place, one_stays, first_known, IfSome-then_some, kept_set_value, kept_stays, end_after_cut, cut_held, still_held, takes_nothing, takes_lost, takes_some}
+use Rattle.hub_record.proofs.Keeps.{cursor_within, slow_below, few_at_place, one_stays, first_known, IfSome-then_some}
+use Rattle.hub_record.proofs.Moves.{kept_set_value, kept_stays, end_after_cut, cut_held, still_held, takes_nothing, takes_lost, takes_some}
 use Rattle.hub_record.proofs.Rising.{moved_to}
 use Rattle.hub_record.proofs.backlog.Backlog.take.Goals as goal
 

@@ -1,6 +1,7 @@
 use Rattle.std.proofs.Common.{nat_eq, sym, ap, arith}
 use Rattle.hub_record.specs.Backlog.{Held}
-use Rattle.hub_record.proofs.Keeps.{cursor_within, near_above, slow_below, pending_slow, pending_near}
+use Rattle.hub_record.proofs.Keeps.{cursor_within, near_above, slow_below}
+use Rattle.hub_record.proofs.Moves.{pending_slow, pending_near}
 use Rattle.hub_record.proofs.backlog.Backlog.waiting.Goals as goal
 
 pub returns-then-next-self : goal.returns-then-next-self
