@@ -1,3 +1,4 @@
+mod long_lines;
 mod parsing;
 mod relay_sizes;
 mod relays;

@@ -1,15 +1,13 @@
 //! Lines and what they are read as.
 
-use crate::tests::relay_sizes::text_of;
 use crate::tests::told::words_of;
 use hub_protocol::{Bad, parse, write_request};
 use hub_requests::Request;
 use std::alloc::Global;
 use std::process::Abort;
-use std::test::Fail;
 
 /// A line, of which a test knows nothing.
-fn read(alloc: Global, line: &[u8]) -> Result<Request, Bad> {
+pub fn read(alloc: Global, line: &[u8]) -> Result<Request, Bad> {
     parse(alloc, line)
 }
 
@@ -278,26 +276,4 @@ fn other_lines_are_refused_by_the_first_rule_they_break(rt: HostRuntime) {
         let answer = read(rt.alloc(), line.as_bytes());
         assert_eq!(rt; answer.err(), Some(*want), "{line}");
     }
-}
-
-/// The front of a line, how often a letter follows, and the end; then the size of the line, and the rule that it breaks. A
-/// line has at most 512 bytes, and a pattern 200.
-static LONG: [(&str, u8, usize, &str, usize, Option<Bad>); 6] = [
-    ("pub web ", b'a', 504, "", 512, None),
-    ("pub web ", b'a', 505, "", 513, Some(Bad::Long)),
-    ("pub web ", b'a', 503, "\r", 512, Some(Bad::Text)),
-    ("pub web ", b'a', 503, "\ra", 513, Some(Bad::Long)),
-    ("listen w once ", b' ', 200, "", 214, None),
-    ("listen w once ", b' ', 201, "", 215, Some(Bad::Form)),
-];
-
-#[test]
-fn lines_and_patterns_have_their_longest(rt: HostRuntime) -> Result<(), Fail> {
-    for (front, letter, count, end, size, want) in &LONG {
-        let line = text_of(rt.alloc(), front, *letter, *count, end)?;
-        let answer = read(rt.alloc(), &line);
-        assert_eq!(rt; line.len(), *size);
-        assert_eq!(rt; answer.err(), *want, "{size} bytes");
-    }
-    Ok(())
 }
