@@ -1,15 +1,38 @@
-"""Wrong changes that the prover has to refuse: at which goal it did, and how they are tried."""
+"""Wrong changes that the prover has to refuse: at which goal it did, and how they are tried.
 
+The edits of must-fail/ are tried by `rt ci`, over the whole crate. An edit of edits.txt is tried over the function that it names, and those
+that this one calls, which takes half a minute once the libraries below are built.
+"""
+
+import os
 import re
+import shutil
 import subprocess
+import sys
 import tempfile
 import time
 from pathlib import Path
 
-from editing import ROOT, copy_sources, edited, write_single
+from editing import ROOT, apply, copy_sources, edited
+from running import Untried, run
+from trials import kit
 
 REFUSED = re.compile(r"must-fail (\w+)/([\w.-]+)\.edit: refused, as it must be(.*)")
-TOLD = re.compile(r"must-fail \w+/([\w.-]+)\.edit: ")
+# A line about a goal that isn't proved, and one about a proof file that names what an edit took away.
+TOLD = re.compile(r"(note: )?\S+:\d+:\d+: ")
+NAMES = re.compile(r"(note: )?(\./)?proofs/.*(has no field|is not in scope|has no `|was not admitted)")
+# A line about proofs that rest on a lemma which isn't proved.
+RESTS = re.compile(r"(?:\./)?proofs/(?:\w+/)*(\w+)/\w+\.antt:.* which was not admitted, (?:was|were) not checked: (.*)")
+# How many seconds a check may take, if nothing else says when it ends.
+SECONDS = 3600
+# Runs `rt check` over the libraries as they are. `rt ci` leaves them without the stamps by which `rt check` knows them. The first word
+# is the folder of the toolchain's programs.
+CHECK = """import os, sys
+sys.path.insert(0, sys.argv[1])
+import rtlib
+rtlib.Crate.is_built = lambda crate: os.path.isdir(crate.rlib)
+sys.exit(rtlib.main("check", *sys.argv[2:]))
+"""
 
 
 def function_of(text, edit):
@@ -71,22 +94,117 @@ def crates_below(name):
     return found
 
 
+def library_of(name):
+    """Returns the library of a crate, and why it can't be used: it isn't built, or is older than its crate's sources."""
+    crate = ROOT / "crates" / name
+    library = crate / "out" / "rlib"
+    file = library / f"{name}.rlib" / "format"
+    if not file.is_file():
+        return library, f"the library {name} isn't built"
+    sources = (it for part in ("src", "specs", "proofs") for it in (crate / part).rglob("*") if it.is_file())
+    newer = any(it.stat().st_mtime > file.stat().st_mtime for it in sources)
+    return library, f"the library {name} is older than its sources" if newer else None
+
+
+def copy_with_libraries(tree, name):
+    """Copies the sources. The crates below this one have their libraries there, as they are."""
+    copy_sources(tree)
+    for below in crates_below(name) - {name}:
+        library = library_of(below)[0]
+        if library.is_dir():
+            shutil.copytree(library, tree / "crates" / below / "out" / "rlib", copy_function=link_or_copy)
+
+
+def link_or_copy(file, to):
+    """Gives a file of a library a second name. (`rt` removes such a file before it makes it anew, and never writes into it.)"""
+    try:
+        os.link(file, to)
+    except OSError:
+        shutil.copy2(file, to)
+
+
+def lacking(name):
+    """Returns why a library below this crate can't be used, or None."""
+    return next((fault for it in sorted(crates_below(name) - {name}) if (fault := library_of(it)[1])), None)
+
+
+def functions_in(crate):
+    """Yields the functions of a crate: the file, the type, the trait, and the name. What a type or trait lacks is empty."""
+    for file in sorted(crate.glob("src/**/*.rt")):
+        kind = trait = ""
+        for line in file.read_text(encoding="utf-8").splitlines():
+            head = re.match(r"(?:pub )?(?:(trait) (\w+)|impl(?:<.*?>)? (?:([\w:]+)(?:<.*>)? for )?&?([\w:]+))", line)
+            if head:
+                kind, trait = (head[4] or "").split("::")[-1], (head[2] or head[3] or "").split("::")[-1]
+            elif line.startswith("}"):
+                kind = trait = ""
+            for name in re.findall(r"\bfn (\w+)", line):
+                yield str(file.relative_to(crate)), kind, trait, name
+
+
+def path_of(edit):
+    """Returns the path by which `rt` knows the function that has to refuse the edit: its name, or, if the crate has several of that name,
+    with its module and type. A function in a file that the edit changes comes first."""
+    *owner, name = edit.refused_by[0].split("::")
+    found = [it for it in functions_in(edit.crate) if it[3] == name]
+    if len(found) == 1:
+        return name
+    changed = {file for file, _, _ in edit.pairs}
+    fits = [it for it in found if not owner or owner[-1] in (it[1], it[2], it[1] + it[2], Path(it[0]).stem)]
+    for file, kind, trait, _ in sorted(fits, key=lambda it: it[0] not in changed):
+        module = [it for it in file[len("src/") : -len(".rt")].split("/") if it != "lib"]
+        return "::".join([*module, *([kind + trait] if kind + trait else []), name])
+    return edit.refused_by[0]
+
+
+def failed_in(said, edit):
+    """Returns the functions and clauses whose goals failed, by what a check said. If an edit changes a definition of specs/, a lemma may
+    fail in their place, on which their proofs rest."""
+    told = [it for it in said.splitlines() if TOLD.match(it)]
+    failed = [(function_of(f": {it}", edit), clause_of(f": {it}")) for it in told if not NAMES.match(it)]
+    if failed and any(path.startswith("specs/") for path, _, _ in edit.pairs):
+        rests = [found for it in told if (found := RESTS.match(it))]
+        failed += [(it[1], clause_of(f": error: `{goal}`")) for it in rests for goal in it[2].split(", ")]
+    return failed
+
+
+def fault_of(tree, edit, end):
+    """Returns why the edit isn't refused by its clause in a copy that has the libraries. Raises Untried if that isn't known."""
+    crate, wanted = tree / "crates" / edit.crate.name, (edit.refused_by[0].split("::")[-1], edit.refused_by[1])
+    texts, fault = edited(edit, crate)
+    if fault:
+        return fault
+    kept = apply(texts, crate)
+    words = [sys.executable, "-c", CHECK, kit() / "bin", "--jobs", "1", "--only", path_of(edit)]
+    status, said = run(words, tree / "output", end, cwd=crate, env={**os.environ, "TMPDIR": str(tree)})
+    apply(kept, crate)
+    failed = failed_in(said, edit)
+    if wanted in failed:
+        return None
+    if status == 0:
+        return f"{edit.refused_by[0]} is proved with it"
+    if status != 1:
+        raise Untried("there is no time left" if status is None else f"its check ended with status {status}: {said.strip()[-200:]}")
+    if failed:
+        return f"what failed is {'; '.join(f'{function}, {clause}' for function, clause in failed)}"
+    told = [it for it in said.splitlines() if TOLD.match(it)] or [said.strip()[:200]]
+    return f"no goal failed, and the check says first: {told[0][:200]}"
+
+
 def try_edits(edits):
-    """Tries edits of one crate in a copy of the tree, as `rt must-fail` does. Yields each with its fault and its share of the time: the
-    first one takes as long as the crate's proof, and the others are tried over that."""
-    name, begun = edits[0].crate.name, time.monotonic()
+    """Tries edits of one crate, one after the other. Yields each with its fault and its seconds. The libraries below are built first, if
+    they aren't."""
+    name, why = edits[0].crate.name, None
+    if lacking(name):
+        built = subprocess.run(["rt", "check", "--only", ""], cwd=ROOT / "crates" / name, capture_output=True, text=True, check=False)
+        why = f"its libraries can't be built: {(built.stdout + built.stderr).strip()[-200:]}" if built.returncode else None
     with tempfile.TemporaryDirectory() as work:
-        copy_sources(Path(work), crates_below(name))
-        folder = Path(work) / "crates" / name / "must-fail"
-        for it in folder.glob("*.edit"):
-            it.unlink()
-        folder.mkdir(exist_ok=True)
+        copy_with_libraries(Path(work), name)
         for edit in edits:
-            (folder / f"{edit.name}.edit").write_text(write_single(edit), encoding="utf-8")
-        done = subprocess.run(["rt", "must-fail", name], cwd=work, capture_output=True, text=True, check=False)
-    said = done.stdout + done.stderr
-    refused, told = refused_in(said), {TOLD.search(it)[1]: it for it in said.splitlines() if TOLD.search(it)}
-    for edit in edits:
-        text = refused.get((name, edit.name))
-        otherwise = told.get(edit.name) or f"rt must-fail doesn't tell of it, and ends with: {said.strip()[-200:]}"
-        yield edit, differs(text, edit) if text is not None else otherwise, (time.monotonic() - begun) / len(edits)
+            begun, found = time.monotonic(), why
+            if not why:
+                try:
+                    found = fault_of(Path(work), edit, begun + SECONDS)
+                except Untried as fault:
+                    found = fault
+            yield edit, found, time.monotonic() - begun

@@ -223,11 +223,6 @@ def read_single(crate, name):
     return edit
 
 
-def write_single(edit):
-    """Returns the lines of an edit in the form of `rt must-fail`."""
-    return "".join(f"file: {path}\nold: {old}\nnew: {new}\n" for path, old, new in edit.pairs)
-
-
 def changed(texts, crate, path, old, new):
     """Puts the new text in the place of the old one, and returns why it cannot."""
     file = crate / path
@@ -253,12 +248,9 @@ def edited(edit, crate=None):
     return texts, None if texts else "it has no old and new text"
 
 
-def copy_sources(tree, kept=()):
-    """Copies the crates, and the files beside them that `rt` reads. Of the crates that are named, also what is proved of them."""
+def copy_sources(tree):
+    """Copies the crates, and the files beside them that `rt` reads."""
     shutil.copytree(ROOT / "crates", tree / "crates", ignore=shutil.ignore_patterns("out"))
-    for name in kept:
-        if (ROOT / "crates" / name / "out").is_dir():
-            shutil.copytree(ROOT / "crates" / name / "out", tree / "crates" / name / "out", symlinks=True)
     for file in ("crates.txt", "HANDLES"):
         shutil.copy(ROOT / file, tree)
 

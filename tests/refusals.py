@@ -18,6 +18,11 @@ def records(crate):
     return dict(LINE.findall(file.read_text(encoding="utf-8").partition("\n\n")[2])) if file.is_file() else {}
 
 
+def is_current(edit):
+    """Whether it is on record that the edit was refused as it is."""
+    return records(edit.crate).get(edit.name, "").endswith(f", {edit.mark()}")
+
+
 def last(edit):
     """Returns when the edit was last refused, in words."""
     when, _, mark = records(edit.crate).get(edit.name, "").rpartition(", ")
@@ -29,6 +34,14 @@ def last(edit):
 def said(*words):
     """Returns what a command prints."""
     return subprocess.run(words, cwd=ROOT, capture_output=True, text=True, check=True).stdout.strip()
+
+
+def commit_of(name):
+    """Returns the sum of the commit that has this name, or None if there is none, as outside a repository."""
+    try:
+        return said("git", "rev-parse", "--verify", "--quiet", f"{name}^{{commit}}")
+    except (OSError, subprocess.CalledProcessError):
+        return None
 
 
 def now():
