@@ -3,7 +3,7 @@ use Rattle.std.proofs.Common.{◌≡◌, ℕ, ◌+◌, Option, None, Some, Err, 
 use Rattle.hub_front.specs.Serving.{Asking}
 use Rattle.hub_io.specs.Telling.{Rises}
 use Rattle.hub_io.specs.declared.fault.FrontError.TheVariants.{Memory}
-use Rattle.hub_server.specs.Sessions.{Reading, Writing, IsResult}
+use Rattle.hub_server.specs.Sessions.{Reading, Writing, IsEnded}
 
 -- a count that stays grew by none
 grows_by_none : (told : Option ℕ) → Rises told told 0
@@ -12,10 +12,8 @@ grows_by_none (Some k) = let same : k ≡ k + 0 = omega arith in ap Some same
 
 -- memory ran out before a desk was opened
 pub no_desk : {D R W : Type 0} (most : ℕ) (begins : D → Type 0) (asks : Asking D) (ends : D → D → Type 0) (r : Reading R) (w : Writing W) (reader : R) (writer : W)
-    → IsResult most begins asks ends r w reader writer (Err Memory)
+    → IsEnded most begins asks ends r w reader reader writer writer (Err Memory)
 no_desk most begins asks ends r w reader writer = record {
-  read = reader;
-  written = writer;
   served = λ other. absurd (other refl);
   untouched = λ same. (refl, refl);
   reads = (0, (omega arith), grows_by_none (r.reads reader), λ turns. absurd (cc turns));

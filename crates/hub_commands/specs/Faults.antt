@@ -58,6 +58,12 @@ abbrev pub line_if : Option Fault → List ℕ
 line_if None = []
 line_if (Some fault) = line_of fault
 
+-- what is told of the session with this number and this result, if it stopped
+abbrev pub fault_if_stopped : (number : ℕ) → Result ℕ FrontError → (timed_out : Bool) → Option Fault
+fault_if_stopped number (Ok lines) timed_out = None
+fault_if_stopped number (Err fault) true = Some (Idle number)
+fault_if_stopped number (Err fault) false = Some (Session number fault)
+
 -- the fault that counts the sessions that aren't told one by one
 abbrev pub rest_of : (sessions : ℕ) → Option Fault
 rest_of zero = None

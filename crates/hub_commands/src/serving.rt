@@ -7,6 +7,7 @@ ghost use Rattle.hub_commands.specs.declared.fault.Fault.TheVariants as fault;
 ghost use Rattle.hub_server.specs.Gates.{StopsEarly, ThenCloses};
 ghost use Rattle.hub_server.specs.Reports.{IsReport};
 ghost use Rattle.hub_server.specs.declared.door.Door.{Door as door};
+ghost use Rattle.std.specs.declared.os.unix.net.UnixListener.{UnixListener as unix_listener};
 ghost use Rattle.hub_names.specs.declared.hub.Hub.{Hub as hub};
 ghost use Rattle.hub_shared.specs.Desks.{IsNewDesk};
 ghost use Rattle.hub_wait.specs.declared.pause.Patience.{Patience as patience};
@@ -46,7 +47,7 @@ where
     H: Files + Net + Clock + Threads + Wait + Copy + Send + 'static,
     // An open door was asked for this many connections. The report is that of `serve_all`, over one hub.
     ensures report { IfOk result (λ report. (one : hub) × (pause : patience H)
-        × (opened closed : door)
+        × (opened closed : door unix_listener)
         × IsSome opened.listener × IsReport MAX_READS (IsNewDesk one pause)
         ⟦<SharedDesk<Patience<H>> as Desk>⟧.asks ⟦<SharedDesk<Patience<H>> as Desk>⟧.ends
         (record {
@@ -64,7 +65,7 @@ where
 
     // Before the first session, it couldn't listen or memory ran out. An error of the sessions is that of `serve_all`,
     // and the door was closed.
-    ensures err { IfErr result (FailsToServe (λ error. (opened closed : door)
+    ensures err { IfErr result (FailsToServe (λ error. (opened closed : door unix_listener)
         × IsSome opened.listener
         × ThenCloses ⟦<Door as Gate<UnixStream, UnixStream>>⟧.closes
         (λ last. StopsEarly ⟦<Door as Gate<UnixStream, UnixStream>>⟧.gives sessions opened last

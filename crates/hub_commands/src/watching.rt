@@ -1,17 +1,16 @@
 //! What the operator of a hub learns of its sessions.
 
 ghost use Rattle.std.specs.Prelude.{◌≡◌};
-ghost use Rattle.hub_commands.specs.Faults.{rest_of};
+ghost use Rattle.hub_commands.specs.Faults.{fault_if_stopped, rest_of};
 
 use crate::fault::Fault;
 use hub_io::{FrontError, Sink, Source};
-use hub_server::{Desks, Journal, ServeError, Session};
+use hub_server::{Desks, Journal, ServeError, Session, Timed};
 use std::alloc::{AllocError, Global};
 use std::rt::Clock;
 use std::sync::atomic::{AtomicBool, AtomicU64, Ordering};
 use std::sync::{Arc, Condvar, CondvarTimeouts, Mutex, Wait};
 use std::thread;
-use std::thread::Promise;
 use std::time::Duration;
 
 /// How many faults are told at once. The rest are counted.
@@ -119,7 +118,25 @@ impl<C: Clock + Copy> Watcher<C> {
     }
 }
 
-impl<C: Clock + Copy> Journal for Watcher<C> {
+// What is told of the session with this number, if it stopped.
+fn fault_of(number: u64, ended: Result<u64, FrontError>, timed_out: bool) -> Option<Fault>
+    ensures { result ≡ fault_if_stopped number ended timed_out }
+{
+    match ended {
+        Ok(_) => None,
+        Err(_) if timed_out => Some(Fault::Idle { number }),
+        Err(fault) => Some(Fault::Session { number, fault }),
+    }
+}
+
+// What threads share isn't seen by contracts: a watcher stays as it is.
+impl<C: Clock + Copy, R: Source + Timed, W: Sink + Timed> Journal<R, W> for Watcher<C> {
+    ghost numbers = { λ old _ new. new ≡ old };
+
+    ghost tells = { λ old _ _ _ _ new. new ≡ old };
+
+    ghost fails = { λ old new. new ≡ old };
+
     fn share(&self) -> Result<Watcher<C>, AllocError> {
         let shared = Arc::try_clone(&self.shared)?;
         Ok(Watcher {
@@ -134,18 +151,18 @@ impl<C: Clock + Copy> Journal for Watcher<C> {
         before.saturating_add(1)
     }
 
-    fn ended<H: Wait, R: Source, W: Sink, O: Desks>(
+    fn ended<H: Wait, O: Desks>(
         &mut self,
         rt: &H,
         number: u64,
         _session: &Session<R, W, O>,
         ended: Result<u64, FrontError>,
-        timed_out: bool,
+        reader: &R,
+        writer: &W,
     ) {
-        match ended {
-            Ok(_) => {}
-            Err(_) if timed_out => self.put(rt, Fault::Idle { number }),
-            Err(fault) => self.put(rt, Fault::Session { number, fault }),
+        let timed_out = reader.has_timed_out() || writer.has_timed_out();
+        if let Some(stopped) = fault_of(number, ended, timed_out) {
+            self.put(rt, stopped);
         }
     }
 

@@ -28,17 +28,19 @@ result_by : {D R W : Type 0} (most : ℕ) (begins begins' : D → Type 0) (asks 
 result_by most begins begins' asks ends r w reader writer result widens it = record {
   read = it.read;
   written = it.written;
-  served = λ other. let served = it.served other in record {
-    old = served.old;
-    new = served.new;
-    begun = widens served.old served.begun;
-    finished = served.finished;
-    stopped = served.stopped;
+  ended = record {
+    served = λ other. let served = it.ended.served other in record {
+      old = served.old;
+      new = served.new;
+      begun = widens served.old served.begun;
+      finished = served.finished;
+      stopped = served.stopped;
+    };
+    untouched = it.ended.untouched;
+    reads = it.ended.reads;
+    read_faults = it.ended.read_faults;
+    write_faults = it.ended.write_faults;
   };
-  untouched = it.untouched;
-  reads = it.reads;
-  read_faults = it.read_faults;
-  write_faults = it.write_faults;
 }
 
 -- a result by a share of these desks is one by these

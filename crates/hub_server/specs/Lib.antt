@@ -1,4 +1,6 @@
 pub mod Sessions
 pub mod Gates
+pub mod Turns
+pub mod Doors
 pub mod Promised
 pub mod Reports

@@ -27,14 +27,19 @@ pub record IsServed {D R W : Type 0} (most : ℕ) (begins : D → Type 0) (asks 
   pub finished : IfOk result (Finished asks ends old new (w.contents writer) (w.contents written) (r.remaining reader) (r.remaining read))
   pub stopped : IfErr result (Stopped most asks ends old new (w.contents writer) (w.contents written) (r.remaining reader) (r.remaining read))
 
--- The result of a session over this reader, in at most `most` reads, and this writer. If memory ran out nothing was read.
--- An error is reported if its fault was counted, and only then.
-pub record IsResult {D R W : Type 0} (most : ℕ) (begins : D → Type 0) (asks : Asking D) (ends : D → D → Type 0) (r : Reading R) (w : Writing W)
-    (reader : R) (writer : W) (result : Result ℕ FrontError) : Type 0 where
-  pub read : R
-  pub written : W
+-- A session of this reader and this writer ended with this result, in at most `most` reads, and left them so. If memory ran out
+-- nothing was read. An error is reported if its fault was counted, and only then.
+pub record IsEnded {D R W : Type 0} (most : ℕ) (begins : D → Type 0) (asks : Asking D) (ends : D → D → Type 0) (r : Reading R) (w : Writing W)
+    (reader read : R) (writer written : W) (result : Result ℕ FrontError) : Type 0 where
   pub served : result ≢ Err Memory → IsServed most begins asks ends r w reader read writer written result
   pub untouched : result ≡ Err Memory → (read ≡ reader) × (written ≡ writer)
   pub reads : ReadsWithin most (r.reads reader) (r.reads read) result
   pub read_faults : Rises (r.faults reader) (r.faults read) (read_faults result)
   pub write_faults : Rises (w.faults writer) (w.faults written) (write_faults result)
+
+-- a session of this reader and this writer may have this result, whatever it left of them
+pub record IsResult {D R W : Type 0} (most : ℕ) (begins : D → Type 0) (asks : Asking D) (ends : D → D → Type 0) (r : Reading R) (w : Writing W)
+    (reader : R) (writer : W) (result : Result ℕ FrontError) : Type 0 where
+  pub read : R
+  pub written : W
+  pub ended : IsEnded most begins asks ends r w reader read writer written result

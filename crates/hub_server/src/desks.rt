@@ -2,7 +2,7 @@
 ghost use Rattle.std.specs.Prelude.{ℕ, IfOk};
 ghost use Rattle.hub_front.specs.Serving.{Asking};
 ghost use Rattle.hub_server.specs.Promised.{IsShare};
-ghost use Rattle.hub_server.specs.Sessions.{IsResult};
+ghost use Rattle.hub_server.specs.Sessions.{IsEnded};
 
 use hub_io::{FrontError, Sink, Source};
 use std::alloc::{AllocError, Global};
@@ -37,8 +37,8 @@ pub trait Desks {
         reader: &mut R,
         writer: &mut W,
     ) -> Result<u64, FrontError>
-        ensures { IsResult (most self.now) (opens self.now) asks ends
+        ensures { IsEnded (most self.now) (opens self.now) asks ends
             (record { remaining = R.remaining; reads = R.reads; faults = R.faults })
             (record { contents = W.contents; faults = W.faults })
-            reader.old writer.old result };
+            reader.old reader.new writer.old writer.new result };
 }

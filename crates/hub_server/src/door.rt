@@ -1,12 +1,13 @@
 //! The gates of a listening Unix socket.
 ghost use Rattle.std.specs.Prelude.{◌≡◌, ◌≢◌, None};
+ghost use Rattle.hub_server.specs.Doors.{Opens};
 ghost use Rattle.hub_server.specs.declared.gate.Next.TheVariants.{Over};
 
 use crate::connection::{Connection, Room};
 use crate::gate::{Gate, Next};
+use crate::listening::{Listen, accept_one, passes};
 use std::alloc::{AllocError, Global};
 use std::io;
-use std::io::ErrorKind;
 use std::os::unix::net::{UnixListener, UnixStream};
 use std::rt::Clock;
 use std::sync::atomic::{AtomicBool, Ordering};
@@ -15,43 +16,21 @@ use std::time::Duration;
 
 /// The gate of a listening socket: it accepts connections, each a session, until it is closed.
 #[derive(Drop)]
-pub struct Door {
+pub struct Door<L = UnixListener> {
     /// The listening socket. None once the door is closed.
-    pub listener: Option<UnixListener>,
+    pub listener: Option<L>,
 }
 
-// Accepts a connection, for receiving and for sending.
-fn accept(listener: &UnixListener) -> io::Result<(UnixStream, UnixStream)> {
-    let (receive, _peer) = listener.accept()?;
-    let send = receive.try_clone()?;
-    Ok((receive, send))
-}
-
-// Whether a failed accept concerns one connection only: its client had left before, or a signal came.
-fn passes(fault: &io::Error) -> bool {
-    matches!(
-        fault.kind(),
-        ErrorKind::ConnectionAborted | ErrorKind::Interrupted
-    )
-}
-
-impl Gate<UnixStream, UnixStream> for Door {
-    ghost gives = { λ old next new. (new ≡ old) × (next ≡ Over → old.listener ≡ None) };
+impl<R, W, L: Listen<R, W> + Drop> Gate<R, W> for Door<L> {
+    ghost gives = { λ old next new. Opens L.accepts old.listener next new.listener };
 
     ghost closes = { λ _ new. new.listener ≡ None };
 
-    fn next<H: Wait>(&mut self, rt: &H) -> Next<UnixStream, UnixStream> {
-        let Some(listener) = &self.listener else {
-            return Next::Over;
-        };
-        for _ in rt.forever() {
-            match accept(listener) {
-                Ok((receive, send)) => return Next::Session(receive, send),
-                Err(fault) if passes(&fault) => {}
-                Err(_) => return Next::Failed,
-            }
+    fn next<H: Wait>(&mut self, rt: &H) -> Next<R, W> {
+        match &mut self.listener {
+            Some(listener) => accept_one(rt, listener),
+            None => Next::Over,
         }
-        unreachable!()
     }
 
     fn close(&mut self) {

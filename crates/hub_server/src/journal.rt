@@ -1,35 +1,89 @@
 //! What learns of sessions that end while others go on.
+ghost use Rattle.std.specs.Prelude.{ℕ, Result};
+ghost use Rattle.hub_io.specs.declared.fault.FrontError.{FrontError};
+ghost use Rattle.hub_server.specs.Sessions.{IsEnded};
 
 use crate::desks::Desks;
 use crate::promise::Session;
 use hub_io::{FrontError, Sink, Source};
 use std::alloc::AllocError;
 use std::sync::Wait;
-use std::thread::Promise;
 
 /// Learns of sessions, each when it ends. Each thread that serves sessions has a share of it.
-pub trait Journal {
+pub trait Journal<R: Source, W: Sink> {
+    /// `numbers old number new`: a session begins, and a journal in the state `old` may give it this number, and is then in the
+    /// state `new`.
+    ghost numbers: { Self → ℕ → Self → Type 0 };
+
+    /// `tells old number read written ended new`: the journal learns that the session with this number ended so, and left its
+    /// reader and its writer so.
+    ghost tells: { Self → ℕ → R → W → Result ℕ FrontError → Self → Type 0 };
+
+    /// `fails old new`: the journal learns that something failed that is tried again.
+    ghost fails: { Self → Self → Type 0 };
+
     /// A share for another thread.
     fn share(&self) -> Result<Self, AllocError>;
 
     /// A session begins. Returns its number.
-    fn begins(&mut self) -> u64;
+    fn begins(&mut self) -> u64
+        ensures { numbers self.old result self.new };
 
-    /// The session with this number ended so. The result is one of serving exactly its reader and its writer. If it is a
-    /// fault, `timed_out` says whether the fault is that no byte came, or none was taken, for too long.
-    fn ended<H: Wait, R: Source, W: Sink, O: Desks>(
+    /// The session with this number ended so. It began with what `session` shows, and its reader and its writer are as it left them.
+    fn ended<H: Wait, O: Desks>(
         &mut self,
         rt: &H,
         number: u64,
         session: &Session<R, W, O>,
         ended: Result<u64, FrontError>,
-        timed_out: bool,
+        reader: &R,
+        writer: &W,
     )
-        requires { ⟦<Session<R, W, O> as Promise<Result<u64, FrontError>>>⟧.kept_by session.now ended };
+        requires { IsEnded (O.most session.now.desks.value) (O.opens session.now.desks.value)
+            O.asks O.ends
+            (record { remaining = R.remaining; reads = R.reads; faults = R.faults })
+            (record { contents = W.contents; faults = W.faults })
+            session.now.reader.value reader.now session.now.writer.value writer.now ended }
+        ensures { tells self.old number reader.now writer.now ended self.new };
 
     /// The gate failed, or there was no memory for a session. Either is tried again when this returns, so it waits for a moment.
-    fn failed<H: Wait>(&mut self, rt: &H);
+    fn failed<H: Wait>(&mut self, rt: &H)
+        ensures { fails self.old self.new };
 
     /// No thread could be started in the place of one that has ended. It is tried again when this returns, so it waits for a moment.
     fn unstarted<H: Wait>(&mut self, rt: &H);
+}
+
+/// Learns nothing.
+#[derive(Drop)]
+pub(crate) struct Untold;
+
+impl<R: Source, W: Sink> Journal<R, W> for Untold {
+    ghost numbers = { λ _ _ _. Unit {0} };
+
+    ghost tells = { λ _ _ _ _ _ _. Unit {0} };
+
+    ghost fails = { λ _ _. Unit {0} };
+
+    fn share(&self) -> Result<Untold, AllocError> {
+        Ok(Untold)
+    }
+
+    fn begins(&mut self) -> u64 {
+        0
+    }
+
+    fn ended<H: Wait, O: Desks>(
+        &mut self,
+        _rt: &H,
+        _number: u64,
+        _session: &Session<R, W, O>,
+        _ended: Result<u64, FrontError>,
+        _reader: &R,
+        _writer: &W,
+    ) {}
+
+    fn failed<H: Wait>(&mut self, _rt: &H) {}
+
+    fn unstarted<H: Wait>(&mut self, _rt: &H) {}
 }

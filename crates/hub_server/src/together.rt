@@ -7,8 +7,10 @@ ghost use Rattle.hub_server.specs.Sessions.{IsResult};
 
 use crate::desks::Desks;
 use crate::gate::{Gate, Next};
+use crate::journal::Untold;
 use crate::promise::Session;
 use crate::report::{Report, ServeError};
+use crate::serving::serve_session;
 use crate::started::{Started, join_over, results_of};
 use hub_io::{FrontError, Sink, Source};
 use std::alloc::Global;
@@ -23,20 +25,20 @@ pub const STACK_SIZE: usize = 2 << 20;
 
 type Running<R, W, O> = Started<Result<u64, FrontError>, Session<R, W, O>>;
 
-// Serves one session. Its reader and its writer are dropped here.
-fn serve_one<H: Wait + Drop, R: Source + Drop, W: Sink + Drop, O: Desks + Drop>(
+// Serves one session, of which no journal learns. Its share of the desks is dropped here too.
+fn serve_untold<H: Wait + Drop, R: Source + Drop, W: Sink + Drop, O: Desks + Drop>(
     rt: H,
     alloc: Global,
     desks: O,
-    mut reader: R,
-    mut writer: W,
+    reader: R,
+    writer: W,
 ) -> Result<u64, FrontError>
     ensures { IsResult (O.most desks) (O.opens desks) O.asks O.ends
         (record { remaining = R.remaining; reads = R.reads; faults = R.faults })
         (record { contents = W.contents; faults = W.faults })
         reader writer result }
 {
-    desks.serve(&rt, alloc, &mut reader, &mut writer)
+    serve_session(&rt, alloc, &desks, &mut Untold, 0, reader, writer)
 }
 
 // Starts the thread of one session. The thread sets `is_over` as its last step.
@@ -68,7 +70,7 @@ where
     let thread = Builder::new()
         .stack_size(STACK_SIZE)
         .spawn_with(rt, session, move || {
-            let result = serve_one(own, alloc, desks, reader, writer);
+            let result = serve_untold(own, alloc, desks, reader, writer);
             told.store(true, Ordering::Release);
             result
         })

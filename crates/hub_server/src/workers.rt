@@ -107,7 +107,7 @@ impl<C, O, J> Means<C, O, J>
 where
     C: Clock + Copy + Send + Drop + 'static,
     O: Desks + Send + Drop + 'static,
-    J: Journal + Send + Drop + 'static,
+    J: Journal<Connection<C>, Connection<C>> + Send + Drop + 'static,
 {
     fn share(&self) -> Result<Means<C, O, J>, AllocError> {
         Ok(Means {
@@ -138,7 +138,7 @@ where
     H: Threads + Wait + Copy + Send + 'static,
     C: Clock + Copy + Send + Drop + 'static,
     O: Desks + Send + Drop + 'static,
-    J: Journal + Send + Drop + 'static,
+    J: Journal<Connection<C>, Connection<C>> + Send + Drop + 'static,
 {
     let Means {
         alloc,
@@ -166,7 +166,7 @@ impl Place {
         H: Threads + Wait + Copy + Send + 'static,
         C: Clock + Copy + Send + Drop + 'static,
         O: Desks + Send + Drop + 'static,
-        J: Journal + Send + Drop + 'static,
+        J: Journal<Connection<C>, Connection<C>> + Send + Drop + 'static,
     {
         if self.seat.has_left.swap(false, Ordering::AcqRel) {
             if let Some(thread) = self.thread.take() {
@@ -185,7 +185,7 @@ impl<C, O, J> Workers<C, O, J>
 where
     C: Clock + Copy + Send + Drop + 'static,
     O: Desks + Send + Drop + 'static,
-    J: Journal + Send + Drop + 'static,
+    J: Journal<Connection<C>, Connection<C>> + Send + Drop + 'static,
 {
     // Starts so many threads. If one couldn't be started, those before it serve nevertheless.
     fn start<H>(rt: &H, means: Means<C, O, J>, count: u64) -> Result<Workers<C, O, J>, ServeError>
@@ -245,7 +245,7 @@ where
     H: Threads + Wait + Copy + Send + 'static,
     C: Clock + Copy + Send + Drop + 'static,
     O: Desks + Send + Drop + 'static,
-    J: Journal + Send + Drop + 'static,
+    J: Journal<Connection<C>, Connection<C>> + Send + Drop + 'static,
 {
     match Workers::start(rt, means, count) {
         Ok(mut workers) => {
@@ -275,7 +275,7 @@ where
     H: Threads + Wait + Copy + Send + 'static,
     C: Clock + Copy + Send + Drop + 'static,
     O: Desks + Send + Drop + 'static,
-    J: Journal + Send + Drop + 'static,
+    J: Journal<Connection<C>, Connection<C>> + Send + Drop + 'static,
 {
     let (Ok(bell), Ok(begun)) = (Arc::new(alloc, Bell::new()), Arc::new(alloc, Begun::new())) else {
         return Err(ServeError::Memory);

@@ -8,7 +8,7 @@ use std::io::{Read, Write};
 use std::sync::atomic::{AtomicBool, Ordering};
 use std::sync::{Arc, Mutex, Wait};
 use std::test::Fail;
-use std::thread::{JoinHandle, Promise};
+use std::thread::JoinHandle;
 use std::time::Duration;
 use std::{io, thread};
 
@@ -168,7 +168,13 @@ struct Telling {
     steps: Shared,
 }
 
-impl Journal for Telling {
+impl<R: Source + Timed, W: Sink + Timed> Journal<R, W> for Telling {
+    ghost numbers = { λ _ _ _. Unit {0} };
+
+    ghost tells = { λ _ _ _ _ _ _. Unit {0} };
+
+    ghost fails = { λ _ _. Unit {0} };
+
     fn share(&self) -> Result<Telling, AllocError> {
         let steps = Arc::try_clone(&self.steps)?;
         let last = self.last;
@@ -181,14 +187,16 @@ impl Journal for Telling {
         self.last
     }
 
-    fn ended<H: Wait, R: Source, W: Sink, O: Desks>(
+    fn ended<H: Wait, O: Desks>(
         &mut self,
         _rt: &H,
         number: u64,
         _session: &Session<R, W, O>,
         _ended: Result<u64, FrontError>,
-        timed_out: bool,
+        reader: &R,
+        writer: &W,
     ) {
+        let timed_out = reader.has_timed_out() || writer.has_timed_out();
         self.steps.add(Step::Ended(number, timed_out));
     }
 

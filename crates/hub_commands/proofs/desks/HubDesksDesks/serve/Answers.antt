@@ -6,8 +6,6 @@ returns-in_default g c = no_desk _ _ _ _ _ _ _ _
 
 pub returns : goal.returns
 returns g c = record {
-  read = c.serve_within-served.new.reader;
-  written = c.serve_within-served.new.writer;
   served = λ other. record {
     old = c.in-Ok.desk;
     new = c.serve_within-served.new.desk;
