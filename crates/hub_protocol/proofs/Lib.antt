@@ -1,5 +1,6 @@
 pub mod Numerals
 pub mod Splits
+pub mod Appending
 pub mod Rows
 pub mod Visible
 pub mod SameWords

@@ -1,8 +1,8 @@
 -- A text is cut at its first space.
-use Rattle.std.proofs.Common.{◌≡◌, ◌≢◌, ℕ, ◌+◌, ◌-◌, ◌<◌, List, [], ◌∷◌, ◌++◌, length, get_or, take, drop, false, refl, sym, ap, ◌∙◌, arith}
+use Rattle.std.proofs.Common.{◌≡◌, ◌≢◌, ℕ, ◌+◌, ◌-◌, ◌<◌, ◌≤◌, List, [], ◌∷◌, ◌++◌, length, get_or, take, drop, Bool, true, false, count_by, nat_lt, MatchBool, refl, sym, subst, ap, ◌∙◌, arith}
 use Rattle.std.specs.Prelude.{All}
 use Rattle.std.specs.List.{join_with_byte}
-use Rattle.std.proofs.lemmas.Bool.{ne_eqb}
+use Rattle.std.proofs.lemmas.Bool.{le-ltb, ne_eqb}
 use Rattle.std.proofs.lemmas.List.{drop_more, take-append-drop, get_or-take, get_or_default, take_rest, length-take}
 use Rattle.std.proofs.lemmas.List.Splits.{slice_split_none, slice_split_at, length-slice_split, join_with_byte-slice_split}
 use Rattle.hub_protocol.specs.Spelling.{is_space, fields_of}
@@ -52,3 +52,16 @@ some_fields text = omega (arith, length-slice_split is_space text)
 
 pub no_fields : (text : List ℕ) → fields_of text ≢ []
 no_fields text e = let none : length (fields_of text) ≡ 0 = ap length e in omega (arith, some_fields text, none)
+
+-- ---- texts of at most 32 fields, that is, of fewer than 32 spaces
+
+-- few fields are all that is asked of them, if each is
+pub few_fields : (Q E : Type 0) (each : Bool) → (E → Q) → (Q → E) → MatchBool each E (E → ⊥) → MatchBool each Q (Q → ⊥)
+few_fields Q E true to from is = to is
+few_fields Q E false to from none = λ q. none (from q)
+
+-- and more of them are not
+pub many_fields : (Q : Type 0) (text : List ℕ) (n : ℕ) → (Q → length (fields_of text) ≤ 32) → n ≡ count_by is_space text → 32 ≤ n → MatchBool (nat_lt n 32) Q (Q → ⊥)
+many_fields Q text n few counted many =
+    subst (λ t. MatchBool t Q (Q → ⊥)) (sym (le-ltb n 32 many))
+    (λ q. let some = few q in omega (arith, length-slice_split is_space text))
