@@ -1,19 +1,18 @@
 -- A reply on its way through a buffer.
-use Rattle.std.proofs.Common.{◌≡◌, ℕ, ◌+◌, ◌≤◌, false, List, [], ◌∷◌, ◌++◌, length, Option, inl, inr, refl, sym, ap, ◌∙◌, subst, arith, append-nil, append_assoc, length-append}
+use Rattle.std.proofs.Common.{◌≡◌, ℕ, ◌+◌, ◌≤◌, false, List, [], ◌++◌, length, Option, inl, inr, refl, sym, ap, ◌∙◌, subst, arith, append-nil, length-append}
 use Rattle.std.specs.Io.KnownBytes.{Appends, IsAtEnd}
-use Rattle.std.proofs.KnownBytes.{Appends-nil, Appends-trans}
 use Rattle.hub_io.specs.declared.reading.TheConstants.{CHUNK}
 use Rattle.hub_io.specs.declared.fault.FrontError.{FrontError}
 use Rattle.hub_io.specs.declared.fault.FrontError.TheVariants.{Read, Write, Turns, Memory}
-use Rattle.hub_io.specs.Lines.{has_lf, IsLine}
-use Rattle.hub_io.proofs.Lines.{has_lf-append}
+use Rattle.hub_io.specs.Lines.{has_lf}
 use Rattle.hub_client.specs.Passing.{Moves, IsInPieces, IsReady, IsShort, slack_at, FailsAs, FailsInPieces}
 use Rattle.hub_client.specs.Relaying.{writable}
-use Rattle.hub_client.proofs.Moving.{stays, moves_piece, moves_reads, moves_more}
+use Rattle.hub_client.proofs.Moving.{moves_reads, moves_more}
+use Rattle.hub_client.proofs.OnTheWay.{passes_none, passes_more}
 use Rattle.hub_client.proofs.Writable.{writable-front, due}
 
 pub begins : (has held : Option (List ℕ)) (makes : Option ℕ) (p : List ℕ) (left : ℕ) → IsInPieces has has held held makes makes p p left left
-begins has held makes p left = record { passed = []; moved = stays has makes p left 0; written = Appends-nil held; cut = refl; buffers = 0; full = refl }
+begins has held makes p left = record { passed = []; way = passes_none has held makes p left; buffers = 0; full = refl }
 
 fails_so : (e : FrontError) (rest : List ℕ) (left' : ℕ) → FailsAs e [] left' → has_lf rest ≡ false → FailsInPieces e [] rest left'
 fails_so Read rest left' f cut = (refl, cut)
@@ -27,7 +26,7 @@ module _ {had mid has held holds : Option (List ℕ)} {made much makes : Option 
   pub ends : (after : List ℕ) → Moves mid has much makes between after some left' 1 [] → IsShort after → IsAtEnd has
       → (passed : List ℕ) × Appends held holds passed
       × (Moves had has made makes before after left left' 1 passed × (has_lf passed ≡ false) × (writable (passed ++ after) ≡ passed) × (has_lf after ≡ false) × IsAtEnd has)
-  ends after m short end = (w.passed, w.written, (moves_reads w.moved m, w.cut, writable-front w.passed after w.buffers w.cut short.0 w.full short.1, short.0, end))
+  ends after m short end = (w.passed, w.way.written, (moves_reads w.way.moved m, w.way.cut, writable-front w.passed after w.buffers w.way.cut short.0 w.full short.1, short.0, end))
 
   -- no more was read
   pub fails : (e : FrontError) (after : List ℕ) → Moves mid has much makes between after some left' (slack_at e) [] → FailsAs e [] left' → IsShort after
@@ -37,11 +36,11 @@ module _ {had mid has held holds : Option (List ℕ)} {made much makes : Option 
     w.passed,
     after,
     [],
-    moves_reads w.moved m,
-    w.cut,
-    writable-front w.passed after w.buffers w.cut short.0 w.full short.1 ∙ sym (append-nil w.passed),
+    moves_reads w.way.moved m,
+    w.way.cut,
+    writable-front w.passed after w.buffers w.way.cut short.0 w.full short.1 ∙ sym (append-nil w.passed),
     fails_so e after left' f short.0,
-    w.written,
+    w.way.written,
   )
 
   -- a piece wasn't written whole
@@ -49,24 +48,9 @@ module _ {had mid has held holds : Option (List ℕ)} {made much makes : Option 
       → (passed rest due : List ℕ) × Moves had has made makes before rest left left' 1 passed × (has_lf passed ≡ false) × (writable (passed ++ rest) ≡ passed ++ due)
       × FailsInPieces Write due rest left' × Appends held held' passed
   breaks held' m ready piece rest e some_byte cut a =
-      let (later, is, some_due) = due w.passed piece rest w.buffers w.cut w.full cut some_byte (subst IsReady e ready) in
-      (w.passed ++ piece, rest, later, moves_more (moves_piece piece rest e (moves_reads w.moved m)), has_lf-append w.passed piece w.cut ∙ cut, is, some_due, Appends-trans held holds held' w.passed piece w.written a)
-
-  -- the LF was written
-  pub arrives : (held' : Option (List ℕ)) {pending : List ℕ} (piece after : List ℕ) → Moves mid has much makes between pending some left' 0 [] → pending ≡ piece ++ after → IsLine piece → Appends holds held' piece
-      → (passed : List ℕ) × Appends held held' passed × (Moves had has made makes before after left left' 0 passed × IsLine passed)
-  arrives held' piece after m e line a = (
-    w.passed ++ piece,
-    Appends-trans held holds held' w.passed piece w.written a,
-    (
-      moves_piece piece after e (moves_reads w.moved m),
-      record {
-        line = w.passed ++ line.line;
-        cut = has_lf-append w.passed line.line w.cut ∙ line.cut;
-        ends = ap (λ l. w.passed ++ l) line.ends ∙ sym (append_assoc w.passed line.line (10 ∷ []));
-      },
-    ),
-  )
+      let (later, is, some_due) = due w.passed piece rest w.buffers w.way.cut w.full cut some_byte (subst IsReady e ready) in
+      let more = passes_more w.way held' piece rest m e cut a in
+      (w.passed ++ piece, rest, later, moves_more more.moved, more.cut, is, some_due, more.written)
 
   -- a full buffer without LF was written
   pub goes_on : {held' : Option (List ℕ)} {pending : List ℕ} (piece after : List ℕ) → Moves mid has much makes between pending some left' 0 [] → IsReady pending → pending ≡ piece ++ after → after ≡ [] → has_lf piece ≡ false
@@ -76,9 +60,7 @@ module _ {had mid has held holds : Option (List ℕ)} {made much makes : Option 
       let size : length pending ≡ CHUNK = elim ready [ inl lf ↦ let other : has_lf pending ≡ false = ap has_lf same ∙ cut in cc | inr full ↦ full ] in
       record {
         passed = w.passed ++ piece;
-        moved = moves_piece piece after e (moves_reads w.moved m);
-        written = Appends-trans held holds held' w.passed piece w.written a;
-        cut = has_lf-append w.passed piece w.cut ∙ cut;
+        way = passes_more w.way held' piece after m e cut a;
         buffers = w.buffers + 1;
         full = omega (arith, w.full, size, ap length same, length-append w.passed piece);
       }

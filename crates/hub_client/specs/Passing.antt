@@ -25,14 +25,18 @@ pub record Moves (had has : Option (List ℕ)) (made makes : Option ℕ) (before
   pub most : length bytes ≤ reads * CHUNK
   pub least : reads ≤ length bytes + slack
 
--- A line on its way: a prefix of it passed and was written, and its end is still to come. some says whether the prefix
--- has a byte.
-pub record IsOnItsWay (had has held holds : Option (List ℕ)) (made makes : Option ℕ) (before after : List ℕ) (left left' : ℕ)
-    (some : Bool) : Type 0 where
-  pub passed : List ℕ
+-- A part of a line on its way: it passed and was written, and has no LF.
+pub record IsPassing (had has held holds : Option (List ℕ)) (made makes : Option ℕ) (before after : List ℕ) (left left' : ℕ)
+    (passed : List ℕ) : Type 0 where
   pub moved : Moves had has made makes before after left left' 0 passed
   pub written : Appends held holds passed
   pub cut : has_lf passed ≡ false
+
+-- A line on its way: a prefix of it passed. some says whether the prefix has a byte.
+pub record IsOnItsWay (had has held holds : Option (List ℕ)) (made makes : Option ℕ) (before after : List ℕ) (left left' : ℕ)
+    (some : Bool) : Type 0 where
+  pub passed : List ℕ
+  pub way : IsPassing had has held holds made makes before after left left' passed
   pub begun : MatchBool some (1 ≤ length passed) (passed ≡ [])
 
 -- the reads that may have given no byte, up to the end of a line or of the stream
@@ -86,12 +90,10 @@ IsReady pending = (has_lf pending ≡ true) ⊎ (length pending ≡ CHUNK)
 abbrev pub IsShort : List ℕ → Type 0
 IsShort pending = (has_lf pending ≡ false) × (length pending < CHUNK)
 
--- A reply on its way: the buffers that it filled passed and were written, and had no LF.
+-- A reply on its way: the buffers that it filled passed.
 pub record IsInPieces (had has held holds : Option (List ℕ)) (made makes : Option ℕ) (before after : List ℕ) (left left' : ℕ) : Type 0 where
   pub passed : List ℕ
-  pub moved : Moves had has made makes before after left left' 0 passed
-  pub written : Appends held holds passed
-  pub cut : has_lf passed ≡ false
+  pub way : IsPassing had has held holds made makes before after left left' passed
   pub buffers : ℕ
   pub full : length passed ≡ buffers * CHUNK
 

@@ -41,9 +41,9 @@ fn has_line(bytes: &[u8]) -> bool
 
 // How many bytes there are up to the first LF and including it, or in all, and whether there is an LF.
 fn first_piece(bytes: &[u8]) -> (usize, bool)
-    ensures within { result.0 ≤ length bytes.now }
     ensures piece { MatchBool result.1 (IsLine (take result.0 bytes.now))
         ((has_lf bytes.now ≡ false) × (result.0 ≡ length bytes.now)) }
+    ensures within { result.0 ≤ length bytes.now }
 {
     match first_line(bytes) {
         Some((line, _)) => (line.len() + 1, true),

@@ -30,7 +30,7 @@ pub returns-then-branch-clause-ok : goal.returns-then-branch-clause-ok
 returns-then-branch-clause-ok g c =
     let ready = on_true _ _ c.in_ok-fill.field-0 (search rules) c.in_ok-fill.ensures.ok in
     let (piece, e, what, a) = c.in_ok-pass_piece.ensures.ok in
-    arrives c.pieces.invariant.on_its_way _ piece (pending c.pass_piece.new.self) ready.0 e (on_true _ _ c.in_ok-pass_piece.field-0 (search rules) what) a
+    arrives c.pieces.invariant.on_its_way.way _ piece (pending c.pass_piece.new.self) ready.0 e (on_true _ _ c.in_ok-pass_piece.field-0 (search rules) what) a
 
 pub pieces-preserved : goal.pieces-preserved
 pieces-preserved g c =

@@ -3,8 +3,8 @@ use Rattle.hub_io.specs.declared.fault.FrontError.TheVariants.{Write}
 use Rattle.hub_io.proofs.Told.{Grows-none, Rises-trans}
 use Rattle.hub_io.proofs.Outcomes.{IfErr-known}
 use Rattle.hub_client.specs.Pending.{pending}
-use Rattle.hub_client.proofs.OnTheWay.{on_true, on_false}
-use Rattle.hub_client.proofs.InPieces.{begins, ends, fails, breaks, arrives, goes_on}
+use Rattle.hub_client.proofs.OnTheWay.{on_true, on_false, arrives}
+use Rattle.hub_client.proofs.InPieces.{begins, ends, fails, breaks, goes_on}
 use Rattle.hub_client.proofs.buffer.Buffer.pass_reply.Goals as goal
 
 pub pieces-init : goal.pieces-init
@@ -31,7 +31,8 @@ pub returns-then-branch-clause-ok : goal.returns-then-branch-clause-ok
 returns-then-branch-clause-ok g c =
     let ready = on_true _ _ c.in_ok-gather.field-0 (search rules) c.in_ok-gather.ensures.ok in
     let (piece, e, what, a) = c.in_ok-pass_piece.ensures.ok in
-    arrives c.pieces.invariant.in_pieces _ piece (pending c.pass_piece.new.self) ready.0 e (on_true _ _ c.in_ok-pass_piece.field-0 (search rules) what) a
+    let (passed, m, line, written) = arrives c.pieces.invariant.in_pieces.way _ piece (pending c.pass_piece.new.self) ready.0 e (on_true _ _ c.in_ok-pass_piece.field-0 (search rules) what) a in
+    (passed, written, (m, line))
 
 pub pieces-preserved : goal.pieces-preserved
 pieces-preserved g c =
