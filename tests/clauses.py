@@ -183,6 +183,8 @@ def fault_of(tree, edit, end):
         return None
     if status == 0:
         return f"{edit.refused_by[0]} is proved with it"
+    if unknown := re.search(r"^rattle: error: .*\bfunctions?\b.*", said, re.M):
+        return unknown[0]
     if status != 1:
         raise Untried("there is no time left" if status is None else f"its check ended with status {status}: {said.strip()[-200:]}")
     if failed:
