@@ -1,4 +1,4 @@
 pub mod Counting
 pub mod Exchanges
-pub mod Waits
+pub mod Sent
 pub mod Tellings

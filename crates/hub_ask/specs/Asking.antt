@@ -1,7 +1,7 @@
 -- One request, and its reply.
-use Rattle.std.specs.Prelude.{◌≡◌, ◌⊎◌, ℕ, List, [], ◌∷◌, ◌++◌, Option, None, Some}
+use Rattle.std.specs.Prelude.{◌≡◌, ◌⊎◌, ℕ, List, [], ◌∷◌, ◌++◌, Bool, true, false, Option, None, Some}
 use Rattle.std.specs.Io.KnownBytes.{Appends, Consumes}
-use Rattle.hub_client.specs.Passing.{IsLine}
+use Rattle.hub_client.specs.Passing.{IsLine, has_lf}
 use Rattle.hub_client.specs.Relaying.{ended_lines}
 use Rattle.hub_client.specs.declared.fault.RelayError.TheVariants as relay
 use Rattle.hub_io.specs.Faults.{AppendsPart}
@@ -9,6 +9,9 @@ use Rattle.hub_io.specs.Lines.{lines_of}
 use Rattle.hub_ask.specs.declared.outcome.Outcome.{Outcome}
 use Rattle.hub_ask.specs.declared.fault.AskError.{AskError}
 use Rattle.hub_ask.specs.declared.fault.AskError.TheVariants.{Relay, Unknown, Words}
+use Rattle.hub_ask.specs.declared.heard.Heard.{Heard}
+use Rattle.hub_ask.specs.Hearing.{line_of}
+use Rattle.hub_ask.specs.Telling.{IsNoReply}
 
 -- The line was sent with an LF, and then a reply came: one line, which is the first of what was read. sent and sends are what was sent
 -- to the peer before and after, had and has what was left of the peer's stream.
@@ -31,6 +34,29 @@ pub record IsBrokenOff (sent sends had has : Option (List ℕ)) (line : List ℕ
   pub asked : Appends sent sends went
   pub heard : List ℕ
   pub received : Consumes had has heard
+
+-- The line was sent, and the line that came is the one of this reply, or is that of no reply of a hub.
+abbrev pub Hears : (sent sends had has : Option (List ℕ)) (line : List ℕ) → Option Heard → Type 0
+Hears sent sends had has line (Some heard) = IsAnswered sent sends had has line (line_of heard)
+Hears sent sends had has line None = (text : List ℕ) × IsAnswered sent sends had has line text × IsNoReply text
+
+-- An exchange of the line broke off, after which a client is broken, or it didn't begin.
+pub record BreaksOff (sent sends had has : Option (List ℕ)) (line : List ℕ) (broken : Bool) : Type 0 where
+  pub off : IsBrokenOff sent sends had has line
+  pub untouched : broken ≡ false → (sends ≡ sent) × (has ≡ had)
+
+-- How no whole line came. Words is for a request that is several lines, of which nothing is sent.
+abbrev pub FailsToHear : (sent sends had has : Option (List ℕ)) (line : List ℕ) (broken : Bool) → AskError → Type 0
+FailsToHear sent sends had has line broken (Relay relay.Output) = ⊥
+FailsToHear sent sends had has line broken (Relay relay.Input) = ⊥
+FailsToHear sent sends had has line broken Words = (has_lf line ≡ true) × (sends ≡ sent) × (has ≡ had)
+FailsToHear sent sends had has line broken error = BreaksOff sent sends had has line broken
+
+-- How no reply of a hub came.
+abbrev pub FailsToAsk : (sent sends had has : Option (List ℕ)) (line : List ℕ) (broken : Bool) → AskError → Type 0
+FailsToAsk sent sends had has line broken Unknown =
+    (Hears sent sends had has line None × (broken ≡ false)) ⊎ BreaksOff sent sends had has line broken
+FailsToAsk sent sends had has line broken error = FailsToHear sent sends had has line broken error
 
 -- the reply came and was written
 pub record IsWritten (sent sends had has held holds : Option (List ℕ)) (line reply : List ℕ) : Type 0 where

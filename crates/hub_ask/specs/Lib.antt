@@ -1,5 +1,9 @@
 pub mod Faults
 pub mod Lines
+pub mod Telling
+pub mod Hearing
+pub mod Durations
+pub mod Sending
 pub mod Outcomes
 pub mod States
 pub mod Bounding

@@ -1,5 +1,5 @@
 -- The line of a request.
-use Rattle.std.specs.Prelude.{ℕ, List, codes, string_bytes}
+use Rattle.std.specs.Prelude.{ℕ, List, codes}
 use Rattle.std.specs.List.{join_by}
 use Rattle.hub_ask.specs.declared.line.Line.{Line}
 
@@ -7,6 +7,6 @@ use Rattle.hub_ask.specs.declared.line.Line.{Line}
 abbrev pub joined : {Word : Type 0} → (text : Word → List ℕ) → List Word → List ℕ
 joined text words = join_by text (codes " ") words
 
--- the words of the line, without an LF
+-- the bytes of the line, without an LF
 abbrev pub bytes_of : Line → List ℕ
-bytes_of line = string_bytes line.text
+bytes_of line = line.bytes.items

@@ -4,7 +4,7 @@ ghost use Rattle.hub_ask.specs.Asking.{HasReply, HasNoReply, HasNoLine, IsWritte
 ghost use Rattle.hub_ask.specs.Lines.{bytes_of};
 ghost use Rattle.hub_ask.specs.Outcomes.{Tells};
 
-use crate::exchanging::exchange;
+use crate::client::Client;
 use crate::fault::AskError;
 use crate::line::Line;
 use crate::outcome::Outcome;
@@ -19,20 +19,19 @@ pub(crate) fn ask_and_write<H: Wait, SR: Replies, SW: Requests, W: Sink>(
     rt: &H,
     alloc: Global,
     line: &Line,
-    receiver: &mut SR,
-    sender: &mut SW,
+    client: &mut Client<SR, SW>,
     output: &mut W,
 ) -> Result<Vec<u8>, AskError>
     ensures ok { IfOk result (λ reply. IsWritten
-        (SW.contents sender.old) (SW.contents sender.new)
-        (SR.remaining receiver.old) (SR.remaining receiver.new)
+        (SW.contents client.old.sender) (SW.contents client.new.sender)
+        (SR.remaining client.old.receiver) (SR.remaining client.new.receiver)
         (W.contents output.old) (W.contents output.new) (bytes_of line.now) reply.items) }
     ensures err { IfErr result (HasNoLine
-        (SW.contents sender.old) (SW.contents sender.new)
-        (SR.remaining receiver.old) (SR.remaining receiver.new)
+        (SW.contents client.old.sender) (SW.contents client.new.sender)
+        (SR.remaining client.old.receiver) (SR.remaining client.new.receiver)
         (W.contents output.old) (W.contents output.new) (bytes_of line.now)) }
 {
-    let reply = exchange(rt, alloc, line, receiver, sender)?;
+    let reply = client.send(rt, alloc, line)?;
     match write_whole(output, &reply) {
         Ok(()) => Ok(reply),
         Err(_) => Err(AskError::Relay(RelayError::Output)),
@@ -44,21 +43,20 @@ pub fn ask<H: Wait, SR: Replies, SW: Requests, W: Sink>(
     rt: &H,
     alloc: Global,
     line: &Line,
-    receiver: &mut SR,
-    sender: &mut SW,
+    client: &mut Client<SR, SW>,
     output: &mut W,
 ) -> Result<Outcome, AskError>
     // The line was sent and the reply was written, each exactly once. The reply tells the outcome.
     ensures ok { IfOk result (HasReply Tells
-        (SW.contents sender.old) (SW.contents sender.new)
-        (SR.remaining receiver.old) (SR.remaining receiver.new)
+        (SW.contents client.old.sender) (SW.contents client.new.sender)
+        (SR.remaining client.old.receiver) (SR.remaining client.new.receiver)
         (W.contents output.old) (W.contents output.new) (bytes_of line.now)) }
     // Without a whole reply, nothing is written.
     ensures err { IfErr result (HasNoReply Tells
-        (SW.contents sender.old) (SW.contents sender.new)
-        (SR.remaining receiver.old) (SR.remaining receiver.new)
+        (SW.contents client.old.sender) (SW.contents client.new.sender)
+        (SR.remaining client.old.receiver) (SR.remaining client.new.receiver)
         (W.contents output.old) (W.contents output.new) (bytes_of line.now)) }
 {
-    let reply = ask_and_write(rt, alloc, line, receiver, sender, output)?;
+    let reply = ask_and_write(rt, alloc, line, client, output)?;
     Outcome::of(&reply).ok_or(AskError::Unknown)
 }

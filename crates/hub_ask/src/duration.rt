@@ -1,8 +1,13 @@
 //! How long a wait may take.
-ghost use Rattle.std.specs.Prelude.{◌≤◌, IfSome};
+ghost use Rattle.std.specs.Prelude.{◌≡◌, ◌⊎◌, ◌≤◌, IfSome};
+ghost use Rattle.hub_ask.specs.Durations.{AsksFor, turns_of_request};
+ghost use Rattle.hub_ask.specs.Lines.{bytes_of};
 ghost use Rattle.hub_ask.specs.declared.duration.TheConstants.{MOST_TURNS};
 
 use crate::line::Line;
+use hub_protocol::parse;
+use hub_requests::Request;
+use std::alloc::Global;
 
 /// The most turns of a wait. A turn takes about a millisecond.
 pub const MOST_TURNS: u64 = 1_000_000;
@@ -35,28 +40,23 @@ pub fn turns_of(text: &str) -> Option<u64>
     Some(turns)
 }
 
-// The number of turns in the line of a `wait` or an `await`.
-fn number_of(line: &str) -> Option<u64> {
-    let mut words = line.split(' ');
-    match words.next() {
-        Some("wait") => {
-            let (_span, _want) = (words.next()?, words.next()?);
-            words.next()?.parse::<u64>().ok()
-        }
-        Some("await") => {
-            let _handle = words.next()?;
-            words.next()?.parse::<u64>().ok()
-        }
-        _ => None,
+/// For how many turns a hub may sleep before it answers this request: those of a `wait` or an `await`, and else none.
+pub fn turns_of_request(request: &Request) -> u64
+    ensures { result ≡ turns_of_request request.now }
+{
+    match request {
+        Request::Wait { turns, .. } | Request::Await { turns, .. } => *turns,
+        _ => 0,
     }
 }
 
-/// For how many turns a hub may sleep before it answers this line: those of a `wait` or an `await`, and else none.
-pub fn turns_asked(line: &Line) -> u64
-    ensures { result ≤ MOST_TURNS }
+/// For how many turns a hub may sleep before it answers this line: those of the request that it spells, and else none.
+pub fn turns_asked(alloc: Global, line: &Line) -> u64
+    ensures few { result ≤ MOST_TURNS }
+    ensures asked { (result ≡ 0) ⊎ AsksFor (bytes_of line.now) result }
 {
-    match number_of(line.as_str()) {
-        Some(asked) => asked.min(MOST_TURNS),
-        None => 0,
+    match parse(alloc, line.as_bytes()) {
+        Ok(request) => turns_of_request(&request),
+        Err(_) => 0,
     }
 }

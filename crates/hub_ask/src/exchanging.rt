@@ -11,7 +11,6 @@ ghost use Rattle.hub_ask.specs.Asking.{IsAnswered, IsBrokenOff};
 ghost use Rattle.hub_ask.specs.Faults.{IsToldAs, of_exchange};
 ghost use Rattle.hub_ask.specs.Lines.{bytes_of};
 
-use crate::duration::turns_asked;
 use crate::fault::AskError;
 use crate::line::Line;
 use crate::peer::{Halt, Replies, Requests};
@@ -76,27 +75,4 @@ pub fn exchange<H: Wait, SR: Replies, SW: Requests>(
         Ok(_) => Ok(reply),
         Err(fault) => Err(of_relay(fault, sender.is_late(), receiver.halt())),
     }
-}
-
-/// An exchange that ends [`ANSWER`] milliseconds after the time that the line itself asks for.
-pub fn exchange_in_time<H: Wait, SR: Replies, SW: Requests>(
-    rt: &H,
-    alloc: Global,
-    line: &Line,
-    receiver: &mut SR,
-    sender: &mut SW,
-) -> Result<Vec<u8>, AskError>
-    ensures ok { IfOk result (λ reply. IsAnswered
-        (SW.contents sender.old) (SW.contents sender.new)
-        (SR.remaining receiver.old) (SR.remaining receiver.new)
-        (bytes_of line.now) reply.items) }
-    ensures err { OnErr result (IsBrokenOff
-        (SW.contents sender.old) (SW.contents sender.new)
-        (SR.remaining receiver.old) (SR.remaining receiver.new)
-        (bytes_of line.now)) }
-{
-    let millis = turns_asked(line) + ANSWER;
-    receiver.allow(millis);
-    sender.allow(millis);
-    exchange(rt, alloc, line, receiver, sender)
 }

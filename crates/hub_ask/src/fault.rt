@@ -18,7 +18,7 @@ pub enum AskError {
     NoAnswer,
     /// The line is no reply of a hub to this request, or is longer than any reply of one.
     Unknown,
-    /// A word of a look has a line feed, so it wasn't sent.
+    /// A request has a line feed, so it wasn't sent.
     Words,
 }
 

@@ -1,8 +1,8 @@
-//! The client's side for people and scripts that ask for one thing: a request is made of words, and the reply says how it went.
+//! The client's side of a hub: it asks for one thing after the other, and the reply says how it went.
 //!
-//! [`ask`] sends one [`Line`] to a hub and writes the reply line. The [`Outcome`] is that of the reply, and
-//! has the exit status. A peer whose line is no reply of a hub is none: that is an [`AskError`], as is a fault of a
-//! stream.
+//! A [`Client`] has the two streams of a connection. [`Client::ask`] sends a request, and gives the reply that came as [`Heard`]. [`ask`]
+//! is for people and scripts: it sends one [`Line`] of words, and writes the reply line. The [`Outcome`] is that of the reply, and has
+//! the exit status. A peer whose line is no reply of a hub is none: that is an [`AskError`], as is a fault of a stream.
 //!
 //! The peer's stream is read until the LF of the reply, and nothing of a reply is written before its LF has come. [`halves`] of a
 //! connection end by a [`Deadline`], and take no more of a reply than the longest of a hub has.
@@ -10,10 +10,12 @@
 
 mod asking;
 mod bounded;
+mod client;
 mod deadline;
 mod duration;
 mod exchanging;
 mod fault;
+mod heard;
 mod line;
 mod notes;
 mod outcome;
@@ -24,10 +26,12 @@ mod waiting;
 
 pub use asking::ask;
 pub use bounded::Bounded;
+pub use client::Client;
 pub use deadline::Deadline;
-pub use duration::{MOST_TURNS, turns_asked, turns_of};
-pub use exchanging::{ANSWER, exchange, exchange_in_time};
+pub use duration::{MOST_TURNS, turns_asked, turns_of, turns_of_request};
+pub use exchanging::{ANSWER, exchange};
 pub use fault::AskError;
+pub use heard::Heard;
 pub use line::Line;
 pub use outcome::Outcome;
 pub use peer::{Halt, Replies, Requests};

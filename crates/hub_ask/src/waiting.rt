@@ -1,19 +1,25 @@
 //! A wait, and how each service is that isn't as wanted in the end.
-ghost use Rattle.std.specs.Prelude.{◌≡◌, true, IfOk, IfErr, IfSome, IfNone, string_bytes};
+ghost use Rattle.std.specs.Prelude.{◌≡◌, ◌∷◌, [], true, IfOk, IfErr, IfSome, IfNone, OnOk, OnErr};
+ghost use Rattle.std.specs.Io.KnownBytes.{Appends};
+ghost use Rattle.hub_letters.specs.declared.span.Span.TheVariants as span;
+ghost use Rattle.hub_requests.specs.declared.request.Request.TheVariants as request;
 ghost use Rattle.hub_client.specs.Passing.{has_lf};
 ghost use Rattle.hub_ask.specs.Asking.{HasNoReply};
 ghost use Rattle.hub_ask.specs.Lines.{bytes_of, joined};
 ghost use Rattle.hub_ask.specs.Outcomes.{TellsOfWait};
-ghost use Rattle.hub_ask.specs.Waiting.{IsWaited, SendsPart, question, questions, wait_words};
+ghost use Rattle.hub_ask.specs.Sending.{SendsFront, lines_of_requests};
+ghost use Rattle.hub_ask.specs.Waiting.{AsksAbout, IsWaited, questions, questions_about, wait_words};
 
 use crate::asking::ask_and_write;
+use crate::client::Client;
 use crate::fault::AskError;
 use crate::line::Line;
-use crate::notes::tell_states;
+use crate::notes::{tell_state, want_of};
 use crate::outcome::Outcome;
 use crate::peer::{Replies, Requests};
-use hub_client::{RelayError, relay};
 use hub_io::Sink;
+use hub_letters::{Span, Want};
+use hub_requests::{Name, Names, Request};
 use std::alloc::{AllocError, Global};
 use std::io::Write;
 use std::sync::Wait;
@@ -39,39 +45,62 @@ pub fn wait_line(
     Line::of(alloc, &["wait", span, want, turns.as_str(), names.as_str()])
 }
 
-// Two requests: whether the service is as wanted, and how it is.
-fn question_about(alloc: Global, want: &str, name: &str) -> Result<String, AllocError>
-    ensures { IfOk result (λ text. string_bytes text ≡ question want.now name.now) }
+// The request whether the service is as wanted.
+fn now(alloc: Global, want: Want, name: Name) -> Result<Request, AllocError>
+    ensures { IfOk result (λ it. it ≡ request.Wait span.All want 0 (name ∷ [])) }
 {
-    let pieces = ["wait all ", want, " 0 ", name, "\nstatus ", name, "\n"];
-    pieces.join(alloc, "")
+    let mut names = Vec::new(alloc);
+    names.push(name)?;
+    Ok(Request::Wait {
+        span: Span::All,
+        want,
+        turns: 0,
+        names: Names::of(names),
+    })
 }
 
-// These requests for each service.
-fn questions_about(alloc: Global, want: &str, names: &[&str]) -> Result<String, AllocError>
-    ensures { IfOk result (λ text. string_bytes text
-        ≡ questions want.now (λ name. name.now) names.now) }
-{
-    let mut text = String::new(alloc);
-    'names: for name in names {
-        text.push_str(question_about(alloc, want, name)?.as_str())?;
-    }
-    Ok(text)
-}
-
-// Sends these lines, and puts the replies behind `replies`.
-fn send_lines<H: Wait, SR: Replies, SW: Requests>(
+// Asks whether the service is as wanted and how it is, and writes a line if it isn't as wanted.
+fn explain_one<H: Wait, SR: Replies, SW: Requests, F: Write>(
     rt: &H,
     alloc: Global,
-    text: &[u8],
-    replies: &mut Vec<u8>,
-    receiver: &mut SR,
-    sender: &mut SW,
-) -> Result<u64, RelayError>
-    ensures { SendsPart (SW.contents sender.old) (SW.contents sender.new) text.now }
+    want: Want,
+    name: Name,
+    text: &str,
+    client: &mut Client<SR, SW>,
+    notes: &mut F,
+) -> Result<(), AskError>
+    ensures ok { OnOk result (Appends (SW.contents client.old.sender) (SW.contents client.new.sender)
+        (lines_of_requests (questions_about want name))) }
+    ensures err { OnErr result (SendsFront (SW.contents client.old.sender) (SW.contents client.new.sender)
+        (questions_about want name)) }
 {
-    let mut lines = text;
-    relay(rt, alloc, &mut lines, replies, receiver, sender)
+    let met = client.hear(rt, alloc, &now(alloc, want, name.copy()?)?)?;
+    let status = client.hear(rt, alloc, &Request::Status { name });
+    tell_state(alloc, want, text, &met, &status, notes)?;
+    match status {
+        Ok(_) => Ok(()),
+        Err(error) => Err(error),
+    }
+}
+
+// Does so for each of the services whose names are some.
+fn explain_each<H: Wait, SR: Replies, SW: Requests, F: Write>(
+    rt: &H,
+    alloc: Global,
+    want: Want,
+    names: &[&str],
+    client: &mut Client<SR, SW>,
+    notes: &mut F,
+) -> Result<(), AskError>
+    ensures { SendsFront (SW.contents client.old.sender) (SW.contents client.new.sender)
+        (questions want (λ name. name.now) names.now) }
+{
+    'names: for text in names {
+        if let Some(name) = Name::of(alloc, text.as_bytes())? {
+            explain_one(rt, alloc, want, name, text, client, notes)?;
+        }
+    }
+    Ok(())
 }
 
 // Asks how the services are, for so long as is left for that, and writes a line for each that isn't as wanted.
@@ -80,27 +109,17 @@ fn explain<H: Wait, SR: Replies, SW: Requests, F: Write>(
     alloc: Global,
     want: &str,
     names: &[&str],
-    receiver: &mut SR,
-    sender: &mut SW,
+    client: &mut Client<SR, SW>,
     notes: &mut F,
-) -> Result<(), AllocError>
-    ensures { SendsPart (SW.contents sender.old) (SW.contents sender.new)
-        (questions want.now (λ name. name.now) names.now) }
+) -> Result<(), AskError>
+    ensures { AsksAbout want.now (λ name. name.now) names.now
+        (SW.contents client.old.sender) (SW.contents client.new.sender) }
 {
-    let text = questions_about(alloc, want, names)?;
-    receiver.allow(GRACE);
-    sender.allow(GRACE);
-    let mut replies = Vec::new(alloc);
-    // If the relay stops, the replies so far are told.
-    let _: Result<u64, RelayError> = send_lines(
-        rt,
-        alloc,
-        text.as_bytes(),
-        &mut replies,
-        receiver,
-        sender,
-    );
-    tell_states(alloc, want, names, &replies, notes)
+    let Some(want) = want_of(want) else {
+        return Ok(());
+    };
+    client.allow(GRACE);
+    explain_each(rt, alloc, want, names, client, notes)
 }
 
 /// Sends the line of a wait as [`ask`](crate::ask) does; only a `yes` is done. If it is refused, `never` or `late`, it asks how each service is, and writes a line to
@@ -111,30 +130,27 @@ pub fn wait_for<H: Wait, SR: Replies, SW: Requests, W: Sink, F: Write>(
     line: &Line,
     want: &str,
     names: &[&str],
-    receiver: &mut SR,
-    sender: &mut SW,
+    client: &mut Client<SR, SW>,
     output: &mut W,
     notes: &mut F,
 ) -> Result<Outcome, AskError>
     // The wait goes as in `ask`. After it only these questions are sent, and only if it is refused, `never` or `late`.
     ensures ok { IfOk result (IsWaited
-        (SW.contents sender.old) (SW.contents sender.new)
-        (SR.remaining receiver.old) (SR.remaining receiver.new)
+        (SW.contents client.old.sender) (SW.contents client.new.sender)
+        (SR.remaining client.old.receiver) (SR.remaining client.new.receiver)
         (W.contents output.old) (W.contents output.new) (bytes_of line.now)
-        (questions want.now (λ name. name.now) names.now)) }
+        (AsksAbout want.now (λ name. name.now) names.now)) }
     // Without an outcome it is all as in `ask`.
     ensures err { IfErr result (HasNoReply TellsOfWait
-        (SW.contents sender.old) (SW.contents sender.new)
-        (SR.remaining receiver.old) (SR.remaining receiver.new)
+        (SW.contents client.old.sender) (SW.contents client.new.sender)
+        (SR.remaining client.old.receiver) (SR.remaining client.new.receiver)
         (W.contents output.old) (W.contents output.new) (bytes_of line.now)) }
 {
-    let reply = ask_and_write(rt, alloc, line, receiver, sender, output)?;
+    let reply = ask_and_write(rt, alloc, line, client, output)?;
     let outcome = Outcome::of_wait(&reply).ok_or(AskError::Unknown)?;
     match outcome {
         Outcome::Refused | Outcome::Never | Outcome::Late => {
-            let _: Result<(), AllocError> = explain(
-                rt, alloc, want, names, receiver, sender, notes,
-            );
+            let _: Result<(), AskError> = explain(rt, alloc, want, names, client, notes);
         }
         Outcome::Done | Outcome::Nothing => {}
     }

@@ -2,8 +2,8 @@
 use Rattle.std.proofs.Common.{◌≡◌, ℕ, ◌+◌, ◌≤◌, List, Option, Result, Ok, Err, IsErrAnd, false, inr, refl, sym, subst}
 use Rattle.hub_ask.specs.Asking.{HasNoReply}
 use Rattle.hub_ask.specs.Lines.{joined}
-use Rattle.hub_ask.specs.Outcomes.{Tells, TellsOfWait}
-use Rattle.hub_ask.specs.Waiting.{questions, wait_words}
+use Rattle.hub_ask.specs.Outcomes.{Tells, TellsOfWait, status_of}
+use Rattle.hub_ask.specs.Waiting.{AsksAbout, IsWaited, wait_words}
 use Rattle.hub_ask.specs.declared.duration.TheConstants.{MOST_TURNS}
 use Rattle.hub_ask.specs.declared.exchanging.TheConstants.{ANSWER}
 use Rattle.hub_ask.specs.declared.fault.AskError.{AskError}
@@ -54,10 +54,9 @@ pub waits_in_vain : {D SR SW Name : Type 0} (text : Name → List ℕ) (d : Dial
     → names ≡ all → line ≡ wait_words span want turns (joined text names) → has_lf line ≡ false → turns ≤ MOST_TURNS
     → IsErrAnd result (λ it. it ≡ Failed (Ask error)) → d.reaches old socket (turns + GRACE) (Ok (receive, send)) new
     → HasNoReply TellsOfWait (d.contents send) (d.contents sends) (d.remaining receive) (d.remaining receives) held holds line error
-    → (n : ℕ) × (n ≤ MOST_TURNS) × Waits d old new socket (wait_words span want n (joined text all)) (questions want text all) n untouched held holds result
+    → (n : ℕ) × (n ≤ MOST_TURNS) × Waits d old new socket (wait_words span want n (joined text all)) (AsksAbout want text all) n untouched held holds result
 waits_in_vain text d old new socket line span want turns names all untouched held holds result error receive receives send sends same is_line cut few is reached over =
-    let lines = questions want text names in
-    let vain : Waits d old new socket line lines turns untouched held holds result = ends_with_error d old new socket (turns + GRACE) line _ untouched _ (λ error sent sends had has. HasNoReply TellsOfWait sent sends had has held holds line error) result error is cut (record {
+    let vain : Waits d old new socket line (AsksAbout want text names) turns untouched held holds result = ends_with_error d old new socket (turns + GRACE) line _ untouched _ (λ error sent sends had has. HasNoReply TellsOfWait sent sends had has held holds line error) result error is cut (record {
       receive = receive;
       receives = receives;
       send = send;
@@ -65,5 +64,30 @@ waits_in_vain text d old new socket line span want turns names all untouched hel
       reached = reached;
       over = over;
     }) in
-    let so = subst (λ it. Waits d old new socket it lines turns untouched held holds result) is_line vain in
-    (turns, few, subst (λ it. Waits d old new socket (wait_words span want turns (joined text it)) (questions want text it) turns untouched held holds result) same so)
+    let so = subst (λ it. Waits d old new socket it (AsksAbout want text names) turns untouched held holds result) is_line vain in
+    (turns, few, subst (λ it. Waits d old new socket (wait_words span want turns (joined text it)) (AsksAbout want text it) turns untouched held holds result) same so)
+
+-- a wait that has an outcome
+pub waits_so : {D SR SW Name : Type 0} (text : Name → List ℕ) (d : Dialing D SR SW) (old new : D) (socket line span want : List ℕ)
+    (turns : ℕ) (names all : List Name) (untouched : Type 0) (held holds : Option (List ℕ)) (status : ℕ) (outcome : Outcome)
+    (receive receives : SR) (send sends : SW)
+    → names ≡ all → line ≡ wait_words span want turns (joined text names) → has_lf line ≡ false → turns ≤ MOST_TURNS
+    → status ≡ status_of outcome → d.reaches old socket (turns + GRACE) (Ok (receive, send)) new
+    → IsWaited (d.contents send) (d.contents sends) (d.remaining receive) (d.remaining receives) held holds line (AsksAbout want text names) outcome
+    → (n : ℕ) × (n ≤ MOST_TURNS) × Waits d old new socket (wait_words span want n (joined text all)) (AsksAbout want text all) n untouched held holds (Ok status)
+waits_so text d old new socket line span want turns names all untouched held holds status outcome receive receives send sends same is_line cut few is reached over =
+    let well : Waits d old new socket line (AsksAbout want text names) turns untouched held holds (Ok status) = (
+      cut,
+      outcome,
+      is,
+      record {
+        receive = receive;
+        receives = receives;
+        send = send;
+        sends = sends;
+        reached = reached;
+        over = over;
+      },
+    ) in
+    let so = subst (λ it. Waits d old new socket it (AsksAbout want text names) turns untouched held holds (Ok status)) is_line well in
+    (turns, few, subst (λ it. Waits d old new socket (wait_words span want turns (joined text it)) (AsksAbout want text it) turns untouched held holds (Ok status)) same so)

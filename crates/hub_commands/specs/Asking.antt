@@ -2,7 +2,7 @@
 use Rattle.std.specs.Prelude.{◌≡◌, ◌⊎◌, ℕ, ◌+◌, ◌≤◌, ⊤, true, false, List, Option, Result, Ok, Err}
 use Rattle.hub_ask.specs.Asking.{HasReply, HasNoReply}
 use Rattle.hub_ask.specs.Outcomes.{Tells, TellsOfWait, status_of}
-use Rattle.hub_ask.specs.Waiting.{IsWaited}
+use Rattle.hub_ask.specs.Waiting.{Asking, IsWaited}
 use Rattle.hub_ask.specs.declared.duration.TheConstants.{MOST_TURNS}
 use Rattle.hub_ask.specs.declared.exchanging.TheConstants.{ANSWER}
 use Rattle.hub_ask.specs.declared.fault.AskError.{AskError}
@@ -61,10 +61,10 @@ WaitRefuses line bad.Duration = ⊤
 WaitRefuses line bad.Name = has_lf line ≡ true
 WaitRefuses line other = ⊥
 
--- `wait` for so many turns by this line, with these questions after it
-abbrev pub Waits : {D SR SW : Type 0} → Dialing D SR SW → (old new : D) → (socket line lines : List ℕ) → (turns : ℕ)
+-- `wait` for so many turns by this line, and what is asked after it
+abbrev pub Waits : {D SR SW : Type 0} → Dialing D SR SW → (old new : D) → (socket line : List ℕ) → (asks : Asking) → (turns : ℕ)
     → (untouched : Type 0) → (held holds : Option (List ℕ)) → Result ℕ Ending → Type 0
-Waits d old new socket line lines turns untouched held holds result = Ends
+Waits d old new socket line asks turns untouched held holds result = Ends
     d old new socket (turns + GRACE) line (WaitRefuses line) untouched
-    (λ outcome sent sends had has. IsWaited sent sends had has held holds line lines outcome)
+    (λ outcome sent sends had has. IsWaited sent sends had has held holds line asks outcome)
     (λ error sent sends had has. HasNoReply TellsOfWait sent sends had has held holds line error) result

@@ -3,7 +3,7 @@ use Rattle.std.specs.Prelude.{◌≡◌, ◌≢◌, ◌⊎◌, ℕ, ◌≤◌, A
 use Rattle.hub_arguments.specs.declared.command_line.Plan.{Plan}
 use Rattle.hub_arguments.specs.declared.command_line.Plan.TheVariants as plan
 use Rattle.hub_ask.specs.Lines.{joined}
-use Rattle.hub_ask.specs.Waiting.{questions, wait_words}
+use Rattle.hub_ask.specs.Waiting.{AsksAbout, wait_words}
 use Rattle.hub_ask.specs.declared.duration.TheConstants.{MOST_TURNS}
 use Rattle.hub_client.specs.declared.fault.RelayError.{RelayError}
 use Rattle.hub_commands.specs.Asking.{Asks, Waits}
@@ -82,7 +82,7 @@ CarriesOut d r w old new (plan.Ask socket words) result =
 CarriesOut d r w old new (plan.Wait socket wish) result =
     ((turns : ℕ) × (turns ≤ MOST_TURNS) × Waits d old.dialer new.dialer socket.now
     (wait_words wish.span.now wish.want.now turns (joined (λ name. name.now) wish.names.items))
-    (questions wish.want.now (λ name. name.now) wish.names.items) turns
+    (AsksAbout wish.want.now (λ name. name.now) wish.names.items) turns
     ((new.output ≡ old.output) × (new.notes ≡ old.notes)) (w.contents old.output) (w.contents new.output) result)
     × (new.input ≡ old.input)
 CarriesOut d r w old new (plan.Status socket names) result =

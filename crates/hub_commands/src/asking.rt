@@ -5,7 +5,7 @@ ghost use Rattle.hub_commands.specs.Asking.{Asks};
 
 use crate::dialing::Dial;
 use crate::ending::{BadWords, Ending};
-use hub_ask::{ANSWER, Line, Replies, Requests, ask, turns_asked};
+use hub_ask::{ANSWER, Client, Line, Replies, Requests, ask, turns_asked};
 use hub_io::Sink;
 use std::alloc::Global;
 use std::sync::Wait;
@@ -36,7 +36,13 @@ where
     let Some(line) = Line::of(alloc, words)? else {
         return Err(Ending::Refused(BadWords::Word));
     };
-    let (mut receive, mut send) = dialer.dial(socket, turns_asked(&line) + ANSWER)?;
-    let outcome = ask(rt, alloc, &line, &mut receive, &mut send, output)?;
+    let turns = turns_asked(alloc, &line);
+    let (receiver, sender) = dialer.dial(socket, turns + ANSWER)?;
+    let mut client = Client {
+        receiver,
+        sender,
+        is_broken: false,
+    };
+    let outcome = ask(rt, alloc, &line, &mut client, output)?;
     Ok(outcome.status())
 }

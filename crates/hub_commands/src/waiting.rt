@@ -1,14 +1,14 @@
 //! The subcommand `wait`: one wait for services.
 ghost use Rattle.std.specs.Prelude.{◌≡◌, ℕ, ◌≤◌};
 ghost use Rattle.hub_ask.specs.Lines.{joined};
-ghost use Rattle.hub_ask.specs.Waiting.{questions, wait_words};
+ghost use Rattle.hub_ask.specs.Waiting.{AsksAbout, wait_words};
 ghost use Rattle.hub_ask.specs.declared.duration.TheConstants.{MOST_TURNS};
 ghost use Rattle.hub_commands.specs.Asking.{Waits};
 
 use crate::dialing::Dial;
 use crate::ending::{BadWords, Ending};
 use hub_arguments::Wish;
-use hub_ask::{GRACE, Replies, Requests, turns_of, wait_for, wait_line};
+use hub_ask::{Client, GRACE, Replies, Requests, turns_of, wait_for, wait_line};
 use hub_io::Sink;
 use std::alloc::Global;
 use std::io::Write;
@@ -39,7 +39,7 @@ where
         dialer.old dialer.new socket.now
         (wait_words wish.now.span.now wish.now.want.now turns
         (joined (λ name. name.now) wish.now.names.items))
-        (questions wish.now.want.now (λ name. name.now) wish.now.names.items) turns
+        (AsksAbout wish.now.want.now (λ name. name.now) wish.now.names.items) turns
         ((output.new ≡ output.old) × (notes.new ≡ notes.old))
         (W.contents output.old) (W.contents output.new) result }
 {
@@ -50,17 +50,12 @@ where
     let Some(line) = wait_line(alloc, wish.span, want, turns, names)? else {
         return Err(Ending::Refused(BadWords::Name));
     };
-    let (mut receive, mut send) = dialer.dial(socket, turns + GRACE)?;
-    let outcome = wait_for(
-        rt,
-        alloc,
-        &line,
-        want,
-        names,
-        &mut receive,
-        &mut send,
-        output,
-        notes,
-    )?;
+    let (receiver, sender) = dialer.dial(socket, turns + GRACE)?;
+    let mut client = Client {
+        receiver,
+        sender,
+        is_broken: false,
+    };
+    let outcome = wait_for(rt, alloc, &line, want, names, &mut client, output, notes)?;
     Ok(outcome.status())
 }

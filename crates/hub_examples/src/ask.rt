@@ -1,21 +1,22 @@
-// crates.txt: YOURS: hub_ask
-use hub_ask::{AskError, Line, Replies, Requests, ask};
+// crates.txt: YOURS: hub_ask hub_requests
+use hub_ask::{AskError, Client, Replies, Requests, State};
+use hub_requests::{Name, Request};
 use std::alloc::Global;
 use std::sync::Wait;
 
-/// Asks a hub how a service is, puts the reply behind `replies`, and returns the exit status for it. None if the name has an LF.
-/// `receiver` and `sender` are the `halves` of a connection.
-pub fn status_of<H: Wait>(
+/// Asks a hub how a fifodir is. None if the text isn't a name, or the hub doesn't say how it is. `receiver` and `sender` are the
+/// `halves` of a connection.
+pub fn state_of<H: Wait>(
     rt: &H,
     alloc: Global,
     name: &str,
-    receiver: &mut impl Replies,
-    sender: &mut impl Requests,
-    replies: &mut Vec<u8>,
-) -> Result<Option<u8>, AskError> {
-    let Some(line) = Line::of(alloc, &["status", name])? else {
+    receiver: impl Replies + Drop,
+    sender: impl Requests + Drop,
+) -> Result<Option<State>, AskError> {
+    let Some(name) = Name::of(alloc, name.as_bytes())? else {
         return Ok(None);
     };
-    let outcome = ask(rt, alloc, &line, receiver, sender, replies)?;
-    Ok(Some(outcome.status()))
+    let mut client = Client::new(receiver, sender);
+    let heard = client.ask(rt, alloc, &Request::Status { name })?;
+    Ok(State::of(heard.line()))
 }

@@ -1,24 +1,24 @@
--- The lines of looks.
-use Rattle.std.specs.Prelude.{◌≡◌, List, [], ◌∷◌, ℕ, codes}
-use Rattle.hub_ask.specs.Lines.{joined}
-use Rattle.hub_look.specs.declared.look.Look.{Look}
-use Rattle.hub_look.specs.declared.look.Look.TheVariants.{Names, Status, Subscribe, Listen, Await, Take, Poll, Cancel}
+-- The requests that only look: they publish nothing, and make and close no fifodir.
+use Rattle.std.specs.Prelude.{◌⊎◌, List, ℕ, Result, Ok, Err}
+use Rattle.hub_requests.specs.declared.request.Request.{Request}
+use Rattle.hub_requests.specs.declared.request.Request.TheVariants.{Names, Status, Sub, Listen, Await, Take, Poll, Cancel}
+use Rattle.hub_requests.specs.declared.reply.Refusal.{Refusal}
+use Rattle.hub_requests.specs.declared.reply.Refusal.TheVariants.{Word}
+use Rattle.hub_protocol.specs.Reading.{IsReading, Spells}
 
--- the first word of the line
-abbrev pub word_of : Look → List ℕ
-word_of Names = codes "names"
-word_of Status = codes "status"
-word_of Subscribe = codes "sub"
-word_of Listen = codes "listen"
-word_of Await = codes "await"
-word_of Take = codes "take"
-word_of Poll = codes "poll"
-word_of Cancel = codes "cancel"
+abbrev pub IsLook : Request → Type 0
+IsLook (Names from) = Unit {0}
+IsLook (Status name) = Unit {0}
+IsLook (Sub name) = Unit {0}
+IsLook (Listen name mode pattern) = Unit {0}
+IsLook (Await id turns) = Unit {0}
+IsLook (Take id max) = Unit {0}
+IsLook (Poll id) = Unit {0}
+IsLook (Cancel id) = Unit {0}
+IsLook other = ⊥
 
--- the line: the first word, and the others
-abbrev pub look_line : Look → List ℕ → List ℕ
-look_line look rest = joined (λ word. word) (word_of look ∷ rest ∷ [])
-
--- the line of a look
-abbrev pub IsLook : List ℕ → Type 0
-IsLook line = (look : Look) × (rest : List ℕ) × (line ≡ look_line look rest)
+-- The look that a line spells. Else the hub's refusal of the line, or that the line spells another request.
+abbrev pub LooksBy : (line : List ℕ) → Result Request Refusal → Type 0
+LooksBy line (Ok request) = Spells line request × IsLook request
+LooksBy line (Err Word) = IsReading line (Err Word) ⊎ ((request : Request) × Spells line request × (IsLook request → ⊥))
+LooksBy line (Err refusal) = IsReading line (Err refusal)

@@ -1,7 +1,7 @@
 //! The client's side for people and scripts that look at a hub: how its fifodirs are, and their letters as they come.
 //!
 //! [`show_states`] writes a table with a row for each fifodir. [`follow`] writes each letter of some fifodirs as it comes. Both ask
-//! through a [`Peer`], which sends nothing but the requests of a [`Look`]: so they publish nothing, and make and close no fifodir.
+//! through a [`Peer`], which sends nothing but requests that only look: so they publish nothing, and make and close no fifodir.
 #![tactic(auto)]
 
 mod asking;
@@ -16,7 +16,6 @@ mod subscribing;
 mod table;
 
 pub use following::Following;
-pub use look::Look;
 pub use news::follow;
 pub use peer::Peer;
 pub use table::show_states;

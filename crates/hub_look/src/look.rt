@@ -1,53 +1,57 @@
 //! The requests that only look.
-ghost use Rattle.std.specs.Prelude.{◌≡◌, IfOk, IfSome};
-ghost use Rattle.hub_ask.specs.Lines.{bytes_of};
-ghost use Rattle.hub_look.specs.Looking.{look_line, word_of};
+ghost use Rattle.std.specs.Prelude.{◌≡◌, IfOk, MatchBool, MatchResult};
+ghost use Rattle.hub_requests.specs.declared.reply.Refusal.TheVariants as refusal;
+ghost use Rattle.hub_ask.specs.Lines.{joined};
+ghost use Rattle.hub_look.specs.Looking.{IsLook, LooksBy};
 
-use hub_ask::Line;
-use std::alloc::{AllocError, Global};
+use hub_ask::AskError;
+use hub_client::RelayError;
+use hub_protocol::parse;
+use hub_requests::{Refusal, Request};
+use std::alloc::Global;
 
-/// A kind of request that publishes nothing, and makes and closes no fifodir.
-#[derive(Clone, Copy, Debug, PartialEq, Eq)]
-pub enum Look {
-    /// The names of a hub.
-    Names,
-    /// How a fifodir is.
-    Status,
-    /// Subscribes to a fifodir.
-    Subscribe,
-    /// Subscribes a listener to a fifodir.
-    Listen,
-    /// Sleeps until something comes.
-    Await,
-    /// Takes what is pending for a subscription.
-    Take,
-    /// Takes what is pending for a listener, up to its next hit.
-    Poll,
-    /// Ends a subscription or a listener.
-    Cancel,
+// Whether the request publishes nothing, and makes and closes no fifodir.
+fn is_look(request: &Request) -> bool
+    ensures { MatchBool result (IsLook request.now) (IsLook request.now → ⊥) }
+{
+    match request {
+        Request::Names { .. }
+        | Request::Status { .. }
+        | Request::Sub { .. }
+        | Request::Listen { .. }
+        | Request::Await { .. }
+        | Request::Take { .. }
+        | Request::Poll { .. }
+        | Request::Cancel { .. } => true,
+        Request::Dir { .. }
+        | Request::Svc { .. }
+        | Request::Pub { .. }
+        | Request::Close { .. }
+        | Request::Wait { .. } => false,
+    }
 }
 
-impl Look {
-    /// The first word of its line.
-    pub fn word(&self) -> &str
-        ensures { result.now ≡ word_of self.now }
-    {
-        match self {
-            Look::Names => "names",
-            Look::Status => "status",
-            Look::Subscribe => "sub",
-            Look::Listen => "listen",
-            Look::Await => "await",
-            Look::Take => "take",
-            Look::Poll => "poll",
-            Look::Cancel => "cancel",
-        }
+// The request, if it only looks. Another one has no word of a look.
+fn only_look(request: Request) -> Result<Request, Refusal>
+    ensures { MatchResult result (λ it. (it ≡ request) × IsLook it)
+        (λ it. (it ≡ refusal.Word) × (IsLook request → ⊥)) }
+{
+    if is_look(&request) {
+        Ok(request)
+    } else {
+        Err(Refusal::Word)
     }
+}
 
-    /// Its line with these words behind the first. None if they have an LF.
-    pub(crate) fn line(self, alloc: Global, rest: &str) -> Result<Option<Line>, AllocError>
-        ensures { IfOk result (λ it. IfSome it (λ line. bytes_of line ≡ look_line self rest.now)) }
-    {
-        Line::of(alloc, &[self.word(), rest])
+/// The look that the line of these words spells, or why a hub refuses the line. A line that spells another request has no word of a
+/// look.
+pub(crate) fn look_of(alloc: Global, words: &[&str]) -> Result<Result<Request, Refusal>, AskError>
+    ensures { IfOk result (LooksBy (joined (λ word. word.now) words.now)) }
+{
+    let line = words.join(alloc, " ")?;
+    match parse(alloc, line.as_bytes()) {
+        Ok(request) => Ok(only_look(request)),
+        Err(Refusal::Memory) => Err(AskError::Relay(RelayError::Memory)),
+        Err(refusal) => Ok(Err(refusal)),
     }
 }

@@ -1,12 +1,12 @@
 //! The names of a hub.
 ghost use Rattle.std.specs.Prelude.{◌≡◌};
 
-use crate::look::Look;
+use crate::asking::ask_about;
 use crate::peer::Peer;
-use crate::stop::{Stop, tell_refusal};
-use hub_ask::{AskError, Outcome, Replies, Requests};
-use hub_protocol::{BorrowedReply, read_reply};
-use hub_requests::MOST_NAMES;
+use crate::stop::Stop;
+use hub_ask::{AskError, Replies, Requests};
+use hub_protocol::BorrowedReply;
+use hub_requests::{MOST_NAMES, Request};
 use std::alloc::{AllocError, Global};
 use std::io::Write;
 use std::str;
@@ -40,15 +40,11 @@ pub(crate) fn all_names<H: Wait, SR: Replies, SW: Requests, F: Write>(
     let mut names = Vec::new(alloc);
     // Each reply but the last has a name at least.
     'replies: for _ in 0..MOST_NAMES + 1 {
-        let from = names.len().to_string(alloc)?;
-        let reply = peer.ask(rt, alloc, Look::Names, from.as_str())?;
-        match read_reply(&reply) {
-            Some(BorrowedReply::Listed(listed)) => put_names(alloc, listed, &mut names)?,
-            Some(BorrowedReply::Nothing) => return Ok(names),
-            Some(BorrowedReply::No(refusal)) => {
-                tell_refusal(alloc, "names", refusal, &reply, notes)?;
-                return Err(Stop::Reply(Outcome::Refused));
-            }
+        let from = names.len() as u64;
+        let heard = ask_about(rt, alloc, &Request::Names { from }, "names", peer, notes)?;
+        match heard.reply() {
+            BorrowedReply::Listed(listed) => put_names(alloc, listed, &mut names)?,
+            BorrowedReply::Nothing => return Ok(names),
             _ => return Err(Stop::Fault(AskError::Unknown)),
         }
     }

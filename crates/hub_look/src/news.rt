@@ -1,15 +1,16 @@
 //! The letters of fifodirs as they come.
 ghost use Rattle.std.specs.Prelude.{◌≡◌};
+ghost use Rattle.hub_look.specs.Looking.{IsLook};
 
+use crate::asking::ask_about;
 use crate::following::Following;
-use crate::look::Look;
 use crate::peer::Peer;
-use crate::stop::{Stop, tell, tell_refusal, write_text};
+use crate::stop::{Stop, tell, write_text};
 use crate::subscribing::{Followed, subscribe};
 use hub_ask::{AskError, Outcome, Replies, Requests};
 use hub_io::Sink;
-use hub_protocol::{BorrowedReply, read_reply};
-use hub_requests::MOST_TAKEN;
+use hub_protocol::BorrowedReply;
+use hub_requests::{MOST_TAKEN, Request};
 use std::alloc::{AllocError, Global};
 use std::io::Write;
 use std::rt::Clock;
@@ -27,14 +28,14 @@ fn write_letters<C: Clock, W: Sink>(
     clock: &C,
     alloc: Global,
     following: &Following<'_>,
-    followed: &mut Followed<'_>,
+    followed: &mut Followed,
     letters: &[u8],
     output: &mut W,
 ) -> Result<(), Stop> {
     let Ok(letters) = str::from_utf8(letters) else {
         return Err(Stop::Fault(AskError::Unknown));
     };
-    let lines = following.lines(clock, alloc, followed.name, followed.next, letters)?;
+    let lines = following.lines(clock, alloc, followed.name.as_str(), followed.next, letters)?;
     write_text(output, lines.as_str())?;
     let count = letters.len() as u64;
     followed.next = followed.next.and_then(|number| number.checked_add(count));
@@ -46,42 +47,34 @@ fn comes<H: Wait, SR: Replies, SW: Requests, F: Write>(
     rt: &H,
     alloc: Global,
     turns: u64,
-    followed: &Followed<'_>,
+    followed: &Followed,
     peer: &mut Peer<SR, SW>,
     notes: &mut F,
 ) -> Result<bool, Stop>
     ensures { peer.new.begun ≡ peer.old.begun }
 {
-    let handle = followed.handle.as_str();
-    let words = format!(in alloc; "{handle} {turns}")?;
-    let reply = peer.ask(rt, alloc, Look::Await, words.as_str())?;
-    match read_reply(&reply) {
-        Some(BorrowedReply::Done) => Ok(true),
-        Some(BorrowedReply::Late) => Ok(false),
-        Some(BorrowedReply::No(refusal)) => {
-            tell_refusal(alloc, followed.name, refusal, &reply, notes)?;
-            Err(Stop::Reply(Outcome::Refused))
-        }
+    let id = followed.handle;
+    let request = Request::Await { id, turns };
+    let heard = ask_about(rt, alloc, &request, followed.name.as_str(), peer, notes)?;
+    match heard.reply() {
+        BorrowedReply::Done => Ok(true),
+        BorrowedReply::Late => Ok(false),
         _ => Err(Stop::Fault(AskError::Unknown)),
     }
 }
 
-// Takes what is pending for the handle.
-fn take<H: Wait, SR: Replies, SW: Requests>(
-    rt: &H,
-    alloc: Global,
-    following: &Following<'_>,
-    handle: &str,
-    peer: &mut Peer<SR, SW>,
-) -> Result<Vec<u8>, Stop>
-    ensures { peer.new.begun ≡ peer.old.begun }
+// The request for what is pending for the handle.
+fn taking(following: &Following<'_>, id: u64) -> Request
+    ensures { IsLook result }
 {
-    if following.pattern.is_some() {
-        return Ok(peer.ask(rt, alloc, Look::Poll, handle)?);
+    match (following.pattern, following.is_once) {
+        (Some(_), _) => Request::Poll { id },
+        (None, true) => Request::Take { id, max: 1 },
+        (None, false) => Request::Take {
+            id,
+            max: MOST_TAKEN,
+        },
     }
-    let most = if following.is_once { 1 } else { MOST_TAKEN };
-    let words = format!(in alloc; "{handle} {most}")?;
-    Ok(peer.ask(rt, alloc, Look::Take, words.as_str())?)
 }
 
 // Takes what is pending for one fifodir, and writes it. Returns whether letters came.
@@ -89,16 +82,17 @@ fn take_and_write<H: Wait + Clock, SR: Replies, SW: Requests, W: Sink, F: Write>
     rt: &H,
     alloc: Global,
     following: &Following<'_>,
-    followed: &mut Followed<'_>,
+    followed: &mut Followed,
     peer: &mut Peer<SR, SW>,
     output: &mut W,
     notes: &mut F,
 ) -> Result<bool, Stop>
     ensures { peer.new.begun ≡ peer.old.begun }
 {
-    let reply = take(rt, alloc, following, followed.handle.as_str(), peer)?;
-    match read_reply(&reply) {
-        Some(BorrowedReply::Got(letters) | BorrowedReply::Hit(letters)) => {
+    let request = taking(following, followed.handle);
+    let heard = ask_about(rt, alloc, &request, followed.name.as_str(), peer, notes)?;
+    match heard.reply() {
+        BorrowedReply::Got(letters) | BorrowedReply::Hit(letters) => {
             write_letters(rt, alloc, following, followed, letters, output)?;
             if following.is_once {
                 Err(Stop::Reply(Outcome::Done))
@@ -106,18 +100,14 @@ fn take_and_write<H: Wait + Clock, SR: Replies, SW: Requests, W: Sink, F: Write>
                 Ok(true)
             }
         }
-        Some(BorrowedReply::Nothing) => Ok(false),
-        Some(BorrowedReply::End) => {
+        BorrowedReply::Nothing => Ok(false),
+        BorrowedReply::End => {
             followed.is_over = true;
             Ok(false)
         }
-        Some(BorrowedReply::Evicted) => {
-            tell(alloc, followed.name, "evicted", notes)?;
+        BorrowedReply::Evicted => {
+            tell(alloc, followed.name.as_str(), "evicted", notes)?;
             Err(Stop::Reply(Outcome::Nothing))
-        }
-        Some(BorrowedReply::No(refusal)) => {
-            tell_refusal(alloc, followed.name, refusal, &reply, notes)?;
-            Err(Stop::Reply(Outcome::Refused))
         }
         _ => Err(Stop::Fault(AskError::Unknown)),
     }
@@ -129,7 +119,7 @@ fn look_at_each<H: Wait + Clock, SR: Replies, SW: Requests, W: Sink, F: Write>(
     alloc: Global,
     following: &Following<'_>,
     turns: u64,
-    all: &mut [Followed<'_>],
+    all: &mut [Followed],
     peer: &mut Peer<SR, SW>,
     output: &mut W,
     notes: &mut F,
@@ -156,19 +146,19 @@ fn turns_each(count: usize, came: bool) -> u64 {
 }
 
 // Puts one more behind these.
-fn put<'a>(all: &mut Vec<Followed<'a>>, followed: Followed<'a>) -> Result<(), AllocError> {
+fn put(all: &mut Vec<Followed>, followed: Followed) -> Result<(), AllocError> {
     all.push(followed)?;
     Ok(())
 }
 
 // Subscribes to each fifodir.
-fn subscribe_to_all<'a, H: Wait, SR: Replies, SW: Requests, F: Write>(
+fn subscribe_to_all<H: Wait, SR: Replies, SW: Requests, F: Write>(
     rt: &H,
     alloc: Global,
-    following: &Following<'a>,
+    following: &Following<'_>,
     peer: &mut Peer<SR, SW>,
     notes: &mut F,
-) -> Result<Vec<Followed<'a>>, Stop>
+) -> Result<Vec<Followed>, Stop>
     ensures { peer.new.begun ≡ peer.old.begun }
 {
     let mut all = Vec::new(alloc);

@@ -1,26 +1,27 @@
 //! A hub that is only looked at.
-ghost use Rattle.std.specs.Prelude.{◌≡◌, false};
+ghost use Rattle.std.specs.Prelude.{◌≡◌, false, IfOk};
+ghost use Rattle.hub_protocol.specs.Spelling.{form_of, spelling};
+ghost use Rattle.hub_ask.specs.Asking.{IsAnswered};
+ghost use Rattle.hub_ask.specs.Hearing.{line_of};
+ghost use Rattle.hub_look.specs.Looking.{IsLook};
 ghost use Rattle.hub_look.specs.Looks.{AsksWhole, OnlyLooks};
 
-use crate::look::Look;
-use hub_ask::{AskError, Replies, Requests, exchange_in_time};
-use hub_client::RelayError;
+use hub_ask::{AskError, Client, Heard, Replies, Requests};
 use hub_io::Sink;
+use hub_requests::Request;
 use std::alloc::Global;
 use std::snapshot::Snapshot;
 use std::sync::Wait;
 
-/// A connection to a hub that sends nothing but looks. After a request that broke off, it sends nothing any more. For each reply the
-/// hub has ten seconds, and the time that an `await` asks for.
+/// A hub that is sent nothing but looks, as a [`Client`] sends them: after one that broke off, nothing any more.
 #[derive(Drop)]
 pub struct Peer<SR, SW: Sink> {
-    receiver: SR,
-    sender: SW,
+    pub(crate) client: Client<SR, SW>,
     /// The sender as it was given.
     pub begun: Snapshot<SW>,
-    is_broken: bool,
-    ghost only: { ∥ OnlyLooks (SW.contents begun.value) (SW.contents sender) ∥₁ },
-    ghost whole: { is_broken ≡ false → ∥ AsksWhole (SW.contents begun.value) (SW.contents sender) ∥₁ },
+    ghost only: { ∥ OnlyLooks (SW.contents begun.value) (SW.contents client.sender) ∥₁ },
+    ghost whole: { client.is_broken ≡ false
+        → ∥ AsksWhole (SW.contents begun.value) (SW.contents client.sender) ∥₁ },
 }
 
 impl<SR: Replies, SW: Requests> Peer<SR, SW> {
@@ -30,32 +31,25 @@ impl<SR: Replies, SW: Requests> Peer<SR, SW> {
     {
         let begun = Snapshot::of(&sender);
         Peer {
-            receiver,
-            sender,
+            client: Client::new(receiver, sender),
             begun,
-            is_broken: false,
         }
     }
 
-    /// Sends a look with these words behind its first, and returns the reply line with its LF.
+    /// Sends a look, and returns the reply.
     pub(crate) fn ask<H: Wait>(
         &mut self,
         rt: &H,
         alloc: Global,
-        look: Look,
-        rest: &str,
-    ) -> Result<Vec<u8>, AskError>
-        ensures { self.new.begun ≡ self.old.begun }
+        request: &Request,
+    ) -> Result<Heard, AskError>
+        requires { IsLook request.now }
+        ensures begun { self.new.begun ≡ self.old.begun }
+        ensures ok { IfOk result (λ heard. IsAnswered
+            (SW.contents self.old.client.sender) (SW.contents self.new.client.sender)
+            (SR.remaining self.old.client.receiver) (SR.remaining self.new.client.receiver)
+            (spelling (form_of request.now)) (line_of heard)) }
     {
-        if self.is_broken {
-            return Err(AskError::Relay(RelayError::Ended));
-        }
-        let Some(line) = look.line(alloc, rest)? else {
-            return Err(AskError::Words);
-        };
-        self.is_broken = true;
-        let reply = exchange_in_time(rt, alloc, &line, &mut self.receiver, &mut self.sender)?;
-        self.is_broken = false;
-        Ok(reply)
+        self.client.ask(rt, alloc, request)
     }
 }

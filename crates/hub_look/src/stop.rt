@@ -7,7 +7,8 @@ ghost use Rattle.hub_look.specs.declared.stop.Stop.TheVariants.{Fault};
 use hub_ask::{AskError, Outcome};
 use hub_client::RelayError;
 use hub_io::{Sink, write_whole};
-use hub_requests::Refusal;
+use hub_protocol::write_reply;
+use hub_requests::{Refusal, Reply};
 use std::alloc::{AllocError, Global};
 use std::io::{self, Write};
 use std::str;
@@ -55,18 +56,21 @@ pub(crate) fn write_text<W: Sink>(output: &mut W, text: &str) -> Result<(), Stop
     }
 }
 
-/// Writes a line that says what the hub refuses of this name. The line of its reply has the words.
+/// Writes a line that says what the hub refuses of this name.
 pub(crate) fn tell_refusal<F: Write>(
     alloc: Global,
     name: &str,
     refusal: Refusal,
-    line: &[u8],
     notes: &mut F,
 ) -> Result<(), AllocError> {
     match refusal {
         Refusal::Name => tell(alloc, name, "no such fifodir", notes),
         Refusal::Closed => tell(alloc, name, "closed", notes),
-        _ => tell(alloc, name, words_of(line), notes),
+        _ => {
+            let mut line = Vec::new(alloc);
+            write_reply(&Reply::No(refusal), &mut line)?;
+            tell(alloc, name, words_of(&line), notes)
+        }
     }
 }
 

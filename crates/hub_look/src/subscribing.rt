@@ -1,13 +1,13 @@
 //! The beginning of a follow: a handle for each fifodir.
 ghost use Rattle.std.specs.Prelude.{◌≡◌};
 
-use crate::asking::{ask_about, state_of};
+use crate::asking::{ask_about, handle_for, state_of};
 use crate::following::Following;
-use crate::look::Look;
 use crate::peer::Peer;
 use crate::stop::Stop;
 use hub_ask::{AskError, Outcome, Replies, Requests};
-use hub_protocol::{BorrowedReply, read_reply};
+use hub_protocol::BorrowedReply;
+use hub_requests::Request;
 use std::alloc::Global;
 use std::io::Write;
 use std::sync::Wait;
@@ -17,10 +17,10 @@ const TRIES: u64 = 100;
 
 /// A fifodir that is followed.
 #[derive(Drop, Debug, PartialEq, Eq)]
-pub(crate) struct Followed<'a> {
-    pub(crate) name: &'a str,
-    /// The handle of the subscription or the listener, as a word.
-    pub(crate) handle: String,
+pub(crate) struct Followed {
+    pub(crate) name: String,
+    /// The handle of the subscription or the listener.
+    pub(crate) handle: u64,
     /// The number of the next event, if it is known.
     pub(crate) next: Option<u64>,
     /// Whether nothing will come any more.
@@ -43,57 +43,42 @@ fn events_of<H: Wait, SR: Replies, SW: Requests, F: Write>(
     }
 }
 
-// A handle for this look, which subscribes.
-fn handle_for<H: Wait, SR: Replies, SW: Requests, F: Write>(
-    rt: &H,
-    alloc: Global,
-    look: Look,
-    name: &str,
-    rest: &str,
-    peer: &mut Peer<SR, SW>,
-    notes: &mut F,
-) -> Result<String, Stop>
-    ensures { peer.new.begun ≡ peer.old.begun }
-{
-    let reply = ask_about(rt, alloc, look, name, rest, peer, notes)?;
-    match read_reply(&reply) {
-        Some(BorrowedReply::Number(handle)) => Ok(handle.to_string(alloc)?),
-        _ => Err(Stop::Fault(AskError::Unknown)),
-    }
-}
-
 /// Subscribes, and knows the number of the next event: no event came between a look before and one after it. None if one came.
-fn subscribe_between<'a, H: Wait, SR: Replies, SW: Requests, F: Write>(
+fn subscribe_between<H: Wait, SR: Replies, SW: Requests, F: Write>(
     rt: &H,
     alloc: Global,
-    name: &'a str,
+    name: &str,
     peer: &mut Peer<SR, SW>,
     notes: &mut F,
-) -> Result<Option<Followed<'a>>, Stop>
+) -> Result<Option<Followed>, Stop>
     ensures { peer.new.begun ≡ peer.old.begun }
 {
     let before = events_of(rt, alloc, name, peer, notes)?;
-    let handle = handle_for(rt, alloc, Look::Subscribe, name, name, peer, notes)?;
+    let handle = handle_for(rt, alloc, &["sub", name], name, peer, notes)?;
     if events_of(rt, alloc, name, peer, notes)? == before {
         return Ok(Some(Followed {
-            name,
+            name: name.to_string(alloc)?,
             handle,
             next: Some(before),
             is_over: false,
         }));
     }
-    let _cancelled = ask_about(rt, alloc, Look::Cancel, name, handle.as_str(), peer, notes)?;
-    Ok(None)
+    let request = Request::Cancel { id: handle };
+    let heard = ask_about(rt, alloc, &request, name, peer, notes)?;
+    match heard.reply() {
+        BorrowedReply::Done | BorrowedReply::Number(_) => Ok(None),
+        _ => Err(Stop::Fault(AskError::Unknown)),
+    }
 }
 
 // Subscribes, and knows the number of the next event unless the fifodir is too busy.
-fn subscribe_numbered<'a, H: Wait, SR: Replies, SW: Requests, F: Write>(
+fn subscribe_numbered<H: Wait, SR: Replies, SW: Requests, F: Write>(
     rt: &H,
     alloc: Global,
-    name: &'a str,
+    name: &str,
     peer: &mut Peer<SR, SW>,
     notes: &mut F,
-) -> Result<Followed<'a>, Stop>
+) -> Result<Followed, Stop>
     ensures { peer.new.begun ≡ peer.old.begun }
 {
     'tries: for _ in 0..TRIES {
@@ -101,24 +86,23 @@ fn subscribe_numbered<'a, H: Wait, SR: Replies, SW: Requests, F: Write>(
             return Ok(followed);
         }
     }
-    subscribe_by(rt, alloc, Look::Subscribe, name, name, peer, notes)
+    subscribe_by(rt, alloc, &["sub", name], name, peer, notes)
 }
 
-// Subscribes by this look. The number of the next event isn't known.
-fn subscribe_by<'a, H: Wait, SR: Replies, SW: Requests, F: Write>(
+// Subscribes by the look that these words spell. The number of the next event isn't known.
+fn subscribe_by<H: Wait, SR: Replies, SW: Requests, F: Write>(
     rt: &H,
     alloc: Global,
-    look: Look,
-    name: &'a str,
-    rest: &str,
+    words: &[&str],
+    name: &str,
     peer: &mut Peer<SR, SW>,
     notes: &mut F,
-) -> Result<Followed<'a>, Stop>
+) -> Result<Followed, Stop>
     ensures { peer.new.begun ≡ peer.old.begun }
 {
-    let handle = handle_for(rt, alloc, look, name, rest, peer, notes)?;
+    let handle = handle_for(rt, alloc, words, name, peer, notes)?;
     Ok(Followed {
-        name,
+        name: name.to_string(alloc)?,
         handle,
         next: None,
         is_over: false,
@@ -126,24 +110,22 @@ fn subscribe_by<'a, H: Wait, SR: Replies, SW: Requests, F: Write>(
 }
 
 /// Subscribes to the fifodir as it is to be followed.
-pub(crate) fn subscribe<'a, H: Wait, SR: Replies, SW: Requests, F: Write>(
+pub(crate) fn subscribe<H: Wait, SR: Replies, SW: Requests, F: Write>(
     rt: &H,
     alloc: Global,
-    following: &Following<'a>,
-    name: &'a str,
+    following: &Following<'_>,
+    name: &str,
     peer: &mut Peer<SR, SW>,
     notes: &mut F,
-) -> Result<Followed<'a>, Stop>
+) -> Result<Followed, Stop>
     ensures { peer.new.begun ≡ peer.old.begun }
 {
     match following.pattern {
         Some(pattern) => {
-            let rest = format!(in alloc; "{name} repeat {pattern}")?;
-            subscribe_by(rt, alloc, Look::Listen, name, rest.as_str(), peer, notes)
+            let words = ["listen", name, "repeat", pattern];
+            subscribe_by(rt, alloc, &words, name, peer, notes)
         }
-        None if following.is_plain => {
-            subscribe_by(rt, alloc, Look::Subscribe, name, name, peer, notes)
-        }
+        None if following.is_plain => { subscribe_by(rt, alloc, &["sub", name], name, peer, notes) }
         None => subscribe_numbered(rt, alloc, name, peer, notes),
     }
 }
