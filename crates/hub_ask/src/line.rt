@@ -32,7 +32,8 @@ impl Line {
     pub fn of(alloc: Global, words: &[&str]) -> Result<Option<Line>, AllocError>
         ensures line { IfOk result (λ it. IfSome it (λ line. bytes_of line
             ≡ joined (λ word. word.now) words.now)) }
-        ensures none { IfOk result (λ it. IfNone it (has_lf (joined (λ word. word.now) words.now) ≡ true)) }
+        ensures none { IfOk result (λ it. IfNone it
+            (has_lf (joined (λ word. word.now) words.now) ≡ true)) }
     {
         let text = words.join(alloc, " ")?;
         Ok(cut_line(text.into_bytes()))
@@ -42,7 +43,8 @@ impl Line {
     pub fn of_request(alloc: Global, request: &Request) -> Result<Option<Line>, AllocError>
         ensures line { IfOk result (λ it. IfSome it (λ line. bytes_of line
             ≡ spelling (form_of request.now))) }
-        ensures none { IfOk result (λ it. IfNone it (has_lf (spelling (form_of request.now)) ≡ true)) }
+        ensures none { IfOk result (λ it. IfNone it
+            (has_lf (spelling (form_of request.now)) ≡ true)) }
     {
         let mut bytes = Vec::new(alloc);
         write_request(request, &mut bytes)?;

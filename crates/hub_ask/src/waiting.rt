@@ -69,9 +69,11 @@ fn explain_one<H: Wait, SR: Replies, SW: Requests, F: Write>(
     client: &mut Client<SR, SW>,
     notes: &mut F,
 ) -> Result<(), AskError>
-    ensures ok { OnOk result (Appends (SW.contents client.old.sender) (SW.contents client.new.sender)
+    ensures ok { OnOk result (Appends
+        (SW.contents client.old.sender) (SW.contents client.new.sender)
         (lines_of_requests (questions_about want name))) }
-    ensures err { OnErr result (SendsFront (SW.contents client.old.sender) (SW.contents client.new.sender)
+    ensures err { OnErr result (SendsFront
+        (SW.contents client.old.sender) (SW.contents client.new.sender)
         (questions_about want name)) }
 {
     let met = client.hear(rt, alloc, &now(alloc, want, name.copy()?)?)?;
