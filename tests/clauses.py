@@ -23,6 +23,8 @@ TOLD = re.compile(r"(note: )?\S+:\d+:\d+: ")
 NAMES = re.compile(r"(note: )?(\./)?proofs/.*(has no field|is not in scope|has no `|was not admitted)")
 # A line about proofs that rest on a lemma which isn't proved.
 RESTS = re.compile(r"(?:\./)?proofs/(?:\w+/)*(\w+)/\w+\.antt:.* which was not admitted, (?:was|were) not checked: (.*)")
+# Functions that a derive may write besides, whose names alone say too little.
+DERIVED = {"clone", "cmp", "eq", "fmt", "hash", "partial_cmp"}
 # How many seconds a check may take, if nothing else says when it ends.
 SECONDS = 3600
 # Runs `rt check` over the libraries as they are. `rt ci` leaves them without the stamps by which `rt check` knows them. The first word
@@ -147,7 +149,7 @@ def path_of(edit):
     with its module and type. A function in a file that the edit changes comes first."""
     *owner, name = edit.refused_by[0].split("::")
     found = [it for it in functions_in(edit.crate) if it[3] == name]
-    if len(found) == 1:
+    if len(found) == 1 and name not in DERIVED:
         return name
     changed = {file for file, _, _ in edit.pairs}
     fits = [it for it in found if not owner or owner[-1] in (it[1], it[2], it[1] + it[2], Path(it[0]).stem)]
