@@ -23,6 +23,11 @@ _ftrighub_names() {
     esac
 }
 
+# The words of requests, as the help of `script` has them, each with its fields in capitals.
+_ftrighub_words() {
+    "${COMP_WORDS[0]}" script --help 2>/dev/null | sed -n '/^A line that/q; s/^  \([a-z]*\) [A-Z].*/\1/p'
+}
+
 _ftrighub() {
     local word=${COMP_WORDS[COMP_CWORD]} command="" words="" place socket
     ((COMP_CWORD == 1)) || command=${COMP_WORDS[1]}
@@ -44,7 +49,7 @@ _ftrighub() {
     :* | help:*) words="wait status follow ask serve call script help" ;;
     wait:0:*) words="all any" ;;
     wait:1:*) words="up ready down finished restarted restarted-ready" ;;
-    ask:0:*) words="dir svc sub pub take cancel close status listen poll await wait names" ;;
+    ask:0:*) words=$(_ftrighub_words) ;;
     ask:* | wait:* | status:* | follow:*) words=$(_ftrighub_names) ;;
     FILES:* | serve:* | call:*)
         compopt -o filenames 2>/dev/null

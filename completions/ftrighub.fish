@@ -10,6 +10,11 @@ function __ftrighub_names
     timeout 1 ftrighub ask $socket names 0 2>/dev/null | string match -r '^names .*' | string split ' ' | string match -v names
 end
 
+# The words of requests, as the help of `script` has them, each with its fields in capitals.
+function __ftrighub_words
+    ftrighub script --help 2>/dev/null | sed -n '/^A line that/q; s/^  \([a-z]*\) [A-Z].*/\1/p'
+end
+
 complete -c ftrighub -f
 complete -c ftrighub -n __fish_use_subcommand -a wait -d "Wait until services reach a state, and report those that don't"
 complete -c ftrighub -n __fish_use_subcommand -a status -d 'Show the state of services, in a table'
@@ -29,7 +34,7 @@ complete -c ftrighub -n '__fish_seen_subcommand_from serve' -l mode -x -a '0600 
 complete -c ftrighub -n '__fish_seen_subcommand_from ask wait status follow' -l socket -r -F -d 'Socket of the hub (or else FTRIGHUB_SOCKET has it)'
 complete -c ftrighub -n '__fish_seen_subcommand_from wait' -l for -x -d 'Time limit, such as 500ms, 5s or 2m'
 complete -c ftrighub -n '__fish_seen_subcommand_from wait' -a 'all any up ready down finished restarted restarted-ready'
-complete -c ftrighub -n '__fish_seen_subcommand_from ask' -a 'dir svc sub pub take cancel close status listen poll await wait names'
+complete -c ftrighub -n '__fish_seen_subcommand_from ask' -a '(__ftrighub_words)'
 complete -c ftrighub -n '__fish_seen_subcommand_from wait status follow ask' -a '(__ftrighub_names)'
 complete -c ftrighub -n '__fish_seen_subcommand_from follow' -l pattern -x -d 'Write the hits of this pattern, and not each letter'
 complete -c ftrighub -n '__fish_seen_subcommand_from follow' -l plain -d 'Write the letters alone'
