@@ -1,7 +1,6 @@
 -- The request of a form.
-use Rattle.std.proofs.Common.{◌≡◌, ℕ, zero, suc, List, [], ◌∷◌, length, take, codes, true, false, if◌then◌else◌, refl, sym, ap, ◌∙◌, subst, arith, rules}
+use Rattle.std.proofs.Common.{◌≡◌, ℕ, zero, suc, List, [], ◌∷◌, length, take, true, false, refl, sym, ap, ◌∙◌, subst, arith, rules}
 use Rattle.std.specs.List.{AllZip}
-use Rattle.std.specs.Str.{bytes_eq}
 use Rattle.hub_requests.specs.Ranges.{IsInRange}
 use Rattle.hub_requests.specs.declared.request.Request.{Request}
 use Rattle.hub_requests.specs.declared.request.Request.TheVariants as request
@@ -10,36 +9,13 @@ use Rattle.hub_protocol.specs.declared.table.Kind.TheVariants as kind
 use Rattle.hub_protocol.specs.declared.table.Ending.{Ending}
 use Rattle.hub_protocol.specs.declared.table.Ending.TheVariants as ending
 use Rattle.hub_protocol.specs.Table.{Row, IsWord, kinds_of, ending_of, row_in, table}
-use Rattle.hub_protocol.specs.Spelling.{Form, Field, Name, Number, Letters, Mode, Span, Want, Last, Nothing, Names, Pattern, Evict, IsForm, IsSoundForm, IsOf, EndsAs, IsWithin, form_of, says}
-use Rattle.hub_protocol.specs.Lines.{AreWithinKinds, IsWithinKind, IsMadeOf, evict_in, field_as, fields_as, first_of, flag_in, last_as, letters_in, mode_in, name_in, names_in, number_in, others_of, pattern_in, span_in, want_in}
+use Rattle.hub_protocol.specs.Spelling.{Form, Field, Name, Number, Letters, Mode, Span, Want, Last, Nothing, Names, Pattern, Evict, IsForm, IsSoundForm, IsOf, EndsAs, IsWithin, form_of, request_from, says}
+use Rattle.hub_protocol.specs.Lines.{AreWithinKinds, IsWithinKind, IsMadeOf, field_as, fields_as, last_as}
 use Rattle.hub_protocol.proofs.Rows.{EachRow, of_word, word_at}
-
--- the request of a word, fields and an end
-abbrev pub request_by : List ℕ → Field → Field → Field → Field → Last → Request
-request_by word a b c d last =
-    if bytes_eq word (codes "dir") then request.Dir (name_in a) (number_in b) (number_in c) (evict_in last)
-    else (if bytes_eq word (codes "svc") then request.Svc (name_in a) (number_in b) (number_in c) (flag_in d) (evict_in last)
-    else (if bytes_eq word (codes "sub") then request.Sub (name_in a)
-    else (if bytes_eq word (codes "pub") then request.Pub (name_in a) (letters_in b)
-    else (if bytes_eq word (codes "take") then request.Take (number_in a) (number_in b)
-    else (if bytes_eq word (codes "cancel") then request.Cancel (number_in a)
-    else (if bytes_eq word (codes "close") then request.Close (name_in a)
-    else (if bytes_eq word (codes "status") then request.Status (name_in a)
-    else (if bytes_eq word (codes "listen") then request.Listen (name_in a) (mode_in b) (pattern_in last)
-    else (if bytes_eq word (codes "poll") then request.Poll (number_in a)
-    else (if bytes_eq word (codes "await") then request.Await (number_in a) (number_in b)
-    else (if bytes_eq word (codes "wait") then request.Wait (span_in a) (want_in b) (number_in c) (names_in last)
-    else request.Names (number_in a))))))))))))
-
-abbrev pub request_from : Form → Request
-request_from form =
-    let more = others_of form.fields in
-    let rest = others_of more in
-    request_by form.word (first_of form.fields) (first_of more) (first_of rest) (first_of (others_of rest)) form.last
 
 -- ---- a request's form is that of one request
 
-remade : (r : Request) → request_from (form_of r) ≡ r
+pub remade : (r : Request) → request_from (form_of r) ≡ r
 remade (request.Svc name waiting total true evict) = refl
 remade (request.Svc name waiting total false evict) = refl
 remade r = refl

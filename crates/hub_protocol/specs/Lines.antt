@@ -1,12 +1,6 @@
 -- What the code's fields stand for.
-use Rattle.std.specs.Prelude.{◌≡◌, ◌≢◌, ℕ, ◌≤◌, List, [], ◌∷◌, ◌++◌, length, map, take, Bool, false, nat_eq, codes, Option, MatchOption, Result, Ok, Err, All}
+use Rattle.std.specs.Prelude.{◌≡◌, ◌≢◌, ℕ, ◌≤◌, List, [], ◌∷◌, ◌++◌, length, map, take, Option, MatchOption, Result, Ok, Err, All}
 use Rattle.std.specs.List.{AllZip}
-use Rattle.hub_letters.specs.declared.want.Want as wants
-use Rattle.hub_letters.specs.declared.want.Want.TheVariants.{Up}
-use Rattle.hub_letters.specs.declared.mode.Mode as modes
-use Rattle.hub_letters.specs.declared.mode.Mode.TheVariants.{Once}
-use Rattle.hub_letters.specs.declared.span.Span as spans
-use Rattle.hub_letters.specs.declared.span.Span.TheVariants as span
 use Rattle.hub_requests.specs.declared.reply.Refusal.{Refusal}
 use Rattle.hub_protocol.specs.declared.table.TheConstants.{MOST_FIELDS}
 use Rattle.hub_protocol.specs.declared.table.Kind.{Kind}
@@ -21,7 +15,7 @@ use Rattle.hub_protocol.specs.declared.line.Rest as rests
 use Rattle.hub_protocol.specs.declared.line.Rest.TheVariants as rest
 use Rattle.hub_protocol.specs.declared.line.Line as lines
 use Rattle.hub_protocol.specs.Table.{kinds_of, ending_of}
-use Rattle.hub_protocol.specs.Spelling.{Field, Name, Number, Letters, Mode, Span, Want, Last, Nothing, Names, Pattern, Evict, Form, IsOf, IsSound, EndsAs, digit_of, fields_of, says, text_of_field, pieces_of_last}
+use Rattle.hub_protocol.specs.Spelling.{Field, Name, Number, Letters, Mode, Span, Want, Last, Nothing, Names, Pattern, Evict, Form, IsOf, IsSound, EndsAs, digit_of, evict_in, fields_of, first_of, flag_in, letters_in, mode_in, name_in, names_in, number_in, others_of, pattern_in, pieces_of_last, says, span_in, text_of_field, want_in}
 use Rattle.hub_protocol.specs.Reading.{HasForm, IsReading}
 
 abbrev pub field_shown : fields.Field → Field
@@ -64,47 +58,6 @@ AreWithinKinds form = AllZip IsWithinKind (kinds_of form.word) form.fields
 abbrev pub AreAllSound : List fields.Field → Type 0
 AreAllSound list = All (λ f. IsSound (field_shown f)) list
 
--- ---- what a field says, if it says something of this kind
-
-abbrev pub name_in : Field → List ℕ
-name_in (Name name) = name
-name_in field = codes "-"
-
-abbrev pub number_in : Field → ℕ
-number_in (Number number) = number
-number_in field = 0
-
-abbrev pub flag_in : Field → Bool
-flag_in field = nat_eq (number_in field) 1
-
-abbrev pub letters_in : Field → List ℕ
-letters_in (Letters letters) = letters
-letters_in field = []
-
-abbrev pub mode_in : Field → modes.Mode
-mode_in (Mode mode) = mode
-mode_in field = Once
-
-abbrev pub span_in : Field → spans.Span
-span_in (Span s) = s
-span_in field = span.All
-
-abbrev pub want_in : Field → wants.Want
-want_in (Want want) = want
-want_in field = Up
-
-abbrev pub names_in : Last → List (List ℕ)
-names_in (Names names) = names
-names_in last = []
-
-abbrev pub pattern_in : Last → List ℕ
-pattern_in (Pattern pattern) = pattern
-pattern_in last = []
-
-abbrev pub evict_in : Last → Bool
-evict_in (Evict evict) = evict
-evict_in last = false
-
 -- the field, read as one of this kind
 abbrev pub field_as : Kind → Field → Field
 field_as kind.Name field = Name (name_in field)
@@ -114,14 +67,6 @@ field_as kind.Letters field = Letters (letters_in field)
 field_as kind.Mode field = Mode (mode_in field)
 field_as kind.Span field = Span (span_in field)
 field_as kind.Want field = Want (want_in field)
-
-abbrev pub first_of : List Field → Field
-first_of [] = Number 0
-first_of (field ∷ fields) = field
-
-abbrev pub others_of : List Field → List Field
-others_of [] = []
-others_of (field ∷ fields) = fields
 
 -- fields, read as these kinds
 abbrev pub fields_as : List Kind → List Field → List Field

@@ -1,7 +1,8 @@
 -- The forms of request lines, and how each is spelled.
-use Rattle.std.specs.Prelude.{◌≡◌, ℕ, ◌<◌, ◌≤◌, ◌^◌, List, [], ◌∷◌, ◌++◌, length, map, Bool, true, false, codes, All, ◌==◌}
+use Rattle.std.specs.Prelude.{◌≡◌, ℕ, ◌<◌, ◌≤◌, ◌^◌, List, [], ◌∷◌, ◌++◌, length, map, Bool, true, false, nat_eq, codes, All, ◌==◌, if◌then◌else◌}
 use Rattle.std.specs.Fmt.{decimal}
 use Rattle.std.specs.List.{slice_split, join_with_byte, AllZip}
+use Rattle.std.specs.Str.{bytes_eq}
 use Rattle.hub_letters.specs.declared.want.Want as wants
 use Rattle.hub_letters.specs.declared.want.Want.TheVariants.{Up, Ready, Down, Finished, Restarted, RestartedReady}
 use Rattle.hub_letters.specs.declared.mode.Mode as modes
@@ -186,6 +187,79 @@ form_of (request.Poll id) = says (codes "poll") (Number id ∷ []) Nothing
 form_of (request.Await id turns) = says (codes "await") (Number id ∷ Number turns ∷ []) Nothing
 form_of (request.Wait s want turns names) = says (codes "wait") (Span s ∷ Want want ∷ Number turns ∷ []) (Names names)
 form_of (request.Names from) = says (codes "names") (Number from ∷ []) Nothing
+
+-- ---- what a field or an end says, if it is of this kind, and something else if it isn't
+
+abbrev pub name_in : Field → List ℕ
+name_in (Name name) = name
+name_in field = codes "-"
+
+abbrev pub number_in : Field → ℕ
+number_in (Number number) = number
+number_in field = 0
+
+abbrev pub flag_in : Field → Bool
+flag_in field = nat_eq (number_in field) 1
+
+abbrev pub letters_in : Field → List ℕ
+letters_in (Letters letters) = letters
+letters_in field = []
+
+abbrev pub mode_in : Field → modes.Mode
+mode_in (Mode mode) = mode
+mode_in field = Once
+
+abbrev pub span_in : Field → spans.Span
+span_in (Span s) = s
+span_in field = span.All
+
+abbrev pub want_in : Field → wants.Want
+want_in (Want want) = want
+want_in field = Up
+
+abbrev pub names_in : Last → List (List ℕ)
+names_in (Names names) = names
+names_in last = []
+
+abbrev pub pattern_in : Last → List ℕ
+pattern_in (Pattern pattern) = pattern
+pattern_in last = []
+
+abbrev pub evict_in : Last → Bool
+evict_in (Evict evict) = evict
+evict_in last = false
+
+abbrev pub first_of : List Field → Field
+first_of [] = Number 0
+first_of (field ∷ fields) = field
+
+abbrev pub others_of : List Field → List Field
+others_of [] = []
+others_of (field ∷ fields) = fields
+
+-- the request of a word, fields and an end
+abbrev pub request_by : List ℕ → Field → Field → Field → Field → Last → Request
+request_by word a b c d last =
+    if bytes_eq word (codes "dir") then request.Dir (name_in a) (number_in b) (number_in c) (evict_in last)
+    else (if bytes_eq word (codes "svc") then request.Svc (name_in a) (number_in b) (number_in c) (flag_in d) (evict_in last)
+    else (if bytes_eq word (codes "sub") then request.Sub (name_in a)
+    else (if bytes_eq word (codes "pub") then request.Pub (name_in a) (letters_in b)
+    else (if bytes_eq word (codes "take") then request.Take (number_in a) (number_in b)
+    else (if bytes_eq word (codes "cancel") then request.Cancel (number_in a)
+    else (if bytes_eq word (codes "close") then request.Close (name_in a)
+    else (if bytes_eq word (codes "status") then request.Status (name_in a)
+    else (if bytes_eq word (codes "listen") then request.Listen (name_in a) (mode_in b) (pattern_in last)
+    else (if bytes_eq word (codes "poll") then request.Poll (number_in a)
+    else (if bytes_eq word (codes "await") then request.Await (number_in a) (number_in b)
+    else (if bytes_eq word (codes "wait") then request.Wait (span_in a) (want_in b) (number_in c) (names_in last)
+    else request.Names (number_in a))))))))))))
+
+-- the request of a form; any, if the form is that of none
+abbrev pub request_from : Form → Request
+request_from form =
+    let more = others_of form.fields in
+    let rest = others_of more in
+    request_by form.word (first_of form.fields) (first_of more) (first_of rest) (first_of (others_of rest)) form.last
 
 -- a request whose numbers are in their ranges has the form
 abbrev pub IsWithin : Form → Type 0

@@ -15,7 +15,7 @@ pub record Row : Type 0 where
   pub ending : Ending
 
 abbrev pub table : List Row
-table = map (λ row. record { word = row.0.now; kinds = row.1.now; ending = row.2 }) ROWS
+table = map (λ row. record { word = row.0.now; kinds = row.1.now; ending = row.2 }) ROWS.now
 
 -- the place of the first row with the word; the number of rows, if no row has the word
 abbrev pub place_in : List Row → List ℕ → ℕ

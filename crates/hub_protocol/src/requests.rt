@@ -1,12 +1,13 @@
 //! The request of a line.
 ghost use Rattle.std.specs.Prelude.{◌≡◌, ◌∷◌, [], length, IfOk};
 ghost use Rattle.hub_protocol.specs.Spelling as spelled;
-ghost use Rattle.hub_protocol.specs.Spelling.{EndsSoundly, IsName, IsPatternText, IsForm, IsSound, AreLetters, AreNames, form_of, fields_of};
+ghost use Rattle.hub_protocol.specs.Spelling.{EndsSoundly, IsName, IsPatternText, IsForm, IsSound, AreLetters, AreNames, evict_in, fields_of, flag_in, form_of, letters_in, mode_in, name_in, names_in, number_in, pattern_in, span_in, want_in};
 ghost use Rattle.hub_protocol.specs.Table.{IsWord};
 ghost use Rattle.hub_protocol.specs.declared.table.TheConstants.{MOST_FIELDS};
-ghost use Rattle.hub_protocol.specs.Lines.{AreAllSound, AreWithinKinds, IsMadeOf, evict_in, field_shown, flag_in, form_shown, last_shown, letters_in, mode_in, name_in, names_in, number_in, pattern_in, span_in, want_in};
+ghost use Rattle.hub_protocol.specs.Lines.{AreAllSound, AreWithinKinds, IsMadeOf, field_shown, form_shown, last_shown};
 
 use crate::line::{Field, Last, Line};
+use crate::table::forms;
 use hub_letters::{Letter, Mode, Span, Want};
 use hub_record::Letters;
 use hub_requests::{Name, Names, PatternText, Request};
@@ -150,6 +151,39 @@ pub fn request_of(alloc: Global, line: Line<'_>) -> Result<Request, AllocError>
     made_of(alloc, line.word, a, b, c, d, line.last)
 }
 
+// What a field of a kind says.
+macro_rules! read {
+    (NAME $alloc:ident $field:ident) => { name($alloc, $field)? };
+    (LETTERS $alloc:ident $field:ident) => { letters($alloc, $field)? };
+    (MODE $alloc:ident $field:ident) => { mode($field) };
+    (SPAN $alloc:ident $field:ident) => { span($field) };
+    (WANT $alloc:ident $field:ident) => { want($field) };
+    (REPORTS $alloc:ident $field:ident) => { flag($field) };
+    ($number:ident $alloc:ident $field:ident) => { number($field) };
+}
+
+// What the end of a line says.
+macro_rules! read_last {
+    (Names $alloc:ident $last:ident) => { names($alloc, $last)? };
+    (Pattern $alloc:ident $last:ident) => { pattern($alloc, $last)? };
+    (Evict $alloc:ident $last:ident) => { evict($last) };
+}
+
+// The request of the word, made of the fields and the end.
+macro_rules! made {
+    (($alloc:ident, $said:ident, $fields:expr, $end:ident) ($a:ident $b:ident $c:ident $d:ident)
+     $($word:literal $request:ident { $($field:ident: $place:ident $kind:ident),* } $ending:ident $(($last:ident))?)*) => {{
+        let ($a, $b, $c, $d) = $fields;
+        match $said {
+            $($word => Ok(Request::$request {
+                $($field: read!($kind $alloc $place),)*
+                $($last: read_last!($ending $alloc $end),)?
+            }),)*
+            _ => unreachable!(),
+        }
+    }};
+}
+
 fn made_of(
     alloc: Global,
     word: &[u8],
@@ -169,55 +203,5 @@ fn made_of(
         (field_shown a.entry ∷ field_shown b.entry ∷ field_shown c.entry ∷ field_shown d.entry ∷ [])
         (last_shown last.entry) (form_of request)) }
 {
-    match word {
-        b"dir" => Ok(Request::Dir {
-            name: name(alloc, a)?,
-            waiting: number(b),
-            total: number(c),
-            evict: evict(last),
-        }),
-        b"svc" => Ok(Request::Svc {
-            name: name(alloc, a)?,
-            waiting: number(b),
-            total: number(c),
-            notifies: flag(d),
-            evict: evict(last),
-        }),
-        b"sub" => Ok(Request::Sub {
-            name: name(alloc, a)?,
-        }),
-        b"pub" => Ok(Request::Pub {
-            name: name(alloc, a)?,
-            letters: letters(alloc, b)?,
-        }),
-        b"take" => Ok(Request::Take {
-            id: number(a),
-            max: number(b),
-        }),
-        b"cancel" => Ok(Request::Cancel { id: number(a) }),
-        b"close" => Ok(Request::Close {
-            name: name(alloc, a)?,
-        }),
-        b"status" => Ok(Request::Status {
-            name: name(alloc, a)?,
-        }),
-        b"listen" => Ok(Request::Listen {
-            name: name(alloc, a)?,
-            mode: mode(b),
-            pattern: pattern(alloc, last)?,
-        }),
-        b"poll" => Ok(Request::Poll { id: number(a) }),
-        b"await" => Ok(Request::Await {
-            id: number(a),
-            turns: number(b),
-        }),
-        b"wait" => Ok(Request::Wait {
-            span: span(a),
-            want: want(b),
-            turns: number(c),
-            names: names(alloc, last)?,
-        }),
-        b"names" => Ok(Request::Names { from: number(a) }),
-        _ => unreachable!(),
-    }
+    forms!(made(alloc, word, (a, b, c, d), last))
 }

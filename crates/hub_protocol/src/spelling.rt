@@ -3,13 +3,14 @@ ghost use Rattle.std.specs.Prelude.{◌≡◌, ◌≢◌, ◌≤◌, ℕ, List, 
 ghost use Rattle.hub_requests.specs.declared.request.Request.{Request};
 ghost use Rattle.hub_requests.specs.declared.reply.Refusal.{Refusal};
 ghost use Rattle.hub_requests.specs.Ranges.{IsInRange};
-ghost use Rattle.hub_protocol.specs.Spelling.{Form, IsForm, IsSoundForm, IsWithin, spelling, form_of};
+ghost use Rattle.hub_protocol.specs.Spelling.{Form, IsForm, IsSoundForm, IsWithin, spelling, form_of, request_from};
 ghost use Rattle.hub_protocol.specs.Reading.{HasForm, Spells, IsReading, first_word};
 
-/// No line spells two forms, and so no line spells two requests.
+/// No line spells two forms, and so no line spells two requests: a request is made again from its form.
 pub fn no_line_is_spelled_twice()
     ensures forms { (line : List ℕ) (a b : Form) → HasForm line a → HasForm line b → a ≡ b }
     ensures requests { (line : List ℕ) (a b : Request) → Spells line a → Spells line b → a ≡ b }
+    ensures remade { (request : Request) → request_from (form_of request) ≡ request }
 {}
 
 /// Unless memory runs out, a line is read in one way.

@@ -40,45 +40,72 @@ pub enum Ending {
 /// A word, the fields behind it, and what ends its line.
 pub type Row = (&'static [u8], &'static [Kind], Ending);
 
-const ANY: Kind = Kind::Number(0, u64::MAX);
+const NAME: Kind = Kind::Name;
 
 const WAITING: Kind = Kind::Number(1, MOST_WAITING);
 
 const TOTAL: Kind = Kind::Number(1, MOST_EVENTS);
 
+const REPORTS: Kind = Kind::Flag;
+
+const LETTERS: Kind = Kind::Letters;
+
+const ANY: Kind = Kind::Number(0, u64::MAX);
+
 const MAX: Kind = Kind::Number(1, MOST_TAKEN);
+
+const MODE: Kind = Kind::Mode;
+
+const SPAN: Kind = Kind::Span;
+
+const WANT: Kind = Kind::Want;
 
 const TURNS: Kind = Kind::Number(0, MOST_TURNS);
 
 /// The most fields that a row has.
 pub const MOST_FIELDS: usize = 4;
 
+/// Hands the forms of all requests to the macro `$read`, behind what that is given: the word of each, the request, the place
+/// and the kind of each field, and what ends the line. All that the crate does with a word is written from here.
+macro_rules! forms {
+    ($read:ident $given:tt) => {
+        $read! {
+            $given (a b c d)
+            b"dir" Dir { name: a NAME, waiting: b WAITING, total: c TOTAL } Evict(evict)
+            b"svc" Svc { name: a NAME, waiting: b WAITING, total: c TOTAL, notifies: d REPORTS } Evict(evict)
+            b"sub" Sub { name: a NAME } Nothing
+            b"pub" Pub { name: a NAME, letters: b LETTERS } Nothing
+            b"take" Take { id: a ANY, max: b MAX } Nothing
+            b"cancel" Cancel { id: a ANY } Nothing
+            b"close" Close { name: a NAME } Nothing
+            b"status" Status { name: a NAME } Nothing
+            b"listen" Listen { name: a NAME, mode: b MODE } Pattern(pattern)
+            b"poll" Poll { id: a ANY } Nothing
+            b"await" Await { id: a ANY, turns: b TURNS } Nothing
+            b"wait" Wait { span: a SPAN, want: b WANT, turns: c TURNS } Names(names)
+            b"names" Names { from: a ANY } Nothing
+        }
+    };
+}
+
+pub(crate) use forms;
+
+// The rows of the table.
+macro_rules! rows {
+    ($given:tt $places:tt
+     $($word:literal $request:ident { $($field:ident: $place:ident $kind:ident),* } $ending:ident $(($last:ident))?)*) => {
+        &[$(($word, &[$($kind),*], Ending::$ending)),*]
+    };
+}
+
 /// The forms of all lines.
-pub const ROWS: [Row; 13] = [
-    (b"dir", &[Kind::Name, WAITING, TOTAL], Ending::Evict),
-    (
-        b"svc",
-        &[Kind::Name, WAITING, TOTAL, Kind::Flag],
-        Ending::Evict,
-    ),
-    (b"sub", &[Kind::Name], Ending::Nothing),
-    (b"pub", &[Kind::Name, Kind::Letters], Ending::Nothing),
-    (b"take", &[ANY, MAX], Ending::Nothing),
-    (b"cancel", &[ANY], Ending::Nothing),
-    (b"close", &[Kind::Name], Ending::Nothing),
-    (b"status", &[Kind::Name], Ending::Nothing),
-    (b"listen", &[Kind::Name, Kind::Mode], Ending::Pattern),
-    (b"poll", &[ANY], Ending::Nothing),
-    (b"await", &[ANY, TURNS], Ending::Nothing),
-    (b"wait", &[Kind::Span, Kind::Want, TURNS], Ending::Names),
-    (b"names", &[ANY], Ending::Nothing),
-];
+pub const ROWS: &[Row] = forms!(rows());
 
 /// The row of the word. None if no row has it.
 pub fn row_of(word: &[u8]) -> Option<Row>
     ensures { IsRowOf table word.now result }
 {
-    row_in(&ROWS, word)
+    row_in(ROWS, word)
 }
 
 fn row_in(rows: &[Row], word: &[u8]) -> Option<Row>

@@ -4,6 +4,7 @@ ghost use Rattle.hub_requests.specs.Names.{names_text};
 ghost use Rattle.hub_protocol.specs.Spelling.{form_of, pieces_of_last, says, spelling, text_of_field};
 ghost use Rattle.hub_protocol.specs.Writing.{Appends, field_told, last_told, line_of_request};
 
+use crate::table::forms;
 use crate::words::Spelled;
 use crate::writing::{append_letters, append_name, append_names, append_number};
 use hub_letters::{Mode, Span, Want};
@@ -56,87 +57,41 @@ fn append_line(request: &Request, out: &mut Vec<u8>) -> Result<(), AllocError>
     Ok(())
 }
 
+// A field of this kind.
+macro_rules! told {
+    (NAME $field:ident) => { Told::Name($field) };
+    (LETTERS $field:ident) => { Told::Letters($field) };
+    (MODE $field:ident) => { Told::Mode(*$field) };
+    (SPAN $field:ident) => { Told::Span(*$field) };
+    (WANT $field:ident) => { Told::Want(*$field) };
+    (REPORTS $field:ident) => { Told::Number(u64::from(*$field)) };
+    ($number:ident $field:ident) => { Told::Number(*$field) };
+}
+
+// What ends the line of a request.
+macro_rules! end {
+    (Nothing) => { End::Nothing };
+    (Names $last:ident) => { End::Names($last) };
+    (Pattern $last:ident) => { End::Pattern($last) };
+    (Evict $last:ident) => { End::Evict(*$last) };
+}
+
+// Appends the word of the request, its fields and its end.
+macro_rules! appended {
+    (($said:ident, $out:ident) $places:tt
+     $($word:literal $request:ident { $($field:ident: $place:ident $kind:ident),* } $ending:ident $(($last:ident))?)*) => {
+        match $said {
+            $(Request::$request { $($field,)* $($last)? } => {
+                append_form($word, &[$(told!($kind $field)),*], end!($ending $($last)?), $out)
+            })*
+        }
+    };
+}
+
 fn append_request(request: &Request, out: &mut Vec<u8>) -> Result<(), AllocError>
     ensures { Appends out.old out.new result (spelling (form_of request.now)) }
 {
-    match request {
-        Request::Dir {
-            name,
-            waiting,
-            total,
-            evict,
-        } => {
-            let fields = [
-                Told::Name(name),
-                Told::Number(*waiting),
-                Told::Number(*total),
-            ];
-            append_form(b"dir", &fields, End::Evict(*evict), out)
-        }
-        Request::Svc {
-            name,
-            waiting,
-            total,
-            notifies,
-            evict,
-        } => {
-            let reports = Told::Number(u64::from(*notifies));
-            let fields = [
-                Told::Name(name),
-                Told::Number(*waiting),
-                Told::Number(*total),
-                reports,
-            ];
-            append_form(b"svc", &fields, End::Evict(*evict), out)
-        }
-        Request::Sub { name } => append_form(b"sub", &[Told::Name(name)], End::Nothing, out),
-        Request::Pub { name, letters } => {
-            append_form(
-                b"pub",
-                &[Told::Name(name), Told::Letters(letters)],
-                End::Nothing,
-                out,
-            )
-        }
-        Request::Take { id, max } => {
-            append_form(
-                b"take",
-                &[Told::Number(*id), Told::Number(*max)],
-                End::Nothing,
-                out,
-            )
-        }
-        Request::Cancel { id } => append_form(b"cancel", &[Told::Number(*id)], End::Nothing, out),
-        Request::Close { name } => append_form(b"close", &[Told::Name(name)], End::Nothing, out),
-        Request::Status { name } => append_form(b"status", &[Told::Name(name)], End::Nothing, out),
-        Request::Listen {
-            name,
-            mode,
-            pattern,
-        } => {
-            let fields = [Told::Name(name), Told::Mode(*mode)];
-            append_form(b"listen", &fields, End::Pattern(pattern), out)
-        }
-        Request::Poll { id } => append_form(b"poll", &[Told::Number(*id)], End::Nothing, out),
-        Request::Await { id, turns } => {
-            append_form(
-                b"await",
-                &[Told::Number(*id), Told::Number(*turns)],
-                End::Nothing,
-                out,
-            )
-        }
-        Request::Wait {
-            span,
-            want,
-            turns,
-            names,
-        } => {
-            let fields = [Told::Span(*span), Told::Want(*want), Told::Number(*turns)];
-            append_form(b"wait", &fields, End::Names(names), out)
-        }
-        Request::Names { from } => append_form(b"names", &[Told::Number(*from)], End::Nothing, out),
-    }
+    forms!(appended(request, out))
 }
 
 fn append_form(
