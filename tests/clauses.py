@@ -25,6 +25,8 @@ NAMES = re.compile(r"(note: )?(\./)?proofs/.*(has no field|is not in scope|has n
 RESTS = re.compile(r"(?:\./)?proofs/(?:\w+/)*(\w+)/\w+\.antt:.* which was not admitted, (?:was|were) not checked: (.*)")
 # Functions that a derive may write besides, whose names alone say too little.
 DERIVED = {"clone", "cmp", "eq", "fmt", "hash", "partial_cmp"}
+# The head of a trait or an impl: the trait, or the impl's parameters, its trait with its types, and its type.
+HEAD = re.compile(r"(?:pub )?(?:trait (\w+)|impl(?:<(.*?)>)? (?:([\w:]+)(?:<(.*)>)? for )?&?([\w:]+))")
 # How many seconds a check may take, if nothing else says when it ends.
 SECONDS = 3600
 # Runs `rt check` over the libraries as they are. `rt ci` leaves them without the stamps by which `rt check` knows them. The first word
@@ -130,30 +132,43 @@ def lacking(name):
     return next((fault for it in sorted(crates_below(name) - {name}) if (fault := library_of(it)[1])), None)
 
 
+def joined(words, left_out):
+    """Returns the words of a text as one word, as `rt` names an impl by the types in its head, without its parameters."""
+    return "".join(it[0].upper() + it[1:] for it in re.findall(r"\w+", words) if it not in left_out)
+
+
 def functions_in(crate):
-    """Yields the functions of a crate: the file, the type, the trait, and the name. What a type or trait lacks is empty."""
+    """Yields the functions of a crate: the file, the line, the type, the trait with its types, and the name. What a type or trait lacks
+    is empty."""
     for file in sorted(crate.glob("src/**/*.rt")):
         kind = trait = ""
-        for line in file.read_text(encoding="utf-8").splitlines():
-            head = re.match(r"(?:pub )?(?:(trait) (\w+)|impl(?:<.*?>)? (?:([\w:]+)(?:<.*>)? for )?&?([\w:]+))", line)
-            if head:
-                kind, trait = (head[4] or "").split("::")[-1], (head[2] or head[3] or "").split("::")[-1]
+        for number, line in enumerate(file.read_text(encoding="utf-8").splitlines(), 1):
+            if head := HEAD.match(line):
+                name, parameters, of, types, it = head.groups()
+                kind = (it or "").split("::")[-1]
+                trait = (of or name or "").split("::")[-1] + joined(types or "", re.findall(r"(?:^|, )(\w+)", parameters or ""))
             elif line.startswith("}"):
                 kind = trait = ""
             for name in re.findall(r"\bfn (\w+)", line):
-                yield str(file.relative_to(crate)), kind, trait, name
+                yield str(file.relative_to(crate)), number, kind, trait, name
 
 
 def path_of(edit):
     """Returns the path by which `rt` knows the function that has to refuse the edit: its name, or, if the crate has several of that name,
-    with its module and type. A function in a file that the edit changes comes first."""
+    with its module and type. A function in a file that the edit changes comes first, and there the one nearest above the change."""
     *owner, name = edit.refused_by[0].split("::")
-    found = [it for it in functions_in(edit.crate) if it[3] == name]
+    found = [it for it in functions_in(edit.crate) if it[4] == name]
     if len(found) == 1 and name not in DERIVED:
         return name
-    changed = {file for file, _, _ in edit.pairs}
-    fits = [it for it in found if not owner or owner[-1] in (it[1], it[2], it[1] + it[2], Path(it[0]).stem)]
-    for file, kind, trait, _ in sorted(fits, key=lambda it: it[0] not in changed):
+    changed = {}
+    for path, old, _ in edit.pairs:
+        changed.setdefault(path, (edit.crate / path).read_text(encoding="utf-8").partition(old)[0].count("\n") + 1)
+
+    def distance(it):
+        return changed[it[0]] - it[1] if it[0] in changed and it[1] <= changed[it[0]] else sys.maxsize - (it[0] in changed)
+
+    fits = [it for it in found if not owner or owner[-1] in (it[2], it[3], it[2] + it[3], Path(it[0]).stem)]
+    for file, _, kind, trait, _ in sorted(fits, key=distance):
         module = [it for it in file[len("src/") : -len(".rt")].split("/") if it != "lib"]
         return "::".join([*module, *([kind + trait] if kind + trait else []), name])
     return edit.refused_by[0]
