@@ -150,47 +150,49 @@ class Supervisor(Role):
         return text, stage
 
 
-class Taker(Role):
+class Hearer(Role):
+    """Hears a fifodir that is no service, by a handle."""
+
+    def hear(self, begin, ask, word, *nothing):
+        """Begins, and asks behind each await until it may end or is evicted. The requests have NAME for the fifodir, and HANDLE. A reply has
+        this word before what came, and `nothing` is what both say if nothing did. Returns the name, the numbers of events before and after
+        it began, and what came, and then the handle, and whether it was evicted."""
+        name = self.dice.choice(list(PLAIN))
+        before = self.number(name)
+        handle = self.subscribe(begin.replace("NAME", name))
+        heard = name, before, self.number(name), []
+        while self.goes_on(one_in=2_000):
+            woken, reply = self.ask(f"await {handle} 100", ask.replace("HANDLE", str(handle)))
+            if reply.startswith(f"{word} "):
+                heard[3].append(reply[len(word) + 1 :])
+            elif reply == "evicted" and PLAIN[name].endswith("evict"):
+                return heard, handle, True
+            else:
+                self.log.is_one_of(f"await, {ask}", f"{woken}, {reply}", *nothing)
+        return heard, handle, False
+
+
+class Taker(Hearer):
     """Subscribes, and takes everything."""
 
     def serve(self):
-        name = self.dice.choice(list(PLAIN))
-        before = self.number(name)
-        handle = self.subscribe(f"sub {name}")
-        after, letters = self.number(name), []
-        while self.goes_on(one_in=2_000):
-            woken, reply = self.ask(f"await {handle} 100", f"take {handle} 256")
-            if reply.startswith("got "):
-                letters.append(reply[4:])
-            elif reply == "evicted" and PLAIN[name].endswith("evict"):
-                self.log.is_one_of("take again", self.ask(f"take {handle} 1")[0], "evicted")
-                break
-            else:
-                self.log.is_one_of("await, take", f"{woken}, {reply}", "late, none")
-        self.log.stretches.append((name, before, after, "".join(letters)))
+        (name, before, after, came), handle, is_evicted = self.hear("sub NAME", "take HANDLE 256", "got", "late, none")
+        if is_evicted:
+            self.log.is_one_of("take again", self.ask(f"take {handle} 1")[0], "evicted")
+        self.log.stretches.append((name, before, after, "".join(came)))
         self.log.taken += len(self.log.stretches[-1][3])
         if self.dice.random() < 0.5:
             self.cancel(handle)
 
 
-class Listener(Role):
+class Listener(Hearer):
     """Listens for a pattern, and polls."""
 
     def serve(self):
-        name = self.dice.choice(list(PLAIN))
-        before = self.number(name)
-        handle = self.subscribe(f"listen {name} repeat {PATTERN}")
-        after, hits = self.number(name), []
-        while self.goes_on(one_in=2_000):
-            woken, reply = self.ask(f"await {handle} 100", f"poll {handle}")
-            if reply.startswith("hit "):
-                hits.append(reply[4:])
-            elif reply == "evicted" and PLAIN[name].endswith("evict"):
-                self.cancel(handle)
-                break
-            else:
-                self.log.is_one_of("await, poll", f"{woken}, {reply}", "late, none", "ok, none")
-        self.log.hits.append((name, before, after, hits))
+        heard, handle, is_evicted = self.hear(f"listen NAME repeat {PATTERN}", "poll HANDLE", "hit", "late, none", "ok, none")
+        if is_evicted:
+            self.cancel(handle)
+        self.log.hits.append(heard)
 
 
 class Waiter(Role):
