@@ -13,6 +13,7 @@ import tempfile
 import time
 from pathlib import Path
 
+import libraries
 from editing import ROOT, apply, copy_sources, edited
 from running import Untried, run
 from trials import kit
@@ -98,23 +99,11 @@ def crates_below(name):
     return found
 
 
-def library_of(name):
-    """Returns the library of a crate, and why it can't be used: it isn't built, or is older than its crate's sources."""
-    crate = ROOT / "crates" / name
-    library = crate / "out" / "rlib"
-    file = library / f"{name}.rlib" / "format"
-    if not file.is_file():
-        return library, f"the library {name} isn't built"
-    sources = (it for part in ("src", "specs", "proofs") for it in (crate / part).rglob("*") if it.is_file())
-    newer = any(it.stat().st_mtime > file.stat().st_mtime for it in sources)
-    return library, f"the library {name} is older than its sources" if newer else None
-
-
 def copy_with_libraries(tree, name):
     """Copies the sources. The crates below this one have their libraries there, as they are."""
     copy_sources(tree)
     for below in crates_below(name) - {name}:
-        library = library_of(below)[0]
+        library = libraries.library_of(below)
         if library.is_dir():
             shutil.copytree(library, tree / "crates" / below / "out" / "rlib", copy_function=link_or_copy)
 
@@ -129,7 +118,7 @@ def link_or_copy(file, to):
 
 def lacking(name):
     """Returns why a library below this crate can't be used, or None."""
-    return next((fault for it in sorted(crates_below(name) - {name}) if (fault := library_of(it)[1])), None)
+    return next((fault for it in sorted(crates_below(name) - {name}) if (fault := libraries.fault_of(it))), None)
 
 
 def joined(words, left_out):
@@ -154,11 +143,12 @@ def functions_in(crate):
 
 
 def path_of(edit):
-    """Returns the path by which `rt` knows the function that has to refuse the edit: its name, or, if the crate has several of that name,
-    with its module and type. A function in a file that the edit changes comes first, and there the one nearest above the change."""
+    """Returns the path by which `rt` knows the function that has to refuse the edit: its name, or, if the crate has several of that name
+    or a module of it, with its module and type. A function in a file that the edit changes comes first, and there the one nearest above
+    the change."""
     *owner, name = edit.refused_by[0].split("::")
     found = [it for it in functions_in(edit.crate) if it[4] == name]
-    if len(found) == 1 and name not in DERIVED:
+    if len(found) == 1 and name not in DERIVED and not any(edit.crate.glob(f"src/**/{name}.rt")):
         return name
     changed = {}
     for path, old, _ in edit.pairs:
