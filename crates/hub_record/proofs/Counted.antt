@@ -6,8 +6,7 @@ use Rattle.std.proofs.lemmas.List.Sums.{fails_before_first, passes_at_first}
 use Rattle.std.specs.Map.{lookup, set_value, remove_entry}
 use Rattle.hub_record.specs.World.{least}
 use Rattle.hub_record.specs.Backlog.{standing_at, standing_in, with_one_more, with_one_less, first_place}
-use Rattle.hub_record.proofs.Standing.{one, none, one_at, standing_at-push, standing_at-set_value, standing_at-remove_entry, standing_at-some, standing_at-two}
-use Rattle.hub_record.proofs.Least.{least_bound, least_bound_standing, least_met}
+use Rattle.hub_record.proofs.Standing.{one, none, one_at, standing_at-push, standing_at-set_value, standing_at-remove_entry, standing_at-some, standing_at-two, least_bound, least_bound_standing, least_met}
 use Rattle.hub_record.proofs.Slow.{standing_at-standing_in}
 
 -- place k counts the cursors at base + k

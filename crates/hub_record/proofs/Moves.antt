@@ -1,18 +1,18 @@
 -- What a backlog keeps after a cursor moves or is gone, and what each call then shows.
 use Rattle.std.proofs.Common.{ℕ, ◌≡◌, ◌↔◌, ◌+◌, ◌-◌, ◌<◌, ◌≤◌, ◌⊎◌, Bool, true, false, IsTrue, nat_lt, nat_le, if◌then◌else◌, List, [], ◌∷◌, ◌++◌, Some, None, Ok, min, length, take, drop, get_or, All, nat_eq, refl, sym, ap, subst, ◌∙◌, inl, inr, arith}
-use Rattle.std.proofs.lemmas.Bool.{lt-ltb, ltb-true, ltb-false, leb-true, le-leb}
+use Rattle.std.proofs.lemmas.Bool.{cases_Bool, lt-ltb, ltb-true, ltb-false, leb-true, le-leb}
 use Rattle.std.proofs.lemmas.List.{nil_from_length, drop-drop, drop-append-le, drop_all, length-append, length-drop, length-set}
 use Rattle.std.proofs.lemmas.Map.Views.{All-values-set_value, All-map-remove_entry}
 use Rattle.std.proofs.lemmas.Map.{keys-set_value, length-set_value}
-use Rattle.std.specs.Option.{is_some}
+use Rattle.std.specs.Option.{is_some, IfSome}
 use Rattle.std.specs.Map.{lookup, set_value, remove_entry, keys_of, values_of}
 use Rattle.circular_buffer.specs.Buffer.{Buffer, buffer}
 use Rattle.hub_record.specs.declared.limits.Policy.{Policy}
 use Rattle.hub_record.specs.declared.limits.Policy.TheVariants.{Hold, Evict}
 use Rattle.hub_record.specs.declared.Event.{Event}
 use Rattle.hub_record.specs.World.{least, is_slow}
-use Rattle.hub_record.specs.Backlog.{Held, IsKept, IsStill, IsSlow, HasRoomFor, room_for, pending, pending_if, Takes, TakesBy, RemovesBy, next_of, lowest, lowest_in, standing_in, first_place, with_one_more, with_one_less, with_new_id, with_events, with_cursors}
-use Rattle.hub_record.specs.declared.backlog.Found.TheVariants.{Nothing, Lost}
+use Rattle.hub_record.specs.Backlog.{Held, IsKept, IsStill, IsSlow, HasRoomFor, room_for, pending, pending_if, ArePending, Copies, ShowsBy, RemovesBy, next_of, lowest, lowest_in, standing_in, first_place, with_one_more, with_one_less, with_new_id, with_events, with_cursors}
+use Rattle.hub_record.specs.declared.backlog.Found.TheVariants.{Lost}
 use Rattle.hub_record.proofs.Standing.{none}
 use Rattle.hub_record.proofs.Slow.{standing_in-remove_slow, lowest-set_value, lowest-remove_entry}
 use Rattle.hub_record.proofs.Counted.{Counts, counts_remove_entry, counts_remove_below}
@@ -210,28 +210,49 @@ pending_near inside now id next n is found near end =
     ap (λ n. Some (n - next)) (end ∙ ap (λ (h : Held). h.end) (sym is))
     ∙ sym (ap (pending_if inside) found ∙ ap (λ (b : Bool). if b then None else Some (inside.end - next)) near) ∙ ap (λ h. pending h id) is
 
--- ---- take
+-- ---- what is behind a cursor
 
-pub takes_nothing : (before now : Held) (id next : ℕ) (slice : List Event) → before ≡ now → lookup (nat_eq id) before.cursors ≡ Some next → next ≡ now.end → TakesBy now now id slice slice (Ok Nothing)
-takes_nothing before now id next slice is found at = (ap (λ (h : Held). next_of h id) (sym is) ∙ found ∙ ap Some at, refl, refl)
+pub shows_lost : (before now : Held) (id next : ℕ) (slice : List Event) → before ≡ now → lookup (nat_eq id) before.cursors ≡ Some next → before.room < before.end - next → ShowsBy now id slice slice (Ok Lost)
+shows_lost before now id next slice is found slow = (subst (λ h. IsSlow h id) is (next, found, slow), refl)
 
-pub takes_lost : (before now : Held) (id next : ℕ) (slice : List Event) → before ≡ now → lookup (nat_eq id) before.cursors ≡ Some next → before.room < before.end - next → TakesBy now now id slice slice (Ok Lost)
-takes_lost before now id next slice is found slow = (subst (λ h. IsSlow h id) is (next, found, slow), refl, refl)
-
-pub takes_some : (before now after : Held) (id next n base given : ℕ) (counts : Buffer ℕ) (slice filled : List Event) → before ≡ now → lookup (nat_eq id) before.cursors ≡ Some next → IsKept before.room base counts before.end given before.cursors → base ≤ next → (next ≡ now.end → ⊥) → before.end ≡ base + length before.events → n ≡ min (length slice) (length before.events - (next - base)) → filled ≡ take n (drop (next - base) before.events) ++ drop n slice → after ≡ with_cursors before (set_value (nat_eq id) before.cursors (next + n)) → Takes now after id n slice filled
-takes_some before now after id next n base given counts slice filled is found k above apart end count copied moved =
+pub copies : (before now : Held) (id next n base given : ℕ) (counts : Buffer ℕ) (slice filled : List Event) → before ≡ now → lookup (nat_eq id) before.cursors ≡ Some next → IsKept before.room base counts before.end given before.cursors → base ≤ next → (next ≡ now.end → ⊥) → before.end ≡ base + length before.events → n ≡ min (length slice) (length before.events - (next - base)) → filled ≡ take n (drop (next - base) before.events) ++ drop n slice → Copies now id n slice filled
+copies before now id next n base given counts slice filled is found k above apart end count copied =
     let inside = cursor_within before.room base before.end given next (nat_eq id) counts before.cursors k found in
     let near = kept_near before.room base before.end given counts before.cursors k in
     let same = ap (λ (h : Held). h.end) is in
-    subst (λ h. Takes h after id n slice filled) is (record {
-      next = next;
-      stood = found;
-      waited = omega arith;
-      fits = omega arith;
+    subst (λ h. Copies h id n slice filled) is (record {
+      pending = record {
+        next = next;
+        stood = found;
+        waited = omega arith;
+        fits = omega arith;
+        within = omega arith;
+      };
       count = omega arith;
-      moved = moved;
       copied = copied ∙ ap (λ b. take n (drop (next - b) before.events) ++ drop n slice) k.lowest;
     })
+
+-- ---- a cursor that moves on
+
+-- where the cursor is that moves on
+pub pending_at : (before now : Held) (id n next base given : ℕ) (counts : Buffer ℕ) → before ≡ now → IsKept before.room base counts before.end given before.cursors → ArePending now.room now.end now.cursors id n → lookup (nat_eq id) before.cursors ≡ Some next → (base ≤ next) × (next < before.end) × (next + n ≤ before.end)
+pending_at before now id n next base given counts is k pending found =
+    let p = subst (λ h. ArePending h.room h.end h.cursors id n) (sym is) pending in
+    let stood = p.stood in
+    let at : p.next ≡ next = cc in
+    let waited = p.waited in
+    let fits = p.fits in
+    let within = p.within in
+    let above : base ≤ next = elim (cases_Bool (nat_lt next base)) [
+      | inl t ↦ (let slow = slow_below before.room base before.end given next (nat_eq id) counts before.cursors k found (ltb-true next base t) in omega arith)
+      | inr f ↦ ltb-false next base f
+    ] in
+    (above, omega arith, omega arith)
+
+pub advances : (before now after : Held) (id n next : ℕ) → before ≡ now → lookup (nat_eq id) before.cursors ≡ Some next → after ≡ with_cursors before (set_value (nat_eq id) before.cursors (next + n)) → IfSome (next_of now id) (λ next. after ≡ with_cursors now (set_value (nat_eq id) now.cursors (next + n)))
+advances before now after id n next is found moved =
+    subst (λ h. IfSome (next_of h id) (λ next. after ≡ with_cursors h (set_value (nat_eq id) h.cursors (next + n)))) is
+    (subst (λ o. IfSome o (λ next. after ≡ with_cursors before (set_value (nat_eq id) before.cursors (next + n)))) (sym found) moved)
 
 -- ---- remove
 

@@ -6,7 +6,7 @@ use Rattle.hub_record.specs.declared.limits.Policy.{Policy}
 use Rattle.hub_record.specs.declared.limits.Policy.TheVariants.{Hold, Evict}
 use Rattle.hub_record.specs.World.{World, Subscription, IsWorld, current, standing, is_slow, evicts, is_evicted, count_to_take, least, base, load}
 use Rattle.hub_record.specs.Backlog.{standing_in, lowest_in}
-use Rattle.hub_record.proofs.Least.{least_bound_at}
+use Rattle.hub_record.proofs.Standing.{least_bound_at}
 use Rattle.hub_record.proofs.Slow.{lowest_near, lowest_bound_at, none_is_slow}
 
 policy_is : (p : Policy) → (p ≡ Hold) ⊎ (p ≡ Evict)

@@ -14,7 +14,7 @@ use Rattle.hub_record.specs.World.{World, IsWorld, current, standing, new_subscr
 use Rattle.hub_record.specs.Backlog.{Held, IsStill, HasRoomFor, room_for, standing_in, lowest_in, with_new_id, with_events}
 use Rattle.hub_record.specs.Kept.{Kept, StandsFor, stage_in}
 use Rattle.hub_record.proofs.Cursors.{current-push, within_current, within_more, within-push}
-use Rattle.hub_record.proofs.Least.{least_bound, least-push, least_grown}
+use Rattle.hub_record.proofs.Standing.{least_bound, least-push, least_grown}
 use Rattle.hub_record.proofs.Slow.{lowest-push, lowest_grown}
 use Rattle.hub_record.proofs.Policies.{standing_hold, standing_is, base_is_lowest, loaded_by, holds}
 use Rattle.hub_record.proofs.Keeps.{length_stamped}

@@ -11,7 +11,7 @@ use Rattle.std.specs.List.{slice_get, remove}
 use Rattle.std.specs.List.Sorted.{IsPartitionedBy, IsPartitionPoint}
 use Rattle.std.specs.Map.{lookup, set_value, remove_entry, keys_of}
 use Rattle.std.specs.Option.{IfSome}
-use Rattle.hub_record.specs.CursorList.{IsRising}
+use Rattle.hub_record.specs.Backlog.{IsRising}
 
 -- an id above the first one isn't the first one
 differs : (c : ℕ × ℕ) (id : ℕ) → c.0 < id → nat_eq id c.0 ≡ false

@@ -1,7 +1,7 @@
 -- What every run of the model keeps: each event since a mark, once and in order, and each publisher's letters.
-use Rattle.std.proofs.Common.{ℕ, ◌≡◌, ◌==◌, ◌+◌, ◌-◌, ◌≤◌, Bool, if◌then◌else◌, List, [], ◌∷◌, ◌++◌, length, map, filter, take, drop, Option, Some, None, Result, Ok, Err, nat_eq, refl, sym, ap, ◌∙◌, inl, inr, append_assoc, append-nil, arith}
+use Rattle.std.proofs.Common.{ℕ, ◌≡◌, ◌==◌, ◌+◌, ◌-◌, ◌≤◌, Bool, if◌then◌else◌, List, [], ◌∷◌, ◌++◌, length, map, filter, take, drop, Option, Some, None, Result, Ok, Err, nat_eq, refl, sym, ap, ◌∙◌, inl, inr, append_assoc, append-nil, arith, ◌<◌, get_or, subst}
 use Rattle.std.proofs.lemmas.Bool.{cases_Bool}
-use Rattle.std.proofs.lemmas.List.{map-append, length-append, take-append-drop, drop-drop, drop-append-le, take_at, length-drop}
+use Rattle.std.proofs.lemmas.List.{map-append, length-append, take-append-drop, drop-drop, drop-append-le, take_at, length-drop, take_more}
 use Rattle.std.proofs.lemmas.List.Elements.{filter-append}
 use Rattle.hub_record.specs.declared.Event.{Event}
 use Rattle.hub_record.specs.declared.SubError.{SubError}
@@ -12,7 +12,7 @@ use Rattle.hub_record.specs.declared.runs.Said.{Said}
 use Rattle.hub_record.specs.declared.runs.Said.TheVariants.{Subscribed, Published}
 use Rattle.hub_record.specs.World.{World, Subscription, subscription_in, changed_from, new_subscription, as_events, moved_on, count_to_take, as_cancelled, after_subscribe, after_publish, after_take_for, after_cancel_for}
 use Rattle.hub_record.proofs.Policies.{count_within}
-use Rattle.hub_record.specs.Runs.{after_call, world_after, GathersSinceMark, EachGathersSinceMark, AllGatherSinceMark, by, letters_accepted, letters_published}
+use Rattle.hub_record.specs.Runs.{after_call, world_after, GathersSinceMark, EachGathersSinceMark, AllGatherSinceMark, by, letters_accepted, letters_published, SaidTo, IsRun}
 
 -- ---- since
 
@@ -130,3 +130,28 @@ run_published p w (call ∷ calls) [] = sym (append-nil (by p w.events))
 run_published p w (call ∷ calls) (said ∷ rest) =
     run_published p (after_call w call said) calls rest ∙ ap (λ z. z ++ letters_published p calls rest) (own_call p w call said)
     ∙ append_assoc (by p w.events) (letters_accepted p call said) (letters_published p calls rest)
+
+-- ---- a run with one more call
+
+pub run-push : (w : World) (calls : List Call) (replies : List Said) (call : Call) (said : Said) → IsRun w calls replies → SaidTo (world_after w calls replies) call said → IsRun w (calls ++ call ∷ []) (replies ++ said ∷ [])
+run-push w [] [] call said r h = (h, tt)
+run-push w [] (x ∷ rest) call said r h = absurd r
+run-push w (c ∷ calls) [] call said r h = absurd r
+run-push w (c ∷ calls) (x ∷ rest) call said r h = (r.0, run-push (after_call w c x) calls rest call said r.1 h)
+
+pub after-push : (w : World) (calls : List Call) (replies : List Said) (call : Call) (said : Said) → IsRun w calls replies → world_after w (calls ++ call ∷ []) (replies ++ said ∷ []) ≡ after_call (world_after w calls replies) call said
+after-push w [] [] call said r = refl
+after-push w [] (x ∷ rest) call said r = absurd r
+after-push w (c ∷ calls) [] call said r = absurd r
+after-push w (c ∷ calls) (x ∷ rest) call said r = after-push (after_call w c x) calls rest call said r.1
+
+-- the run so far with one more call; the calls so far are the first i
+pub stepped : (w : World) (all : List Call) (i : ℕ) (replies replies' : List Said) (call : Call) (said : Said) → i < length all → call ≡ get_or all i call → IsRun w (take i all) replies → SaidTo (world_after w (take i all) replies) call said → replies' ≡ replies ++ said ∷ [] → IsRun w (take (i + 1) all) replies'
+stepped w all i replies replies' call said h at run told is =
+    let more : take (i + 1) all ≡ take i all ++ call ∷ [] = take_more all i call h ∙ ap (λ z. take i all ++ z ∷ []) (sym at) in
+    subst (λ z. IsRun w z replies') (sym more) (subst (λ z. IsRun w (take i all ++ call ∷ []) z) (sym is) (run-push w (take i all) replies call said run told))
+
+pub stepped_world : (w : World) (all : List Call) (i : ℕ) (replies replies' : List Said) (call : Call) (said : Said) → i < length all → call ≡ get_or all i call → IsRun w (take i all) replies → replies' ≡ replies ++ said ∷ [] → after_call (world_after w (take i all) replies) call said ≡ world_after w (take (i + 1) all) replies'
+stepped_world w all i replies replies' call said h at run is =
+    let more : take (i + 1) all ≡ take i all ++ call ∷ [] = take_more all i call h ∙ ap (λ z. take i all ++ z ∷ []) (sym at) in
+    sym (after-push w (take i all) replies call said run) ∙ sym (λ j. world_after w (more j) (is j))

@@ -5,8 +5,7 @@ use Rattle.std.proofs.lemmas.List.Elements.{All-nil, All-cons, All-head, All-tai
 use Rattle.std.specs.Map.{lookup, set_value, remove_entry, values_of}
 use Rattle.hub_record.specs.World.{least, is_slow}
 use Rattle.hub_record.specs.Backlog.{standing_at, standing_in, lowest_in}
-use Rattle.hub_record.proofs.Standing.{one, none, standing_at-cons}
-use Rattle.hub_record.proofs.Least.{least-push, least_met}
+use Rattle.hub_record.proofs.Standing.{one, none, standing_at-cons, least-push, least_met}
 
 module _ (room end : ℕ) where
   slow_cons : (c : ℕ × ℕ) (cs : List (ℕ × ℕ)) → is_slow room end c.1 ≡ true → standing_in room end (c ∷ cs) ≡ standing_in room end cs

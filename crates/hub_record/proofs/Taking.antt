@@ -2,7 +2,7 @@
 use Rattle.std.proofs.Common.{ℕ, ◌≡◌, ◌+◌, ◌-◌, ◌<◌, ◌≤◌, min, Bool, true, false, if◌then◌else◌, inl, inr, List, [], ◌++◌, length, take, drop, Option, Some, None, Result, Ok, Err, IsOk, IsSome, nat_eq, nat_lt, refl, sym, ap, subst, ◌∙◌, append-nil, arith}
 use Rattle.std.proofs.lemmas.Bool.{cases_Bool, lt-ltb, le-ltb, ltb-true, ltb-false}
 use Rattle.std.proofs.lemmas.List.{length-drop, length-take-le}
-use Rattle.std.specs.Option.{option_map}
+use Rattle.std.specs.Option.{option_map, IfSome}
 use Rattle.std.specs.Map.{lookup, set_value, remove_entry}
 use Rattle.hub_record.specs.declared.Event.{Event}
 use Rattle.hub_record.specs.declared.limits.Limits.{Limits}
@@ -10,10 +10,10 @@ use Rattle.hub_record.specs.declared.Taken.{Taken}
 use Rattle.hub_record.specs.declared.Taken.TheVariants.{Got, Nothing, End, Evicted}
 use Rattle.hub_record.specs.declared.NoId.{NoId}
 use Rattle.hub_record.specs.World.{World, Subscription, IsWorld, current, is_slow, is_evicted, subscription_in, changed_from, with_changed, least, base, as_cancelled, events_to_take, moved_on, moved_for, count_to_take, take_events, reply_for, take_reply, after_take, after_take_for, cancel_for, cancel_reply, after_cancel, after_cancel_for}
-use Rattle.hub_record.specs.Backlog.{Held, IsSlow, Takes, RemovesBy, lowest, lowest_in, with_cursors}
-use Rattle.hub_record.specs.Kept.{Kept, StandsFor}
+use Rattle.hub_record.specs.Backlog.{Held, IsSlow, Copies, RemovesBy, next_of, lowest, lowest_in, with_cursors}
+use Rattle.hub_record.specs.Kept.{Kept, StandsFor, SaysPending}
 use Rattle.hub_record.proofs.Cursors.{lookup_current, set_current, removed_current, unchanged, within-changed, length-changed}
-use Rattle.hub_record.proofs.Least.{least-set_value, least-remove_entry}
+use Rattle.hub_record.proofs.Standing.{least-set_value, least-remove_entry}
 use Rattle.hub_record.proofs.Slow.{lowest_bound_at, lowest-set_value, lowest-remove_entry}
 use Rattle.hub_record.proofs.Policies.{base_is_lowest, loaded_by, holds, evicted_is_slow, count_within, count_evicted, count_standing}
 use Rattle.hub_record.proofs.StandsForWorlds.{held_of, with_held, found_some, found_none, lowest_is, later, recut_stands, still}
@@ -113,33 +113,17 @@ reply_got w most s up more = simp (up, more)
 pub reply_none : (w : World) (most : ℕ) (s : Subscription) → is_evicted w s.next ≡ false → nat_lt s.next (length w.events) ≡ false → reply_for w most (Some s) ≡ (if w.closed then Ok End else Ok Nothing)
 reply_none w most s up more = simp (up, more)
 
--- what a take says, what stands after it, and how it fills the slice
-abbrev pub AnswersTake : Kept → World → ℕ → List Event → List Event → Result Taken NoId → Type 0
-AnswersTake r w id slice filled reply = (reply ≡ take_reply w id (length slice)) × StandsFor r (after_take w id (length slice)) × (filled ≡ take_events w id (length slice) ++ drop (length (take_events w id (length slice))) slice)
+-- what a take says, and how it fills the slice
+abbrev pub TellsTake : World → ℕ → List Event → List Event → Result Taken NoId → Type 0
+TellsTake w id slice filled reply = (reply ≡ take_reply w id (length slice)) × (filled ≡ take_events w id (length slice) ++ drop (length (take_events w id (length slice))) slice)
 
--- the answer of a take that moves nothing
-still_answers : (r : Kept) (h : Held) (w : World) (id room : ℕ) (s : Subscription) (slice filled : List Event) (reply : Result Taken NoId) → StandsFor r w → subscription_in w id ≡ Some s → count_to_take w s (length slice) ≡ 0 → h ≡ held_of r room → filled ≡ slice
-    → reply ≡ reply_for w (length slice) (Some s) → AnswersTake (with_held r h) w id slice filled reply
-still_answers r h w id room s slice filled reply st f none same written is = (
+-- of a take that moves nothing
+nothing_told : (w : World) (id : ℕ) (s : Subscription) (slice filled : List Event) (reply : Result Taken NoId) → subscription_in w id ≡ Some s → count_to_take w s (length slice) ≡ 0 → filled ≡ slice
+    → reply ≡ reply_for w (length slice) (Some s) → TellsTake w id slice filled reply
+nothing_told w id s slice filled reply f none written is = (
   is ∙ ap (reply_for w (length slice)) (sym f),
-  subst (StandsFor (with_held r h)) (sym (take_still w id (length slice) s f none)) (still r h w room same st),
   written ∙ sym (ap (λ z. z ++ drop (length z) slice) (nothing_taken w id (length slice) s f none)),
 )
-
-take_stands : (r : Kept) (h : Held) (w : World) (id v most count room : ℕ) → StandsFor r w → room ≡ r.limits.waiting → lookup (nat_eq id) r.cursors ≡ Some v → is_slow room r.end v ≡ false → count ≡ min most (r.end - v) → h ≡ with_cursors (held_of r room) (set_value (nat_eq id) r.cursors (v + count)) → StandsFor (with_held r h) (after_take w id most)
-take_stands r h w id v most count room s at e near c moved =
-    let f = found_some r w id v s e in
-    let n = s.end in
-    let is = f.2 in
-    let up : is_evicted w f.0.next ≡ false = sym (near_standing r w id v room f.0 s at f.1 is) ∙ near in
-    let counted = count_standing w f.0 most up in
-    let same : v + count ≡ f.0.next + count_to_take w f.0 most = omega arith in
-    let world = moved_world w id most f.0 s.world f.1 in
-    let fast : is_slow w.limits.waiting (length w.events) f.0.next ≡ false = sym (evicted_is_slow w id f.0.next s.world (cursor_is w id f.0 f.1)) ∙ up in
-    let stands : StandsFor (with_held r h) (with_changed w id (moved_on w most)) =
-    recut_stands r h w (changed_from (moved_on w most) 1 w.subscriptions id) _ room s at world (length-changed (moved_on w most) 1 w.subscriptions id)
-    ((λ i. set_value (nat_eq id) (s.cursors i) (same i)) ∙ sym (set_current (moved_on w most) (λ s. refl) 1 w.subscriptions id f.0 f.1)) (moved_base w id most f.0 s.world world f.1 fast) moved in
-    subst (λ o. StandsFor (with_held r h) (after_take_for w id most o)) (sym f.1) stands
 
 -- n events are taken from what is kept
 events_taken : (r : Kept) (w : World) (id v most count room : ℕ) → StandsFor r w → room ≡ r.limits.waiting → lookup (nat_eq id) r.cursors ≡ Some v → is_slow room r.end v ≡ false → count ≡ min most (r.end - v) → take_events w id most ≡ take count (drop (v - lowest (held_of r room)) r.events)
@@ -153,35 +137,34 @@ events_taken r w id v most count room s at e near c =
     let l = lowest_bound_at room r.end (nat_eq id) r.cursors v e near in
     ap (moved_for w most) f.1 ∙ (λ i. take (same i) (drop (is i) w.events)) ∙ ap (take count) (sym (later w v (omega arith))) ∙ sym (λ i. take count (drop (v - b i) (s.events i)))
 
-pub take_some : (r : Kept) (h : Held) (w : World) (id n room : ℕ) (slice filled : List Event) → StandsFor r w → room ≡ r.limits.waiting → Takes (held_of r room) h id n slice filled → AnswersTake (with_held r h) w id slice filled (Ok (Got n))
-take_some r h w id n room slice filled s at t =
-    let f = found_some r w id t.next s t.stood in
+pub tells_some : (r : Kept) (w : World) (id n room : ℕ) (slice filled : List Event) → StandsFor r w → room ≡ r.limits.waiting → Copies (held_of r room) id n slice filled → TellsTake w id slice filled (Ok (Got n))
+tells_some r w id n room slice filled s at t =
+    let p = t.pending in
+    let f = found_some r w id p.next s p.stood in
     let m = s.end in
     let is = f.2 in
-    let waited = t.waited in
+    let waited = p.waited in
     let count = t.count in
-    let near : is_slow room r.end t.next ≡ false = le-ltb room (r.end - t.next) t.fits in
-    let up : is_evicted w f.0.next ≡ false = sym (near_standing r w id t.next room f.0 s at f.1 is) ∙ near in
+    let near : is_slow room r.end p.next ≡ false = le-ltb room (r.end - p.next) p.fits in
+    let up : is_evicted w f.0.next ≡ false = sym (near_standing r w id p.next room f.0 s at f.1 is) ∙ near in
     let yes : nat_lt f.0.next (length w.events) ≡ true = lt-ltb f.0.next (length w.events) (omega arith) in
     let counted = count_standing w f.0 (length slice) up in
     let same : n ≡ count_to_take w f.0 (length slice) = omega arith in
     let reply : Ok (Got n) ≡ reply_for w (length slice) (Some f.0) = ap (λ z. Ok (Got z)) same ∙ sym (reply_got w (length slice) f.0 up yes) in
     let b : lowest (held_of r room) ≡ base w = lowest_is r w room s at in
-    let low = lowest_bound_at room r.end (nat_eq id) r.cursors t.next t.stood near in
+    let low = lowest_bound_at room r.end (nat_eq id) r.cursors p.next p.stood near in
     let kept = ap length s.events in
     let dropped = length-drop (base w) w.events in
-    let events = events_taken r w id t.next (length slice) n room s at t.stood near count in
-    let d = length-drop (t.next - lowest (held_of r room)) r.events in
-    let long : length (take n (drop (t.next - lowest (held_of r room)) r.events)) ≡ n = length-take-le n (drop (t.next - lowest (held_of r room)) r.events) (omega arith) in
+    let events = events_taken r w id p.next (length slice) n room s at p.stood near count in
+    let d = length-drop (p.next - lowest (held_of r room)) r.events in
+    let long : length (take n (drop (p.next - lowest (held_of r room)) r.events)) ≡ n = length-take-le n (drop (p.next - lowest (held_of r room)) r.events) (omega arith) in
     let size : n ≡ length (take_events w id (length slice)) = sym long ∙ ap length (sym events) in (
       reply ∙ ap (reply_for w (length slice)) (sym f.1),
-      take_stands r h w id t.next (length slice) n room s at t.stood near count t.moved,
       t.copied ∙ (λ i. sym events i ++ drop (size i) slice),
     )
 
-pub take_nothing : (r : Kept) (h : Held) (w : World) (id room : ℕ) (slice filled : List Event) → StandsFor r w → room ≡ r.limits.waiting → lookup (nat_eq id) r.cursors ≡ Some r.end → h ≡ held_of r room → filled ≡ slice
-    → AnswersTake (with_held r h) w id slice filled (if r.closed then Ok End else Ok Nothing)
-take_nothing r h w id room slice filled s at e same written =
+pub tells_nothing : (r : Kept) (w : World) (id room : ℕ) (slice filled : List Event) → StandsFor r w → room ≡ r.limits.waiting → lookup (nat_eq id) r.cursors ≡ Some r.end → filled ≡ slice → TellsTake w id slice filled (if r.closed then Ok End else Ok Nothing)
+tells_nothing r w id room slice filled s at e written =
     let f = found_some r w id r.end s e in
     let m = s.end in
     let is = f.2 in
@@ -189,24 +172,19 @@ take_nothing r h w id room slice filled s at e same written =
     let up : is_evicted w f.0.next ≡ false = sym (near_standing r w id r.end room f.0 s at f.1 is) ∙ near in
     let no : nat_lt f.0.next (length w.events) ≡ false = le-ltb f.0.next (length w.events) (omega arith) in
     let counted = count_standing w f.0 (length slice) up in
-    still_answers r h w id room f.0 slice filled (if r.closed then Ok End else Ok Nothing) s f.1 (omega arith) same written
+    nothing_told w id f.0 slice filled (if r.closed then Ok End else Ok Nothing) f.1 (omega arith) written
     (ap (λ (b : Bool). if b then Ok End else Ok Nothing) s.closed ∙ sym (reply_none w (length slice) f.0 up no))
 
-pub take_lost : (r : Kept) (h : Held) (w : World) (id room : ℕ) (slice filled : List Event) → StandsFor r w → room ≡ r.limits.waiting → IsSlow (held_of r room) id → h ≡ held_of r room → filled ≡ slice
-    → AnswersTake (with_held r h) w id slice filled (Ok Evicted)
-take_lost r h w id room slice filled s at (next, stood, slow) same written =
+pub tells_lost : (r : Kept) (w : World) (id room : ℕ) (slice filled : List Event) → StandsFor r w → room ≡ r.limits.waiting → IsSlow (held_of r room) id → filled ≡ slice → TellsTake w id slice filled (Ok Evicted)
+tells_lost r w id room slice filled s at (next, stood, slow) written =
     let f = found_some r w id next s stood in
     let out : is_evicted w f.0.next ≡ true = sym (near_standing r w id next room f.0 s at f.1 f.2) ∙ lt-ltb room (r.end - next) slow in
-    still_answers r h w id room f.0 slice filled (Ok Evicted) s f.1 (count_evicted w f.0 (length slice) out) same written (sym (reply_evicted w (length slice) f.0 out))
+    nothing_told w id f.0 slice filled (Ok Evicted) f.1 (count_evicted w f.0 (length slice) out) written (sym (reply_evicted w (length slice) f.0 out))
 
-pub take_none : (r : Kept) (h : Held) (w : World) (id room : ℕ) (slice filled : List Event) → StandsFor r w → lookup (nat_eq id) r.cursors ≡ None → h ≡ held_of r room → filled ≡ slice
-    → AnswersTake (with_held r h) w id slice filled (Err (record {}))
-take_none r h w id room slice filled s e same written =
-    let f = found_none r w id s e in (
-      ap (reply_for w (length slice)) (sym f),
-      subst (λ o. StandsFor (with_held r h) (after_take_for w id (length slice) o)) (sym f) (still r h w room same s),
-      written ∙ sym (ap (λ z. z ++ drop (length z) slice) (ap (moved_for w (length slice)) f)),
-    )
+pub tells_none : (r : Kept) (w : World) (id : ℕ) (slice filled : List Event) → StandsFor r w → lookup (nat_eq id) r.cursors ≡ None → filled ≡ slice → TellsTake w id slice filled (Err (record {}))
+tells_none r w id slice filled s e written =
+    let f = found_none r w id s e in
+    (ap (reply_for w (length slice)) (sym f), written ∙ sym (ap (λ z. z ++ drop (length z) slice) (ap (moved_for w (length slice)) f)))
 
 -- ---- what the answer to a take shows of a current subscription
 
@@ -240,3 +218,36 @@ shows_by w most s answer e = subst (AnswerShows w most s) (sym e) (shown w most 
 pub answered : (w : World) (most : ℕ) (s : Subscription) (answer : Result Taken NoId) → AnswerShows w most s answer → IsOk answer
 answered w most s (Ok x) h = refl
 answered w most s (Err e) h = absurd h
+
+-- ---- what stands after a take
+
+-- events were taken, and the cursor is behind them
+pub take_stands : (r : Kept) (h : Held) (w : World) (id most n room : ℕ) → StandsFor r w → room ≡ r.limits.waiting → SaysPending r id (Got n) → Ok (Got n) ≡ take_reply w id most
+    → IfSome (next_of (held_of r room) id) (λ next. h ≡ with_cursors (held_of r room) (set_value (nat_eq id) r.cursors (next + n))) → StandsFor (with_held r h) (after_take w id most)
+take_stands r h w id most n room s at pending told moved =
+    let f = found_some r w id pending.next s pending.stood in
+    let is = f.2 in
+    let got = shows_by w most f.0 (Ok (Got n)) (told ∙ ap (reply_for w most) f.1) in
+    let counted = got.1 in
+    let same : pending.next + n ≡ f.0.next + count_to_take w f.0 most = omega arith in
+    let on = subst (λ o. IfSome o (λ next. h ≡ with_cursors (held_of r room) (set_value (nat_eq id) r.cursors (next + n)))) pending.stood moved in
+    let world = moved_world w id most f.0 s.world f.1 in
+    let fast : is_slow w.limits.waiting (length w.events) f.0.next ≡ false = sym (evicted_is_slow w id f.0.next s.world (cursor_is w id f.0 f.1)) ∙ got.2 in
+    let stands : StandsFor (with_held r h) (with_changed w id (moved_on w most)) =
+    recut_stands r h w (changed_from (moved_on w most) 1 w.subscriptions id) _ room s at world (length-changed (moved_on w most) 1 w.subscriptions id)
+    ((λ i. set_value (nat_eq id) (s.cursors i) (same i)) ∙ sym (set_current (moved_on w most) (λ s. refl) 1 w.subscriptions id f.0 f.1)) (moved_base w id most f.0 s.world world f.1 fast) on in
+    subst (λ o. StandsFor (with_held r h) (after_take_for w id most o)) (sym f.1) stands
+
+-- an answer without events moves nothing
+nothing_counted : (w : World) (most : ℕ) (s : Subscription) (taken : Taken) → AnswerShows w most s (Ok taken) → ((n : ℕ) → taken ≡ Got n → ⊥) → count_to_take w s most ≡ 0
+nothing_counted w most s (Got n) shows not = absurd (not n refl)
+nothing_counted w most s Nothing shows not = let least = shows.0 in let c = count_within w s most in omega arith
+nothing_counted w most s End shows not = let least = shows.0 in let c = count_within w s most in omega arith
+nothing_counted w most s Evicted shows not = count_evicted w s most shows
+
+pub take_rests : (w : World) (id most : ℕ) (taken : Taken) → Ok taken ≡ take_reply w id most → ((n : ℕ) → taken ≡ Got n → ⊥) → after_take w id most ≡ w
+take_rests w id most taken told not = by (subscription_in w id) refl
+  where
+    by : (o : Option Subscription) → subscription_in w id ≡ o → after_take w id most ≡ w
+    by None f = ap (after_take_for w id most) f
+    by (Some s) f = take_still w id most s f (nothing_counted w most s taken (shows_by w most s (Ok taken) (told ∙ ap (reply_for w most) f)) not)

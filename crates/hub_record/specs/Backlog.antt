@@ -1,13 +1,13 @@
 -- What a contract sees of the events that are kept, and of the cursors into them.
 use Rattle.std.specs.Prelude.{ℕ, ◌≡◌, ◌⊎◌, ◌==◌, if◌then◌else◌, ◌+◌, ◌-◌, ◌<◌, ◌≤◌, not, List, [], ◌∷◌, ◌++◌, Option, Some, None, Result, Ok, Err, filter, take, drop, set, get_or, length, min, nat_eq, nat_lt, count_by, All, IsSome}
 use Rattle.std.specs.List.{position_or_len}
-use Rattle.std.specs.Map.{lookup, set_value, remove_entry, keys_of, values_of}
+use Rattle.std.specs.Map.{lookup, remove_entry, keys_of, values_of}
 use Rattle.hub_record.specs.declared.Event.{Event}
 use Rattle.hub_record.specs.declared.NoId.{NoId}
 use Rattle.hub_record.specs.declared.limits.Policy.{Policy}
 use Rattle.hub_record.specs.declared.limits.Policy.TheVariants.{Hold, Evict}
 use Rattle.hub_record.specs.declared.backlog.Found.{Found}
-use Rattle.hub_record.specs.declared.backlog.Found.TheVariants.{Moved, Nothing, Lost}
+use Rattle.hub_record.specs.declared.backlog.Found.TheVariants.{Copied, Nothing, Lost}
 use Rattle.circular_buffer.specs.Buffer.{Buffer}
 use Rattle.hub_record.specs.declared.limits.TheConstants.{MOST_EVENTS, MOST_PASSES}
 use Rattle.hub_record.specs.World.{least, is_slow}
@@ -62,28 +62,32 @@ room_for Evict h n = n
 abbrev pub HasRoomFor : Policy → Held → ℕ → Type 0
 HasRoomFor policy h n = IsStill h ⊎ (room_for policy h n ≤ h.room)
 
--- ---- take
+-- ---- what is pending
 
--- n events are moved to the beginning of a slice
-pub record Takes (before after : Held) (id n : ℕ) (slice filled : List Event) : Type 0 where
+-- the cursor of an id isn't slow, events are pending behind it, and these are at least n
+pub record ArePending (room end : ℕ) (cursors : List (ℕ × ℕ)) (id n : ℕ) : Type 0 where
   pub next : ℕ
-  pub stood : next_of before id ≡ Some next
-  pub waited : next < before.end
-  pub fits : before.end - next ≤ before.room
-  pub count : n ≡ min (length slice) (before.end - next)
-  pub moved : after ≡ with_cursors before (set_value (nat_eq id) before.cursors (next + n))
-  pub copied : filled ≡ take n (drop (next - lowest before) before.events) ++ drop n slice
+  pub stood : lookup (nat_eq id) cursors ≡ Some next
+  pub waited : next < end
+  pub fits : end - next ≤ room
+  pub within : next + n ≤ end
+
+-- n events, which are those that fit, are copied to the beginning of a slice
+pub record Copies (h : Held) (id n : ℕ) (slice filled : List Event) : Type 0 where
+  pub pending : ArePending h.room h.end h.cursors id n
+  pub count : n ≡ min (length slice) (h.end - pending.next)
+  pub copied : filled ≡ take n (drop (pending.next - lowest h) h.events) ++ drop n slice
 
 -- the cursor of the id is slow
 abbrev pub IsSlow : Held → ℕ → Type 0
 IsSlow h id = (next : ℕ) × (next_of h id ≡ Some next) × (h.room < h.end - next)
 
--- for each answer: no such cursor, nothing behind it, too much behind it, or how many were moved
-abbrev pub TakesBy : Held → Held → ℕ → List Event → List Event → Result Found NoId → Type 0
-TakesBy before after id slice filled (Err no_id) = (next_of before id ≡ None) × (after ≡ before) × (filled ≡ slice)
-TakesBy before after id slice filled (Ok Nothing) = (next_of before id ≡ Some before.end) × (after ≡ before) × (filled ≡ slice)
-TakesBy before after id slice filled (Ok Lost) = IsSlow before id × (after ≡ before) × (filled ≡ slice)
-TakesBy before after id slice filled (Ok (Moved n)) = Takes before after id n slice filled
+-- for each answer: no such cursor, nothing behind it, too much behind it, or how many were copied
+abbrev pub ShowsBy : Held → ℕ → List Event → List Event → Result Found NoId → Type 0
+ShowsBy h id slice filled (Err no_id) = (next_of h id ≡ None) × (filled ≡ slice)
+ShowsBy h id slice filled (Ok Nothing) = (next_of h id ≡ Some h.end) × (filled ≡ slice)
+ShowsBy h id slice filled (Ok Lost) = IsSlow h id × (filled ≡ slice)
+ShowsBy h id slice filled (Ok (Copied n)) = Copies h id n slice filled
 
 -- how many events are pending behind the cursor of an id
 abbrev pub pending_if : Held → Option ℕ → Option ℕ
@@ -131,3 +135,10 @@ with_one_less counts place = set counts place (get_or counts place 0 - 1)
 -- the first place at which there is a cursor, or the number of places
 abbrev pub first_place : List ℕ → ℕ
 first_place counts = position_or_len (λ n. nat_lt 0 n) counts
+
+-- ---- the order of the cursors
+
+-- each id is above those before it
+abbrev pub IsRising : List (ℕ × ℕ) → Type 0
+IsRising [] = Unit {0}
+IsRising (c ∷ cs) = All (λ id. c.0 < id) (keys_of cs) × IsRising cs

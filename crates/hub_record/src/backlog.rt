@@ -1,10 +1,11 @@
 //! The pending events, and the cursors into them.
-ghost use Rattle.std.specs.Prelude.{◌≡◌, ◌≤◌, ◌<◌, ◌↔◌, ◌+◌, ◌-◌, ◌++◌, ◌⊎◌, length, replicate, min, IfOk, IfSome, OnErr, IsTrue, drop};
+ghost use Rattle.std.specs.Prelude.{◌≡◌, ◌≤◌, ◌<◌, ◌↔◌, ◌+◌, ◌-◌, ◌++◌, ◌⊎◌, length, replicate, min, IfOk, IfSome, OnErr, IsTrue, drop, nat_eq};
+ghost use Rattle.std.specs.Map.{set_value};
 ghost use Rattle.circular_buffer.specs.Buffer.{buffer};
 ghost use Rattle.hub_record.specs.declared.limits.TheConstants.{MOST_EVENTS, MOST_IDS, MOST_PASSES};
 ghost use Rattle.hub_record.specs.World.{as_events};
 ghost use Rattle.hub_record.specs.Backlog.{Held, nothing_held, lowest, pending, first_place};
-ghost use Rattle.hub_record.specs.Backlog.{with_new_id, with_events, IsStill, HasRoomFor, TakesBy, RemovesBy};
+ghost use Rattle.hub_record.specs.Backlog.{with_new_id, with_events, with_cursors, next_of, IsStill, HasRoomFor, ArePending, ShowsBy, RemovesBy};
 
 use crate::counts::{
     Counts, add_place, cut_places, first_place, has_first, keep_last, lengthen, one_less, one_more,
@@ -17,11 +18,11 @@ use hub_letters::Letter;
 use std::alloc::{AllocError, Global};
 use std::marker::Model;
 
-/// What a take finds behind a cursor.
+/// What is behind a cursor.
 #[derive(Clone, Copy, Debug, PartialEq, Eq, Hash)]
 pub enum Found {
-    /// This many events were moved into the slice.
-    Moved(usize),
+    /// This many events were copied to the slice.
+    Copied(usize),
     /// Nothing is pending.
     Nothing,
     /// More events were pending than there is room for, so that they aren't kept.
@@ -178,42 +179,53 @@ impl Backlog {
         self.base += (over + release(&mut self.ring, &mut self.counts, None)) as u64;
     }
 
-    /// Moves what is pending behind a cursor into the slice, as far as it fits.
+    /// Copies what is pending behind a cursor to the beginning of the slice, as far as it fits.
     #[inline(always)]
-    pub fn take(&mut self, id: u64, out: &mut [Event]) -> Result<Found, NoId>
-        ensures { TakesBy self.old self.new id out.old out.new result }
+    pub fn peek(&self, id: u64, out: &mut [Event]) -> Result<Found, NoId>
+        ensures { ShowsBy self.now id out.old out.new result }
     {
-        let end = self.end();
-        let Some((listed, from)) = self.cursors.find(id) else {
+        let Some(from) = self.cursors.get(id) else {
             return Err(NoId);
         };
         if from < self.base {
             return Ok(Found::Lost);
         }
-        if from == end {
+        if from == self.end() {
             return Ok(Found::Nothing);
         }
         let place = (from - self.base) as usize;
-        let count = copy_out(&self.ring, place, out);
+        Ok(Found::Copied(copy_out(&self.ring, place, out)))
+    }
+
+    /// Moves a cursor over this many of the events that are pending behind it, and releases what was pending for it alone.
+    #[inline(always)]
+    pub fn advance(&mut self, id: u64, count: usize)
+        requires { ArePending self.old.room self.old.end self.old.cursors id count }
+        ensures { IfSome (next_of self.old id) (λ next. self.new ≡ with_cursors self.old
+            (set_value (nat_eq id) self.old.cursors (next + count))) }
+    {
+        let Some((listed, from)) = self.cursors.find(id) else {
+            unreachable!()
+        };
+        let place = (from - self.base) as usize;
+        let to = place + count;
         self.cursors.set(listed, from + count as u64);
         let left = one_less(&mut self.counts, place);
-        let there = one_more(&mut self.counts, place + count);
+        let there = one_more(&mut self.counts, to);
         // After most moves a cursor is still at the base, so that nothing is released.
         if one_stays(place, left) {
-            return Ok(Found::Moved(count));
+            return;
         }
-        let to = place + count;
         let all = there == self.cursors.len() as u64;
         // After most others each is at the end, so that all is released.
         if all && to == self.ring.len() {
             cut(&mut self.ring, to);
             keep_last(&mut self.counts, there);
             self.base += to as u64;
-            return Ok(Found::Moved(count));
+            return;
         }
         let known = all.then_some(to);
         self.base += release(&mut self.ring, &mut self.counts, known) as u64;
-        Ok(Found::Moved(count))
     }
 
     /// Removes the cursor of an id, and releases what was pending for it alone.

@@ -2,7 +2,7 @@
 ghost use Rattle.std.specs.Prelude.{◌≡◌, ◌<◌, ◌++◌, ℕ, [], ◌∷◌, All, length, slice_get, nat_eq, nat_lt, true, false, IsSome, IfSome, IfNone, IfOk, OnOk, OnErr, Some};
 ghost use Rattle.std.specs.Option.{option_map};
 ghost use Rattle.std.specs.List.Sorted.{IsPartitionPoint};
-ghost use Rattle.hub_record.specs.CursorList.{IsRising};
+ghost use Rattle.hub_record.specs.Backlog.{IsRising};
 ghost use Rattle.std.specs.Map.{lookup, set_value, remove_entry, keys_of};
 
 use crate::limits::MOST_PASSES;
@@ -18,7 +18,7 @@ pub struct CursorList {
 
 impl Model for CursorList {
     ghost use Rattle.std.specs.Prelude.{ℕ, List};
-    ghost use Rattle.hub_record.specs.CursorList.{IsRising};
+    ghost use Rattle.hub_record.specs.Backlog.{IsRising};
 
     ghost Value = { List (ℕ × ℕ) };
 

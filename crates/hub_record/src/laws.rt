@@ -31,6 +31,7 @@ pub fn one_reply()
 {}
 
 /// A record never keeps more events than may be pending, and keeps none if no subscription stands.
+#[tactic(auto, using(crate::proofs::StandsForWorlds::kept_bound, crate::proofs::StandsForWorlds::kept_none))]
 pub fn no_more_than_may_wait()
     ensures most { (r : Kept) (w : World) → StandsFor r w → length r.events ≤ w.limits.waiting }
     ensures none { (r : Kept) (w : World) → StandsFor r w → standing w ≡ [] → r.events ≡ [] }
@@ -38,6 +39,7 @@ pub fn no_more_than_may_wait()
 
 /// Every run keeps the bounds of a world. There are at most `total` events, at most `waiting` are pending, at most `ids` ids
 /// were given, the letters of a service are lawful, and no cursor is before its mark or past the end.
+#[tactic(auto, using(crate::proofs::Bounds::call_keeps, crate::proofs::Bounds::runs_keep))]
 pub fn runs_keep_the_bounds()
     ensures call { (w : World) (call : Call) (said : Said) → IsWorld w → SaidTo w call said
         → IsWorld (after_call w call said) }
@@ -47,6 +49,7 @@ pub fn runs_keep_the_bounds()
 {}
 
 /// The ids that a run gives are 1, 2, 3, and so on, so that any two differ.
+#[tactic(auto, using(crate::proofs::Ids::counted, crate::proofs::Ids::differ))]
 pub fn ids_differ()
     ensures counted { (kind : Kind) (limits : Limits) (calls : List Call) (replies : List Said)
         (k d : ℕ) → IsRun (empty_world kind limits) calls replies
@@ -58,6 +61,7 @@ pub fn ids_differ()
 {}
 
 /// An empty message changes nothing, and an open record accepts it.
+#[tactic(auto, using(crate::proofs::Bounds::nothing_changes, crate::proofs::Bounds::is_accepted))]
 pub fn empty_message_changes_nothing()
     ensures still { (w : World) (who : ℕ) (said : Said)
         → after_call w (Call.Publish who []) said ≡ w }

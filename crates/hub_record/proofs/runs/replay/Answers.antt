@@ -2,8 +2,7 @@ use Rattle.std.proofs.Common.{◌≡◌, [], ◌∷◌, ◌++◌, ap, ◌∙◌,
 use Rattle.hub_record.specs.World.{World, empty_world}
 use Rattle.hub_record.specs.Kept.{StandsFor}
 use Rattle.hub_record.specs.Runs.{gathered_from}
-use Rattle.hub_record.proofs.RunSteps.{stepped, stepped_world}
-use Rattle.hub_record.proofs.Since.{run_follows, run_published}
+use Rattle.hub_record.proofs.Since.{stepped, stepped_world, run_follows, run_published}
 use Rattle.hub_record.proofs.runs.replay.Goals as goal
 
 pub loop-call-preserved : goal.loop-call-preserved

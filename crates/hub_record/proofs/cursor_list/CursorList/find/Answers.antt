@@ -1,7 +1,7 @@
 use Rattle.std.proofs.Common.{◌≡◌, true, false, true≢false, nat_lt, sym, ap, subst, ◌∙◌}
 use Rattle.std.specs.List.Sorted.{IsPartitionPoint}
 use Rattle.std.specs.Option.{option_map}
-use Rattle.hub_record.specs.CursorList.{IsRising}
+use Rattle.hub_record.specs.Backlog.{IsRising}
 use Rattle.hub_record.proofs.Rising.{lookup-found, lookup-missed}
 use Rattle.hub_record.proofs.cursor_list.CursorList.find.Goals as goal
 

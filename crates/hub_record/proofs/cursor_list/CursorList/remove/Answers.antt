@@ -2,7 +2,7 @@ use Rattle.std.proofs.Common.{nat_eq, sym, ap, subst, ◌∙◌, arith}
 use Rattle.std.proofs.lemmas.Option.{slice_get_within}
 use Rattle.std.specs.List.{slice_get}
 use Rattle.std.specs.Map.{remove_entry}
-use Rattle.hub_record.specs.CursorList.{IsRising}
+use Rattle.hub_record.specs.Backlog.{IsRising}
 use Rattle.hub_record.proofs.Rising.{remove_entry-found, remove_entry-none, rising-remove_entry}
 use Rattle.hub_record.proofs.cursor_list.CursorList.remove.Goals as goal
 

@@ -5,49 +5,38 @@ use Rattle.std.proofs.lemmas.List.{length-set}
 use Rattle.std.specs.Option.{IfSome}
 use Rattle.circular_buffer.specs.Buffer.{Buffer, buffer}
 use Rattle.hub_record.specs.declared.Event.{Event}
-use Rattle.hub_record.specs.Backlog.{Held, first_place}
+use Rattle.hub_record.specs.Backlog.{first_place}
 use Rattle.hub_record.proofs.Counted.{some_at_place}
-use Rattle.hub_record.proofs.Keeps.{cursor_within, slow_below, few_at_place, one_stays, first_known, IfSome-then_some}
-use Rattle.hub_record.proofs.Moves.{kept_set_value, kept_stays, end_after_cut, cut_held, still_held, takes_nothing, takes_lost, takes_some}
+use Rattle.hub_record.proofs.Keeps.{few_at_place, one_stays, first_known, IfSome-then_some}
+use Rattle.hub_record.proofs.Moves.{kept_set_value, kept_stays, end_after_cut, cut_held, still_held, pending_at, advances}
 use Rattle.hub_record.proofs.Rising.{moved_to}
-use Rattle.hub_record.proofs.backlog.Backlog.take.Goals as goal
+use Rattle.hub_record.proofs.backlog.Backlog.advance.Goals as goal
 
-pub returns-then-from-self : goal.returns-then-from-self
-returns-then-from-self c =
-    let found = sym c.in-Some.ensures.next in
-    takes_lost _ _ c.args.id _ _ c.self.view_is found (slow_below _ _ _ _ c.in-Some.from (nat_eq c.args.id) _ _ c.self.invariant found c.if-from-self.true)
-
-pub returns-then-from-end : goal.returns-then-from-end
-returns-then-from-end c = takes_nothing _ _ c.args.id _ _ c.self.view_is (sym c.in-Some.ensures.next) (c.if-from-end.true ∙ c.end-end.ensures.end)
-
-pub copy_out-count-requires : goal.copy_out-count-requires
-copy_out-count-requires c =
-    let inside = cursor_within _ _ _ _ c.in-Some.from (nat_eq c.args.id) _ _ c.self.invariant (sym c.in-Some.ensures.next) in
-    omega arith
+pub overflow_sub-place : goal.overflow_sub-place
+overflow_sub-place c = (pending_at _ _ c.args.id c.args.count _ _ _ _ c.self.view_is c.self.invariant c.requires (sym c.in-Some.ensures.next)).0
 
 pub set-requires : goal.set-requires
 set-requires c = slice_get_within c.self.inside.cursors c.in-Some.listed (c.args.id, c.in-Some.from) c.in-Some.ensures.place
 
 pub one_less-left-requires-clause-place : goal.one_less-left-requires-clause-place
 one_less-left-requires-clause-place c =
-    let inside = cursor_within _ _ _ _ c.in-Some.from (nat_eq c.args.id) _ _ c.self.invariant (sym c.in-Some.ensures.next) in
+    let found = sym c.in-Some.ensures.next in
+    let (above, waited, within) = pending_at _ _ c.args.id c.args.count _ _ _ _ c.self.view_is c.self.invariant c.requires found in
     let to = c.self.invariant.to_end in
-    let above = c.if-from-self.false in
     omega arith
 
 pub one_less-left-requires-clause-some : goal.one_less-left-requires-clause-some
 one_less-left-requires-clause-some c =
     let found = sym c.in-Some.ensures.next in
-    let above = c.if-from-self.false in
+    let (above, waited, within) = pending_at _ _ c.args.id c.args.count _ _ _ _ c.self.view_is c.self.invariant c.requires found in
     some_at_place c.self.inside.base c.in-Some.from (c.in-Some.from - c.self.inside.base) (nat_eq c.args.id) _ _ c.self.invariant.counted found (omega arith)
 
 pub one_more-there-requires-clause-place : goal.one_more-there-requires-clause-place
 one_more-there-requires-clause-place c =
-    let inside = cursor_within _ _ _ _ c.in-Some.from (nat_eq c.args.id) _ _ c.self.invariant (sym c.in-Some.ensures.next) in
+    let found = sym c.in-Some.ensures.next in
+    let (above, waited, within) = pending_at _ _ c.args.id c.args.count _ _ _ _ c.self.view_is c.self.invariant c.requires found in
     let place = c.in-Some.from - c.self.inside.base in
     let to = c.self.invariant.to_end in
-    let above = c.if-from-self.false in
-    let count = c.copy_out-count.ensures.count in
     let less = ap (λ (b : Buffer ℕ). length b.items) c.one_less-left.ensures.counts in
     let long = length-set c.self.inside.counts.items place (get_or c.self.inside.counts.items place 0 - 1) in
     omega arith
@@ -55,52 +44,47 @@ one_more-there-requires-clause-place c =
 pub one_more-there-requires-clause-few : goal.one_more-there-requires-clause-few
 one_more-there-requires-clause-few c =
     let found = sym c.in-Some.ensures.next in
-    let above = c.if-from-self.false in
+    let (above, waited, within) = pending_at _ _ c.args.id c.args.count _ _ _ _ c.self.view_is c.self.invariant c.requires found in
     few_at_place _ _ _ _ c.in-Some.from _ _ (nat_eq c.args.id) _ _ _ c.self.invariant found (omega arith) c.one_less-left.ensures.counts
 
 pub invariant_of-self : goal.invariant_of-self
 invariant_of-self c =
     let found = sym c.in-Some.ensures.next in
-    let above = c.if-from-self.false in
-    let inside = cursor_within _ _ _ _ c.in-Some.from (nat_eq c.args.id) _ _ c.self.invariant found in
+    let (above, waited, within) = pending_at _ _ c.args.id c.args.count _ _ _ _ c.self.view_is c.self.invariant c.requires found in
     let place = c.in-Some.from - c.self.inside.base in
     let to = c.self.invariant.to_end in
-    let count = c.copy_out-count.ensures.count in
-    let apart : (c.in-Some.from ≡ c.self.inside.base + length c.self.inside.ring.items → ⊥) = λ e. c.if-from-end.false (e ∙ ap (λ (h : Held). h.end) c.self.view_is ∙ sym c.end-end.ensures.end) in
     let less = ap (λ (b : Buffer ℕ). length b.items) c.one_less-left.ensures.counts in
     let long = length-set c.self.inside.counts.items place (get_or c.self.inside.counts.items place 0 - 1) in
     let moved = moved_to _ _ c.in-Some.listed c.args.id c.in-Some.from _ c.in-Some.ensures.place c.set.ensures in
-    kept_stays _ _ _ _ (length c.self.inside.ring.items) c.in-Some.from (c.in-Some.from + c.copy_out-count.result) place (place + c.copy_out-count.result) (nat_eq c.args.id) _ _ _ _ _ c.self.invariant refl found moved
+    kept_stays _ _ _ _ (length c.self.inside.ring.items) c.in-Some.from (c.in-Some.from + c.args.count) place (place + c.args.count) (nat_eq c.args.id) _ _ _ _ _ c.self.invariant refl found moved
     (omega arith) (omega arith) (omega arith) (omega arith) c.one_less-left.ensures.counts c.one_more-there.ensures.counts
-    (one_stays _ _ _ _ c.in-Some.from place (place + c.copy_out-count.result) _ (nat_eq c.args.id) _ _ _ _ c.self.invariant found (omega arith) (omega arith) (omega arith)
+    (one_stays _ _ _ _ c.in-Some.from place (place + c.args.count) _ (nat_eq c.args.id) _ _ _ _ c.self.invariant found (omega arith) (omega arith) (omega arith)
     c.one_less-left.ensures.counts c.one_more-there.ensures.counts c.one_less-left.ensures.left (c.one_stays.ensures c.if-one_stays.true))
 
 pub returns-then-one_stays : goal.returns-then-one_stays
 returns-then-one_stays c =
     let found = sym c.in-Some.ensures.next in
     let is = moved_to _ _ c.in-Some.listed c.args.id c.in-Some.from _ c.in-Some.ensures.place c.set.ensures in
-    takes_some _ _ _ c.args.id _ c.copy_out-count.result _ _ _ _ _ c.self.view_is found c.self.invariant c.if-from-self.false (λ e. c.if-from-end.false (e ∙ sym c.end-end.ensures.end)) refl c.copy_out-count.ensures.count c.copy_out-count.ensures.copied
+    advances _ _ _ c.args.id c.args.count _ c.self.view_is found
     (still_held _ _ c.self.inside.given _ _ _ _ c.self.invariant.lowest (invariant_of-self c).lowest is)
 
 pub invariant_of-self-then-to-len : goal.invariant_of-self-then-to-len
 invariant_of-self-then-to-len c =
     let found = sym c.in-Some.ensures.next in
-    let above = c.if-from-self.false in
-    let inside = cursor_within _ _ _ _ c.in-Some.from (nat_eq c.args.id) _ _ c.self.invariant found in
+    let (above, waited, within) = pending_at _ _ c.args.id c.args.count _ _ _ _ c.self.view_is c.self.invariant c.requires found in
     let place = c.in-Some.from - c.self.inside.base in
     let to = c.self.invariant.to_end in
-    let count = c.copy_out-count.ensures.count in
     let moved = moved_to _ _ c.in-Some.listed c.args.id c.in-Some.from _ c.in-Some.ensures.place c.set.ensures in
     let less = ap (λ (b : Buffer ℕ). length b.items) c.one_less-left.ensures.counts in
     let more = ap (λ (b : Buffer ℕ). length b.items) c.one_more-there.ensures.counts in
     let long = length-set c.self.inside.counts.items place (get_or c.self.inside.counts.items place 0 - 1) in
-    let longer = length-set c.one_less-left.new.counts.items (place + c.copy_out-count.result) (get_or c.one_less-left.new.counts.items (place + c.copy_out-count.result) 0 + 1) in
-    let first = first_known _ _ _ _ c.in-Some.from (c.in-Some.from + c.copy_out-count.result) place (place + c.copy_out-count.result) _ (nat_eq c.args.id) _ _ _ _ _ c.self.invariant found moved
+    let longer = length-set c.one_less-left.new.counts.items (place + c.args.count) (get_or c.one_less-left.new.counts.items (place + c.args.count) 0 + 1) in
+    let first = first_known _ _ _ _ c.in-Some.from (c.in-Some.from + c.args.count) place (place + c.args.count) _ (nat_eq c.args.id) _ _ _ _ _ c.self.invariant found moved
     (omega arith) (omega arith) (omega arith) c.one_less-left.ensures.counts c.one_more-there.ensures.counts c.one_more-there.ensures.there (c.if-all.true ∙ c.len.ensures) in
     let at_end = c.if-to-len.true in
     let kept = c.len-then-all.ensures.len in
-    let last : length c.one_more-there.new.counts.items - 1 ≡ place + c.copy_out-count.result = omega arith in
-    kept_set_value _ _ _ _ (length c.self.inside.ring.items) _ (c.in-Some.from + c.copy_out-count.result) place (place + c.copy_out-count.result) (place + c.copy_out-count.result) _ _ (nat_eq c.args.id) _ _ _ _ _ _ c.self.invariant refl
+    let last : length c.one_more-there.new.counts.items - 1 ≡ place + c.args.count = omega arith in
+    kept_set_value _ _ _ _ (length c.self.inside.ring.items) _ (c.in-Some.from + c.args.count) place (place + c.args.count) (place + c.args.count) _ _ (nat_eq c.args.id) _ _ _ _ _ _ c.self.invariant refl
     found moved (omega arith) (omega arith) (omega arith) (omega arith)
     c.one_less-left.ensures.counts c.one_more-there.ensures.counts (omega arith)
     (c.keep_last.ensures ∙ ap (λ n. buffer (drop n c.one_more-there.new.counts.items) c.one_more-there.new.counts.capacity) last)
@@ -110,10 +94,11 @@ invariant_of-self-then-to-len c =
 pub returns-then-to-len : goal.returns-then-to-len
 returns-then-to-len c =
     let found = sym c.in-Some.ensures.next in
+    let (above, waited, within) = pending_at _ _ c.args.id c.args.count _ _ _ _ c.self.view_is c.self.invariant c.requires found in
     let at_end = c.if-to-len.true in
     let kept = c.len-then-all.ensures.len in
     let is = moved_to _ _ c.in-Some.listed c.args.id c.in-Some.from _ c.in-Some.ensures.place c.set.ensures in
-    takes_some _ _ _ c.args.id _ c.copy_out-count.result _ _ _ _ _ c.self.view_is found c.self.invariant c.if-from-self.false (λ e. c.if-from-end.false (e ∙ sym c.end-end.ensures.end)) refl c.copy_out-count.ensures.count c.copy_out-count.ensures.copied
+    advances _ _ _ c.args.id c.args.count _ c.self.view_is found
     (cut_held _ _ _ c.self.inside.given _ _ _ _ _ c.self.invariant.lowest (invariant_of-self-then-to-len c).lowest (omega arith) is c.cut.ensures)
 
 pub release-requires-clause-places : goal.release-requires-clause-places
@@ -123,32 +108,28 @@ release-requires-clause-places c =
     let less = ap (λ (b : Buffer ℕ). length b.items) c.one_less-left.ensures.counts in
     let more = ap (λ (b : Buffer ℕ). length b.items) c.one_more-there.ensures.counts in
     let long = length-set c.self.inside.counts.items place (get_or c.self.inside.counts.items place 0 - 1) in
-    let longer = length-set c.one_less-left.new.counts.items (place + c.copy_out-count.result) (get_or c.one_less-left.new.counts.items (place + c.copy_out-count.result) 0 + 1) in
+    let longer = length-set c.one_less-left.new.counts.items (place + c.args.count) (get_or c.one_less-left.new.counts.items (place + c.args.count) 0 + 1) in
     omega arith
 
 pub release-requires-clause-known : goal.release-requires-clause-known
 release-requires-clause-known c =
     let found = sym c.in-Some.ensures.next in
-    let above = c.if-from-self.false in
-    let inside = cursor_within _ _ _ _ c.in-Some.from (nat_eq c.args.id) _ _ c.self.invariant found in
+    let (above, waited, within) = pending_at _ _ c.args.id c.args.count _ _ _ _ c.self.view_is c.self.invariant c.requires found in
     let place = c.in-Some.from - c.self.inside.base in
     let to = c.self.invariant.to_end in
-    let count = c.copy_out-count.ensures.count in
     let moved = moved_to _ _ c.in-Some.listed c.args.id c.in-Some.from _ c.in-Some.ensures.place c.set.ensures in
     subst (λ o. IfSome o (λ first. first ≡ first_place c.one_more-there.new.counts.items)) (sym c.then_some-known.ensures) (IfSome-then_some _ _ (λ first. first ≡ first_place c.one_more-there.new.counts.items) (λ t.
-    first_known _ _ _ _ c.in-Some.from (c.in-Some.from + c.copy_out-count.result) place (place + c.copy_out-count.result) _ (nat_eq c.args.id) _ _ _ _ _ c.self.invariant found moved
+    first_known _ _ _ _ c.in-Some.from (c.in-Some.from + c.args.count) place (place + c.args.count) _ (nat_eq c.args.id) _ _ _ _ _ c.self.invariant found moved
     (omega arith) (omega arith) (omega arith) c.one_less-left.ensures.counts c.one_more-there.ensures.counts c.one_more-there.ensures.there (eqb-true _ _ t ∙ c.len.ensures)))
 
 pub invariant_of-self-2 : goal.invariant_of-self-2
 invariant_of-self-2 c =
     let found = sym c.in-Some.ensures.next in
-    let above = c.if-from-self.false in
-    let inside = cursor_within _ _ _ _ c.in-Some.from (nat_eq c.args.id) _ _ c.self.invariant found in
-    let count = c.copy_out-count.ensures.count in
+    let (above, waited, within) = pending_at _ _ c.args.id c.args.count _ _ _ _ c.self.view_is c.self.invariant c.requires found in
     let told = c.release.ensures.count in
     let place = c.in-Some.from - c.self.inside.base in
     let moved = moved_to _ _ c.in-Some.listed c.args.id c.in-Some.from _ c.in-Some.ensures.place c.set.ensures in
-    kept_set_value _ _ _ _ (length c.self.inside.ring.items) _ (c.in-Some.from + c.copy_out-count.result) place (place + c.copy_out-count.result) _ _ _ (nat_eq c.args.id) _ _ _ _ _ _ c.self.invariant refl
+    kept_set_value _ _ _ _ (length c.self.inside.ring.items) _ (c.in-Some.from + c.args.count) place (place + c.args.count) _ _ _ (nat_eq c.args.id) _ _ _ _ _ _ c.self.invariant refl
     found moved (omega arith) (omega arith) (omega arith) (omega arith)
     c.one_less-left.ensures.counts c.one_more-there.ensures.counts told c.release.ensures.counts (ap (λ (b : Buffer Event). b.capacity) c.release.ensures.events)
     (end_after_cut _ _ _ _ _ (omega arith) c.release.ensures.events)
@@ -156,7 +137,8 @@ invariant_of-self-2 c =
 pub returns : goal.returns
 returns c =
     let found = sym c.in-Some.ensures.next in
+    let (above, waited, within) = pending_at _ _ c.args.id c.args.count _ _ _ _ c.self.view_is c.self.invariant c.requires found in
     let told = c.release.ensures.count in
     let is = moved_to _ _ c.in-Some.listed c.args.id c.in-Some.from _ c.in-Some.ensures.place c.set.ensures in
-    takes_some _ _ _ c.args.id _ c.copy_out-count.result _ _ _ _ _ c.self.view_is found c.self.invariant c.if-from-self.false (λ e. c.if-from-end.false (e ∙ sym c.end-end.ensures.end)) refl c.copy_out-count.ensures.count c.copy_out-count.ensures.copied
+    advances _ _ _ c.args.id c.args.count _ c.self.view_is found
     (cut_held _ _ _ c.self.inside.given _ _ _ _ _ c.self.invariant.lowest (invariant_of-self-2 c).lowest (omega arith) is c.release.ensures.events)
