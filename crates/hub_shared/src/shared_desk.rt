@@ -76,16 +76,14 @@ impl<P: Pause + Copy> SharedDesk<P> {
         fifodirs.release(rt);
     }
 
-    fn make<H: Wait>(
-        &self,
-        rt: &H,
-        name: &Name,
-        kind: Kind,
-        notifies: bool,
-        limits: Limits,
-    ) -> Reply
+    /// `reports` says of a service whether it reports readiness. None makes a plain fifodir.
+    fn make<H: Wait>(&self, rt: &H, name: &Name, reports: Option<bool>, limits: Limits) -> Reply
         ensures { IsMadeReply result }
     {
+        let (kind, notifies) = match reports {
+            Some(notifies) => (Kind::Service, notifies),
+            None => (Kind::Plain, false),
+        };
         match self.hub.make_named(rt, name, kind, limits, notifies) {
             Ok(()) => Reply::Done,
             Err(HubError::Exists) => Reply::No(Refusal::Exists),
@@ -158,20 +156,14 @@ impl<P: Pause + Copy> Desk for SharedDesk<P> {
                 waiting,
                 total,
                 evict,
-            } => {
-                let room = limits(*waiting, *total, *evict);
-                self.make(rt, name, Kind::Plain, false, room)
-            }
+            } => self.make(rt, name, None, limits(*waiting, *total, *evict)),
             Request::Svc {
                 name,
                 waiting,
                 total,
                 notifies,
                 evict,
-            } => {
-                let room = limits(*waiting, *total, *evict);
-                self.make(rt, name, Kind::Service, *notifies, room)
-            }
+            } => self.make(rt, name, Some(*notifies), limits(*waiting, *total, *evict)),
             Request::Sub { name } => self.subscribe(rt, name),
             Request::Pub { name, letters } => self.fifodirs.publish(rt, &self.hub, name, letters),
             Request::Take { id, max } => self.handles.take(rt, *id, *max),
