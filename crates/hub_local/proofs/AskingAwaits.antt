@@ -17,7 +17,7 @@ use Rattle.hub_requests.specs.declared.reply.Reply.{Reply}
 use Rattle.hub_requests.specs.declared.reply.Reply.TheVariants.{Done, Late, No}
 use Rattle.hub_requests.specs.declared.reply.Refusal.TheVariants as no
 use Rattle.hub_local.proofs.Asking.{by_carrying}
-use Rattle.hub_local.proofs.HearingPrefixes.{has_found}
+use Rattle.hub_local.proofs.Hearing.{has_found}
 use Rattle.hub_local.proofs.Holdings.{held_at}
 use Rattle.hub_local.proofs.KeptFifodirs.{some_kept}
 

@@ -1,6 +1,6 @@
--- The requests about a fifodir.
-use Rattle.std.proofs.Common.{◌≡◌, ℕ, ◌<◌, ◌≤◌, Bool, true, false, List, [], ◌∷◌, ◌++◌, length, Option, Some, None, is_some, Ok, Err, refl, sym, ap, subst, ◌∙◌, arith}
-use Rattle.std.specs.Map.{lookup}
+-- The requests about a fifodir, and the one for the names of all.
+use Rattle.std.proofs.Common.{◌≡◌, ℕ, ◌<◌, ◌≤◌, Bool, true, false, List, [], ◌∷◌, ◌++◌, length, Option, Some, None, is_some, Ok, Err, refl, sym, ap, subst, ◌∙◌, arith, ◌≢◌}
+use Rattle.std.specs.Map.{lookup, keys_of}
 use Rattle.std.specs.Str.{bytes_eq}
 use Rattle.hub_record.specs.declared.Closed.{Closed}
 use Rattle.hub_record.specs.declared.PubError.{PubError}
@@ -10,13 +10,13 @@ use Rattle.hub_record.specs.Kept.{Kept, StandsFor}
 use Rattle.hub_record.specs.declared.Kind.{Kind}
 use Rattle.hub_record.specs.declared.limits.Limits.{Limits}
 use Rattle.hub_record.specs.World.{World, empty_world, PublishReply, after_publish, close_reply, after_close}
-use Rattle.hub_local.specs.DeskAnswers.{answered_with, in_world, make_answer, publish_answer, close_answer, status_answer, refusal_to_make}
-use Rattle.hub_local.specs.Desks.{Desk, Fifodir, refusal_answer, world_of}
+use Rattle.hub_local.specs.DeskAnswers.{answered_with, in_world, make_answer, publish_answer, close_answer, status_answer, refusal_to_make, names_answer}
+use Rattle.hub_local.specs.Desks.{Desk, Fifodir, refusal_answer, world_of, names_in}
 use Rattle.hub_local.specs.Replies.{publish_reply}
 use Rattle.hub_requests.specs.Refusals.{refusal_of_pub}
 use Rattle.hub_local.specs.Standing.{Local, AreKept, StandsForDesk, CarriesOut, AsksWith, Unchanged}
 use Rattle.hub_local.specs.declared.local_desk.LocalFifodir.{LocalFifodir}
-use Rattle.hub_requests.specs.declared.request.Request.TheVariants.{Pub, Close, Status as Show}
+use Rattle.hub_requests.specs.declared.request.Request.TheVariants.{Pub, Close, Status as Show, Names}
 use Rattle.hub_requests.specs.declared.reply.Reply.{Reply}
 use Rattle.hub_requests.specs.declared.reply.Reply.TheVariants.{Done, Number, State, No}
 use Rattle.hub_requests.specs.declared.reply.Refusal.TheVariants as no
@@ -26,6 +26,9 @@ use Rattle.hub_local.proofs.Holdings.{held_still, held_with_more}
 use Rattle.hub_local.proofs.Asking.{by_carrying, by_refusing, by_lacking, still_lacking, stands_same, Replaces, world_there, stands_replaced, stands_still, named}
 use Rattle.hub_local.proofs.KeptFifodirs.{some_kept, is_some-world_of, length-kept, kept_push}
 use Rattle.hub_local.proofs.RecordReplies.{publish_reply_is}
+use Rattle.hub_requests.specs.declared.reply.Refusal.TheVariants.{Memory}
+use Rattle.hub_requests.specs.Listings.{fitting, names_shown, names_reply}
+use Rattle.std.specs.Prelude.{drop}
 
 -- ---- dir and svc
 
@@ -146,3 +149,28 @@ status_shown local name r shows was number flags is_closed = by_carrying local l
       said = λ i. State (record { number = ends i; flags = flies i; closed = closes i });
       stands = st;
     })
+
+-- ---- the request for the names of fifodirs
+
+-- the names that are kept are the model's, in the same order
+pub kept_names : (es : List (List ℕ × LocalFifodir)) (fs : List Fifodir) → AreKept es fs → keys_of es ≡ names_in fs
+kept_names [] [] h = refl
+kept_names [] (f ∷ fs) h = absurd h
+kept_names (e ∷ es) [] h = absurd h
+kept_names (e ∷ es) (f ∷ fs) h = let name = h.0.name in let rest = kept_names es fs h.1 in cc
+
+shown_real : (names : List (List ℕ)) → names_shown names ≢ No Memory
+shown_real [] e = cc
+shown_real (name ∷ rest) e = cc
+
+real : (names : List (List ℕ)) (from : ℕ) (reply : Reply) → reply ≡ names_reply names from → reply ≢ No Memory
+real names from reply is e = shown_real (fitting (drop from names)) (sym is ∙ e)
+
+pub names_listed : (local : Local) (from : ℕ) (reply : Reply) → reply ≡ names_reply (keys_of local.fifodirs) from → AsksWith false local (Names from) reply local
+names_listed local from reply is = by_carrying local local true _ _ _ reply (real (keys_of local.fifodirs) from reply is) (λ d st. record {
+  answer = names_answer d from;
+  unrefused = refl;
+  done_is = refl;
+  said = is ∙ ap (λ (names : List (List ℕ)). names_reply names from) (kept_names local.fifodirs d.fifodirs st.fifodirs);
+  stands = st;
+})

@@ -11,10 +11,9 @@ use Rattle.hub_record.specs.declared.SubError.{SubError}
 use Rattle.hub_record.specs.declared.SubError.TheVariants as sub
 use Rattle.hub_record.specs.Kept.{Kept, StandsFor}
 use Rattle.hub_record.specs.World.{World, new_subscription, SubscribeReply, after_subscribe}
-use Rattle.hub_local.specs.Beginning.{Begins}
+use Rattle.hub_local.specs.Opening.{Begins, is_there}
 use Rattle.hub_local.specs.DeskAnswers.{in_world, refusal_to_hold, refusal_to_listen, subscribe_answer}
 use Rattle.hub_local.specs.Desks.{Fifodir, Desk, standing, world_of, with_world, subscription_of, AreHeld, AreApart, GoesOn, AllGoOn, refusal_answer}
-use Rattle.hub_local.specs.Opening.{is_there}
 use Rattle.hub_local.specs.Replies.{subscribe_reply}
 use Rattle.hub_requests.specs.Refusals.{refusal_of_sub}
 use Rattle.hub_requests.specs.Room.{refusal_of_handle}

@@ -27,9 +27,8 @@ use Rattle.hub_requests.specs.declared.reply.Reply.TheVariants.{Hit, Nothing, En
 use Rattle.hub_requests.specs.declared.reply.Refusal.TheVariants as no
 use Rattle.hub_local.proofs.Asking.{by_carrying, by_refusing, by_lacking, stands_same, Replaces, stands_replaced, world_there}
 use Rattle.hub_local.proofs.AskingSubscriptions.{taken_still}
-use Rattle.hub_local.proofs.HearingPrefixes.{has_found}
-use Rattle.hub_local.proofs.Holdings.{held_at}
-use Rattle.hub_local.proofs.OtherHoldings.{standing-with, length-with, lookup_set, held_set, go_on_set, go_on_at, apart_set}
+use Rattle.hub_local.proofs.Hearing.{has_found}
+use Rattle.hub_local.proofs.Holdings.{held_at, standing-with, length-with, lookup_set, held_set, go_on_set, go_on_at, apart_set}
 
 -- ---- a desk after a listener has heard
 

@@ -7,7 +7,7 @@ use Rattle.hub_listen.proofs.Lengths.{no_length_is_no_hit}
 use Rattle.hub_record.specs.World.{World, Subscription, letters, is_evicted, subscription_in, reply_for, take_reply, take_events}
 use Rattle.hub_record.proofs.Taking.{reply_evicted, reply_got, reply_none}
 use Rattle.hub_local.specs.Awaits.{has_something, has_pending, holds_letter, await_answer}
-use Rattle.hub_local.specs.AwaitLaws.{AwaitsTellTakes, AwaitsTellPolls}
+use Rattle.hub_local.specs.Laws.{AwaitsTellTakes, AwaitsTellPolls}
 use Rattle.hub_local.specs.DeskAnswers.{request_answer, take_shown}
 use Rattle.hub_local.specs.Desks.{Desk, IsDesk, standing, holding_at, world_of, subscription_of}
 use Rattle.hub_local.specs.Polls.{is_out, quiet_reply, to_hear, hear_answer, poll_answer}
@@ -17,7 +17,7 @@ use Rattle.hub_requests.specs.declared.request.Request.TheVariants.{Take, Poll, 
 use Rattle.hub_requests.specs.declared.reply.Reply.{Reply}
 use Rattle.hub_requests.specs.declared.reply.Reply.TheVariants.{Done, Nothing, Late}
 use Rattle.hub_local.proofs.Asking.{none_of}
-use Rattle.hub_local.proofs.HearingPrefixes.{has_found}
+use Rattle.hub_local.proofs.Hearing.{has_found}
 use Rattle.hub_local.proofs.Holdings.{held_at}
 use Rattle.hub_local.proofs.Takings.{drop-all}
 

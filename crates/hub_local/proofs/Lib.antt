@@ -5,18 +5,14 @@ pub mod Holdings
 pub mod Asking
 pub mod AskingFifodirs
 pub mod Takings
-pub mod HearingLetters
-pub mod HearingPrefixes
+pub mod Hearing
 pub mod AskingHolds
 pub mod AskingSubscriptions
 pub mod Posts
 pub mod AskingServices
 mod UsedIds
-pub mod OtherHoldings
 pub mod AskingPolls
 pub mod AskingAwaits
-pub mod AskingNames
 pub mod AwaitLaws
 pub mod NamesLaws
 pub mod Running
-pub mod TakingWhatWaits

@@ -13,9 +13,9 @@ use Rattle.hub_record.specs.declared.limits.Limits.{Limits}
 use Rattle.hub_record.specs.declared.SubError.{SubError}
 use Rattle.hub_record.specs.declared.PubError.{PubError}
 use Rattle.hub_record.specs.declared.Closed.{Closed}
-use Rattle.hub_local.specs.DeskAnswers.{answer_by, in_world, for_holding, for_hearing, make_answer, subscribe_answer, publish_answer, close_answer, new_hearing}
+use Rattle.hub_local.specs.DeskAnswers.{own_refusal, request_answer, answer_by, in_world, for_holding, for_hearing, make_answer, subscribe_answer, publish_answer, close_answer, new_hearing}
 use Rattle.hub_local.specs.Desks.{Desk, Answer, Fifodir, names_in, world_of, with_world, holding_at, end_in, without_held, without_all, standing}
-use Rattle.hub_local.specs.NamesLaws.{NamesStay, NamesOutliveTheEnd, name_made}
+use Rattle.hub_local.specs.Laws.{NamesStay, NamesOutliveTheEnd, name_made}
 use Rattle.hub_local.specs.Polls.{hear_answer, heard_on, heard_to_hit, ended_by, taken_from, to_hear}
 use Rattle.hub_listen.specs.Hit.{hit_length}
 use Rattle.hub_local.specs.Replies.{subscribe_reply, publish_reply}
@@ -24,7 +24,7 @@ use Rattle.hub_local.specs.Waits.{Opening, so_far, opened_by, opened_in, with_po
 use Rattle.hub_local.specs.declared.local_desk.Holding.{Holding}
 use Rattle.hub_local.specs.declared.local_desk.LocalListener.{LocalListener}
 use Rattle.hub_local.specs.declared.local_desk.waits.LocalPost.{LocalPost}
-use Rattle.hub_requests.specs.declared.request.Request.TheVariants.{Dir, Svc, Sub, Pub, Take, Cancel, Close, Status, Listen, Poll, Await, Wait, Names}
+use Rattle.hub_requests.specs.declared.request.Request.TheVariants.{Dir, Svc, Sub, Pub, Take, Cancel, Close, Status, Listen, Poll, Await, Wait}
 use Rattle.hub_requests.specs.declared.reply.Reply.{Reply}
 use Rattle.hub_requests.specs.declared.reply.Reply.TheVariants.{Done, No}
 use Rattle.hub_requests.specs.declared.reply.Refusal.{Refusal}
@@ -125,6 +125,7 @@ made_last d name kind reports None None named done none = sym (ap (λ (l : List 
 made_last d name kind reports None (Some limits) named done none =
     map-append (λ (f : Fifodir). f.name) d.fifodirs _ ∙ sym (ap (λ (l : List (List ℕ)). names_in d.fifodirs ++ l) done)
 
+-- the last arm is for a request whose answer is the desk as it is
 pub names_stay : NamesStay
 names_stay d read (Dir name waiting total evict) = made_last d name _ _ _ _ (name_made (Dir name waiting total evict)) refl (λ refusal. refl)
 names_stay d read (Svc name waiting total notifies evict) = made_last d name _ _ _ _ (name_made (Svc name waiting total notifies evict)) refl (λ refusal. refl)
@@ -140,7 +141,7 @@ names_stay d read (Poll id) = answer_stays d _ _ (for_holding_stays d _ (holding
 names_stay d read (Await id turns) = answer_stays d _ _ (for_holding_stays d _ (holding_at d id) (λ h. in_world_stays d _ (world_of d.fifodirs h.name) (λ w. refl)))
 names_stay d read (Wait span want turns names) =
     answer_stays d _ _ (without_posts_stays (opening_of want d.fifodirs names).fifodirs names (opening_of want d.fifodirs names).posts ∙ opening_stays want (so_far d.fifodirs []) names)
-names_stay d read (Names from) = sym (append-nil (names_in d.fifodirs))
+names_stay d read request = answer_stays d (own_refusal d read request) (request_answer d request) refl
 
 pub names_outlive_the_end : NamesOutliveTheEnd
 names_outlive_the_end d = names_in-without_all d.fifodirs (values_of (standing d))

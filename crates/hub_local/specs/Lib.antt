@@ -4,9 +4,7 @@ pub mod Polls
 pub mod Awaits
 pub mod Waits
 pub mod DeskAnswers
-pub mod AwaitLaws
-pub mod NamesLaws
+pub mod Laws
 pub mod Hearings
 pub mod Standing
 pub mod Opening
-pub mod Beginning

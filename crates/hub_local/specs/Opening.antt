@@ -1,17 +1,21 @@
--- The posts that a wait opens, compared with the model's.
-use Rattle.std.specs.Prelude.{ℕ, Bool, ◌≡◌, ◌≢◌, if◌then◌else◌, List, [], ◌∷◌, ◌++◌, take, Option, Some, None, is_some, Result, Ok, Err}
+-- What begins at a fifodir, compared with the model: the posts that a wait opens, and the subscription of a new handle.
+use Rattle.std.specs.Prelude.{ℕ, Bool, ◌≡◌, ◌≢◌, if◌then◌else◌, List, [], ◌∷◌, ◌++◌, take, Option, Some, None, is_some, Result, Ok, Err, length}
 use Rattle.std.specs.List.{list_all}
 use Rattle.std.specs.Map.{lookup}
 use Rattle.std.specs.Option.{option_and_then}
 use Rattle.std.specs.Str.{bytes_eq}
 use Rattle.hub_letters.specs.declared.want.Want.{Want}
-use Rattle.hub_local.specs.Desks.{Fifodir}
+use Rattle.hub_local.specs.Desks.{Fifodir, with_world}
 use Rattle.hub_local.specs.Standing.{AreKept}
 use Rattle.hub_local.specs.Waits.{so_far, opening_refused, with_post, opening_of}
 use Rattle.hub_local.specs.declared.local_desk.LocalFifodir.{LocalFifodir}
 use Rattle.hub_local.specs.declared.local_desk.waits.LocalPost.{LocalPost}
 use Rattle.hub_requests.specs.declared.reply.Refusal.{Refusal}
 use Rattle.hub_requests.specs.declared.reply.Refusal.TheVariants.{Name, Kind, Memory}
+use Rattle.hub_record.specs.World.{World, after_subscribe}
+use Rattle.hub_record.specs.declared.SubError.{SubError}
+use Rattle.hub_local.specs.Replies.{subscribe_reply}
+use Rattle.hub_requests.specs.Refusals.{refusal_of_sub}
 
 -- ---- by name, among a desk's own fifodirs
 
@@ -45,3 +49,19 @@ abbrev pub OpensAll : Want → List (List ℕ) → List Fifodir → Result (Unit
 OpensAll want names model (Ok done) new posts = (now : List Fifodir) × AreKept new now × (opening_of want model names ≡ so_far now posts)
 OpensAll want names model (Err refusal) new posts =
     (now : List Fifodir) × AreKept new now × OpensSome want names model now posts × (refusal ≢ Memory → opening_of want model names ≡ opening_refused now posts refusal)
+
+-- ---- the subscription that a new handle is for, compared with the model's
+
+pub record IsBegun (name : List ℕ) (model : List Fifodir) (w : World) (id : ℕ) (new : List (List ℕ × LocalFifodir)) : Type 0 where
+  pub said : subscribe_reply w ≡ Ok (id, length w.events)
+  pub kept : AreKept new (with_world model name (after_subscribe w (subscribe_reply w)))
+
+pub record IsModelsRefusal (w : World) (refusal : Refusal) : Type 0 where
+  pub error : SubError
+  pub said : subscribe_reply w ≡ Err error
+  pub named : refusal ≡ refusal_of_sub error
+
+-- a new subscription is the model's; a refusal changes nothing, and is the model's unless memory ran out
+abbrev pub Begins : List ℕ → World → List Fifodir → Result (List ℕ × ℕ) Refusal → List (List ℕ × LocalFifodir) → Type 0
+Begins name w model (Ok begun) new = IsBegun name model w begun.1 new
+Begins name w model (Err refusal) new = AreKept new model × (refusal ≢ Memory → IsModelsRefusal w refusal)

@@ -8,7 +8,7 @@ use Rattle.hub_local.specs.DeskAnswers.{own_refusal, request_answer, answer_by, 
 use Rattle.hub_local.specs.declared.local_desk.LocalFifodir.{LocalFifodir}
 use Rattle.hub_local.specs.declared.local_desk.Holding.{Holding}
 use Rattle.hub_requests.specs.declared.request.Request.{Request}
-use Rattle.hub_requests.specs.declared.request.Request.TheVariants.{Dir, Svc, Sub, Pub, Take, Cancel, Close, Status, Listen, Poll, Await, Wait, Names}
+use Rattle.hub_requests.specs.declared.request.Request.TheVariants.{Dir, Svc, Sub, Take, Listen, Poll, Wait, Names}
 use Rattle.hub_requests.specs.declared.reply.Reply.{Reply}
 use Rattle.hub_requests.specs.declared.reply.Reply.TheVariants.{No}
 use Rattle.hub_requests.specs.declared.reply.Refusal.{Refusal}
@@ -76,16 +76,12 @@ abbrev pub grows : Request → Bool
 grows (Dir name waiting total evict) = true
 grows (Svc name waiting total notifies evict) = true
 grows (Sub name) = true
-grows (Pub name letters) = false
 grows (Take id max) = true
-grows (Cancel id) = false
-grows (Close name) = false
-grows (Status name) = false
 grows (Listen name mode pattern) = true
 grows (Poll id) = true
-grows (Await id turns) = false
 grows (Wait span want turns names) = true
 grows (Names from) = true
+grows request = false
 
 -- nothing has changed
 abbrev pub Unchanged : Desk → Desk → Type 0

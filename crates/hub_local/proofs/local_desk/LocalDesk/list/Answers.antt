@@ -1,7 +1,7 @@
 use Rattle.std.proofs.Common.{List, ℕ, ap, ◌∙◌}
 use Rattle.hub_requests.specs.Listings.{names_reply}
 use Rattle.hub_local.proofs.Asking.{answers_here}
-use Rattle.hub_local.proofs.AskingNames.{names_listed}
+use Rattle.hub_local.proofs.AskingFifodirs.{names_listed}
 use Rattle.hub_local.proofs.local_desk.LocalDesk.list.Goals as goal
 
 pub returns-in-Ok : goal.returns-in-Ok

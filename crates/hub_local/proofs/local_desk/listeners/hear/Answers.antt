@@ -1,5 +1,5 @@
 use Rattle.std.proofs.Common.{◌≡◌, ℕ, ◌+◌, ◌-◌, length, ap, subst, arith}
-use Rattle.hub_local.proofs.HearingPrefixes.{HeardPrefix, prefix_none, prefix_stands, prefix_unspent, prefix_gathered, prefix_more, prefix_full, prefix_then, found_left, has_found}
+use Rattle.hub_local.proofs.Hearing.{HeardPrefix, prefix_none, prefix_stands, prefix_unspent, prefix_gathered, prefix_more, prefix_full, prefix_then, found_left, has_found}
 use Rattle.hub_local.proofs.local_desk.listeners.hear.Goals as goal
 
 pub loop-init : goal.loop-init

@@ -1,7 +1,7 @@
 use Rattle.std.proofs.Common.{◌≡◌, ◌-◌, length, Some}
 use Rattle.hub_record.specs.Kept.{StandsFor}
 use Rattle.hub_record.specs.World.{World, Subscription, subscription_in}
-use Rattle.hub_local.proofs.HearingPrefixes.{HeardPrefix}
+use Rattle.hub_local.proofs.Hearing.{HeardPrefix}
 use Rattle.hub_local.proofs.local_desk.listeners.hear.Given as goal
 
 abbrev pub invariant-loop : goal.invariant-loop

@@ -1,7 +1,7 @@
 use Rattle.std.proofs.Common.{◌≡◌, Some, refl}
 use Rattle.hub_record.specs.Kept.{StandsFor}
 use Rattle.hub_record.specs.World.{World, Subscription, subscription_in}
-use Rattle.hub_local.proofs.HearingLetters.{HasNext, held_next, taken_next, none_next}
+use Rattle.hub_local.proofs.Hearing.{HasNext, held_next, taken_next, none_next}
 use Rattle.hub_local.proofs.local_desk.listeners.hear_one.Goals as goal
 use Rattle.hub_local.proofs.local_desk.listeners.hear_one.Goals.{After-feed, in-Some, in-None+in-Ok}
 

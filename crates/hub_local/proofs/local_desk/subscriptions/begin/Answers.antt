@@ -1,5 +1,5 @@
 use Rattle.std.proofs.Common.{subst, sym, Err, Ok, List, ℕ}
-use Rattle.hub_local.specs.Beginning.{Begins}
+use Rattle.hub_local.specs.Opening.{Begins}
 use Rattle.hub_local.specs.declared.local_desk.LocalFifodir.{LocalFifodir}
 use Rattle.hub_local.proofs.AskingHolds.{begins_one, begins_refused, none_there}
 use Rattle.hub_local.proofs.local_desk.subscriptions.begin.Goals as goal

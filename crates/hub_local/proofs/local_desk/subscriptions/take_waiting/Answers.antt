@@ -6,7 +6,7 @@ use Rattle.hub_record.specs.declared.NoId.{NoId}
 use Rattle.hub_record.specs.declared.Taken.{Taken}
 use Rattle.hub_record.specs.World.{World, letters, take_events, take_reply, after_take}
 use Rattle.hub_local.specs.DeskAnswers.{take_shown}
-use Rattle.hub_local.proofs.TakingWhatWaits.{same_take}
+use Rattle.hub_local.proofs.Takings.{same_take}
 use Rattle.hub_local.proofs.local_desk.subscriptions.take_waiting.Goals as goal
 
 pub returns-clause-reply : goal.returns-clause-reply
