@@ -18,7 +18,7 @@ pub use hub_desk::{
     Desk, Excerpt, Found, Hub, HubError, Listing, LocalDesk, Name, Names, Numbers, PatternText,
     Refusal, Reply, Request, SharedDesk,
 };
-pub use hub_fifodir::{Bell, Fifodir, Pass, PassError, Publisher, Ticket, Waiter};
+pub use hub_fifodir::{Bell, Enter, Fifodir, Pass, PassError, Publisher, Ticket, Waiter};
 pub use hub_front::{parse, serve, write_reply};
 pub use hub_io::{FrontError, Sink, Source};
 pub use hub_letters::{Flags, Letter, Mode, Span, Stage, Want};

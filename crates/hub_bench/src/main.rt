@@ -12,7 +12,7 @@ mod turns;
 
 use anyhow::{Result, anyhow};
 use hub_letters::Letter;
-use hub_record::{Event, Kind, Limits, NoId, Policy, Record};
+use hub_record::{Enter, Event, Kind, Limits, NoId, Policy, Record};
 use std::alloc::{AllocGlobal, Global};
 use std::io::{Read, Write};
 use std::process::ExitCode;
@@ -54,7 +54,7 @@ fn main(rt: HostRuntime) -> ExitCode {
 }
 
 fn run<R: Read + Drop, W: Write>(
-    rt: &(impl Runtime + AllocGlobal + Wait + Threads + Copy + Sync + Send + 'static),
+    rt: &(impl Runtime + AllocGlobal + Wait + Enter + Threads + Copy + Sync + Send + 'static),
     alloc: Global,
     input: R,
     output: &mut W,
@@ -74,7 +74,7 @@ fn run<R: Read + Drop, W: Write>(
 }
 
 fn measure_fifodir(
-    rt: &(impl Runtime + AllocGlobal + Wait + Threads + Sync + Send + 'static),
+    rt: &(impl Runtime + AllocGlobal + Wait + Enter + Threads + Sync + Send + 'static),
     alloc: Global,
 ) -> Result<()> {
     shared::looks(rt, alloc)?;

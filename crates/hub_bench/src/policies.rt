@@ -4,7 +4,7 @@ ghost use Rattle.hub_fifodir.specs.Passes.{IsPublisherOf, IsTicketOf};
 
 use crate::{LISTENERS, Load, limits, rate, through_record};
 use anyhow::Result;
-use hub_fifodir::{Fifodir, Publisher, Ticket};
+use hub_fifodir::{Enter, Fifodir, Publisher, Ticket};
 use hub_letters::Letter;
 use hub_record::{Event, Kind, Policy};
 use std::alloc::{AllocGlobal, Global};
@@ -25,7 +25,7 @@ const BURSTS: u32 = 20_000;
 const EVICTED: u64 = 1_000;
 
 /// Measures what it costs that a fifodir evicts.
-pub fn measure<R: Runtime + AllocGlobal + Wait>(rt: &R, alloc: Global) -> Result<()> {
+pub fn measure<R: Runtime + AllocGlobal + Wait + Enter>(rt: &R, alloc: Global) -> Result<()> {
     for listeners in LISTENERS {
         records(rt, alloc, listeners)?;
     }
@@ -59,7 +59,7 @@ fn records(rt: &impl Runtime, alloc: Global, listeners: u64) -> Result<()> {
 }
 
 /// Letters a second through a fifodir with one listener, and through one with evicted subscriptions too, in turn.
-fn fifodirs<R: Runtime + Wait>(rt: &R, alloc: Global) -> Result<()> {
+fn fifodirs<R: Runtime + Wait + Enter>(rt: &R, alloc: Global) -> Result<()> {
     let mut alone = Duration::MAX;
     let mut beside = Duration::MAX;
     for _ in 0..ROUNDS {
@@ -76,7 +76,11 @@ fn fifodirs<R: Runtime + Wait>(rt: &R, alloc: Global) -> Result<()> {
 }
 
 /// The time to publish each burst and to take it, beside so many subscriptions that are evicted.
-fn through_fifodir<R: Clock + Wait>(rt: &R, alloc: Global, evicted: u64) -> Result<Duration> {
+fn through_fifodir<R: Clock + Wait + Enter>(
+    rt: &R,
+    alloc: Global,
+    evicted: u64,
+) -> Result<Duration> {
     let message = vec![in alloc; Letter::LEAST; BURST]?;
     let fifodir = Fifodir::new(alloc, Kind::Plain, limits(Policy::Evict)?)?;
     let mut publisher = fifodir.publisher(rt)?;
@@ -87,7 +91,7 @@ fn through_fifodir<R: Clock + Wait>(rt: &R, alloc: Global, evicted: u64) -> Resu
 
 /// Subscribes so often and once more, and measures with the last subscription. Nobody takes from the others, so the first
 /// messages evict them.
-fn beside<R: Clock + Wait>(
+fn beside<R: Clock + Wait + Enter>(
     rt: &R,
     fifodir: &Fifodir,
     publisher: &mut Publisher,

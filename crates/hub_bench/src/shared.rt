@@ -4,7 +4,7 @@ ghost use Rattle.hub_fifodir.specs.Passes.{IsPublisherOf, IsTicketOf};
 
 use crate::{limits, rate};
 use anyhow::Result;
-use hub_fifodir::{Fifodir, Publisher, Ticket};
+use hub_fifodir::{Enter, Fifodir, Publisher, Ticket};
 use hub_letters::Letter;
 use hub_record::{Event, Kind, Policy, PubError, Record, Taken};
 use std::alloc::{AllocGlobal, Global};
@@ -25,7 +25,7 @@ const BURST: usize = 256;
 const BURSTS: u64 = 20_000;
 
 /// Looks a second: at a bare word, at a fifodir's status and front, and at the same record behind a mutex.
-pub fn looks<R: Runtime + Wait>(rt: &R, alloc: Global) -> Result<()> {
+pub fn looks<R: Runtime + Wait + Enter>(rt: &R, alloc: Global) -> Result<()> {
     let word = AtomicU64::new(69);
     let start = Instant::now(rt)?;
     let mut all = 0_u64;
@@ -100,7 +100,7 @@ fn behind_a_mutex<R: Runtime + Wait>(rt: &R, alloc: Global, all: &mut u64) -> Re
 }
 
 /// Letters a second from one publisher to so many listeners, each on a thread of its own.
-pub fn threads<R: Runtime + AllocGlobal + Wait + Threads + Sync + Send + 'static>(
+pub fn threads<R: Runtime + AllocGlobal + Wait + Enter + Threads + Sync + Send + 'static>(
     rt: &R,
     alloc: Global,
     listeners: u64,
@@ -138,7 +138,7 @@ pub fn threads<R: Runtime + AllocGlobal + Wait + Threads + Sync + Send + 'static
     Ok(())
 }
 
-fn publish_all<R: Wait>(rt: &R, alloc: Global, fifodir: &Fifodir) -> Result<()> {
+fn publish_all<R: Wait + Enter>(rt: &R, alloc: Global, fifodir: &Fifodir) -> Result<()> {
     let message = vec![in alloc; Letter::LEAST; BURST]?;
     let mut publisher = fifodir.publisher(rt)?;
     let published = publish_by(rt, fifodir, &mut publisher, &message);
@@ -171,7 +171,7 @@ fn publish_by<R: Wait>(
 }
 
 /// How many letters a listener took until the end.
-fn took<R: Wait>(rt: &R, fifodir: &Fifodir, subscribed: &AtomicU64) -> u64 {
+fn took<R: Wait + Enter>(rt: &R, fifodir: &Fifodir, subscribed: &AtomicU64) -> u64 {
     let Ok(mut ticket) = fifodir.subscribe(rt) else {
         return 0;
     };

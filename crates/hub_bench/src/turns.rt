@@ -4,7 +4,7 @@ ghost use Rattle.hub_fifodir.specs.Passes.{IsPublisherOf, IsTicketOf};
 
 use crate::limits;
 use anyhow::{Result, anyhow};
-use hub_fifodir::{Fifodir, Publisher, Ticket};
+use hub_fifodir::{Enter, Fifodir, Publisher, Ticket};
 use hub_letters::Letter;
 use hub_record::{Event, Kind, Policy, Taken};
 use hub_wait::{Patience, receive};
@@ -22,7 +22,7 @@ const ROUNDS: u64 = 50_000;
 const TURNS: u64 = 5_000;
 
 /// Prints how long a round takes: one thread publishes a letter, and another one receives it and publishes its answer.
-pub fn measure<R: Runtime + Wait + Threads + Copy + Send + 'static>(
+pub fn measure<R: Runtime + Wait + Enter + Threads + Copy + Send + 'static>(
     rt: &R,
     alloc: Global,
 ) -> Result<()> {
@@ -38,7 +38,7 @@ pub fn measure<R: Runtime + Wait + Threads + Copy + Send + 'static>(
 }
 
 /// How long all rounds take with another thread.
-fn play<R: Runtime + Wait + Threads + Copy + Send + 'static>(
+fn play<R: Runtime + Wait + Enter + Threads + Copy + Send + 'static>(
     rt: &R,
     player: &mut Player,
     told: Shared,
@@ -58,7 +58,7 @@ fn play<R: Runtime + Wait + Threads + Copy + Send + 'static>(
 }
 
 /// Says that it is there, and answers each letter.
-fn answer<R: Clock + Wait + Copy>(rt: &R, told: Shared, heard: Shared) -> Result<()> {
+fn answer<R: Clock + Wait + Enter + Copy>(rt: &R, told: Shared, heard: Shared) -> Result<()> {
     let mut player = Player::open(rt, told, heard)?;
     let answered = answer_all(rt, &mut player);
     player.end(rt);
@@ -87,7 +87,7 @@ struct Player {
 }
 
 impl Player {
-    fn open<R: Wait>(rt: &R, told: Shared, heard: Shared) -> Result<Player> {
+    fn open<R: Wait + Enter>(rt: &R, told: Shared, heard: Shared) -> Result<Player> {
         let ticket = heard.subscribe(rt)?;
         match told.publisher(rt) {
             Ok(publisher) => Ok(Player {

@@ -7,7 +7,7 @@ ghost use Rattle.hub_server.specs.Reports.{IsReport};
 ghost use Rattle.hub_shared.specs.Desks.{IsNewDesk};
 ghost use Rattle.hub_shared.specs.declared.shared_desk.SharedDesk.{SharedDesk};
 
-use hub_front::{Stay, serve_within};
+use hub_front::{Enter, Stay, serve_within};
 use hub_io::{Client, FrontError, MAX_READS, Sink, Source};
 use hub_requests::Desk;
 use hub_server::{Desks, Gate, Report, ServeError, serve_each};
@@ -57,7 +57,7 @@ impl<P: Pause + Copy> Desks for HubDesks<P> {
         })
     }
 
-    fn serve<H: Wait, R: Source, W: Sink>(
+    fn serve<H: Wait + Enter, R: Source, W: Sink>(
         &self,
         rt: &H,
         alloc: Global,
@@ -85,7 +85,7 @@ pub fn serve_all<H, R, W, G, P>(
     pause: P,
 ) -> Result<Report, ServeError>
 where
-    H: Threads + Wait + Copy + Send + 'static,
+    H: Threads + Wait + Enter + Copy + Send + 'static,
     R: Source + Send + Drop + 'static,
     W: Sink + Send + Drop + 'static,
     G: Gate<R, W>,

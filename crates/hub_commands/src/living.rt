@@ -9,7 +9,7 @@ use crate::fault::Fault;
 use crate::notice::Notice;
 use crate::place::{Place, take_place};
 use crate::watching::{Pending, Watcher};
-use hub_front::Stay;
+use hub_front::{Enter, Stay};
 use hub_server::{SharedDoor, start_workers};
 use hub_shared::Hub;
 use hub_wait::Patience;
@@ -53,7 +53,7 @@ pub fn serve_forever<H, F>(
     faults: &mut F,
 ) -> Result<(), Fault>
 where
-    H: Files<File = File> + Net + Clock + Threads + Wait + Copy + Send + 'static,
+    H: Files<File = File> + Net + Clock + Threads + Wait + Enter + Copy + Send + 'static,
     F: Write,
 {
     let notice = match standing.ready {
@@ -77,7 +77,7 @@ fn serve_at<H, F>(
     faults: &mut F,
 ) -> Result<(), Fault>
 where
-    H: Files<File = File> + Net + Clock + Threads + Wait + Copy + Send + 'static,
+    H: Files<File = File> + Net + Clock + Threads + Wait + Enter + Copy + Send + 'static,
     F: Write,
 {
     let Ok(hub) = Arc::new(alloc, Hub::new(alloc)?) else {

@@ -15,6 +15,7 @@ use hub_arguments::{Plan, Start, begin, own_socket, own_words};
 use hub_ask::{Replies, Requests};
 use hub_io::{Sink, Source};
 use hub_look::Following;
+use hub_requests::Enter;
 use hub_script::script;
 use hub_server::Report;
 use std::alloc::{AllocGlobal, Global};
@@ -47,7 +48,16 @@ fn carry_out<H, SR, SW, D, R, W, F>(
     notes: &mut F,
 ) -> Result<u8, Ending>
 where
-    H: Runtime + Files<File = File> + AllocGlobal + Net + Threads + Wait + Copy + Send + 'static,
+    H: Runtime
+        + Files<File = File>
+        + AllocGlobal
+        + Net
+        + Threads
+        + Wait
+        + Enter
+        + Copy
+        + Send
+        + 'static,
     SR: Replies + Drop,
     SW: Requests + Drop,
     D: Dial<SR, SW>,
@@ -125,7 +135,16 @@ pub fn run<H, SR, SW, D, R, W, F>(
     notes: &mut F,
 ) -> Result<u8, Ending>
 where
-    H: Runtime + Files<File = File> + AllocGlobal + Net + Threads + Wait + Copy + Send + 'static,
+    H: Runtime
+        + Files<File = File>
+        + AllocGlobal
+        + Net
+        + Threads
+        + Wait
+        + Enter
+        + Copy
+        + Send
+        + 'static,
     SR: Replies + Drop,
     SW: Requests + Drop,
     D: Dial<SR, SW>,

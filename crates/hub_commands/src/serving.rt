@@ -15,7 +15,7 @@ ghost use Rattle.hub_wait.specs.declared.pause.Patience.{Patience as patience};
 use crate::desks::serve_all;
 use crate::fault::Fault;
 use hub_io::{FrontError, MAX_READS, Sink, Source};
-use hub_requests::Desk;
+use hub_requests::{Desk, Enter};
 use hub_server::{Door, Gate, Report};
 use hub_shared::{Hub, SharedDesk};
 use hub_wait::Patience;
@@ -44,7 +44,7 @@ fn listen<H: Files + Net>(rt: &H, socket: &str) -> Result<UnixListener, Fault>
 /// it returns. The socket's file stays.
 pub fn serve<H>(rt: &H, alloc: Global, socket: &str, sessions: u64) -> Result<Report, Fault>
 where
-    H: Files + Net + Clock + Threads + Wait + Copy + Send + 'static,
+    H: Files + Net + Clock + Threads + Wait + Enter + Copy + Send + 'static,
     // An open door was asked for this many connections. The report is that of `serve_all`, over one hub.
     ensures report { IfOk result (λ report. (one : hub) × (pause : patience H)
         × (opened closed : door unix_listener)

@@ -6,6 +6,6 @@
 
 pub use hub_local::LocalDesk;
 pub use hub_requests::{
-    Desk, Excerpt, Listing, Name, Names, Numbers, PatternText, Refusal, Reply, Request,
+    Desk, Enter, Excerpt, Listing, Name, Names, Numbers, PatternText, Refusal, Reply, Request,
 };
 pub use hub_shared::{Found, Hub, HubError, SharedDesk};

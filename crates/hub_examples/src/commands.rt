@@ -1,5 +1,5 @@
 // crates.txt: YOURS: hub_commands
-use hub_commands::{Fault, serve, tell_faults};
+use hub_commands::{Enter, Fault, serve, tell_faults};
 use std::alloc::Global;
 use std::fs::Files;
 use std::io::Stderr;
@@ -12,7 +12,7 @@ use std::thread::Threads;
 /// written.
 pub fn serve_at<H>(rt: &H, alloc: Global, socket: &str, errors: &mut Stderr) -> Result<bool, Fault>
 where
-    H: Files + Net + Clock + Threads + Wait + Copy + Send + 'static,
+    H: Files + Net + Clock + Threads + Wait + Enter + Copy + Send + 'static,
 {
     let report = serve(rt, alloc, socket, 8)?;
     match tell_faults(alloc, &report, errors) {

@@ -1,10 +1,10 @@
 // crates.txt: YOURS: hub_desk
-use hub_desk::{Desk, Name, Refusal, Reply, Request};
+use hub_desk::{Desk, Enter, Name, Refusal, Reply, Request};
 use std::alloc::{AllocError, Global};
 use std::sync::Wait;
 
 /// Makes the fifodir of a service at a desk: a `LocalDesk`, or a `SharedDesk` over a `Hub`.
-pub fn make_service<H: Wait, D: Desk>(
+pub fn make_service<H: Wait + Enter, D: Desk>(
     rt: &H,
     alloc: Global,
     desk: &mut D,

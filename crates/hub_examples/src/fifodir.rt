@@ -1,12 +1,12 @@
 // crates.txt: YOURS: hub_fifodir hub_record hub_letters anyhow
 use anyhow::Result;
-use hub_fifodir::Fifodir;
+use hub_fifodir::{Enter, Fifodir};
 use hub_letters::Letter;
 use hub_record::{Event, Taken};
 use std::sync::Wait;
 
 /// Publishes a message as a new publisher, and answers the number of its first event.
-pub fn send<H: Wait>(rt: &H, fifodir: &Fifodir, message: &[Letter]) -> Result<u64> {
+pub fn send<H: Wait + Enter>(rt: &H, fifodir: &Fifodir, message: &[Letter]) -> Result<u64> {
     let mut publisher = fifodir.publisher(rt)?;
     let sent = fifodir.publish(rt, &mut publisher, message);
     fifodir.leave(rt, publisher);
@@ -14,7 +14,7 @@ pub fn send<H: Wait>(rt: &H, fifodir: &Fifodir, message: &[Letter]) -> Result<u6
 }
 
 /// Subscribes, publishes a message, and takes the first events that came since then, of whatever publisher.
-pub fn send_and_take<H: Wait>(
+pub fn send_and_take<H: Wait + Enter>(
     rt: &H,
     fifodir: &Fifodir,
     message: &[Letter],

@@ -1,10 +1,10 @@
 // crates.txt: YOURS: hub_local
-use hub_local::{Desk, LocalDesk, Name, Refusal, Reply, Request};
+use hub_local::{Desk, Enter, LocalDesk, Name, Refusal, Reply, Request};
 use std::alloc::{AllocError, Global};
 use std::sync::Wait;
 
 /// Makes a fifodir at a new desk, and subscribes to it. The reply is `Reply::Number(1)`.
-pub fn make_and_subscribe<H: Wait>(rt: &H, alloc: Global) -> Result<Reply, AllocError> {
+pub fn make_and_subscribe<H: Wait + Enter>(rt: &H, alloc: Global) -> Result<Reply, AllocError> {
     let Some(name) = Name::of(alloc, b"web")? else {
         return Ok(Reply::No(Refusal::Name));
     };

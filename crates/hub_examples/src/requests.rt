@@ -1,10 +1,10 @@
 // crates.txt: YOURS: hub_requests
-use hub_requests::{Desk, Name, Reply, Request};
+use hub_requests::{Desk, Enter, Name, Reply, Request};
 use std::alloc::{AllocError, Global};
 use std::sync::Wait;
 
 /// How many events a fifodir has, as any desk answers it. None if the desk has no fifodir of this name.
-pub fn count_events<H: Wait, D: Desk>(
+pub fn count_events<H: Wait + Enter, D: Desk>(
     rt: &H,
     alloc: Global,
     desk: &mut D,

@@ -1,12 +1,12 @@
 // crates.txt: YOURS: hub_script hub_io
 use hub_io::FrontError;
-use hub_script::script;
+use hub_script::{Enter, script};
 use std::alloc::Global;
 use std::io::{Stdin, Stdout};
 use std::sync::Wait;
 
 /// Answers the lines of standard input until it ends. `main` calls it with `&mut rt.stdin()` and `&mut rt.stdout()`.
-pub fn answer_lines<H: Wait>(
+pub fn answer_lines<H: Wait + Enter>(
     rt: &H,
     alloc: Global,
     input: &mut Stdin,

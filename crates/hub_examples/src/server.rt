@@ -1,5 +1,5 @@
 // crates.txt: YOURS: hub_server
-use hub_server::{Desks, Gate, ServeError, serve_each};
+use hub_server::{Desks, Enter, Gate, ServeError, serve_each};
 use std::alloc::Global;
 use std::os::unix::net::UnixStream;
 use std::sync::Wait;
@@ -14,7 +14,7 @@ pub fn count_lines<H, G, O>(
     gate: &mut G,
 ) -> Result<u64, ServeError>
 where
-    H: Threads + Wait + Copy + Send + 'static,
+    H: Threads + Wait + Enter + Copy + Send + 'static,
     G: Gate<UnixStream, UnixStream>,
     O: Desks + Send + Drop + 'static,
 {

@@ -3,6 +3,7 @@
 //! Publishers add messages and tickets take events, each call under the one lock. A publisher or a ticket is a *pass*.
 //! What a pass knows is its seen list: the record at the moment of its latest step. Contracts speak only of seen lists,
 //! since other threads may change the record at any time. Two passes that meet have seen the same list.
+//! Only `publisher` and `subscribe` make passes. They ask for a runtime that is [`Enter`], and the other calls don't.
 //!
 //! A ticket gets every event from its mark on. If the slowest ticket leaves no room, the policy says what gives way. With Hold,
 //! `publish` is refused as `Full`, nothing is lost, and the publisher retries. With Evict the ticket is evicted, and each take
@@ -32,7 +33,7 @@ pub mod word;
 
 pub use bell::{Bell, Waiter};
 pub use fifodir::Fifodir;
-pub use hub_record::Status;
+pub use hub_record::{Enter, Status};
 pub use locked::Locked;
 pub use pass::Pass;
 pub use pause::{Go, Pause};

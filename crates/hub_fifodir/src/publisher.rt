@@ -6,7 +6,7 @@ use crate::fifodir::Fifodir;
 use crate::rule::{Board, Seat};
 use crate::{PassError, steps, word};
 use hub_letters::Letter;
-use hub_record::{Closed, PubError};
+use hub_record::{Closed, Enter, PubError};
 use std::sync::Wait;
 
 /// The pass of a publisher. A publisher that was dropped would keep its place among those that a fifodir has room for.
@@ -34,12 +34,12 @@ impl Fifodir {
     ghost use Rattle.hub_fifodir.specs.Passes.{closed_mark, mine, KnewOwnClose, HasPublished, IsRefusedAt};
 
     /// A new publisher, which has published nothing. A closed fifodir gives publishers too.
-    pub fn publisher<R: Wait>(&self, rt: &R) -> Result<Publisher, PassError>
+    pub fn publisher<R: Wait + Enter>(&self, rt: &R) -> Result<Publisher, PassError>
         ensures { IfOk result (λ p. IsPublisherOf self.now p × HasSoundSight (publisher_view p)
             × (mine p ≡ []) × (closed_mark p ≢ publisher_number p)) }
     {
         let board = self.board();
-        let mut seat = steps::enter(board);
+        let mut seat = steps::enter(rt, board);
         let mut held = self.lock(rt, &mut seat);
         match held.locked.publisher() {
             Ok(number) => {

@@ -24,9 +24,9 @@ pub type Board = Shared<Option<Locked>, View, Rules, OneHistory>;
 pub type Seat = atomic_table::Seat<Option<Locked>, View>;
 
 /// The first load of the front word, by a new seat.
-pub struct Enter;
+pub struct FirstLook;
 
-impl Play<Option<Locked>, View> for Enter {
+impl Play<Option<Locked>, View> for FirstLook {
     ghost use Rattle.hub_fifodir.specs.Steps.{enter_step};
 
     ghost then = { enter_step };

@@ -8,8 +8,9 @@ ghost use Rattle.hub_fifodir.specs.Notes.{IsSized, IsNote, note_sight};
 
 use crate::fifodir::Fifodir;
 use crate::locked::Locked;
-use crate::rule::{Board, Enter, Lock, Look, Notes, Seat, Unlock, ViewAfter, Write};
+use crate::rule::{Board, FirstLook, Lock, Look, Notes, Seat, Unlock, ViewAfter, Write};
 use hub_letters::Letter;
+use hub_record::Enter;
 use std::hint;
 use std::marker::Brand;
 use std::sync::Wait;
@@ -222,13 +223,13 @@ pub(crate) fn write_mark(board: &Board, seat: &mut Seat, word: u64)
 }
 
 // A new seat, which has seen the record so far.
-pub(crate) fn enter(board: &Board) -> Seat
+pub(crate) fn enter<R: Enter>(_rt: &R, board: &Board) -> Seat
     requires { IsSized board.now.table_id }
     ensures table { (result.table_id ≡ board.now.table_id) × (result.me.1 ≡ []) }
     ensures view { result.me.0 ≡ visitor board.now.key result.me.0.sight.seen
         result.me.0.sight.closed }
 {
-    board.load_new_seat::<Enter>(0).1
+    board.load_new_seat::<FirstLook>(0).1
 }
 
 // The seat joins a note if there is one, and loads the front word.

@@ -5,7 +5,7 @@ ghost use Rattle.hub_fifodir.specs.Steps.{IsTaker};
 use crate::fifodir::Fifodir;
 use crate::rule::{Board, Seat};
 use crate::steps;
-use hub_record::{Event, SubError, Taken};
+use hub_record::{Enter, Event, SubError, Taken};
 use std::sync::Wait;
 
 /// The pass of a subscription. A ticket that was dropped would keep its cursor, and with the policy Hold the events that
@@ -50,13 +50,13 @@ impl Fifodir {
     ghost use Rattle.hub_fifodir.specs.Passes.{ticket_mark, ticket_view, slice_after_take};
 
     /// A new ticket, which begins at the end of the record.
-    pub fn subscribe<R: Wait>(&self, rt: &R) -> Result<Ticket, SubError>
+    pub fn subscribe<R: Wait + Enter>(&self, rt: &R) -> Result<Ticket, SubError>
         ensures ok { IfOk result (λ t. IsTicketOf self.now t × HasSoundSight (ticket_view t)
             × HasSubscribed t) }
         ensures refused { IfErr result (MayRefuseTicket self.now) }
     {
         let board = self.board();
-        let mut seat = steps::enter(board);
+        let mut seat = steps::enter(rt, board);
         let mut held = self.lock(rt, &mut seat);
         match held.locked.subscribe() {
             Ok((id, mark)) => {

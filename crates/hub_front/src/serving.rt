@@ -10,12 +10,12 @@ ghost use Rattle.hub_front.specs.Pieces.{IsUnderWay};
 use crate::session::Session;
 use crate::stay::{MANY_READS, Stay};
 use hub_io::{CHUNK, FrontError, MAX_READS, Sink, Source, new_chunk};
-use hub_requests::Desk;
+use hub_requests::{Desk, Enter};
 use std::alloc::{AllocError, Global};
 use std::sync::Wait;
 
 // Serves the lines that end in an LF, until the input ends.
-fn serve_reads<H: Wait, D: Desk, R: Source, W: Sink>(
+fn serve_reads<H: Wait + Enter, D: Desk, R: Source, W: Sink>(
     rt: &H,
     reads: u64,
     desk: &mut D,
@@ -56,7 +56,7 @@ fn serve_reads<H: Wait, D: Desk, R: Source, W: Sink>(
 }
 
 // Serves all lines of the input, the last one too if it has no LF.
-fn serve_lines<H: Wait, D: Desk, R: Source, W: Sink>(
+fn serve_lines<H: Wait + Enter, D: Desk, R: Source, W: Sink>(
     rt: &H,
     alloc: Global,
     stay: Stay,
@@ -95,7 +95,7 @@ fn serve_lines<H: Wait, D: Desk, R: Source, W: Sink>(
 
 /// Serves lines until the end of the input, or until the last read that the session may make, and returns how many they
 /// were. Each reply is written whole, by itself, before the next line is answered. The desk is ended at every outcome.
-pub fn serve_within<H: Wait, D: Desk, R: Source, W: Sink>(
+pub fn serve_within<H: Wait + Enter, D: Desk, R: Source, W: Sink>(
     rt: &H,
     alloc: Global,
     stay: Stay,
@@ -126,7 +126,7 @@ pub fn serve_within<H: Wait, D: Desk, R: Source, W: Sink>(
 }
 
 /// Serves a session that may stay [`Short`](Stay::Short): [`serve_within`] at most [`MAX_READS`] reads.
-pub fn serve<H: Wait, D: Desk, R: Source, W: Sink>(
+pub fn serve<H: Wait + Enter, D: Desk, R: Source, W: Sink>(
     rt: &H,
     alloc: Global,
     desk: &mut D,

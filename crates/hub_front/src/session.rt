@@ -10,7 +10,7 @@ ghost use Rattle.hub_front.specs.Pieces.{cut, complete_pieces, piece_left};
 
 use hub_io::{FrontError, Sink, first_line, write_whole};
 use hub_protocol::{parse, write_reply};
-use hub_requests::{Desk, LONGEST_REPLY, Reply};
+use hub_requests::{Desk, Enter, LONGEST_REPLY, Reply};
 use std::alloc::{AllocError, Global};
 use std::sync::Wait;
 
@@ -46,7 +46,7 @@ impl Session {
     }
 
     /// Answers the lines that end within the bytes, and keeps the beginning of the unfinished line.
-    pub(crate) fn take_bytes<H: Wait, D: Desk, W: Sink>(
+    pub(crate) fn take_bytes<H: Wait + Enter, D: Desk, W: Sink>(
         &mut self,
         rt: &H,
         desk: &mut D,
@@ -87,7 +87,7 @@ impl Session {
     }
 
     /// Answers the unfinished last line of the input, if there is one. Returns how many lines were answered in all.
-    pub(crate) fn finish<H: Wait, D: Desk, W: Sink>(
+    pub(crate) fn finish<H: Wait + Enter, D: Desk, W: Sink>(
         mut self,
         rt: &H,
         desk: &mut D,
@@ -109,7 +109,7 @@ impl Session {
     }
 
     // Answers the line that was kept, writes the reply whole, and begins the next line.
-    fn answer_line<H: Wait, D: Desk, W: Sink>(
+    fn answer_line<H: Wait + Enter, D: Desk, W: Sink>(
         &mut self,
         rt: &H,
         desk: &mut D,
@@ -137,7 +137,7 @@ impl Session {
 }
 
 // The reply to a line: the desk's if it spells a request, and else the refusal of the first rule that it breaks.
-fn reply_to<H: Wait, D: Desk>(rt: &H, alloc: Global, desk: &mut D, line: &[u8]) -> Reply
+fn reply_to<H: Wait + Enter, D: Desk>(rt: &H, alloc: Global, desk: &mut D, line: &[u8]) -> Reply
     ensures { AnswersLine D.asks desk.old line.now result desk.new }
 {
     match parse(alloc, line) {

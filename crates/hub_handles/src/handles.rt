@@ -11,7 +11,7 @@ ghost use Rattle.hub_requests.specs.declared.reply.Refusal.TheVariants as no;
 use crate::room::Room;
 use crate::session_listener::SessionListener;
 use crate::subscription::Subscription;
-use hub_fifodir::{Fifodir, Pause};
+use hub_fifodir::{Enter, Fifodir, Pause};
 use hub_listen::{ListenError, Listener, Mode};
 use hub_requests::{Name, PatternText, Refusal, Reply, refusal_of_handle};
 use indexmap::IndexMap;
@@ -66,7 +66,12 @@ impl Handles {
     }
 
     /// Begins a subscription to the fifodir that has this name, under the next number.
-    pub fn subscribe<H: Wait>(&mut self, rt: &H, name: &Name, dir: Arc<Fifodir, Global>) -> Reply
+    pub fn subscribe<H: Wait + Enter>(
+        &mut self,
+        rt: &H,
+        name: &Name,
+        dir: Arc<Fifodir, Global>,
+    ) -> Reply
         ensures { Subscribes name.now (arc_value dir) self.old result self.new }
     {
         match self.add_subscription(rt, name, dir) {
@@ -75,7 +80,7 @@ impl Handles {
         }
     }
 
-    fn add_subscription<H: Wait>(
+    fn add_subscription<H: Wait + Enter>(
         &mut self,
         rt: &H,
         name: &Name,
@@ -99,7 +104,7 @@ impl Handles {
     }
 
     /// Begins a subscription that a listener hears, to the fifodir that has this name, under the next number.
-    pub fn listen<H: Wait>(
+    pub fn listen<H: Wait + Enter>(
         &mut self,
         rt: &H,
         name: &Name,
@@ -116,7 +121,7 @@ impl Handles {
         }
     }
 
-    fn add_listener<H: Wait>(
+    fn add_listener<H: Wait + Enter>(
         &mut self,
         rt: &H,
         name: &Name,

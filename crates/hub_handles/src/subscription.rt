@@ -5,7 +5,7 @@ ghost use Rattle.hub_fifodir.specs.Passes.{IsTicketOf, HasSoundSight, ticket_vie
 ghost use Rattle.hub_requests.specs.declared.bounds.TheConstants.{MOST_TAKEN};
 
 use crate::room::Room;
-use hub_fifodir::{Fifodir, Pause, Ticket};
+use hub_fifodir::{Enter, Fifodir, Pause, Ticket};
 use hub_letters::Letter;
 use hub_record::{Event, SubError, Taken};
 use hub_requests::{Name, Refusal, Reply, letters_of};
@@ -28,7 +28,7 @@ impl Subscription {
     ghost use Rattle.hub_handles.specs.Taking.{Begins, HasLooked, HasPending, Takes, TakesFrom, TakesOne};
 
     /// Subscribes to the fifodir. An error says why it gave no ticket.
-    pub fn new<H: Wait>(
+    pub fn new<H: Wait + Enter>(
         rt: &H,
         name: &Name,
         dir: Arc<Fifodir, Global>,

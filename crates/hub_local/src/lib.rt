@@ -6,5 +6,5 @@
 
 mod local_desk;
 
-pub use hub_requests::{Desk, Name, Names, Numbers, PatternText, Refusal, Reply, Request};
+pub use hub_requests::{Desk, Enter, Name, Names, Numbers, PatternText, Refusal, Reply, Request};
 pub use local_desk::LocalDesk;

@@ -4,7 +4,7 @@ ghost use Rattle.std.specs.Prelude.{IfOk};
 use crate::local_desk::subscriptions::release_all;
 use hub_letters::Letter;
 use hub_listen::{Listener, Mode};
-use hub_record::{Kind, Record};
+use hub_record::{Enter, Kind, Record};
 use hub_requests::{Desk, Name, Reply, Request, limits};
 use indexmap::IndexMap;
 use std::alloc::{AllocError, Global};
@@ -100,7 +100,7 @@ impl Desk for LocalDesk {
 
     ghost ends = { Ended };
 
-    fn ask<H: Wait>(&mut self, _rt: &H, request: &Request) -> Reply {
+    fn ask<H: Wait + Enter>(&mut self, _rt: &H, request: &Request) -> Reply {
         match request {
             Request::Svc {
                 name,

@@ -6,6 +6,7 @@ ghost use Rattle.hub_names.specs.declared.hub.Hub.{Hub};
 
 use crate::hub::{Hub, Made, NamesLook};
 use crate::joined::Joined;
+use hub_fifodir::Enter;
 use hub_record::Letters;
 use hub_requests::{Name, Refusal, Reply};
 use indexmap::IndexMap;
@@ -92,7 +93,13 @@ impl Fifodirs {
     }
 
     /// Publishes by the session's publisher at the fifodir of this name.
-    pub fn publish<H: Wait>(&mut self, rt: &H, hub: &Hub, name: &Name, letters: &Letters) -> Reply
+    pub fn publish<H: Wait + Enter>(
+        &mut self,
+        rt: &H,
+        hub: &Hub,
+        name: &Name,
+        letters: &Letters,
+    ) -> Reply
         ensures { AsksByName hub.now (says_published letters.now)
             self.old name.now result self.new }
     {
@@ -103,7 +110,7 @@ impl Fifodirs {
     }
 
     /// Closes the fifodir of this name by the session's publisher there.
-    pub fn close<H: Wait>(&mut self, rt: &H, hub: &Hub, name: &Name) -> Reply
+    pub fn close<H: Wait + Enter>(&mut self, rt: &H, hub: &Hub, name: &Name) -> Reply
         ensures { AsksByName hub.now says_closed self.old name.now result self.new }
     {
         match self.joined(rt, hub, name) {
@@ -126,7 +133,7 @@ impl Fifodirs {
     }
 
     /// Answers the status by the session's publisher at the fifodir of this name, which it makes if it has none there yet.
-    pub fn first_status<H: Wait>(&mut self, rt: &H, hub: &Hub, name: &Name) -> Reply
+    pub fn first_status<H: Wait + Enter>(&mut self, rt: &H, hub: &Hub, name: &Name) -> Reply
         ensures { AsksByName hub.now says_status self.old name.now result self.new }
     {
         match self.joined(rt, hub, name) {

@@ -7,7 +7,7 @@ ghost use Rattle.hub_names.specs.Refusals.{refusal_of_pass};
 ghost use Rattle.hub_names.specs.Says.{says_closed, says_published, says_status};
 
 use crate::hub::{Found, Made};
-use hub_fifodir::{PassError, Publisher};
+use hub_fifodir::{Enter, PassError, Publisher};
 use hub_record::{Closed, Letters};
 use hub_requests::{Refusal, Reply};
 use std::mem;
@@ -49,7 +49,7 @@ impl Joined {
     }
 
     /// Takes out the publisher that it keeps, or a new one.
-    fn speaker<H: Wait>(&mut self, rt: &H) -> Result<Publisher, PassError>
+    fn speaker<H: Wait + Enter>(&mut self, rt: &H) -> Result<Publisher, PassError>
         ensures found { self.new.found ≡ self.old.found }
         ensures silent { self.new.publisher ≡ None }
         ensures of { IfOk result (λ p. IsPublisherOf (arc_value self.old.found.dir) p) }
@@ -77,7 +77,7 @@ impl Joined {
     }
 
     /// Publishes by the publisher that it keeps, or by a new one, which it keeps from then on.
-    pub fn publish<H: Wait>(&mut self, rt: &H, letters: &Letters) -> Reply
+    pub fn publish<H: Wait + Enter>(&mut self, rt: &H, letters: &Letters) -> Reply
         ensures { AsksAsPublisher (says_published letters.now) self.old result self.new }
     {
         let mut publisher = match self.speaker(rt) {
@@ -93,7 +93,7 @@ impl Joined {
     }
 
     /// Closes the fifodir by the publisher that it keeps, or by a new one, which it keeps from then on.
-    pub fn close<H: Wait>(&mut self, rt: &H) -> Reply
+    pub fn close<H: Wait + Enter>(&mut self, rt: &H) -> Reply
         ensures { AsksAsPublisher says_closed self.old result self.new }
     {
         let mut publisher = match self.speaker(rt) {
@@ -124,7 +124,7 @@ impl Joined {
     }
 
     /// Answers the status by the publisher that it keeps, or by a new one, which it keeps from then on.
-    pub fn first_status<H: Wait>(&mut self, rt: &H) -> Reply
+    pub fn first_status<H: Wait + Enter>(&mut self, rt: &H) -> Reply
         ensures { AsksAsPublisher says_status self.old result self.new }
     {
         let mut publisher = match self.speaker(rt) {

@@ -25,6 +25,7 @@
 mod backlog;
 mod counts;
 mod cursor_list;
+mod enter;
 pub mod laws;
 mod letters;
 mod limits;
@@ -32,6 +33,7 @@ mod record;
 mod ring;
 mod runs;
 
+pub use enter::Enter;
 use hub_letters::{Flags, Letter};
 pub use letters::Letters;
 pub use limits::{Limits, MOST_EVENTS, MOST_IDS, MOST_PASSES, MOST_WAITING, Policy};

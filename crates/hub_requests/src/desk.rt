@@ -5,6 +5,7 @@ ghost use Rattle.hub_requests.specs.declared.request.Request.{Request};
 
 use crate::reply::Reply;
 use crate::request::Request;
+use hub_record::Enter;
 use std::sync::Wait;
 
 /// A desk answers the requests of one session, each by what the requests before it have left.
@@ -17,7 +18,7 @@ pub trait Desk {
     ghost ends: { Self → Self → Type 0 };
 
     /// Answers a request whose numbers are in their ranges.
-    fn ask<H: Wait>(&mut self, rt: &H, request: &Request) -> Reply
+    fn ask<H: Wait + Enter>(&mut self, rt: &H, request: &Request) -> Reply
         requires { IsInRange request.now }
         ensures { asks self.old request.now result self.new };
 

@@ -22,6 +22,7 @@ pub use bounds::{
     MOST_TURNS,
 };
 pub use desk::Desk;
+pub use hub_record::Enter;
 pub use letters::letters_of;
 pub use listing::{Listing, names_reply};
 pub use name::Name;

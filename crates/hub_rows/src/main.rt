@@ -9,7 +9,7 @@
 mod sharing;
 
 use anyhow::{Result, anyhow};
-use ftrighub::{Desk, LocalDesk, Source, serve};
+use ftrighub::{Desk, Enter, LocalDesk, Source, serve};
 use hub_fakes::Dripping;
 use std::alloc::{AllocGlobal, Global};
 use std::process::ExitCode;
@@ -27,7 +27,10 @@ fn main(rt: HostRuntime) -> ExitCode {
     }
 }
 
-fn run(rt: &(impl Runtime + AllocGlobal + Wait + Clone + Drop), alloc: Global) -> Result<()> {
+fn run(
+    rt: &(impl Runtime + AllocGlobal + Wait + Enter + Clone + Drop),
+    alloc: Global,
+) -> Result<()> {
     let mut names: Vec<String> = Vec::new(alloc);
     for name in env::args(rt)?.skip(1) {
         names.push(name)?;
@@ -80,7 +83,7 @@ impl Row {
     /// which line.
     fn holds(
         &self,
-        rt: &(impl Runtime + AllocGlobal + Wait),
+        rt: &(impl Runtime + AllocGlobal + Wait + Enter),
         alloc: Global,
         name: &str,
     ) -> Result<()> {
@@ -101,7 +104,7 @@ impl Row {
     }
 
     /// The first line of a desk's output that is another one than expected, counted from 1; none if there is none.
-    fn differs_at<H: Wait, D: Desk, R: Source>(
+    fn differs_at<H: Wait + Enter, D: Desk, R: Source>(
         &self,
         rt: &H,
         alloc: Global,

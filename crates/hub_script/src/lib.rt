@@ -6,4 +6,5 @@
 
 mod scripting;
 
+pub use hub_requests::Enter;
 pub use scripting::{input_has_one_output, script};

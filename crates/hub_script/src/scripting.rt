@@ -8,11 +8,12 @@ ghost use Rattle.hub_script.specs.Output.{IsOutput, Serves, Stops};
 use hub_front::serve;
 use hub_io::{FrontError, MAX_READS, Sink, Source};
 use hub_local::LocalDesk;
+use hub_requests::Enter;
 use std::alloc::Global;
 use std::sync::Wait;
 
 /// Serves the lines of the reader until they end, and returns how many they were.
-pub fn script<H: Wait, R: Source, W: Sink>(
+pub fn script<H: Wait + Enter, R: Source, W: Sink>(
     rt: &H,
     alloc: Global,
     reader: &mut R,

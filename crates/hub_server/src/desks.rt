@@ -4,6 +4,7 @@ ghost use Rattle.hub_front.specs.Serving.{Asking};
 ghost use Rattle.hub_server.specs.Promised.{IsShare};
 ghost use Rattle.hub_server.specs.Sessions.{IsEnded};
 
+use hub_front::Enter;
 use hub_io::{FrontError, Sink, Source};
 use std::alloc::{AllocError, Global};
 use std::sync::Wait;
@@ -30,7 +31,7 @@ pub trait Desks {
         ensures { IfOk result (IsShare opens most self.now) };
 
     /// Serves one session from its first line to its end. Gives the number of its lines.
-    fn serve<H: Wait, R: Source, W: Sink>(
+    fn serve<H: Wait + Enter, R: Source, W: Sink>(
         &self,
         rt: &H,
         alloc: Global,

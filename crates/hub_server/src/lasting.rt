@@ -7,6 +7,7 @@ use crate::desks::Desks;
 use crate::gate::{Gate, Next};
 use crate::journal::Journal;
 use crate::serving::serve_session;
+use hub_front::Enter;
 use hub_io::{FrontError, Sink, Source};
 use std::alloc::Global;
 use std::sync::Wait;
@@ -33,7 +34,7 @@ fn may_leave_much(ended: Result<u64, FrontError>) -> bool
 /// that may have left much in what the C library keeps for the thread, since the thread's end gives that back.
 pub fn serve_on<H, R, W, G, O, J>(rt: &H, alloc: Global, desks: &O, gate: &mut G, journal: &mut J)
 where
-    H: Wait,
+    H: Wait + Enter,
     R: Source + Drop,
     W: Sink + Drop,
     G: Gate<R, W>,

@@ -26,6 +26,7 @@ pub use connection::{Connection, Timed};
 pub use desks::Desks;
 pub use door::{Door, SharedDoor};
 pub use gate::{Gate, Next};
+pub use hub_front::Enter;
 pub use journal::Journal;
 pub use lasting::serve_on;
 pub use listening::Listen;

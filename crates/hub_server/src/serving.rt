@@ -5,6 +5,7 @@ ghost use Rattle.hub_server.specs.Turns.{IsTold};
 use crate::desks::Desks;
 use crate::journal::Journal;
 use crate::promise::Session;
+use hub_front::Enter;
 use hub_io::{FrontError, Sink, Source};
 use std::alloc::Global;
 use std::snapshot::Snapshot;
@@ -23,7 +24,7 @@ pub(crate) fn serve_session<H, R, W, O, J>(
     mut writer: W,
 ) -> Result<u64, FrontError>
 where
-    H: Wait,
+    H: Wait + Enter,
     R: Source + Drop,
     W: Sink + Drop,
     O: Desks,

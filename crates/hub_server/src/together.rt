@@ -12,6 +12,7 @@ use crate::promise::Session;
 use crate::report::{Report, ServeError};
 use crate::serving::serve_session;
 use crate::started::{Started, join_over, results_of};
+use hub_front::Enter;
 use hub_io::{FrontError, Sink, Source};
 use std::alloc::Global;
 use std::snapshot::Snapshot;
@@ -26,7 +27,7 @@ pub const STACK_SIZE: usize = 2 << 20;
 type Running<R, W, O> = Started<Result<u64, FrontError>, Session<R, W, O>>;
 
 // Serves one session, of which no journal learns. Its share of the desks is dropped here too.
-fn serve_untold<H: Wait + Drop, R: Source + Drop, W: Sink + Drop, O: Desks + Drop>(
+fn serve_untold<H: Wait + Enter + Drop, R: Source + Drop, W: Sink + Drop, O: Desks + Drop>(
     rt: H,
     alloc: Global,
     desks: O,
@@ -51,7 +52,7 @@ fn start<H, R, W, O>(
     writer: W,
 ) -> Option<Running<R, W, O>>
 where
-    H: Threads + Wait + Copy + Send + 'static,
+    H: Threads + Wait + Enter + Copy + Send + 'static,
     R: Source + Send + Drop + 'static,
     W: Sink + Send + Drop + 'static,
     O: Desks + Send + Drop + 'static,
@@ -89,7 +90,7 @@ fn start_all<H, R, W, G, O>(
     started: &mut Vec<Running<R, W, O>>,
 ) -> Result<bool, ServeError>
 where
-    H: Threads + Wait + Copy + Send + 'static,
+    H: Threads + Wait + Enter + Copy + Send + 'static,
     R: Source + Send + Drop + 'static,
     W: Sink + Send + Drop + 'static,
     G: Gate<R, W>,
@@ -134,7 +135,7 @@ pub fn serve_each<H, R, W, G, O>(
     sessions: u64,
 ) -> Result<Report, ServeError>
 where
-    H: Threads + Wait + Copy + Send + 'static,
+    H: Threads + Wait + Enter + Copy + Send + 'static,
     R: Source + Send + Drop + 'static,
     W: Sink + Send + Drop + 'static,
     G: Gate<R, W>,

@@ -8,6 +8,7 @@ use crate::journal::Journal;
 use crate::lasting::serve_on;
 use crate::report::ServeError;
 use crate::together::STACK_SIZE;
+use hub_front::Enter;
 use std::alloc::{AllocError, Global};
 use std::rt::Clock;
 use std::sync::atomic::{AtomicBool, Ordering};
@@ -121,7 +122,7 @@ where
 
     fn start<H>(&self, rt: &H, seat: &Arc<Seat, Global>) -> Result<JoinHandle<()>, ServeError>
     where
-        H: Threads + Wait + Copy + Send + 'static,
+        H: Threads + Wait + Enter + Copy + Send + 'static,
     {
         let (own, means) = (*rt, self.share()?);
         let seat = Arc::try_clone(seat)?;
@@ -135,7 +136,7 @@ where
 // What a worker does: it serves sessions until it had better leave, and says so.
 fn work<H, C, O, J>(rt: H, means: Means<C, O, J>, seat: Arc<Seat, Global>)
 where
-    H: Threads + Wait + Copy + Send + 'static,
+    H: Threads + Wait + Enter + Copy + Send + 'static,
     C: Clock + Copy + Send + Drop + 'static,
     O: Desks + Send + Drop + 'static,
     J: Journal<Connection<C>, Connection<C>> + Send + Drop + 'static,
@@ -163,7 +164,7 @@ impl Place {
     // Puts another worker in the place of one that has left. Returns whether there is one.
     fn renew<H, C, O, J>(&mut self, rt: &H, means: &Means<C, O, J>) -> bool
     where
-        H: Threads + Wait + Copy + Send + 'static,
+        H: Threads + Wait + Enter + Copy + Send + 'static,
         C: Clock + Copy + Send + Drop + 'static,
         O: Desks + Send + Drop + 'static,
         J: Journal<Connection<C>, Connection<C>> + Send + Drop + 'static,
@@ -190,7 +191,7 @@ where
     // Starts so many threads. If one couldn't be started, those before it serve nevertheless.
     fn start<H>(rt: &H, means: Means<C, O, J>, count: u64) -> Result<Workers<C, O, J>, ServeError>
     where
-        H: Threads + Wait + Copy + Send + 'static,
+        H: Threads + Wait + Enter + Copy + Send + 'static,
         ensures { IfOk result (λ workers. vec_len workers.places ≡ count) }
     {
         let mut places = Vec::new(means.alloc);
@@ -208,7 +209,7 @@ where
     // Joins each worker that has left, and starts another one in its place. Returns whether each place has one.
     fn renew<H>(&mut self, rt: &H) -> bool
     where
-        H: Threads + Wait + Copy + Send + 'static,
+        H: Threads + Wait + Enter + Copy + Send + 'static,
         ensures { vec_len self.new.places ≡ vec_len self.old.places }
     {
         let mut are_there = true;
@@ -222,7 +223,7 @@ where
     // Renews workers for as long as the program runs. If a thread couldn't be started, it is tried again.
     fn keep<H>(&mut self, rt: &H)
     where
-        H: Threads + Wait + Copy + Send + 'static,
+        H: Threads + Wait + Enter + Copy + Send + 'static,
     {
         'renewals: for _ in rt.forever() {
             self.means.bell.hear(rt);
@@ -242,7 +243,7 @@ type Begun = OnceLock<Result<(), ServeError>>;
 // Starts so many workers, says whether they could be started, and keeps them.
 fn start_and_keep<H, C, O, J>(rt: &H, means: Means<C, O, J>, count: u64, begun: &Begun)
 where
-    H: Threads + Wait + Copy + Send + 'static,
+    H: Threads + Wait + Enter + Copy + Send + 'static,
     C: Clock + Copy + Send + Drop + 'static,
     O: Desks + Send + Drop + 'static,
     J: Journal<Connection<C>, Connection<C>> + Send + Drop + 'static,
@@ -272,7 +273,7 @@ pub fn start_workers<H, C, O, J>(
     count: u64,
 ) -> Result<JoinHandle<()>, ServeError>
 where
-    H: Threads + Wait + Copy + Send + 'static,
+    H: Threads + Wait + Enter + Copy + Send + 'static,
     C: Clock + Copy + Send + Drop + 'static,
     O: Desks + Send + Drop + 'static,
     J: Journal<Connection<C>, Connection<C>> + Send + Drop + 'static,

@@ -4,6 +4,7 @@ ghost use Rattle.std.specs.Arc.{arc_value};
 ghost use Rattle.hub_requests.specs.declared.bounds.TheConstants.{MOST_SERVICES};
 ghost use Rattle.hub_requests.specs.declared.request.Request.TheVariants as asked;
 
+use hub_fifodir::Enter;
 use hub_handles::Handles;
 use hub_io::Client;
 use hub_letters::{Mode, Span, Want};
@@ -92,7 +93,7 @@ impl<P: Pause + Copy> SharedDesk<P> {
         }
     }
 
-    fn subscribe<H: Wait>(&mut self, rt: &H, name: &Name) -> Reply
+    fn subscribe<H: Wait + Enter>(&mut self, rt: &H, name: &Name) -> Reply
         ensures { Asks self.old (asked.Sub name.now) result self.new }
     {
         match self.fifodirs.find(rt, &self.hub, name) {
@@ -101,7 +102,13 @@ impl<P: Pause + Copy> SharedDesk<P> {
         }
     }
 
-    fn listen<H: Wait>(&mut self, rt: &H, name: &Name, mode: Mode, pattern: &PatternText) -> Reply
+    fn listen<H: Wait + Enter>(
+        &mut self,
+        rt: &H,
+        name: &Name,
+        mode: Mode,
+        pattern: &PatternText,
+    ) -> Reply
         ensures { Asks self.old (asked.Listen name.now mode pattern.now) result self.new }
     {
         match self.fifodirs.find(rt, &self.hub, name) {
@@ -111,7 +118,7 @@ impl<P: Pause + Copy> SharedDesk<P> {
     }
 
     /// Waits for the lock only if the session has no publisher there yet.
-    fn status<H: Wait>(&mut self, rt: &H, name: &Name) -> Reply
+    fn status<H: Wait + Enter>(&mut self, rt: &H, name: &Name) -> Reply
         ensures { Asks self.old (asked.Status name.now) result self.new }
     {
         match self.fifodirs.status(name) {
@@ -127,7 +134,14 @@ impl<P: Pause + Copy> SharedDesk<P> {
         self.handles.await_more(rt, id, turns, &mut pause)
     }
 
-    fn wait<H: Wait>(&mut self, rt: &H, span: Span, want: Want, turns: u64, names: &Names) -> Reply
+    fn wait<H: Wait + Enter>(
+        &mut self,
+        rt: &H,
+        span: Span,
+        want: Want,
+        turns: u64,
+        names: &Names,
+    ) -> Reply
         requires { length names.now ≤ MOST_SERVICES }
         ensures { Asks self.old (asked.Wait span want turns names.now) result self.new }
     {
@@ -149,7 +163,7 @@ impl<P: Pause + Copy> Desk for SharedDesk<P> {
 
     ghost ends = { IsEnded };
 
-    fn ask<H: Wait>(&mut self, rt: &H, request: &Request) -> Reply {
+    fn ask<H: Wait + Enter>(&mut self, rt: &H, request: &Request) -> Reply {
         match request {
             Request::Dir {
                 name,

@@ -3,7 +3,7 @@
 
 use anyhow::{Result, anyhow};
 use ftrighub::{
-    Event, Fifodir, Kind, Letter, Limits, Patience, Post, Span, Taken, Want, receive, svwait,
+    Enter, Event, Fifodir, Kind, Letter, Limits, Patience, Post, Span, Taken, Want, receive, svwait,
 };
 use std::alloc::AllocGlobal;
 use std::rt::Clock;
@@ -31,7 +31,12 @@ fn main(rt: HostRuntime) -> Result<()> {
 }
 
 /// Publishes a letter so many times, ten milliseconds apart. Returns how often it was accepted.
-fn publish<R: Clock + Wait>(rt: &R, web: &Fifodir, letter: Letter, times: u64) -> Result<u64> {
+fn publish<R: Clock + Wait + Enter>(
+    rt: &R,
+    web: &Fifodir,
+    letter: Letter,
+    times: u64,
+) -> Result<u64> {
     let mut publisher = web.publisher(rt)?;
     let mut accepted = 0_u64;
     for _ in 0..times {
@@ -44,7 +49,7 @@ fn publish<R: Clock + Wait>(rt: &R, web: &Fifodir, letter: Letter, times: u64) -
 }
 
 /// Says that it is ready, and takes seven letters as they come. Returns how many came.
-fn listen<R: Clock + Wait + Copy>(rt: &R, log: &Fifodir, web: &Fifodir) -> Result<u64> {
+fn listen<R: Clock + Wait + Enter + Copy>(rt: &R, log: &Fifodir, web: &Fifodir) -> Result<u64> {
     let mut ticket = web.subscribe(rt)?;
     let told = publish(rt, log, Letter::of(b'U').unwrap_or(Letter::LEAST), 1);
     let (mut heard, mut out) = (0_u64, [Event::FILLER]);

@@ -10,7 +10,7 @@ ghost use Rattle.hub_wait.specs.Watching.{watching_after_step};
 use crate::Watch;
 use hub_fifodir::{Bell, Fifodir, Ticket, Waiter};
 use hub_letters::{Letter, Want};
-use hub_record::{Event, SubError, Taken};
+use hub_record::{Enter, Event, SubError, Taken};
 use std::alloc::Global;
 use std::sync::{Arc, Wait};
 
@@ -45,7 +45,7 @@ impl Post {
 
     /// Subscribes, and then reads the status by the new ticket: a change between the two is told by the status, and its
     /// letter is passed over when it is taken. The other way round it would be lost.
-    pub fn open<R: Wait>(
+    pub fn open<R: Wait + Enter>(
         rt: &R,
         fifodir: Arc<Fifodir, Global>,
         want: Want,

@@ -2,7 +2,7 @@
 use crate::tests::fixtures::word;
 use crate::tests::passes::{Sender, Shared, new_reader, new_sender};
 use crate::tests::waits::open_post;
-use hub_fifodir::{Bell, Fifodir};
+use hub_fifodir::{Bell, Enter, Fifodir};
 use hub_letters::{Letter, Want};
 use hub_record::{Kind, Limits};
 use hub_wait::{Go, Patience, Pause, Span, svwait};
@@ -23,7 +23,7 @@ fn open_with_bell(alloc: Global, bell: &Arc<Bell, Global>) -> Result<Shared, Fai
 /// How often the bell of two fifodirs has rung: after a letter that nobody waits for; for a waiter of the first one, after a
 /// letter there and after one at the second; if one of two waiters is left, after a letter and after a close; and at the second
 /// one, after a letter that somebody waits for and one that nobody waits for.
-fn rings_of_two<R: Abort + Wait>(rt: &R, alloc: Global) -> Result<[u64; 7], Fail> {
+fn rings_of_two<R: Abort + Wait + Enter>(rt: &R, alloc: Global) -> Result<[u64; 7], Fail> {
     let letters = word(alloc, "a")?;
     let bell = Arc::new(alloc, Bell::new())?;
     let one = open_with_bell(alloc, &bell)?;
@@ -31,7 +31,7 @@ fn rings_of_two<R: Abort + Wait>(rt: &R, alloc: Global) -> Result<[u64; 7], Fail
     Ok(rings_at(rt, &bell, &one, &other, &letters))
 }
 
-fn rings_at<R: Abort + Wait>(
+fn rings_at<R: Abort + Wait + Enter>(
     rt: &R,
     bell: &Bell,
     one: &Shared,
@@ -67,7 +67,10 @@ fn rings_at<R: Abort + Wait>(
 
 /// How often the bell of a fifodir has rung after a letter each: after an await that is over, while a post is there, and after
 /// its end.
-fn rings_for_each<R: Abort + Wait + Clock + Copy>(rt: &R, alloc: Global) -> Result<[u64; 3], Fail> {
+fn rings_for_each<R: Abort + Wait + Enter + Clock + Copy>(
+    rt: &R,
+    alloc: Global,
+) -> Result<[u64; 3], Fail> {
     let letters = word(alloc, "a")?;
     let bell = Arc::new(alloc, Bell::new())?;
     let fifodir = open_with_bell(alloc, &bell)?;
@@ -89,7 +92,7 @@ fn rings_for_each<R: Abort + Wait + Clock + Copy>(rt: &R, alloc: Global) -> Resu
 }
 
 /// How often the bell of a fifodir has rung after an await in whose only pause a letter comes.
-fn rings_of_an_await<R: Abort + Wait>(rt: &R, alloc: Global) -> Result<u64, Fail> {
+fn rings_of_an_await<R: Abort + Wait + Enter>(rt: &R, alloc: Global) -> Result<u64, Fail> {
     let letters = word(alloc, "a")?;
     let bell = Arc::new(alloc, Bell::new())?;
     let fifodir = open_with_bell(alloc, &bell)?;
@@ -155,7 +158,7 @@ impl Hearing {
 }
 
 /// What the pauses of a wait are told. The bell rings before the first post of the wait is opened, and in each pause.
-fn told_to_a_wait<R: Abort + Wait>(rt: &R, alloc: Global) -> Result<Told, Fail> {
+fn told_to_a_wait<R: Abort + Wait + Enter>(rt: &R, alloc: Global) -> Result<Told, Fail> {
     let letters = word(alloc, "a")?;
     let bell = Arc::new(alloc, Bell::new())?;
     let one = open_with_bell(alloc, &bell)?;
@@ -175,7 +178,7 @@ fn told_to_a_wait<R: Abort + Wait>(rt: &R, alloc: Global) -> Result<Told, Fail> 
 }
 
 /// What the pauses of an await are told, while the bell rings for another fifodir that shares it.
-fn told_to_an_await<R: Abort + Wait>(rt: &R, alloc: Global) -> Result<Told, Fail> {
+fn told_to_an_await<R: Abort + Wait + Enter>(rt: &R, alloc: Global) -> Result<Told, Fail> {
     let letters = word(alloc, "a")?;
     let bell = Arc::new(alloc, Bell::new())?;
     let one = open_with_bell(alloc, &bell)?;

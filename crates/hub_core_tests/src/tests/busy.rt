@@ -1,7 +1,7 @@
 //! Calls while another thread is at the lock: wake-ups aren't lost, and a meeting doesn't wait.
 use crate::tests::fixtures::run_of;
 use crate::tests::passes::{Sender, Shared, open, publisher};
-use hub_fifodir::Fifodir;
+use hub_fifodir::{Enter, Fifodir};
 use hub_letters::Letter;
 use hub_record::Kind;
 use std::alloc::{AllocError, Global};
@@ -21,7 +21,7 @@ const MESSAGES: u64 = 100_000;
 const PATIENCE: u64 = 40_000;
 
 /// Sends the messages, and counts in `done` that all were sent.
-fn send_all<R: Wait>(rt: &R, fifodir: Shared, done: &AtomicU64) {
+fn send_all<R: Wait + Enter>(rt: &R, fifodir: Shared, done: &AtomicU64) {
     let Ok(mut sender) = Sender::of(rt, fifodir) else {
         return;
     };
@@ -38,7 +38,7 @@ fn send_all<R: Wait>(rt: &R, fifodir: Shared, done: &AtomicU64) {
 }
 
 /// Starts a thread that sends the messages.
-fn start<R: Threads + Wait + Copy + Send + 'static>(
+fn start<R: Threads + Wait + Enter + Copy + Send + 'static>(
     rt: &R,
     fifodir: &Shared,
     done: &Arc<AtomicU64, Global>,
@@ -88,7 +88,12 @@ struct Progress {
 }
 
 /// Sends the long message over and over, to no subscription, until two passes have met meanwhile.
-fn send_long<R: Abort + Wait>(rt: &R, fifodir: &Fifodir, letters: &[Letter], progress: &Progress) {
+fn send_long<R: Abort + Wait + Enter>(
+    rt: &R,
+    fifodir: &Fifodir,
+    letters: &[Letter],
+    progress: &Progress,
+) {
     let mut sender = publisher(rt, fifodir);
     for _ in 0..ROUNDS {
         if progress.met.load(Ordering::SeqCst) {
@@ -102,7 +107,7 @@ fn send_long<R: Abort + Wait>(rt: &R, fifodir: &Fifodir, letters: &[Letter], pro
 
 /// Has two passes meet over and over, until they did while a message was being published. They meet a millisecond after it was
 /// begun, when its publisher has the lock, and then the front is still as it was.
-fn meet_meanwhile<R: Abort + Wait + Clock>(rt: &R, fifodir: &Fifodir, progress: &Progress) {
+fn meet_meanwhile<R: Abort + Wait + Enter + Clock>(rt: &R, fifodir: &Fifodir, progress: &Progress) {
     let mut one = publisher(rt, fifodir);
     let mut other = publisher(rt, fifodir);
     for _ in 0..20_000 {
@@ -125,7 +130,7 @@ fn meet_meanwhile<R: Abort + Wait + Clock>(rt: &R, fifodir: &Fifodir, progress: 
     fifodir.leave(rt, other);
 }
 
-fn met_meanwhile<R: Abort + Threads + Wait + Clock + Sync>(
+fn met_meanwhile<R: Abort + Threads + Wait + Enter + Clock + Sync>(
     rt: &R,
     alloc: Global,
     fifodir: &Fifodir,

@@ -2,8 +2,8 @@
 //! leave, would leave an event, a close, a number or an id that nobody asked for.
 use crate::tests::passes::{Shared, open, publisher, ticket};
 use crate::tests::waits::open_post;
-use hub_fifodir::Fifodir;
 use hub_fifodir::together::{send_both, send_on};
+use hub_fifodir::{Enter, Fifodir};
 use hub_letters::{Letter, Want};
 use hub_record::{Event, Kind};
 use hub_wait::{Go, Pause, SLICE, Span, receive, svlisten, svwait};
@@ -73,20 +73,20 @@ impl Pause for AtOnce {
 }
 
 /// Publishes these letters.
-fn publishes<R: Abort + Wait>(rt: &R, fifodir: &Fifodir, letters: &[Letter]) {
+fn publishes<R: Abort + Wait + Enter>(rt: &R, fifodir: &Fifodir, letters: &[Letter]) {
     let mut one = publisher(rt, fifodir);
     let _ = fifodir.publish(rt, &mut one, letters);
     fifodir.leave(rt, one);
 }
 
 /// Publishes more than may be pending.
-fn publishes_too_much<R: Abort + Wait>(rt: &R, fifodir: &Fifodir) {
+fn publishes_too_much<R: Abort + Wait + Enter>(rt: &R, fifodir: &Fifodir) {
     let held_up = ticket(rt, fifodir);
     publishes(rt, fifodir, &[Letter::LEAST; 9]);
     fifodir.cancel(rt, held_up);
 }
 
-fn closes_twice<R: Abort + Wait>(rt: &R, fifodir: &Fifodir) {
+fn closes_twice<R: Abort + Wait + Enter>(rt: &R, fifodir: &Fifodir) {
     let mut one = publisher(rt, fifodir);
     let _ = fifodir.close(rt, &mut one);
     let _ = fifodir.close(rt, &mut one);
@@ -94,7 +94,7 @@ fn closes_twice<R: Abort + Wait>(rt: &R, fifodir: &Fifodir) {
 }
 
 /// Takes an event, and then finds that there is none.
-fn takes<R: Abort + Wait>(rt: &R, fifodir: &Fifodir) {
+fn takes<R: Abort + Wait + Enter>(rt: &R, fifodir: &Fifodir) {
     let mut reader = ticket(rt, fifodir);
     publishes(rt, fifodir, &[Letter::LEAST]);
     let mut out = [Event::FILLER; 4];
@@ -103,7 +103,7 @@ fn takes<R: Abort + Wait>(rt: &R, fifodir: &Fifodir) {
     fifodir.cancel(rt, reader);
 }
 
-fn looks<R: Abort + Wait>(rt: &R, fifodir: &Fifodir) {
+fn looks<R: Abort + Wait + Enter>(rt: &R, fifodir: &Fifodir) {
     let mut one = publisher(rt, fifodir);
     let mut reader = ticket(rt, fifodir);
     let _ = fifodir.status(&mut one);
@@ -114,7 +114,7 @@ fn looks<R: Abort + Wait>(rt: &R, fifodir: &Fifodir) {
     fifodir.cancel(rt, reader);
 }
 
-fn meets<R: Abort + Wait>(rt: &R, fifodir: &Fifodir) {
+fn meets<R: Abort + Wait + Enter>(rt: &R, fifodir: &Fifodir) {
     let mut one = publisher(rt, fifodir);
     let mut reader = ticket(rt, fifodir);
     fifodir.meet(rt, &mut one, &mut reader);
@@ -122,40 +122,40 @@ fn meets<R: Abort + Wait>(rt: &R, fifodir: &Fifodir) {
     fifodir.cancel(rt, reader);
 }
 
-fn awaits<R: Abort + Wait>(rt: &R, fifodir: &Fifodir) {
+fn awaits<R: Abort + Wait + Enter>(rt: &R, fifodir: &Fifodir) {
     let mut reader = ticket(rt, fifodir);
     fifodir.await_more(rt, &mut reader, 1, &mut AtOnce);
     fifodir.cancel(rt, reader);
 }
 
-fn receives<R: Abort + Wait>(rt: &R, fifodir: &Fifodir) {
+fn receives<R: Abort + Wait + Enter>(rt: &R, fifodir: &Fifodir) {
     let mut reader = ticket(rt, fifodir);
     let mut out = [Event::FILLER; 4];
     receive(rt, fifodir, &mut reader, &mut out, 1, &mut AtOnce);
     fifodir.cancel(rt, reader);
 }
 
-fn catches_up<R: Abort + Wait>(rt: &R, fifodir: Shared) {
+fn catches_up<R: Abort + Wait + Enter>(rt: &R, fifodir: Shared) {
     let mut post = open_post(rt, fifodir, Want::Up, true);
     post.catch_up(rt, &mut [Event::FILLER; SLICE]);
     post.end(rt);
 }
 
-fn waits<R: Abort + Wait>(rt: &R, fifodir: Shared) {
+fn waits<R: Abort + Wait + Enter>(rt: &R, fifodir: Shared) {
     let mut posts = [open_post(rt, fifodir, Want::Up, true)];
     svwait(rt, &mut posts, Span::All, 1, &mut AtOnce);
     let [post] = posts;
     post.end(rt);
 }
 
-fn listens<R: Abort + Wait>(rt: &R, fifodir: Shared) {
+fn listens<R: Abort + Wait + Enter>(rt: &R, fifodir: Shared) {
     let mut posts = [open_post(rt, fifodir, Want::Up, true)];
     svlisten(rt, &mut posts, Span::All, 1, &mut AtOnce, |_posts| 7);
     let [post] = posts;
     post.end(rt);
 }
 
-fn sends_both<R: Abort + Threads + Wait + Sync>(rt: &R, fifodir: &Fifodir) {
+fn sends_both<R: Abort + Threads + Wait + Enter + Sync>(rt: &R, fifodir: &Fifodir) {
     let one = publisher(rt, fifodir);
     let other = publisher(rt, fifodir);
     let letter = [Letter::LEAST];
@@ -165,7 +165,7 @@ fn sends_both<R: Abort + Threads + Wait + Sync>(rt: &R, fifodir: &Fifodir) {
 }
 
 /// Publishes a letter, and sends it on.
-fn sends_on<R: Abort + Wait>(rt: &R, from: &Fifodir, to: &Fifodir) {
+fn sends_on<R: Abort + Wait + Enter>(rt: &R, from: &Fifodir, to: &Fifodir) {
     let mut reader = ticket(rt, from);
     let mut one = publisher(rt, to);
     publishes(rt, from, &[Letter::LEAST]);
@@ -174,7 +174,12 @@ fn sends_on<R: Abort + Wait>(rt: &R, from: &Fifodir, to: &Fifodir) {
     to.leave(rt, one);
 }
 
-fn does<R: Abort + Threads + Wait + Sync>(rt: &R, here: Shared, there: &Fifodir, call: Call) {
+fn does<R: Abort + Threads + Wait + Enter + Sync>(
+    rt: &R,
+    here: Shared,
+    there: &Fifodir,
+    call: Call,
+) {
     match call {
         Call::Nothing => {}
         Call::Publish => publishes(rt, &here, &[Letter::LEAST]),
@@ -194,7 +199,7 @@ fn does<R: Abort + Threads + Wait + Sync>(rt: &R, here: Shared, there: &Fifodir,
     }
 }
 
-fn state_of<R: Abort + Wait>(rt: &R, fifodir: &Fifodir) -> State {
+fn state_of<R: Abort + Wait + Enter>(rt: &R, fifodir: &Fifodir) -> State {
     let rings = fifodir.bell().rings();
     let mut next = publisher(rt, fifodir);
     let number = next.number();
@@ -211,7 +216,7 @@ fn state_of<R: Abort + Wait>(rt: &R, fifodir: &Fifodir) -> State {
     (status.number, status.closed, number, id, rings)
 }
 
-fn left_behind<R: Abort + Threads + Wait + Sync>(
+fn left_behind<R: Abort + Threads + Wait + Enter + Sync>(
     rt: &R,
     alloc: Global,
     call: Call,

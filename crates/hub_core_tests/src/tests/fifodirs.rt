@@ -1,7 +1,7 @@
 //! Fifodirs, by rows of calls.
 use crate::tests::fixtures::{BLANK, none_is_unlike};
 use crate::tests::scenes::{Row, Step, goes_so};
-use hub_fifodir::PassError;
+use hub_fifodir::{Enter, PassError};
 use hub_record::{Closed, Kind, Policy, PubError, SubError, Taken};
 use std::alloc::Global;
 use std::sync::Wait;
@@ -247,7 +247,7 @@ static EVICTING: [Row; 3] = [
 ];
 
 /// The name of the first row that goes otherwise.
-fn first_unlike<R: Wait>(
+fn first_unlike<R: Wait + Enter>(
     rt: &R,
     alloc: Global,
     rows: &[Row],

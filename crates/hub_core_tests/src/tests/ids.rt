@@ -1,6 +1,6 @@
 //! The ids and numbers that two threads are given: each is given once, and why there are no more.
 use crate::tests::passes::{Held, Reader, Sender, Shared, open};
-use hub_fifodir::PassError;
+use hub_fifodir::{Enter, PassError};
 use hub_record::{Kind, SubError};
 use std::alloc::{AllocError, Global};
 use std::sync::{Arc, Wait};
@@ -14,7 +14,11 @@ const GIVEN: u64 = 3000;
 type Given<E> = Result<(Vec<u64>, E), AllocError>;
 
 /// The numbers of the passes that are given until one is refused, and why it is.
-fn numbers_given<R: Wait, H: Held>(rt: &R, alloc: Global, fifodir: &Shared) -> Given<H::Refusal> {
+fn numbers_given<R: Wait + Enter, H: Held>(
+    rt: &R,
+    alloc: Global,
+    fifodir: &Shared,
+) -> Given<H::Refusal> {
     let mut numbers = Vec::new(alloc);
     for _ in rt.forever() {
         match H::make(rt, Arc::try_clone(fifodir)?) {
@@ -45,7 +49,7 @@ fn are_all(ones: &[u64], others: &[u64]) -> bool {
     (one, other) == (ones.len(), others.len())
 }
 
-fn two_threads_get_all<R: Threads + Wait + Sync>(
+fn two_threads_get_all<R: Threads + Wait + Enter + Sync>(
     rt: &R,
     alloc: Global,
     fifodir: &Shared,

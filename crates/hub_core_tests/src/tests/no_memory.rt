@@ -10,7 +10,7 @@ use crate::tests::no_memory::records::{
 };
 use crate::tests::passes::{Sender, Shared, new_sender, open, open_with, publisher, ticket};
 use crate::tests::waits::{Deed, Doing, open_post};
-use hub_fifodir::{Fifodir, Publisher};
+use hub_fifodir::{Enter, Fifodir, Publisher};
 use hub_letters::{Flags, Letter, Want};
 use hub_listen::{Feed, Listener, Mode};
 use hub_record::{Closed, Event, Kind, Policy, PubError, Status, Taken};
@@ -41,7 +41,7 @@ fn sent_twice<R: Wait>(
 }
 
 /// Each call of a fifodir's two publishers and its ticket.
-fn passes_are_used<R: Abort + Wait>(rt: &R, fifodir: &Fifodir, ab: &[Letter]) -> bool {
+fn passes_are_used<R: Abort + Wait + Enter>(rt: &R, fifodir: &Fifodir, ab: &[Letter]) -> bool {
     let mut one = publisher(rt, fifodir);
     let mut other = publisher(rt, fifodir);
     let mut reader = ticket(rt, fifodir);
@@ -69,7 +69,7 @@ fn passes_are_used<R: Abort + Wait>(rt: &R, fifodir: &Fifodir, ab: &[Letter]) ->
 }
 
 /// The calls of a publisher and of a ticket that it evicts.
-fn a_ticket_is_evicted<R: Abort + Wait>(rt: &R, fifodir: &Fifodir, ab: &[Letter]) -> bool {
+fn a_ticket_is_evicted<R: Abort + Wait + Enter>(rt: &R, fifodir: &Fifodir, ab: &[Letter]) -> bool {
     let mut one = publisher(rt, fifodir);
     let mut reader = ticket(rt, fifodir);
     let mut out = [Event::FILLER; 4];
@@ -88,7 +88,7 @@ fn a_ticket_is_evicted<R: Abort + Wait>(rt: &R, fifodir: &Fifodir, ab: &[Letter]
 
 /// The calls of a publisher that are refused because its fifodir is closed, has given its total, or finds the letters
 /// unlawful.
-fn publishers_are_refused<R: Abort + Wait>(
+fn publishers_are_refused<R: Abort + Wait + Enter>(
     rt: &R,
     fifodir: &Fifodir,
     su: &[Letter],
@@ -159,7 +159,7 @@ fn post_ends<R: Wait>(rt: &R, mut post: Post) {
 }
 
 /// Waits at a post that catches up, and its end.
-fn posts_are_used<R: Abort + Wait>(
+fn posts_are_used<R: Abort + Wait + Enter>(
     rt: &R,
     fifodir: Shared,
     mut supervisor: Sender,

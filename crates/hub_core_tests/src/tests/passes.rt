@@ -4,7 +4,7 @@ ghost use Rattle.std.specs.Arc.{arc_value};
 ghost use Rattle.std.specs.Prelude.{◌≡◌, [], length};
 ghost use Rattle.hub_fifodir.specs.Passes.{HasTaken, IsPublisherOf, IsTicketOf, mine};
 
-use hub_fifodir::{Fifodir, PassError, Publisher, Ticket};
+use hub_fifodir::{Enter, Fifodir, PassError, Publisher, Ticket};
 use hub_letters::Letter;
 use hub_record::{Closed, Event, Kind, Limits, Policy, PubError, Status, SubError, Taken};
 use hub_wait::{Pause, receive};
@@ -36,7 +36,7 @@ pub(crate) trait Held {
     type Refusal: Copy;
 
     /// Makes a pass.
-    fn make<R: Wait>(rt: &R, fifodir: Shared) -> Result<Self, Self::Refusal>;
+    fn make<R: Wait + Enter>(rt: &R, fifodir: Shared) -> Result<Self, Self::Refusal>;
 
     /// The number that it was given.
     fn own_number(&self) -> u64;
@@ -70,7 +70,7 @@ pub(crate) struct Sender {
 }
 
 impl Sender {
-    pub(crate) fn of<R: Wait>(rt: &R, fifodir: Shared) -> Result<Sender, PassError> {
+    pub(crate) fn of<R: Wait + Enter>(rt: &R, fifodir: Shared) -> Result<Sender, PassError> {
         let me = fifodir.publisher(rt)?;
         Ok(Sender { fifodir, me })
     }
@@ -98,7 +98,7 @@ impl Sender {
 }
 
 /// A publisher of a fifodir that has room for one more.
-pub(crate) fn publisher<R: Abort + Wait>(rt: &R, fifodir: &Fifodir) -> Publisher
+pub(crate) fn publisher<R: Abort + Wait + Enter>(rt: &R, fifodir: &Fifodir) -> Publisher
     ensures of { IsPublisherOf fifodir.now result }
     ensures silent { mine result ≡ [] }
 {
@@ -106,7 +106,7 @@ pub(crate) fn publisher<R: Abort + Wait>(rt: &R, fifodir: &Fifodir) -> Publisher
 }
 
 /// The same, beside the fifodir that made it.
-pub(crate) fn new_sender<R: Abort + Wait>(rt: &R, fifodir: &Shared) -> Sender {
+pub(crate) fn new_sender<R: Abort + Wait + Enter>(rt: &R, fifodir: &Shared) -> Sender {
     let fifodir = Arc::try_clone(fifodir).expect(rt, "the fifodir");
     Sender::of(rt, fifodir).expect(rt, "a publisher")
 }
@@ -114,7 +114,7 @@ pub(crate) fn new_sender<R: Abort + Wait>(rt: &R, fifodir: &Shared) -> Sender {
 impl Held for Sender {
     type Refusal = PassError;
 
-    fn make<R: Wait>(rt: &R, fifodir: Shared) -> Result<Sender, PassError> {
+    fn make<R: Wait + Enter>(rt: &R, fifodir: Shared) -> Result<Sender, PassError> {
         Sender::of(rt, fifodir)
     }
 
@@ -134,7 +134,7 @@ pub(crate) struct Reader {
 }
 
 impl Reader {
-    pub(crate) fn of<R: Wait>(rt: &R, fifodir: Shared) -> Result<Reader, SubError> {
+    pub(crate) fn of<R: Wait + Enter>(rt: &R, fifodir: Shared) -> Result<Reader, SubError> {
         let me = fifodir.subscribe(rt)?;
         Ok(Reader { fifodir, me })
     }
@@ -175,14 +175,14 @@ impl Reader {
 }
 
 /// A ticket of a fifodir that has room for one more.
-pub(crate) fn ticket<R: Abort + Wait>(rt: &R, fifodir: &Fifodir) -> Ticket
+pub(crate) fn ticket<R: Abort + Wait + Enter>(rt: &R, fifodir: &Fifodir) -> Ticket
     ensures { IsTicketOf fifodir.now result }
 {
     fifodir.subscribe(rt).expect(rt, "a ticket")
 }
 
 /// The same, beside the fifodir that made it.
-pub(crate) fn new_reader<R: Abort + Wait>(rt: &R, fifodir: &Shared) -> Reader {
+pub(crate) fn new_reader<R: Abort + Wait + Enter>(rt: &R, fifodir: &Shared) -> Reader {
     let fifodir = Arc::try_clone(fifodir).expect(rt, "the fifodir");
     Reader::of(rt, fifodir).expect(rt, "a ticket")
 }
@@ -190,7 +190,7 @@ pub(crate) fn new_reader<R: Abort + Wait>(rt: &R, fifodir: &Shared) -> Reader {
 impl Held for Reader {
     type Refusal = SubError;
 
-    fn make<R: Wait>(rt: &R, fifodir: Shared) -> Result<Reader, SubError> {
+    fn make<R: Wait + Enter>(rt: &R, fifodir: Shared) -> Result<Reader, SubError> {
         Reader::of(rt, fifodir)
     }
 

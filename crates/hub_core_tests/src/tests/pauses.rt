@@ -1,6 +1,6 @@
 //! The pause of a wait, over a clock whose time passes only while somebody sleeps.
 use crate::tests::passes::{Shared, new_sender, open};
-use hub_fifodir::Bell;
+use hub_fifodir::{Bell, Enter};
 use hub_letters::Letter;
 use hub_record::Kind;
 use hub_wait::{Go, Patience, Pause};
@@ -126,7 +126,10 @@ fn a_pause_without_a_clock_sleeps_a_turn(rt: HostRuntime) {
 }
 
 /// How long a pause is in a wait of 20 seconds, by a clock that passes by itself. The bell has rung before, and then it doesn't.
-fn silent_pause<R: Abort + Wait + Clock + Copy>(rt: &R, fifodir: &Shared) -> io::Result<Duration> {
+fn silent_pause<R: Abort + Wait + Enter + Clock + Copy>(
+    rt: &R,
+    fifodir: &Shared,
+) -> io::Result<Duration> {
     let waiter = fifodir.admit();
     let mut sender = new_sender(rt, fifodir);
     let _ = sender.send(rt, &[Letter::LEAST]);

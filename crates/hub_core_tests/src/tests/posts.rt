@@ -3,7 +3,7 @@ use crate::tests::fixtures::{run_of, word};
 use crate::tests::passes::{Shared, new_sender, open};
 use crate::tests::waits::{Deed, Doing, open_post};
 use hub_letters::{Letter, Want};
-use hub_record::{Event, Kind, SubError};
+use hub_record::{Enter, Event, Kind, SubError};
 use hub_wait::{Post, SLICE, Span, Verdict, svwait};
 use std::alloc::{AllocError, Global};
 use std::process::Abort;
@@ -11,7 +11,7 @@ use std::sync::{Arc, Wait};
 use std::test::Fail;
 
 /// Opens a post and keeps it. An error says why there is none.
-fn open_one_more<R: Abort + Wait>(
+fn open_one_more<R: Abort + Wait + Enter>(
     rt: &R,
     fifodir: &Shared,
     posts: &mut Vec<Post>,
@@ -26,7 +26,7 @@ fn open_one_more<R: Abort + Wait>(
 }
 
 /// How many posts are opened until one is refused, and why it is.
-fn open_all<R: Abort + Wait>(
+fn open_all<R: Abort + Wait + Enter>(
     rt: &R,
     fifodir: &Shared,
     posts: &mut Vec<Post>,
@@ -48,7 +48,7 @@ fn end_all<R: Wait>(rt: &R, mut posts: Vec<Post>) {
 }
 
 /// Whether 1,024 posts are opened and no more, as many again when those have ended, and none at a closed fifodir.
-fn opens_1024<R: Abort + Wait>(rt: &R, alloc: Global) -> Result<bool, Fail> {
+fn opens_1024<R: Abort + Wait + Enter>(rt: &R, alloc: Global) -> Result<bool, Fail> {
     let fifodir = open(alloc, Kind::Service, (64, 1000, 1_000_000))?;
     let mut supervisor = new_sender(rt, &fifodir);
     let mut posts = Vec::new(alloc);
@@ -65,7 +65,7 @@ fn opens_1024<R: Abort + Wait>(rt: &R, alloc: Global) -> Result<bool, Fail> {
 }
 
 /// Whether a post that is opened, catches up and is ended uses one id, and publishes and closes nothing.
-fn uses_one_id<R: Abort + Wait>(rt: &R, alloc: Global) -> Result<bool, Fail> {
+fn uses_one_id<R: Abort + Wait + Enter>(rt: &R, alloc: Global) -> Result<bool, Fail> {
     let letters = word(alloc, "s")?;
     let fifodir = open(alloc, Kind::Plain, (64, 1000, 2))?;
     let shared = Arc::try_clone(&fifodir)?;
@@ -97,7 +97,7 @@ fn letters_up(alloc: Global, count: usize) -> Result<Vec<Letter>, AllocError> {
 }
 
 /// Whether a post that catches up once knows so many letters.
-fn catches_up<R: Abort + Wait>(rt: &R, alloc: Global, count: usize) -> Result<bool, Fail> {
+fn catches_up<R: Abort + Wait + Enter>(rt: &R, alloc: Global, count: usize) -> Result<bool, Fail> {
     let first = word(alloc, "s")?;
     let letters = letters_up(alloc, count)?;
     let fifodir = open(alloc, Kind::Service, (4096, 100_000, 10))?;
@@ -115,7 +115,10 @@ fn catches_up<R: Abort + Wait>(rt: &R, alloc: Global, count: usize) -> Result<bo
 }
 
 /// How many letters were pending where a post first didn't catch up with them.
-fn first_left_behind<R: Abort + Wait>(rt: &R, alloc: Global) -> Result<Option<usize>, Fail> {
+fn first_left_behind<R: Abort + Wait + Enter>(
+    rt: &R,
+    alloc: Global,
+) -> Result<Option<usize>, Fail> {
     for count in PENDING.iter() {
         if !catches_up(rt, alloc, *count)? {
             return Ok(Some(*count));
@@ -157,7 +160,7 @@ fn service(alloc: Global) -> Result<Shared, Fail> {
     open(alloc, Kind::Service, (64, 1000, 10))
 }
 
-fn last_starts<R: Abort + Wait>(rt: &R, alloc: Global, row: &Row) -> Result<bool, Fail> {
+fn last_starts<R: Abort + Wait + Enter>(rt: &R, alloc: Global, row: &Row) -> Result<bool, Fail> {
     let (span, before, verdict, numbers) = row;
     let before = word(alloc, before)?;
     let (began, letters) = (word(alloc, "s")?, word(alloc, "u")?);

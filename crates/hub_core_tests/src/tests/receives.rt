@@ -2,7 +2,7 @@
 use crate::tests::fixtures::word;
 use crate::tests::passes::{Held, new_reader, new_sender, open, open_with};
 use crate::tests::waits::{Deed, Doing, letters_of};
-use hub_record::{Event, Kind, Policy, Taken};
+use hub_record::{Enter, Event, Kind, Policy, Taken};
 use hub_wait::Patience;
 use std::alloc::Global;
 use std::process::Abort;
@@ -42,7 +42,7 @@ static ROWS: [Row; 11] = [
     (["ababab", "ababab"], CLOSES, 1, 5, Taken::Evicted, 0),
 ];
 
-fn receives_so<R: Abort + Wait>(rt: &R, alloc: Global, row: &Row) -> Result<bool, Fail> {
+fn receives_so<R: Abort + Wait + Enter>(rt: &R, alloc: Global, row: &Row) -> Result<bool, Fail> {
     let ([first, second], deed, at_call, turns, taken, pauses) = *row;
     let letters = letters_of(alloc, deed)?;
     let before = [word(alloc, first)?, word(alloc, second)?];
@@ -60,7 +60,7 @@ fn receives_so<R: Abort + Wait>(rt: &R, alloc: Global, row: &Row) -> Result<bool
 }
 
 /// The place of the first row that goes otherwise.
-fn first_unlike<R: Abort + Wait>(rt: &R, alloc: Global) -> Result<Option<usize>, Fail> {
+fn first_unlike<R: Abort + Wait + Enter>(rt: &R, alloc: Global) -> Result<Option<usize>, Fail> {
     for (place, row) in ROWS.iter().enumerate() {
         if !receives_so(rt, alloc, row)? {
             return Ok(Some(place));
@@ -76,7 +76,7 @@ fn a_receive_waits_until_something_comes(rt: HostRuntime) -> Result<(), Fail> {
 }
 
 /// What a receive of one turn is told, and then the id of the next ticket and the number of the next publisher.
-fn next_after_a_receive<R: Abort + Wait + Clock + Copy>(
+fn next_after_a_receive<R: Abort + Wait + Enter + Clock + Copy>(
     rt: &R,
     alloc: Global,
 ) -> Result<(Taken, u64, u64), Fail> {

@@ -2,7 +2,7 @@
 use crate::tests::passes::Shared;
 use crate::tests::replays::{HELD, replays_so};
 use crate::tests::scenes::Scene;
-use hub_fifodir::{Fifodir, PassError};
+use hub_fifodir::{Enter, Fifodir, PassError};
 use hub_record::{Kind, Limits, Record, SubError};
 use std::alloc::{AllocError, Global};
 use std::io;
@@ -24,7 +24,11 @@ fn open_at_last(alloc: Global, limits: Limits) -> Result<Shared, AllocError> {
 
 /// Whether a ticket and a publisher are given this number. If a growth is refused, the call that met it gives none, and
 /// is made again.
-fn holds_at_last<R: Wait>(rt: &R, scene: &mut Scene, number: u64) -> Result<bool, AllocError> {
+fn holds_at_last<R: Wait + Enter>(
+    rt: &R,
+    scene: &mut Scene,
+    number: u64,
+) -> Result<bool, AllocError> {
     let subscribed = match scene.subscribe(rt)? {
         Err(SubError::Memory) => scene.subscribe(rt)?,
         answer => answer,
@@ -36,7 +40,7 @@ fn holds_at_last<R: Wait>(rt: &R, scene: &mut Scene, number: u64) -> Result<bool
     Ok(subscribed == Ok((number, 0)) && joined == Ok(number))
 }
 
-fn holds_a_hundred<R: Wait>(rt: &R, scene: &mut Scene) -> Result<bool, AllocError> {
+fn holds_a_hundred<R: Wait + Enter>(rt: &R, scene: &mut Scene) -> Result<bool, AllocError> {
     for number in 1..101 {
         if !holds_at_last(rt, scene, number)? {
             return Ok(false);
@@ -45,7 +49,7 @@ fn holds_a_hundred<R: Wait>(rt: &R, scene: &mut Scene) -> Result<bool, AllocErro
     Ok(true)
 }
 
-fn a_hundred_are_given<R: Wait>(rt: &R, alloc: Global) -> Result<bool, Fail> {
+fn a_hundred_are_given<R: Wait + Enter>(rt: &R, alloc: Global) -> Result<bool, Fail> {
     let limits = Limits::of(4, 100, 1000).ok_or("no limits")?;
     let mut scene = Scene::new(alloc, open_at_last(alloc, limits)?);
     let is_so = holds_a_hundred(rt, &mut scene);

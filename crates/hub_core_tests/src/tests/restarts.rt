@@ -3,7 +3,7 @@ use crate::tests::fixtures::word;
 use crate::tests::passes::{Sender, Shared, new_sender, open, open_with};
 use crate::tests::waits::{open_post, start_service};
 use hub_letters::{Letter, Want};
-use hub_record::{Kind, Policy, PubError};
+use hub_record::{Enter, Kind, Policy, PubError};
 use hub_wait::{Go, Patience, Pause, Span, Verdict, svwait};
 use std::alloc::Global;
 use std::process::Abort;
@@ -83,7 +83,7 @@ static COURSES: [(Course, End); 8] = [
     ),
 ];
 
-fn waits_for<R: Abort + Wait>(rt: &R, alloc: Global, course: Course) -> Result<End, Fail> {
+fn waits_for<R: Abort + Wait + Enter>(rt: &R, alloc: Global, course: Course) -> Result<End, Fail> {
     let (before, want, [first, second], turns) = course;
     let messages = [word(alloc, first)?, word(alloc, second)?, word(alloc, "")?];
     let (fifodir, supervisor) = start_service(rt, alloc, before)?;
@@ -103,7 +103,7 @@ fn waits_for<R: Abort + Wait>(rt: &R, alloc: Global, course: Course) -> Result<E
 }
 
 /// The place of the first row that goes otherwise.
-fn first_restarted_otherwise<R: Abort + Wait>(
+fn first_restarted_otherwise<R: Abort + Wait + Enter>(
     rt: &R,
     alloc: Global,
 ) -> Result<Option<usize>, Fail> {
@@ -116,7 +116,7 @@ fn first_restarted_otherwise<R: Abort + Wait>(
 }
 
 /// Whether a wait is told right if its own subscription is evicted while it waits.
-fn an_evicted_wait_goes_on<R: Abort + Wait>(rt: &R, alloc: Global) -> Result<bool, Fail> {
+fn an_evicted_wait_goes_on<R: Abort + Wait + Enter>(rt: &R, alloc: Global) -> Result<bool, Fail> {
     let messages = [word(alloc, "uU")?, word(alloc, "dD")?, word(alloc, "uU")?];
     let first = word(alloc, "s")?;
     let fifodir = open_with(alloc, Kind::Service, (2, 1000, 10), Policy::Evict)?;
@@ -164,7 +164,7 @@ fn restart<R: Wait>(rt: &R, supervisor: &mut Sender, number: u64) -> Result<u64,
 }
 
 /// Waits for a restart, while another thread makes it. Returns the verdict, and the watch's number.
-fn waits_beside<R: Abort + Threads + Wait + Clock + Sync + Copy>(
+fn waits_beside<R: Abort + Threads + Wait + Enter + Clock + Sync + Copy>(
     rt: &R,
     fifodir: Shared,
     supervisor: &mut Sender,
@@ -184,7 +184,7 @@ fn waits_beside<R: Abort + Threads + Wait + Clock + Sync + Copy>(
 }
 
 /// How many of the restarts their waits saw, each at the number of its last letter.
-fn seen_restarts<R: Abort + Threads + Wait + Clock + Sync + Copy>(
+fn seen_restarts<R: Abort + Threads + Wait + Enter + Clock + Sync + Copy>(
     rt: &R,
     fifodir: &Shared,
     supervisor: &mut Sender,

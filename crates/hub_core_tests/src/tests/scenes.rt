@@ -1,7 +1,7 @@
 //! A fifodir with several passes, and calls with what each answers.
 use crate::tests::fixtures::{are_events, word};
 use crate::tests::passes::{Reader, Sender, Shared, end_all, keep, open_with};
-use hub_fifodir::PassError;
+use hub_fifodir::{Enter, PassError};
 use hub_record::{Closed, Event, Kind, Policy, PubError, SubError, Taken};
 use std::alloc::{AllocError, Global};
 use std::io;
@@ -60,7 +60,7 @@ impl Scene {
         }
     }
 
-    pub(crate) fn subscribe<R: Wait>(
+    pub(crate) fn subscribe<R: Wait + Enter>(
         &mut self,
         rt: &R,
     ) -> Result<Result<(u64, u64), SubError>, AllocError> {
@@ -74,7 +74,10 @@ impl Scene {
         }
     }
 
-    pub(crate) fn join<R: Wait>(&mut self, rt: &R) -> Result<Result<u64, PassError>, AllocError> {
+    pub(crate) fn join<R: Wait + Enter>(
+        &mut self,
+        rt: &R,
+    ) -> Result<Result<u64, PassError>, AllocError> {
         match Sender::of(rt, Arc::try_clone(&self.fifodir)?) {
             Ok(sender) => {
                 let number = sender.me.number();
@@ -86,11 +89,11 @@ impl Scene {
     }
 
     /// Whether a ticket and a publisher are given this number.
-    fn holds<R: Wait>(&mut self, rt: &R, number: u64) -> Result<bool, AllocError> {
+    fn holds<R: Wait + Enter>(&mut self, rt: &R, number: u64) -> Result<bool, AllocError> {
         Ok(self.subscribe(rt)? == Ok((number, 0)) && self.join(rt)? == Ok(number))
     }
 
-    fn holds_up_to<R: Wait>(&mut self, rt: &R, last: u64) -> Result<bool, AllocError> {
+    fn holds_up_to<R: Wait + Enter>(&mut self, rt: &R, last: u64) -> Result<bool, AllocError> {
         for before in 0..last {
             if !self.holds(rt, before + 1)? {
                 return Ok(false);
@@ -135,7 +138,12 @@ impl Scene {
         }
     }
 
-    fn goes_through<R: Wait>(&mut self, rt: &R, alloc: Global, steps: &[Step]) -> io::Result<bool> {
+    fn goes_through<R: Wait + Enter>(
+        &mut self,
+        rt: &R,
+        alloc: Global,
+        steps: &[Step],
+    ) -> io::Result<bool> {
         for step in steps {
             if !self.goes(rt, alloc, *step)? || !self.front_is_after(*step) {
                 return Ok(false);
@@ -163,7 +171,7 @@ impl Scene {
     }
 
     /// Whether the step goes so.
-    fn goes<R: Wait>(&mut self, rt: &R, alloc: Global, step: Step) -> io::Result<bool> {
+    fn goes<R: Wait + Enter>(&mut self, rt: &R, alloc: Global, step: Step) -> io::Result<bool> {
         Ok(match step {
             Step::Subscribe(answer) => self.subscribe(rt)? == answer,
             Step::Join(answer) => self.join(rt)? == answer,
@@ -221,7 +229,7 @@ pub(crate) fn status_by(reader: &mut Reader) -> (u64, u64, bool) {
 }
 
 /// Whether a fifodir with this policy answers as the row says.
-pub(crate) fn goes_so<R: Wait>(
+pub(crate) fn goes_so<R: Wait + Enter>(
     rt: &R,
     alloc: Global,
     row: &Row,

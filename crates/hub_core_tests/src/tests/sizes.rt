@@ -1,7 +1,7 @@
 //! Each size that a call may have, with ample memory. A refused growth is a failure here.
 use crate::tests::fixtures::{SIZES_TRIED, run_of, size_at};
 use crate::tests::passes::{publisher, ticket};
-use hub_fifodir::{Fifodir, Locked, PassError};
+use hub_fifodir::{Enter, Fifodir, Locked, PassError};
 use hub_letters::Letter;
 use hub_record::{
     Call, Event, Kind, Letters, Limits, PubError, Record, Said, SubError, Taken, World, replay,
@@ -39,7 +39,7 @@ fn records_hold(
     )
 }
 
-fn fifodir_holds<R: Abort + Wait>(
+fn fifodir_holds<R: Abort + Wait + Enter>(
     rt: &R,
     alloc: Global,
     limits: Limits,
@@ -59,7 +59,10 @@ fn fifodir_holds<R: Abort + Wait>(
 }
 
 /// How many events may be pending in the first record or fifodir that holds another number of them.
-fn room_unlike<R: Abort + Wait>(rt: &R, alloc: Global) -> Result<Option<usize>, AllocError> {
+fn room_unlike<R: Abort + Wait + Enter>(
+    rt: &R,
+    alloc: Global,
+) -> Result<Option<usize>, AllocError> {
     let letters = run_of(alloc, b'a', MOST)?;
     let mut events = vec![in alloc; Event::FILLER; MOST]?;
     for place in 1..SIZES_TRIED {

@@ -3,7 +3,7 @@ use crate::tests::busy::come_to_an_end;
 use crate::tests::fixtures::run_of;
 use crate::tests::passes::{Sender, Shared, new_sender, open};
 use hub_letters::Letter;
-use hub_record::Kind;
+use hub_record::{Enter, Kind};
 use std::alloc::Global;
 use std::process::Abort;
 use std::rt::Clock;
@@ -42,7 +42,7 @@ fn sleep_until<R: Wait>(rt: &R, me: &mut Sender, number: u64) {
 }
 
 /// Sleeps until each message is there, of so many letters each. Counts in `awake` before the first one and after each.
-fn sleep_for_each<R: Wait>(rt: &R, fifodir: Shared, length: u64, awake: &AtomicU64) {
+fn sleep_for_each<R: Wait + Enter>(rt: &R, fifodir: Shared, length: u64, awake: &AtomicU64) {
     let Ok(mut me) = Sender::of(rt, fifodir) else {
         return;
     };
@@ -54,7 +54,7 @@ fn sleep_for_each<R: Wait>(rt: &R, fifodir: Shared, length: u64, awake: &AtomicU
 }
 
 /// Starts so many threads that sleep.
-fn start<R: Threads + Wait + Copy + Send + 'static>(
+fn start<R: Threads + Wait + Enter + Copy + Send + 'static>(
     rt: &R,
     fifodir: &Shared,
     count: u64,
@@ -96,7 +96,7 @@ fn messages_heard<R: Wait + Clock>(
 }
 
 /// How many messages of this length so many sleepers hear.
-fn heard_by<R: Abort + Threads + Wait + Clock + Copy + Send + 'static>(
+fn heard_by<R: Abort + Threads + Wait + Enter + Clock + Copy + Send + 'static>(
     rt: &R,
     alloc: Global,
     count: u64,

@@ -2,8 +2,8 @@
 use crate::tests::fixtures::word;
 use crate::tests::passes::{Reader, Sender, new_reader, new_sender, open, publisher, ticket};
 use crate::tests::scenes::status_by;
-use hub_fifodir::Fifodir;
 use hub_fifodir::together::{Unsent, send_both, send_on};
+use hub_fifodir::{Enter, Fifodir};
 use hub_letters::Letter;
 use hub_record::{Event, Kind, PubError, Taken};
 use std::alloc::Global;
@@ -13,7 +13,7 @@ use std::test::Fail;
 use std::thread;
 
 /// Whether two publishers and two tickets that meet in turn know of the event that one of them published.
-fn all_meet<R: Abort + Wait>(rt: &R, fifodir: &Fifodir) -> bool {
+fn all_meet<R: Abort + Wait + Enter>(rt: &R, fifodir: &Fifodir) -> bool {
     let mut one = publisher(rt, fifodir);
     let mut other = publisher(rt, fifodir);
     let mut early = ticket(rt, fifodir);
@@ -31,7 +31,7 @@ fn all_meet<R: Abort + Wait>(rt: &R, fifodir: &Fifodir) -> bool {
     published == Ok(0) && publishers == (1, 1) && tickets == (1, 1)
 }
 
-fn letters_go_on<R: Abort + Wait>(rt: &R, alloc: Global) -> Result<bool, Fail> {
+fn letters_go_on<R: Abort + Wait + Enter>(rt: &R, alloc: Global) -> Result<bool, Fail> {
     let letters = word(alloc, "ab")?;
     let from = open(alloc, Kind::Plain, (64, 1000, 10))?;
     let to = open(alloc, Kind::Plain, (64, 1, 10))?;

@@ -1,7 +1,7 @@
 use crate::tests::fixtures::{none_is_unlike, word};
 use crate::tests::passes::{Sender, Shared, new_sender, open};
 use hub_letters::{Letter, Want};
-use hub_record::{Kind, PubError};
+use hub_record::{Enter, Kind, PubError};
 use hub_wait::{Go, Patience, Pause, Post, Span, Verdict, svlisten, svwait};
 use std::alloc::Global;
 use std::process::Abort;
@@ -128,7 +128,7 @@ static ROWS: [Row; 6] = [
 ];
 
 /// A service's fifodir whose supervisor has sent these letters.
-pub(crate) fn start_service<R: Abort + Wait>(
+pub(crate) fn start_service<R: Abort + Wait + Enter>(
     rt: &R,
     alloc: Global,
     text: &str,
@@ -143,7 +143,7 @@ pub(crate) fn start_service<R: Abort + Wait>(
 }
 
 /// A post at a fifodir that has room for one more ticket.
-pub(crate) fn open_post<R: Abort + Wait>(
+pub(crate) fn open_post<R: Abort + Wait + Enter>(
     rt: &R,
     fifodir: Shared,
     want: Want,
@@ -161,7 +161,7 @@ pub(crate) fn letters_of(alloc: Global, deed: Deed) -> Result<Vec<Letter>, Fail>
     Ok(word(alloc, text)?)
 }
 
-fn waits_so<R: Abort + Wait>(rt: &R, alloc: Global, row: &Row) -> Result<bool, Fail> {
+fn waits_so<R: Abort + Wait + Enter>(rt: &R, alloc: Global, row: &Row) -> Result<bool, Fail> {
     let letters = letters_of(alloc, row.deed)?;
     let (fifodir, supervisor) = start_service(rt, alloc, "s")?;
     let mut pause = Doing::new(supervisor, row.deed, letters, row.at_call);
@@ -174,7 +174,10 @@ fn waits_so<R: Abort + Wait>(rt: &R, alloc: Global, row: &Row) -> Result<bool, F
 }
 
 /// The name of the first row that goes otherwise.
-fn first_unlike<R: Abort + Wait>(rt: &R, alloc: Global) -> Result<Option<&'static str>, Fail> {
+fn first_unlike<R: Abort + Wait + Enter>(
+    rt: &R,
+    alloc: Global,
+) -> Result<Option<&'static str>, Fail> {
     for row in ROWS.iter() {
         if !waits_so(rt, alloc, row)? {
             return Ok(Some(row.name));
@@ -189,7 +192,7 @@ fn waits_for_no_service<R: Wait + Clock>(rt: &R, pause: &mut Patience<R>) -> boo
 }
 
 /// Whether a wait for so many turns, beside a supervisor that starts the service, ends with the verdict and at the number.
-fn act_is_heard<R: Abort + Wait + Clock + Copy>(
+fn act_is_heard<R: Abort + Wait + Enter + Clock + Copy>(
     rt: &R,
     alloc: Global,
     turns: u64,
@@ -214,7 +217,7 @@ fn sends_one_of_two<R: Wait>(rt: &R, supervisor: &mut Sender, two: &[Letter], nu
     supervisor.send(rt, two) == Ok(number) && supervisor.send(rt, two) == Err(PubError::Full)
 }
 
-fn room_comes_with_a_wait<R: Abort + Wait + Clock + Copy>(
+fn room_comes_with_a_wait<R: Abort + Wait + Enter + Clock + Copy>(
     rt: &R,
     alloc: Global,
 ) -> Result<bool, Fail> {

@@ -2,7 +2,7 @@
 use crate::tests::rows::{Step, go};
 use hub_fakes::Yielding;
 use hub_local::LocalDesk;
-use hub_requests::Desk;
+use hub_requests::{Desk, Enter};
 use hub_shared::{Hub, SharedDesk};
 use std::alloc::{AllocError, AllocGlobal, Global};
 use std::process::Abort;
@@ -37,7 +37,7 @@ pub fn alone<H: AllocGlobal + Abort>(rt: &H) -> Session {
 }
 
 /// Takes the steps at a local desk, and then in a session alone over a hub.
-pub fn run_anew<H: AllocGlobal + Abort + Wait>(rt: &H, steps: &[Step]) {
+pub fn run_anew<H: AllocGlobal + Abort + Wait + Enter>(rt: &H, steps: &[Step]) {
     go(rt, &mut new_local(rt), steps);
     let mut desk = alone(rt);
     go(rt, &mut desk, steps);
@@ -45,7 +45,7 @@ pub fn run_anew<H: AllocGlobal + Abort + Wait>(rt: &H, steps: &[Step]) {
 }
 
 /// Takes the rows of each text as steps of their own.
-pub fn run_each<H: AllocGlobal + Abort + Wait>(rt: &H, texts: &[&'static str]) {
+pub fn run_each<H: AllocGlobal + Abort + Wait + Enter>(rt: &H, texts: &[&'static str]) {
     for rows in texts {
         run_anew(rt, &[Step::Rows(*rows)]);
     }

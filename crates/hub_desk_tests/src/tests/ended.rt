@@ -5,7 +5,7 @@ use crate::tests::rows::run;
 use hub_fakes::{Dripping, Narrow};
 use hub_front::serve;
 use hub_io::FrontError;
-use hub_requests::Desk;
+use hub_requests::{Desk, Enter};
 use std::alloc::{AllocGlobal, Global};
 use std::process::Abort;
 use std::sync::Wait;
@@ -22,7 +22,7 @@ const SECOND: &[u8] = b"pub web c\nstatus web\n";
 const ROOM: &[u8] = b"ok 2\nok 3 0 open\n";
 
 /// Serves a session, of which a test knows nothing.
-fn serve_once<H: Wait>(
+fn serve_once<H: Wait + Enter>(
     rt: &H,
     alloc: Global,
     desk: &mut Session,
@@ -65,7 +65,7 @@ static FIRSTS: [First; 3] = [
     ),
 ];
 
-fn next_finds_room<H: AllocGlobal + Abort + Wait>(rt: &H, input: &[u8], first: &First) {
+fn next_finds_room<H: AllocGlobal + Abort + Wait + Enter>(rt: &H, input: &[u8], first: &First) {
     let (name, read, write, result, written) = first;
     let hub = new_hub(rt);
     let mut desk = session(rt, &hub);
@@ -78,7 +78,7 @@ fn next_finds_room<H: AllocGlobal + Abort + Wait>(rt: &H, input: &[u8], first: &
     desk.release(rt);
 }
 
-fn finds_room<H: AllocGlobal + Abort + Wait>(rt: &H, mut desk: Session, name: &str) {
+fn finds_room<H: AllocGlobal + Abort + Wait + Enter>(rt: &H, mut desk: Session, name: &str) {
     let mut reader = Dripping::new(SECOND, 64, 0);
     let mut writer = Narrow::new(64, 0);
     let ended = serve_once(rt, rt.alloc(), &mut desk, &mut reader, &mut writer);

@@ -2,7 +2,7 @@
 use crate::tests::desks::{new_hub, new_local, run_anew, run_each, session};
 use crate::tests::rows::Step::{End, Handles, Rows};
 use crate::tests::rows::run;
-use hub_requests::Desk;
+use hub_requests::{Desk, Enter};
 use std::alloc::{AllocError, AllocGlobal, Global};
 use std::process::Abort;
 use std::sync::Wait;
@@ -117,7 +117,7 @@ static LISTED: [(u64, u64, u64); 8] = [
 ];
 
 /// Makes as many names as there may be.
-fn make_all<H: AllocGlobal + Abort + Wait, D: Desk>(rt: &H, desk: &mut D) {
+fn make_all<H: AllocGlobal + Abort + Wait + Enter, D: Desk>(rt: &H, desk: &mut D) {
     for number in 100..356u64 {
         let row = making(rt.alloc(), number).expect(rt, "a row");
         run(rt, desk, &row);
@@ -125,7 +125,7 @@ fn make_all<H: AllocGlobal + Abort + Wait, D: Desk>(rt: &H, desk: &mut D) {
     run(rt, desk, "dir more 1 1 -> no many");
 }
 
-fn list_all<H: AllocGlobal + Abort + Wait, D: Desk>(rt: &H, desk: &mut D) {
+fn list_all<H: AllocGlobal + Abort + Wait + Enter, D: Desk>(rt: &H, desk: &mut D) {
     for (from, first, last) in LISTED {
         let row = listing(rt.alloc(), from, first, last).expect(rt, "a row");
         run(rt, desk, &row);

@@ -4,7 +4,7 @@
 use crate::tests::desks::{alone, new_local};
 use crate::tests::rows::{name_of, run};
 use hub_letters::Letter;
-use hub_requests::{Desk, Excerpt, Name, Names, Numbers, PatternText, Reply, Request};
+use hub_requests::{Desk, Enter, Excerpt, Name, Names, Numbers, PatternText, Reply, Request};
 use std::alloc::{AllocError, Global};
 use std::sync::Wait;
 use std::test::Fail;
@@ -27,7 +27,7 @@ static HOLDS: &str = "
 ";
 
 /// Whether a subscription and a listener for which nothing waits are told so.
-fn nothing_waits<H: Wait, D: Desk>(rt: &H, desk: &mut D) -> bool {
+fn nothing_waits<H: Wait + Enter, D: Desk>(rt: &H, desk: &mut D) -> bool {
     mark();
     let replies = (
         desk.ask(rt, &Request::Take { id: 2, max: 256 }),
@@ -38,7 +38,7 @@ fn nothing_waits<H: Wait, D: Desk>(rt: &H, desk: &mut D) -> bool {
 }
 
 /// Whether a subscription with events is told so, and one without and a listener without too.
-fn awaits<H: Wait, D: Desk>(rt: &H, desk: &mut D) -> bool {
+fn awaits<H: Wait + Enter, D: Desk>(rt: &H, desk: &mut D) -> bool {
     mark();
     let replies = (
         desk.ask(rt, &Request::Await { id: 1, turns: 0 }),

@@ -3,7 +3,7 @@ use crate::tests::desks::{new_hub, new_local, run_anew, run_each, session};
 use crate::tests::rows::Step::{End, Handles, Rows};
 use crate::tests::rows::{answer_to, expect_number, request, run};
 use hub_local::LocalDesk;
-use hub_requests::{Desk, Request};
+use hub_requests::{Desk, Enter, Request};
 use std::alloc::{AllocError, AllocGlobal, Global};
 use std::process::Abort;
 use std::sync::Wait;
@@ -120,7 +120,7 @@ fn try_row(alloc: Global, number: u64) -> Result<String, AllocError> {
 }
 
 /// Makes the names n0 to n255.
-fn make_names<H: AllocGlobal + Abort + Wait, D: Desk>(rt: &H, desk: &mut D) {
+fn make_names<H: AllocGlobal + Abort + Wait + Enter, D: Desk>(rt: &H, desk: &mut D) {
     for number in 0..256u64 {
         let row = try_row(rt.alloc(), number).expect(rt, "a row");
         run(rt, desk, &row);
@@ -166,12 +166,12 @@ fn standing_handles_are_limited(rt: HostRuntime) {
     );
 }
 
-fn cancel<H: Wait>(rt: &H, desk: &mut LocalDesk, id: u64) {
+fn cancel<H: Wait + Enter>(rt: &H, desk: &mut LocalDesk, id: u64) {
     let _ = answer_to(rt, desk, &Request::Cancel { id });
 }
 
 /// Subscribes and cancels until every number was given.
-fn spend_handles<H: AllocGlobal + Abort + Wait>(rt: &H, desk: &mut LocalDesk) {
+fn spend_handles<H: AllocGlobal + Abort + Wait + Enter>(rt: &H, desk: &mut LocalDesk) {
     let sub = request(rt, rt.alloc(), "sub web");
     for id in 1..1_000_001 {
         expect_number(rt, desk, &sub, id);

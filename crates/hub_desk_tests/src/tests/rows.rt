@@ -5,7 +5,7 @@ ghost use Rattle.hub_requests.specs.Ranges.{IsInRange};
 use hub_letters::Letter;
 use hub_protocol::{parse, write_reply};
 use hub_record::Letters;
-use hub_requests::{Desk, Name, Reply, Request};
+use hub_requests::{Desk, Enter, Name, Reply, Request};
 use std::alloc::{AllocError, AllocGlobal, Global};
 use std::process::Abort;
 use std::sync::Wait;
@@ -54,14 +54,14 @@ pub fn many_letters(rt: &impl Abort, alloc: Global, count: usize) -> Request
 }
 
 /// Asks, of which the prover knows nothing afterwards.
-pub fn answer_to<H: Wait, D: Desk>(rt: &H, desk: &mut D, request: &Request) -> Reply
+pub fn answer_to<H: Wait + Enter, D: Desk>(rt: &H, desk: &mut D, request: &Request) -> Reply
     requires { IsInRange request.now }
 {
     desk.ask(rt, request)
 }
 
 /// Asks, and wants this line for the reply.
-fn expect<H: AllocGlobal + Abort + Wait, D: Desk>(
+fn expect<H: AllocGlobal + Abort + Wait + Enter, D: Desk>(
     rt: &H,
     desk: &mut D,
     request: &Request,
@@ -77,7 +77,7 @@ fn expect<H: AllocGlobal + Abort + Wait, D: Desk>(
 }
 
 /// Asks each row in turn: a line, an arrow and the line of its reply.
-pub fn run<H: AllocGlobal + Abort + Wait, D: Desk>(rt: &H, desk: &mut D, rows: &str) {
+pub fn run<H: AllocGlobal + Abort + Wait + Enter, D: Desk>(rt: &H, desk: &mut D, rows: &str) {
     for row in rows.trim().lines() {
         let (line, want) = row.split_once(" -> ").expect(rt, "an arrow");
         expect(rt, desk, &request(rt, rt.alloc(), line.trim()), want);
@@ -85,14 +85,19 @@ pub fn run<H: AllocGlobal + Abort + Wait, D: Desk>(rt: &H, desk: &mut D, rows: &
 }
 
 /// Asks for a handle, which has this number.
-pub fn expect_number<H: Abort + Wait, D: Desk>(rt: &H, desk: &mut D, request: &Request, number: u64)
+pub fn expect_number<H: Abort + Wait + Enter, D: Desk>(
+    rt: &H,
+    desk: &mut D,
+    request: &Request,
+    number: u64,
+)
     requires { IsInRange request.now }
 {
     let reply = answer_to(rt, desk, request);
     assert!(rt; matches!(reply, Reply::Number(given) if given == number));
 }
 
-fn expect_numbers<H: AllocGlobal + Abort + Wait, D: Desk>(
+fn expect_numbers<H: AllocGlobal + Abort + Wait + Enter, D: Desk>(
     rt: &H,
     desk: &mut D,
     line: &str,
@@ -106,7 +111,7 @@ fn expect_numbers<H: AllocGlobal + Abort + Wait, D: Desk>(
 }
 
 /// Takes each step in turn.
-pub fn go<H: AllocGlobal + Abort + Wait, D: Desk>(rt: &H, desk: &mut D, steps: &[Step]) {
+pub fn go<H: AllocGlobal + Abort + Wait + Enter, D: Desk>(rt: &H, desk: &mut D, steps: &[Step]) {
     for step in steps {
         match step {
             Step::Rows(rows) => run(rt, desk, rows),

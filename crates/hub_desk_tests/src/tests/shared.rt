@@ -2,7 +2,7 @@
 use crate::tests::desks::{new_hub, session};
 use crate::tests::rows::{name_of, run};
 use hub_record::{Kind, Limits};
-use hub_requests::Desk;
+use hub_requests::{Desk, Enter};
 use hub_shared::{Found, Hub, HubError};
 use std::alloc::AllocGlobal;
 use std::process::Abort;
@@ -44,7 +44,10 @@ fn a_session_that_ends_holds_no_one_up(rt: HostRuntime) {
 }
 
 /// The number that the next publisher under the name gets. None if it is refused.
-fn next_number<H: AllocGlobal + Abort + Wait>(rt: &H, hub: &Hub) -> Result<Option<u64>, Fail> {
+fn next_number<H: AllocGlobal + Abort + Wait + Enter>(
+    rt: &H,
+    hub: &Hub,
+) -> Result<Option<u64>, Fail> {
     let web = name_of(rt, rt.alloc(), "web")?;
     let found = hub.find(rt, &web)?.ok_or("found")?;
     let Ok(publisher) = found.dir.publisher(rt) else {
@@ -76,7 +79,7 @@ fn a_session_keeps_its_publisher(rt: HostRuntime) -> Result<(), Fail> {
 }
 
 /// The id that the next subscription to a fifodir gets. None if it is refused.
-pub fn next_id<H: Wait>(rt: &H, found: &Found) -> Option<u64> {
+pub fn next_id<H: Wait + Enter>(rt: &H, found: &Found) -> Option<u64> {
     let Ok(ticket) = found.dir.subscribe(rt) else {
         return None;
     };
@@ -86,7 +89,7 @@ pub fn next_id<H: Wait>(rt: &H, found: &Found) -> Option<u64> {
 }
 
 /// The id that the next subscription gets, and the number that the next publisher gets.
-fn next_of_each<H: AllocGlobal + Abort + Wait>(
+fn next_of_each<H: AllocGlobal + Abort + Wait + Enter>(
     rt: &H,
     hub: &Hub,
 ) -> Result<(Option<u64>, Option<u64>), Fail> {

@@ -2,7 +2,7 @@
 use crate::tests::desks::{alone, new_local};
 use crate::tests::rows::{answer_to, many_letters, request, run};
 use hub_front::serve;
-use hub_requests::{Desk, Name, Reply};
+use hub_requests::{Desk, Enter, Name, Reply};
 use std::alloc::{AllocError, AllocGlobal, Global};
 use std::process::Abort;
 use std::sync::Wait;
@@ -15,7 +15,11 @@ static BEGUN: &str = "
     listen web repeat b -> ok 2
 ";
 
-fn takes<H: AllocGlobal + Abort + Wait, D: Desk>(rt: &H, desk: &mut D, count: usize) -> bool {
+fn takes<H: AllocGlobal + Abort + Wait + Enter, D: Desk>(
+    rt: &H,
+    desk: &mut D,
+    count: usize,
+) -> bool {
     let take = request(rt, rt.alloc(), "take 1 256");
     match answer_to(rt, desk, &take) {
         Reply::Got(letters) => letters.items().len() == count,
@@ -23,7 +27,11 @@ fn takes<H: AllocGlobal + Abort + Wait, D: Desk>(rt: &H, desk: &mut D, count: us
     }
 }
 
-fn hears<H: AllocGlobal + Abort + Wait, D: Desk>(rt: &H, desk: &mut D, count: usize) -> bool {
+fn hears<H: AllocGlobal + Abort + Wait + Enter, D: Desk>(
+    rt: &H,
+    desk: &mut D,
+    count: usize,
+) -> bool {
     let poll = request(rt, rt.alloc(), "poll 2");
     match answer_to(rt, desk, &poll) {
         Reply::Hit(letters) => letters.items().len() == count,
@@ -32,7 +40,11 @@ fn hears<H: AllocGlobal + Abort + Wait, D: Desk>(rt: &H, desk: &mut D, count: us
 }
 
 /// Whether a message of so many letters is taken, and a listener hears it with a letter more, at which it hits.
-fn carries<H: AllocGlobal + Abort + Wait, D: Desk>(rt: &H, desk: &mut D, count: usize) -> bool {
+fn carries<H: AllocGlobal + Abort + Wait + Enter, D: Desk>(
+    rt: &H,
+    desk: &mut D,
+    count: usize,
+) -> bool {
     let message = many_letters(rt, rt.alloc(), count);
     let last = request(rt, rt.alloc(), "pub web b");
     let sent = answer_to(rt, desk, &message);
@@ -45,7 +57,10 @@ fn carries<H: AllocGlobal + Abort + Wait, D: Desk>(rt: &H, desk: &mut D, count: 
 }
 
 /// How many letters the first message has that isn't carried so.
-fn message_unlike<H: AllocGlobal + Abort + Wait, D: Desk>(rt: &H, desk: &mut D) -> Option<usize> {
+fn message_unlike<H: AllocGlobal + Abort + Wait + Enter, D: Desk>(
+    rt: &H,
+    desk: &mut D,
+) -> Option<usize> {
     run(rt, desk, BEGUN);
     for count in 1..257usize {
         if !carries(rt, desk, count) {
@@ -77,7 +92,7 @@ fn waits_and_names(alloc: Global) -> Result<(Vec<u8>, Vec<u8>), AllocError> {
 }
 
 /// Whether a desk waits for each number of names, and makes a name of each length.
-fn waits_for_each<H: Wait, D: Desk>(
+fn waits_for_each<H: Wait + Enter, D: Desk>(
     rt: &H,
     alloc: Global,
     desk: &mut D,

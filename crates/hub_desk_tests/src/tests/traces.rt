@@ -2,7 +2,7 @@
 use crate::tests::desks::{new_hub, session};
 use crate::tests::rows::{name_of, run};
 use crate::tests::shared::next_id;
-use hub_requests::Desk;
+use hub_requests::{Desk, Enter};
 use hub_shared::Hub;
 use std::alloc::AllocGlobal;
 use std::process::Abort;
@@ -83,7 +83,11 @@ static REQUESTS: [(&str, Seen, Seen, &str); 28] = [
 ];
 
 /// What others see of the fifodir of a name.
-fn seen<H: AllocGlobal + Abort + Wait>(rt: &H, hub: &Hub, text: &str) -> Result<Seen, Fail> {
+fn seen<H: AllocGlobal + Abort + Wait + Enter>(
+    rt: &H,
+    hub: &Hub,
+    text: &str,
+) -> Result<Seen, Fail> {
     let name = name_of(rt, rt.alloc(), text)?;
     let found = hub.find(rt, &name)?.ok_or("found")?;
     let id = next_id(rt, &found);
@@ -97,12 +101,15 @@ fn seen<H: AllocGlobal + Abort + Wait>(rt: &H, hub: &Hub, text: &str) -> Result<
 }
 
 /// What others see of `web` and of `db`.
-fn seen_of_both<H: AllocGlobal + Abort + Wait>(rt: &H, hub: &Hub) -> Result<(Seen, Seen), Fail> {
+fn seen_of_both<H: AllocGlobal + Abort + Wait + Enter>(
+    rt: &H,
+    hub: &Hub,
+) -> Result<(Seen, Seen), Fail> {
     Ok((seen(rt, hub, "web")?, seen(rt, hub, "db")?))
 }
 
 /// Asks in a hub of its own, and wants others to see this.
-fn leaves<H: AllocGlobal + Abort + Wait>(
+fn leaves<H: AllocGlobal + Abort + Wait + Enter>(
     rt: &H,
     rows: &str,
     both: (Seen, Seen),

@@ -2,7 +2,7 @@
 
 use hub_fakes::{Dripping, Narrow};
 use hub_io::{FrontError, Sink, Source};
-use hub_script::script;
+use hub_script::{Enter, script};
 use std::alloc::{AllocGlobal, Global};
 use std::process::Abort;
 use std::sync::Wait;
@@ -12,7 +12,7 @@ const INPUT: &[u8] = b"dir web 64 1000\nsub web\npub web ab\ntake 1 10\n";
 const OUTPUT: &[u8] = b"ok\nok 1\nok 0\ngot ab\n";
 
 /// A script, of which a test knows nothing.
-fn run<H: Wait, R: Source, W: Sink>(
+fn run<H: Wait + Enter, R: Source, W: Sink>(
     rt: &H,
     alloc: Global,
     reader: &mut R,
@@ -25,7 +25,7 @@ fn run<H: Wait, R: Source, W: Sink>(
 type Outcome = (Result<u64, FrontError>, u64, u64, usize);
 
 /// Runs the script over these streams.
-fn expect<H: AllocGlobal + Abort + Wait>(
+fn expect<H: AllocGlobal + Abort + Wait + Enter>(
     rt: &H,
     mut reader: Dripping<'_>,
     mut writer: Narrow,

@@ -3,7 +3,7 @@
 use hub_fakes::{Dripping, Endless, Narrow, Stuck};
 use hub_front::serve;
 use hub_io::{FrontError, Sink, Source};
-use hub_requests::{Desk, Reply, Request};
+use hub_requests::{Desk, Enter, Reply, Request};
 use std::alloc::{AllocGlobal, Global};
 use std::process::Abort;
 use std::sync::Wait;
@@ -45,7 +45,7 @@ impl Desk for PlainDesk {
 }
 
 /// A session, of which a test knows nothing.
-fn run<H: Wait, R: Source, W: Sink>(
+fn run<H: Wait + Enter, R: Source, W: Sink>(
     rt: &H,
     alloc: Global,
     desk: &mut PlainDesk,
@@ -59,7 +59,7 @@ fn run<H: Wait, R: Source, W: Sink>(
 type Outcome = (Result<u64, FrontError>, u64, u64, &'static str);
 
 /// Serves the reader with a new desk. Where that comes to something else, `at` says which row it was.
-fn expect<H: AllocGlobal + Abort + Wait>(
+fn expect<H: AllocGlobal + Abort + Wait + Enter>(
     rt: &H,
     mut reader: Dripping<'_>,
     mut writer: Narrow,

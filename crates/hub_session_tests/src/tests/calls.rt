@@ -1,5 +1,5 @@
 //! A call of a server in the same process.
-use hub_commands::{Fault, call, serve};
+use hub_commands::{Enter, Fault, call, serve};
 use std::alloc::Global;
 use std::fs::Files;
 use std::net::Net;
@@ -15,7 +15,7 @@ const SOCKET: &str = "call.sock";
 /// Serves one connection, and tells whether all went well.
 fn is_served<H>(rt: &H, alloc: Global) -> bool
 where
-    H: Files + Net + Clock + Threads + Wait + Copy + Send + 'static,
+    H: Files + Net + Clock + Threads + Wait + Enter + Copy + Send + 'static,
 {
     match serve(rt, alloc, SOCKET, 1) {
         Ok(report) => report.is_clean(),

@@ -2,7 +2,7 @@
 ghost use Rattle.std.specs.Prelude.{None};
 
 use crate::tests::gates::{Listed, Telling};
-use hub_commands::serve_all;
+use hub_commands::{Enter, serve_all};
 use hub_fakes::Dripping;
 use hub_io::{FrontError, Sink, Source};
 use hub_server::{Gate, Report};
@@ -25,7 +25,7 @@ fn serve_gate<H, R, W, G>(
     sessions: u64,
 ) -> Result<Report, Fail>
 where
-    H: Clock + Threads + Wait + Copy + Send + 'static,
+    H: Clock + Threads + Wait + Enter + Copy + Send + 'static,
     R: Source + Send + Drop + 'static,
     W: Sink + Send + Drop + 'static,
     G: Gate<R, W>,

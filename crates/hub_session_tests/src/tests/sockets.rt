@@ -1,7 +1,7 @@
 //! Sessions over Unix sockets.
 use crate::tests::clients::Client;
 use crate::tests::gates::Door;
-use hub_commands::serve_all;
+use hub_commands::{Enter, serve_all};
 use hub_server::Report;
 use hub_shared::Hub;
 use hub_wait::Patience;
@@ -37,7 +37,7 @@ pub fn open(
 /// Serves so many connections over a new hub.
 pub fn serve_door<H>(rt: &H, alloc: Global, mut door: Door, sessions: u64) -> io::Result<Report>
 where
-    H: Clock + Threads + Wait + Copy + Send + 'static,
+    H: Clock + Threads + Wait + Enter + Copy + Send + 'static,
 {
     let hub = Arc::new(alloc, Hub::new(alloc)?)?;
     match serve_all(rt, alloc, hub, &mut door, sessions, Patience::new(*rt)) {
@@ -111,7 +111,7 @@ fn serve_while<H>(
     count: usize,
 ) -> Result<Report, Fail>
 where
-    H: Abort + Files + Net + Clock + Threads + Wait + Copy + Send + 'static,
+    H: Abort + Files + Net + Clock + Threads + Wait + Enter + Copy + Send + 'static,
 {
     let (door, clients) = open(rt, alloc, path, count)?;
     let talking: JoinHandle<bool> = thread::spawn(rt, move || {

@@ -4,6 +4,7 @@ ghost use Rattle.hub_requests.specs.declared.bounds.TheConstants.{MOST_SERVICES}
 ghost use Rattle.hub_names.specs.Fifodirs.{KeepsAll};
 ghost use Rattle.hub_shared.specs.Waits.{AreFound, AreOpened, ArePosts, AreSeen, IsPostRefused, IsUnseen, number_met};
 
+use hub_fifodir::Enter;
 use hub_letters::Want;
 use hub_names::{Fifodirs, Hub, Made};
 use hub_record::Kind;
@@ -27,7 +28,7 @@ impl Posts {
     ghost use Rattle.hub_shared.specs.Waits.{IsWaitRefused, Settles};
 
     /// Opens a post for each name, in their order, or none.
-    pub fn open<H: Wait>(
+    pub fn open<H: Wait + Enter>(
         rt: &H,
         alloc: Global,
         fifodirs: &mut Fifodirs,
@@ -113,7 +114,7 @@ fn find_each<H: Wait>(
 }
 
 /// Opens a post at each of the fifodirs, in their order, until one is refused.
-fn open_each<H: Wait>(
+fn open_each<H: Wait + Enter>(
     rt: &H,
     want: Want,
     found: Vec<Made>,
