@@ -88,7 +88,7 @@ def refused_in(report):
 
 
 def crates_below(name):
-    """Returns the names of the crate and of those that it stands on, by crates.txt."""
+    """Returns the names of the crate and of those that it uses, by crates.txt."""
     below = dict(re.findall(r"^(\w+)[^:\n]*:(.*)$", (ROOT / "crates.txt").read_text(encoding="utf-8"), re.M))
     found, left = set(), [name]
     while left:

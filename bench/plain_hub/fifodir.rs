@@ -1,4 +1,4 @@
-//! One fifodir: its events that wait, where each subscription stands, and what the letters say of a service.
+//! One fifodir: its events that wait, where each subscription is, and what the letters say of a service.
 
 use crate::reply::Refusal;
 use crate::request::{Service, Want};

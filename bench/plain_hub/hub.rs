@@ -168,7 +168,7 @@ impl Hub {
         Ok(if comes { Reply::Done } else { Reply::Late })
     }
 
-    /// One client has nobody to wait for, so the answer is that of the services as they stand.
+    /// One client has nobody to wait for, so the answer is that of the services as they are.
     fn wait(&mut self, all: bool, want: Want, names: &[&str]) -> Result<Reply, Refusal> {
         let mut met = Vec::new();
         let mut hopeless = Vec::new();

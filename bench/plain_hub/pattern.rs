@@ -43,15 +43,15 @@ impl Pattern {
     pub fn is_found_in(&self, letters: &str) -> bool {
         let letters = letters.as_bytes();
         let starts = if self.from_start { 0 } else { letters.len() };
-        (0..=starts).any(|start| self.stands_at(&self.parts, &letters[start..]))
+        (0..=starts).any(|start| self.matches_at(&self.parts, &letters[start..]))
     }
 
-    fn stands_at(&self, parts: &[Part], letters: &[u8]) -> bool {
+    fn matches_at(&self, parts: &[Part], letters: &[u8]) -> bool {
         let Some((part, rest)) = parts.split_first() else {
             return !self.to_end || letters.is_empty();
         };
         let fits = |letter: &&u8| part.letter.is_none_or(|wanted| wanted == **letter);
         let run = letters.iter().take(part.most).take_while(fits).count();
-        (part.least..=run).any(|count| self.stands_at(rest, &letters[count..]))
+        (part.least..=run).any(|count| self.matches_at(rest, &letters[count..]))
     }
 }

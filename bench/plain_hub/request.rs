@@ -145,8 +145,8 @@ fn wait<'a>(
 }
 
 fn name(field: &str) -> Result<&str, Refusal> {
-    let stands = |byte: u8| byte.is_ascii_alphanumeric() || matches!(byte, b'_' | b'.' | b'-');
-    if (1..=32).contains(&field.len()) && field.bytes().all(stands) {
+    let is_allowed = |byte: u8| byte.is_ascii_alphanumeric() || matches!(byte, b'_' | b'.' | b'-');
+    if (1..=32).contains(&field.len()) && field.bytes().all(is_allowed) {
         Ok(field)
     } else {
         Err(Refusal::Word("form"))

@@ -38,7 +38,7 @@ pub use ending::{BadWords, Ending, end_status, tell_end};
 pub use fault::Fault;
 pub use following::follow_as_told;
 pub use hub_requests::Enter;
-pub use living::{Standing, serve_forever};
+pub use living::{HubOptions, serve_forever};
 pub use running::run;
 pub use serving::{serve, tell_faults};
 pub use showing::show_status;

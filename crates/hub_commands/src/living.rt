@@ -25,7 +25,7 @@ use std::{io, thread};
 
 /// How a hub is served without end.
 #[derive(Clone, Copy, Debug)]
-pub struct Standing<'a> {
+pub struct HubOptions<'a> {
     /// The path of the socket.
     pub socket: &'a str,
     /// How many sessions there may be at the same time.
@@ -49,19 +49,19 @@ pub struct Standing<'a> {
 pub fn serve_forever<H, F>(
     rt: &H,
     alloc: Global,
-    standing: Standing<'_>,
+    options: HubOptions<'_>,
     faults: &mut F,
 ) -> Result<(), Fault>
 where
     H: Files<File = File> + Net + Clock + Threads + Wait + Enter + Copy + Send + 'static,
     F: Write,
 {
-    let notice = match standing.ready {
+    let notice = match options.ready {
         Some(descriptor) => Some(Notice::at(descriptor)?),
         None => None,
     };
-    let mut place = take_place(rt, alloc, standing.socket)?;
-    let ended = serve_at(rt, alloc, &mut place, standing, notice, faults);
+    let mut place = take_place(rt, alloc, options.socket)?;
+    let ended = serve_at(rt, alloc, &mut place, options, notice, faults);
     place.leave(rt);
     ended
 }
@@ -72,7 +72,7 @@ fn serve_at<H, F>(
     rt: &H,
     alloc: Global,
     place: &mut Place<'_>,
-    standing: Standing<'_>,
+    options: HubOptions<'_>,
     notice: Option<Notice>,
     faults: &mut F,
 ) -> Result<(), Fault>
@@ -87,10 +87,10 @@ where
     let stay = Stay::Long;
     let desks = HubDesks { hub, pause, stay };
     let watcher = Watcher::new(alloc, *rt)?;
-    let idle = standing.idle.map(Duration::from_secs);
-    let listener = place.listen(rt, standing.mode)?;
+    let idle = options.idle.map(Duration::from_secs);
+    let listener = place.listen(rt, options.mode)?;
     let door = SharedDoor::new(alloc, listener, idle, *rt)?;
-    let _workers = start_workers(rt, alloc, &desks, &door, &watcher, standing.sessions)?;
+    let _workers = start_workers(rt, alloc, &desks, &door, &watcher, options.sessions)?;
     place.put(rt)?;
     if let Some(notice) = notice {
         notice.give(rt)?;

@@ -33,7 +33,7 @@ impl Notice {
         Ok(Notice { descriptor })
     }
 
-    /// Writes the newline where the descriptor stands, and closes the descriptor.
+    /// Writes the newline at the descriptor's place, and closes the descriptor.
     pub(crate) fn give<H: Clock + Wait>(self, rt: &H) -> Result<(), Fault> {
         let given = write_newline(rt, self.descriptor);
         if self.descriptor > LAST_STREAM {

@@ -7,7 +7,7 @@ use crate::dialing::Dial;
 use crate::ending::{BadWords, Ending};
 use crate::fault::Fault;
 use crate::following::follow_as_told;
-use crate::living::{Standing, serve_forever};
+use crate::living::{HubOptions, serve_forever};
 use crate::serving::serve;
 use crate::showing::show_status;
 use crate::waiting::wait_as_told;
@@ -86,14 +86,14 @@ where
             ready,
             idle,
         } => {
-            let standing = Standing {
+            let options = HubOptions {
                 socket,
                 sessions,
                 mode,
                 ready,
                 idle,
             };
-            serve_forever(rt, alloc, standing, notes)?;
+            serve_forever(rt, alloc, options, notes)?;
             Ok(0)
         }
         Plan::Call { socket } => {

@@ -19,21 +19,21 @@ use Rattle.hub_fifodir.proofs.ViewLists.{all_set, at_kept, at_own, all_more, her
 use Rattle.hub_fifodir.proofs.OneSeat.{part_whole, seated, role_sane, renew, part_grows, any_grows, fits_map, not_held, held_none, numbered_live, number_given, in_book}
 use Rattle.hub_fifodir.proofs.Looks.{Rule, its_seat, own_close}
 
-module _ {B : Type 0} (book_of : B → Book) (stands_for : Rules → List Event → ℕ → B → Type 0) (sound : Rules → List Event → Type 0) (rules : Rules) where
+module _ {B : Type 0} (book_of : B → Book) (represents : Rules → List Event → ℕ → B → Type 0) (sound : Rules → List Event → Type 0) (rules : Rules) where
   abbrev St : Type 0
   St = State (Option B) View
 
   abbrev R : St → Type 0
-  R = Rule book_of stands_for sound rules
+  R = Rule book_of represents sound rules
 
   abbrev Goes : St → ℕ → Me (Option B) View → Type 0
   Goes s id me = (w : View) × (x : Act (Option B)) × Valid s.homes me.1 x × R (stepped s 1 1 id me.1 w x)
-      × locked_as book_of stands_for sound (step 1 1 1 0 maybe.none) me (get_or s.words 1 0) (w, carried_after me.1 x)
+      × locked_as book_of represents sound (step 1 1 1 0 maybe.none) me (get_or s.words 1 0) (w, carried_after me.1 x)
 
   none_given : (n most : ℕ) → most ≡ 0 → IsGiven n most → ⊥
   none_given n most e g = let a = g.0 in let b = g.1 in absurd (omega arith)
 
-  pub begins : (b : B) → stands_for rules [] 0 b → sound rules [] → IsBounded (book_of b) → (book_of b).ids ≡ 0 → (book_of b).numbers ≡ 0 → R (opening (0 ∷ 0 ∷ []) (Some b ∷ []) (visitor rules [] 0))
+  pub begins : (b : B) → represents rules [] 0 b → sound rules [] → IsBounded (book_of b) → (book_of b).ids ≡ 0 → (book_of b).numbers ≡ 0 → R (opening (0 ∷ 0 ∷ []) (Some b ∷ []) (visitor rules [] 0))
   begins b fits ok bounded no_ids no_numbers = let a : Account B = record { log = []; mark = 0; book = book_of b; lock = free b; ticket_at = λ _. 0; writer_at = λ _. 0 } in
       record {
         a = a;
@@ -61,14 +61,14 @@ module _ {B : Type 0} (book_of : B → Book) (stands_for : Rules → List Event 
   closed_by s r = let a = r.a in dite (ℕ_discrete a.mark 0)
       (λ zero. omega arith)
       (λ some_mark. let t = r.closer some_mark in
-      let u = its_seat book_of stands_for sound rules s r (a.writer_at a.mark) t.0 t.1 (numbered_live a.mark t.0.role t.2.0) in
+      let u = its_seat book_of represents sound rules s r (a.writer_at a.mark) t.0 t.1 (numbered_live a.mark t.0.role t.2.0) in
       (number_given a.book a.log a.ticket_at a.writer_at (a.writer_at a.mark) a.mark t.0.sight.seen t.0.role t.2.0 u.in_role).1)
 
   locks_at : (s : St) (r : R s) (id : ℕ) (me : Me (Option B) View) (t : LockState B) → r.a.lock ≡ t → IsLive me.0.role → me.0.held ≡ None → me.1 ≡ [] → get_elem? s.views id ≡ maybe.some me.0 → Goes s id me
   locks_at s r id me (free b) is live idle out at =
-      let a = r.a in let v = me.0 in let seat = its_seat book_of stands_for sound rules s r id v at live in
+      let a = r.a in let v = me.0 in let seat = its_seat book_of represents sound rules s r id v at live in
       let w = view v.rules (sight a.log a.mark) v.role (Some (book_of b)) None in
-      let known = subst (λ (t : LockState B). IsHome book_of stands_for sound rules a t s.views) is r.locked in
+      let known = subst (λ (t : LockState B). IsHome book_of represents sound rules a t s.views) is r.locked in
       let a' : Account B = record { log = a.log; mark = a.mark; book = a.book; lock = held_by id; ticket_at = a.ticket_at; writer_at = a.writer_at } in
       let seat0 = renew rules a id v None seat tt in
       let seat' : IsSeat rules a' id w = record { ruled = seat0.ruled; part = seat0.part; met_part = tt; holds = (refl, known.1, refl); in_role = seat0.in_role } in
@@ -100,11 +100,11 @@ module _ {B : Type 0} (book_of : B → Book) (stands_for : Rules → List Event 
                 is = refl;
                 grows = part_grows rules a v.sight seat.part;
                 met = any_grows rules a v.met seat.met_part;
-                own = own_close book_of stands_for sound rules s r id v at;
+                own = own_close book_of represents sound rules s r id v at;
                 sane = role_sane rules a id a.log v.role seat'.in_role;
                 sound_is = subst (λ (x : Rules). sound x a.log) (sym seat.ruled) r.is_sound;
               };
-              behind = subst (λ (x : Rules). stands_for x a.log a.mark b) (sym seat.ruled) known.0;
+              behind = subst (λ (x : Rules). represents x a.log a.mark b) (sym seat.ruled) known.0;
               fresh = subst (λ (x : Book). IsFresh x (sight a.log a.mark)) (sym known.1) record { silent = silent s r; closed = closed_by s r };
               in_book = subst (λ (x : Book). IsInBook x v.role) (sym known.1) (in_book a.book a.log a.ticket_at a.writer_at id v.sight.seen v.role seat.in_role);
               bounded = subst IsBounded (sym known.1) r.bounded;
@@ -124,5 +124,5 @@ module _ {B : Type 0} (book_of : B → Book) (stands_for : Rules → List Event 
         ((λ z. absurd (omega arith)), λ _. refl),
       )
 
-  pub locks : (slots id : ℕ) (me : Me (Option B) View) → IsLive me.0.role → me.0.held ≡ None → me.1 ≡ [] → Allows R slots id me 1 (λ _. 1) (locked_as book_of stands_for sound (step slots 1 1 0 maybe.none) me)
+  pub locks : (slots id : ℕ) (me : Me (Option B) View) → IsLive me.0.role → me.0.held ≡ None → me.1 ≡ [] → Allows R slots id me 1 (λ _. 1) (locked_as book_of represents sound (step slots 1 1 0 maybe.none) me)
   locks slots id me live idle out s r _ at _ = locks_at s r id me r.a.lock refl live idle out at

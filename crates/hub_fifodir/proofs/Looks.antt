@@ -16,12 +16,12 @@ use Rattle.hub_fifodir.proofs.OneSeat.{part_whole, live_seat, seated, role_sane,
 pub none_some : {A : Type 0} {x : A} → Path (Option A) None (Some x) → ⊥
 none_some e = cc
 
-module _ {B : Type 0} (book_of : B → Book) (stands_for : Rules → List Event → ℕ → B → Type 0) (sound : Rules → List Event → Type 0) (rules : Rules) where
+module _ {B : Type 0} (book_of : B → Book) (represents : Rules → List Event → ℕ → B → Type 0) (sound : Rules → List Event → Type 0) (rules : Rules) where
   abbrev pub St : Type 0
   St = State (Option B) View
 
   abbrev pub Rule : St → Type 0
-  Rule = Ordered book_of stands_for sound rules
+  Rule = Ordered book_of represents sound rules
 
   abbrev pub M : Type 0
   M = Me (Option B) View
@@ -38,7 +38,7 @@ module _ {B : Type 0} (book_of : B → Book) (stands_for : Rules → List Event 
       let same : t.0 ≡ v = same_at s.views id t.0 v (ap (get_elem? s.views) (sym place) ∙ t.1) at in
       subst (λ (x : View). x.sight ≡ sight a.log a.mark) same t.2.1
 
-  home_more : (a : Account B) (t : LockState B) (views : List View) (w : View) → IsHome book_of stands_for sound rules a t views → IsHome book_of stands_for sound rules a t (views ++ w ∷ [])
+  home_more : (a : Account B) (t : LockState B) (views : List View) (w : View) → IsHome book_of represents sound rules a t views → IsHome book_of represents sound rules a t (views ++ w ∷ [])
   home_more a (free b) views w h = h
   home_more a (held_by j) views w h = at_more (HasHeld a.book) views w j h
 
@@ -59,7 +59,7 @@ module _ {B : Type 0} (book_of : B → Book) (stands_for : Rules → List Event 
     writers = λ n g. at_more (λ v. IsNumbered n v.role) s.views w (a.writer_at n) (r.writers n g);
   }
 
-  pub enters : (slots : ℕ) (m : M) → m.0.rules ≡ rules → Enters Rule slots 0 (λ n w. entered_as book_of stands_for sound (step slots 0 0 0 maybe.none) m n (w, []))
+  pub enters : (slots : ℕ) (m : M) → m.0.rules ≡ rules → Enters Rule slots 0 (λ n w. entered_as book_of represents sound (step slots 0 0 0 maybe.none) m n (w, []))
   enters slots m ruled s r _ _ = let a = r.a in let w = visitor m.0.rules a.log a.mark in (
     w,
     joined_by s r w record { ruled = ruled; part = part_whole rules a; met_part = tt; holds = tt; in_role = tt },
@@ -67,11 +67,11 @@ module _ {B : Type 0} (book_of : B → Book) (stands_for : Rules → List Event 
   )
 
   pub home_kept : (a : Account B) (t : LockState B) (views : List View) (j : ℕ) (v w : View) → get_elem? views j ≡ maybe.some v → (HasHeld a.book v → HasHeld a.book w)
-      → IsHome book_of stands_for sound rules a t views → IsHome book_of stands_for sound rules a t (set views j w)
+      → IsHome book_of represents sound rules a t views → IsHome book_of represents sound rules a t (set views j w)
   home_kept a (free b) views j v w at keep h = h
   home_kept a (held_by k) views j v w at keep h = at_kept (HasHeld a.book) views j v w k at keep h
 
-  pub looks : (slots id : ℕ) (me : M) → IsLive me.0.role → me.0.held ≡ None → Allows Rule slots id me 0 (λ n. n) (looked_as book_of stands_for sound (step slots 0 0 0 maybe.none) me)
+  pub looks : (slots id : ℕ) (me : M) → IsLive me.0.role → me.0.held ≡ None → Allows Rule slots id me 0 (λ n. n) (looked_as book_of represents sound (step slots 0 0 0 maybe.none) me)
   looks slots id me live idle s r _ at _ =
       let a = r.a in let v = me.0 in let seat = its_seat s r id v at live in
       let w = view v.rules (sight a.log a.mark) v.role None None in

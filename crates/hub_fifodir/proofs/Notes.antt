@@ -28,17 +28,17 @@ still_seen all views id v w other u at there apart alone live has t = dite (ℕ_
     (id, mine.0, set_else (set views id w) other id spent_view (λ e. apart (sym e)) ∙ mine.1, mine.2))
     (λ diff. (t.0, t.1, set_else (set views id w) other t.0 spent_view diff ∙ t.2, t.3))
 
-module _ {B : Type 0} (book_of : B → Book) (stands_for : Rules → List Event → ℕ → B → Type 0) (sound : Rules → List Event → Type 0) (rules : Rules) where
+module _ {B : Type 0} (book_of : B → Book) (represents : Rules → List Event → ℕ → B → Type 0) (sound : Rules → List Event → Type 0) (rules : Rules) where
   abbrev St : Type 0
   St = State (Option B) View
 
   abbrev R : St → Type 0
-  R = Rule book_of stands_for sound rules
+  R = Rule book_of represents sound rules
 
   pub splits : (id : ℕ) (v : View) → IsLive v.role → Splits R id v v (note_of v)
   splits id v live s r at =
-      let seat = its_seat book_of stands_for sound rules s r id v at live in
-      let more = joined_by book_of stands_for sound rules s r (note_of v) record { ruled = seat.ruled; part = seat.part; met_part = tt; holds = tt; in_role = tt } in
+      let seat = its_seat book_of represents sound rules s r id v at live in
+      let more = joined_by book_of represents sound rules s r (note_of v) record { ruled = seat.ruled; part = seat.part; met_part = tt; holds = tt; in_role = tt } in
       subst (λ (l : List View). R record { words = s.words; homes = s.homes; views = l ++ note_of v ∷ [] }) (sym (set_again s.views id v at)) more
 
   -- one view changes its note or is spent, and nothing else changes
@@ -50,7 +50,7 @@ module _ {B : Type 0} (book_of : B → Book) (stands_for : Rules → List Event 
     homes_are = r.homes_are;
     is_sound = r.is_sound;
     bounded = r.bounded;
-    locked = home_kept book_of stands_for sound rules a a.lock s.views id v w at (λ h. absurd (none_some (sym idle ∙ h.1))) r.locked;
+    locked = home_kept book_of represents sound rules a a.lock s.views id v w at (λ h. absurd (none_some (sym idle ∙ h.1))) r.locked;
     each = all_set (Fits rules a) s.views id w fits (λ j u n q. r.each j u q);
     reached = seen;
     closer = λ n. at_kept (HasClosed a.mark a.log) s.views id v w (a.writer_at a.mark) at (λ p. let t = named a.mark p.0 in (t.0, t.1 ∙ p.1)) (r.closer n);
@@ -63,8 +63,8 @@ module _ {B : Type 0} (book_of : B → Book) (stands_for : Rules → List Event 
   joins id v other u live idle alone note idle' alone' s r at apart there =
       let a = r.a in let w = with_note v u in let all = sight a.log a.mark in
       let was : get_elem? s.views other ≡ maybe.some u = ⊎_elim (λ (t : (other ≡ id) × (w ≡ u)). absurd (apart t.0)) (λ (t : (other ≢ id) × (get_elem? s.views other ≡ maybe.some u)). t.1) (at_set s.views id other w u there) in
-      let seat = its_seat book_of stands_for sound rules s r id v at live in
-      let theirs = its_seat book_of stands_for sound rules s r other u was (subst IsLive (sym note) tt) in
+      let seat = its_seat book_of represents sound rules s r id v at live in
+      let theirs = its_seat book_of represents sound rules s r other u was (subst IsLive (sym note) tt) in
       let fits : Fits rules a id w = seated rules a id w v.role record { ruled = seat.ruled; part = seat.part; met_part = theirs.part; holds = seat.holds; in_role = seat.in_role } in
       let seen : Somewhere (set s.views id w) (HasSeen all) =
       somewhere_kept (HasSeen all) s.views id v w at (λ h. (live, ⊎_elim (λ (e : v.sight ≡ all). inl e) (λ (e : v.met ≡ Some all). absurd (none_some (sym alone ∙ e))) h.1)) r.reached in

@@ -27,7 +27,7 @@ module _ {B : Type 0} (rules : Rules) (a : Account B) where
   pub renew_role : (j : ℕ) (s : Sight) (r : Role) → IsPart a.log a.mark s → InRole a.book a.log a.ticket_at a.writer_at j s.seen r → InRole a.book a.log a.ticket_at a.writer_at j a.log r
   renew_role j s (Ticket t) p h = let l = starts_length a.log s.seen p.0 in let m = h.sane in
       record { its_seat = h.its_seat; given = h.given; sane = (m.0, omega arith, m.2 ∙ sym (slice_longer t.mark t.next s.seen a.log p.0 m.0 m.1)); cursor = h.cursor }
-  renew_role j s (Publisher p) q h = record { its_seat = h.its_seat; given = h.given; all = h.all; known = h.all; standing = h.standing }
+  renew_role j s (Publisher p) q h = record { its_seat = h.its_seat; given = h.given; all = h.all; known = h.all; active = h.active }
   renew_role j s r p h = tt
 
   pub role_sane : (j : ℕ) (seen : List Event) (r : Role) → InRole a.book a.log a.ticket_at a.writer_at j seen r → IsSane seen r
@@ -94,5 +94,5 @@ number_seat k log f g j n s r is h = absurd is
 
 pub in_book : (k : Book) (log : List Event) (f g : ℕ → ℕ) (j : ℕ) (seen : List Event) (r : Role) → InRole k log f g j seen r → IsInBook k r
 in_book k log f g j s (Ticket t) h = (h.given, h.cursor)
-in_book k log f g j s (Publisher p) h = (h.given, h.standing)
+in_book k log f g j s (Publisher p) h = (h.given, h.active)
 in_book k log f g j s r h = tt

@@ -23,7 +23,7 @@ use Rattle.hub_fifodir.specs.declared.views.Role.TheVariants.{Publisher}
 use Rattle.hub_fifodir.specs.declared.locked.Locked.{Locked}
 use Rattle.hub_fifodir.specs.Word.{packed_word}
 use Rattle.hub_fifodir.specs.Events.{is_closed, front_word, StartsWith}
-use Rattle.hub_fifodir.specs.Locks.{StandsForWorld, KeepsPublishers, status_of}
+use Rattle.hub_fifodir.specs.Locks.{RepresentsWorld, KeepsPublishers, status_of}
 use Rattle.hub_fifodir.specs.Rule.{IsLive, IsNumbered, IsSane, IsBehind, IsSound, book_of}
 use Rattle.hub_fifodir.specs.Steps.{M, Locks, Gives, Grows, IsWriter, WritesMessage, WritesMark, view_with_letters, closing, writing_of, mine_of, writer, view_at_rest}
 use Rattle.hub_record.specs.declared.limits.Policy.{Policy}
@@ -74,7 +74,7 @@ refused_by rules s b message post.Full h r = let full = full_only h.world (lengt
 )
 
 -- a status never tells more events than a record may have
-pub within_events : {b : Locked} → (w : World) (status : Status) → StandsForWorld b w → status ≡ status_of w → status.number ≤ MOST_EVENTS
+pub within_events : {b : Locked} → (w : World) (status : Status) → RepresentsWorld b w → status ≡ status_of w → status.number ≤ MOST_EVENTS
 within_events w status h s = let number : status.number ≡ length w.events = ap (λ (x : Status). x.number) s in
     let total = w.limits.total_in_range.1 in let within = h.for.world.within in omega arith
 
@@ -115,7 +115,7 @@ module _ (m0 m1 : M) (n : ℕ) (b : Locked) (w : IsWriter m0 n) (h : Locks book_
   is_writing = subst (λ (r : Role). r ≡ Publisher (writing_of r)) (sym role_held) refl
 
   -- a message was added
-  module _ (b' : Locked) (message : List ℕ) (first : ℕ) (r : PublishReply h.behind.world message (Ok first)) (after : StandsForWorld b' (after_publish h.behind.world n message (Ok first))) (others : KeepsPublishers b b') where
+  module _ (b' : Locked) (message : List ℕ) (first : ℕ) (r : PublishReply h.behind.world message (Ok first)) (after : RepresentsWorld b' (after_publish h.behind.world n message (Ok first))) (others : KeepsPublishers b b') where
     abbrev p : Writing
     p = writing_of m1.0.role
 
@@ -197,7 +197,7 @@ module _ (m0 m1 : M) (n : ℕ) (b : Locked) (w : IsWriter m0 n) (h : Locks book_
         count_longer = ap (λ (x : ℕ). x + length message) (r.1 ∙ ap length h.behind.events) ∙ sym (ap length seen_is ∙ length-append m1.0.sight.seen (as_events n message) ∙ ap (λ (x : ℕ). length m1.0.sight.seen + x) (length_stamped n message))
 
   -- the record was closed
-  module _ (b' : Locked) (shut : h.behind.world.closed ≡ false) (after : StandsForWorld b' (after_close h.behind.world)) (others : KeepsPublishers b b') (pos : 0 < n) where
+  module _ (b' : Locked) (shut : h.behind.world.closed ≡ false) (after : RepresentsWorld b' (after_close h.behind.world)) (others : KeepsPublishers b b') (pos : 0 < n) where
     was_open : m1.0.sight.closed ≡ 0
     was_open = open_when m1.0.sight.closed h.behind.world.closed h.behind.closed shut
 

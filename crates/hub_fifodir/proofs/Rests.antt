@@ -5,12 +5,12 @@ use mathlib.Core.Logic.{dite}
 use native.Mathlib.Decide.{ℕ_discrete}
 use Rattle.hub_record.specs.declared.Event.{Event}
 use Rattle.hub_record.specs.World.{World, Subscription, subscription_in, found_from, with_changed, moved_on, count_to_take, as_cancelled, new_subscription, after_subscribe, after_take, after_take_for, after_cancel, after_cancel_for}
-use Rattle.hub_record.specs.Kept.{Kept, StandsFor}
+use Rattle.hub_record.specs.Kept.{Kept, Represents}
 use Rattle.hub_fifodir.specs.declared.views.Book.{Book}
 use Rattle.hub_fifodir.specs.declared.views.Role.{Role}
 use Rattle.hub_fifodir.specs.declared.views.Role.TheVariants.{Visitor}
 use Rattle.hub_fifodir.specs.declared.locked.Locked.{Locked}
-use Rattle.hub_fifodir.specs.Locks.{StandsForWorld, is_current, KeepsPublishers, KeepsRecord, HasLeft}
+use Rattle.hub_fifodir.specs.Locks.{RepresentsWorld, is_current, KeepsPublishers, KeepsRecord, HasLeft}
 use Rattle.hub_fifodir.specs.Rule.{IsLive, IsGiven, IsBounded, cursor_of, book_of, IsBehind}
 use Rattle.hub_fifodir.specs.Steps.{M, Changes, Gives, IsFresh, view_at_rest, writer, as_gone}
 use Rattle.hub_fifodir.proofs.Subscriptions.{cursor_given}
@@ -19,12 +19,12 @@ pub none_between : (n most : ℕ) → most < n → n ≤ most → ⊥
 none_between n most a b = absurd (omega arith)
 
 -- only what was given is current, and has a cursor
-pub bounded_after : (b : Locked) (w : World) → StandsForWorld b w → ((n : ℕ) → is_current b.standing.keys n ≡ true → IsGiven n b.given) → IsBounded (book_of b)
-bounded_after b w h low = record { cursors = λ i next at. cursor_given b.kept.value w i next h.for at; standing = low }
+pub bounded_after : (b : Locked) (w : World) → RepresentsWorld b w → ((n : ℕ) → is_current b.active.keys n ≡ true → IsGiven n b.given) → IsBounded (book_of b)
+bounded_after b w h low = record { cursors = λ i next at. cursor_given b.kept.value w i next h.for at; active = low }
 
 -- with the same record
-pub still_stands : (b b' : Locked) (w : World) → KeepsRecord b b' → StandsForWorld b w → StandsForWorld b' w
-still_stands b b' w same h = record { for = subst (λ (r : Kept). StandsFor r w) (sym same.0) h.for; ids = same.1 ∙ h.ids }
+pub still_represents : (b b' : Locked) (w : World) → KeepsRecord b b' → RepresentsWorld b w → RepresentsWorld b' w
+still_represents b b' w same h = record { for = subst (λ (r : Kept). Represents r w) (sym same.0) h.for; ids = same.1 ∙ h.ids }
 
 -- ---- as before
 
@@ -33,7 +33,7 @@ same_state seen r k live low = record {
   ids_up = omega arith;
   numbers_up = omega arith;
   cursors = λ i n. refl;
-  standing = λ n m. refl;
+  active = λ n m. refl;
   live = live;
   live' = live;
   own_id = λ f g j h. inl (omega arith);
@@ -51,23 +51,23 @@ rests m b b' live held low same behind =
     let k : Book = book_of b in (k, m.0.role, suc k.ids, suc k.numbers, held, refl, behind, subst (λ (x : Book). Changes m.0.sight.seen m.0.role m.0.role k x (suc k.ids) (suc k.numbers)) (sym same) (same_state m.0.sight.seen m.0.role k live low))
 
 -- a call on the record alone that leaves the subscriptions as they are
-pub same_book : (b b' : Locked) (w w' : World) → StandsForWorld b w → StandsForWorld b' w' → w'.subscriptions ≡ w.subscriptions → KeepsPublishers b b' → book_of b' ≡ book_of b
+pub same_book : (b b' : Locked) (w w' : World) → RepresentsWorld b w → RepresentsWorld b' w' → w'.subscriptions ≡ w.subscriptions → KeepsPublishers b b' → book_of b' ≡ book_of b
 same_book b b' w w' h h' same others =
     let cursors : b'.kept.value.cursors ≡ b.kept.value.cursors = h'.for.cursors ∙ ap (λ (l : List Subscription). Rattle.hub_record.specs.World.current_from 1 l) same ∙ sym h.for.cursors in
     let ids : b'.kept.value.given ≡ b.kept.value.given = h'.for.given ∙ ap length same ∙ sym h.for.given in
-    λ i. record { cursors = cursors i; ids = ids i; standing = others.0 i; numbers = others.1 i }
+    λ i. record { cursors = cursors i; ids = ids i; active = others.0 i; numbers = others.1 i }
 
 -- ---- a visitor becomes the publisher with the next number
 
 pub rests_as_publisher : (m : M) (b b' : Locked) (n : ℕ) → m.0.role ≡ Visitor → m.0.held ≡ Some (book_of b) → IsBounded (book_of b) → IsFresh (book_of b) m.0.sight
-    → n ≡ b.given + 1 → ((x : ℕ) → is_current b'.standing.keys x ≡ cond (nat_eq n x) true (is_current b.standing.keys x)) → b'.given ≡ n
+    → n ≡ b.given + 1 → ((x : ℕ) → is_current b'.active.keys x ≡ cond (nat_eq n x) true (is_current b.active.keys x)) → b'.given ≡ n
     → IsBehind m.0.rules m.0.sight.seen m.0.sight.closed b → KeepsRecord b b' → Gives m b' (view_at_rest m.0 (writer b'.given []))
 rests_as_publisher m b b' n role held low fresh next joined count behind keeps =
     let k : Book = book_of b in let n' : ℕ = b'.given in let up : n' ≡ b.given + 1 = count ∙ next in
-    let is_current' = still_stands b b' behind.world keeps behind.for in
+    let is_current' = still_represents b b' behind.world keeps behind.for in
     let cursors : b'.kept.value.cursors ≡ b.kept.value.cursors = is_current'.for.cursors ∙ sym behind.for.for.cursors in
     let ids : b'.kept.value.given ≡ b.kept.value.given = is_current'.for.given ∙ sym behind.for.for.given in
-    let all : (x : ℕ) → is_current b'.standing.keys x ≡ cond (nat_eq n' x) true (is_current b.standing.keys x) = λ x. joined x ∙ ap (λ (y : ℕ). cond (nat_eq y x) true (is_current b.standing.keys x)) (sym count) in (
+    let all : (x : ℕ) → is_current b'.active.keys x ≡ cond (nat_eq n' x) true (is_current b.active.keys x) = λ x. joined x ∙ ap (λ (y : ℕ). cond (nat_eq y x) true (is_current b.active.keys x)) (sym count) in (
       k,
       writer n' [],
       suc k.ids,
@@ -79,7 +79,7 @@ rests_as_publisher m b b' n role held low fresh next joined count behind keeps =
         ids_up = omega arith;
         numbers_up = omega arith;
         cursors = λ i e. ap (λ c. cursor_of c i) cursors;
-        standing = λ x ne. all x ∙ ap (λ t. cond t true (is_current b.standing.keys x)) (ne_eqb n' x (λ e. ne (sym e)));
+        active = λ x ne. all x ∙ ap (λ t. cond t true (is_current b.active.keys x)) (ne_eqb n' x (λ e. ne (sym e)));
         live = tt;
         live' = tt;
         own_id = λ f g j h. inl (omega arith);
@@ -90,13 +90,13 @@ rests_as_publisher m b b' n role held low fresh next joined count behind keeps =
         number_given = λ x a c. (omega arith, omega arith);
         bounded = bounded_after b' behind.world is_current' (λ x at. dite (ℕ_discrete n' x)
             (λ e. (omega arith, omega arith))
-            (λ ne. let g = low.standing x (sym (all x ∙ ap (λ t. cond t true (is_current b.standing.keys x)) (ne_eqb n' x ne)) ∙ at) in let a = g.0 in let c = g.1 in (omega arith, omega arith)));
+            (λ ne. let g = low.active x (sym (all x ∙ ap (λ t. cond t true (is_current b.active.keys x)) (ne_eqb n' x ne)) ∙ at) in let a = g.0 in let c = g.1 in (omega arith, omega arith)));
         fits = λ f g j h _ at. record {
           its_seat = at;
           given = (omega arith, omega arith);
           all = fresh.silent n' (omega arith);
           known = fresh.silent n' (omega arith);
-          standing = all n' ∙ ap (λ t. cond t true (is_current b.standing.keys n')) (eq-eqb n' n' refl);
+          active = all n' ∙ ap (λ t. cond t true (is_current b.active.keys n')) (eq-eqb n' n' refl);
         };
       },
     )
@@ -107,7 +107,7 @@ pub rests_left : (m : M) (b b' : Locked) (n : ℕ) (mine : List ℕ) → m.0.rol
     → HasLeft b n b' → KeepsRecord b b' → Gives m b' (view_at_rest m.0 (as_gone m.0.role))
 rests_left m b b' n mine role held low behind left keeps =
     let k : Book = book_of b in
-    let is_current' = still_stands b b' behind.world keeps behind.for in
+    let is_current' = still_represents b b' behind.world keeps behind.for in
     let cursors : b'.kept.value.cursors ≡ b.kept.value.cursors = is_current'.for.cursors ∙ sym behind.for.for.cursors in
     let ids : b'.kept.value.given ≡ b.kept.value.given = is_current'.for.given ∙ sym behind.for.for.given in
     let numbers : b'.given ≡ b.given = left.1 in
@@ -124,7 +124,7 @@ rests_left m b b' n mine role held low behind left keeps =
         ids_up = omega arith;
         numbers_up = omega arith;
         cursors = λ i e. ap (λ c. cursor_of c i) cursors;
-        standing = λ x ne. left.0 x ∙ ap (λ t. cond t false (is_current b.standing.keys x)) (ne_eqb n x (λ e. ne (sym e)));
+        active = λ x ne. left.0 x ∙ ap (λ t. cond t false (is_current b.active.keys x)) (ne_eqb n x (λ e. ne (sym e)));
         live = tt;
         live' = tt;
         own_id = λ f g j h. inl (omega arith);
@@ -134,14 +134,14 @@ rests_left m b b' n mine role held low behind left keeps =
         id_given = λ i a c. absurd (none_between i b.kept.value.given a (omega arith));
         number_given = λ x a c. absurd (none_between x b.given a (omega arith));
         bounded = bounded_after b' behind.world is_current' (λ x at. dite (ℕ_discrete n x)
-            (λ e. let no : false ≡ true = sym (left.0 x ∙ ap (λ t. cond t false (is_current b.standing.keys x)) (eq-eqb n x e)) ∙ at in cc)
-            (λ ne. let g = low.standing x (sym (left.0 x ∙ ap (λ t. cond t false (is_current b.standing.keys x)) (ne_eqb n x ne)) ∙ at) in let a = g.0 in let c = g.1 in (omega arith, omega arith)));
+            (λ e. let no : false ≡ true = sym (left.0 x ∙ ap (λ t. cond t false (is_current b.active.keys x)) (eq-eqb n x e)) ∙ at in cc)
+            (λ ne. let g = low.active x (sym (left.0 x ∙ ap (λ t. cond t false (is_current b.active.keys x)) (ne_eqb n x ne)) ∙ at) in let a = g.0 in let c = g.1 in (omega arith, omega arith)));
         fits = λ f g j h _ _. record {
           its_seat = h.its_seat;
           given = (h.given.0, let a = h.given.1 in omega arith);
           all = h.all;
           known = h.known;
-          standing = left.0 n ∙ ap (λ t. cond t false (is_current b.standing.keys n)) (eq-eqb n n refl);
+          active = left.0 n ∙ ap (λ t. cond t false (is_current b.active.keys n)) (eq-eqb n n refl);
         };
       },
     )

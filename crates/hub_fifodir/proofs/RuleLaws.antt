@@ -23,9 +23,9 @@ use Rattle.hub_fifodir.specs.declared.views.Role.{Role}
 use Rattle.hub_fifodir.specs.declared.views.Role.TheVariants.{Ticket, Publisher}
 use Rattle.hub_fifodir.specs.declared.locked.Locked.{Locked}
 use Rattle.hub_fifodir.specs.Events.{StartsWith, slice}
-use Rattle.hub_fifodir.specs.Locks.{StandsForWorld, is_current}
+use Rattle.hub_fifodir.specs.Locks.{RepresentsWorld, is_current}
 use Rattle.hub_fifodir.specs.Rule.{LockState, free, held_by, home, RuleHolds, book_of, IsBehind, IsSound, IsHome, InRole, IsTicket, IsPublisher, IsLive, HasId, IsNumbered, cursor_of, cursor_if}
-use Rattle.hub_fifodir.specs.Laws.{HasTicket, HasPublisher, IsFree, TicketsDiffer, PublishersDiffer, SeatsAgree, RecordIsHistory, TicketsHaveCursors, CursorsHaveTickets, StandingHavePublishers, BaseIsBehind, HoldKeepsAll}
+use Rattle.hub_fifodir.specs.Laws.{HasTicket, HasPublisher, IsFree, TicketsDiffer, PublishersDiffer, SeatsAgree, RecordIsHistory, TicketsHaveCursors, CursorsHaveTickets, ActiveHavePublishers, BaseIsBehind, HoldKeepsAll}
 use Rattle.hub_fifodir.proofs.Looks.{its_seat}
 
 abbrev S : Type 0
@@ -85,7 +85,7 @@ pub record_is_history : RecordIsHistory
 record_is_history rules s b r homes = let h = (home_behind rules s b r homes).0 in (
   h.world,
   record {
-    stands = h.for;
+    represents = h.for;
     kind = h.kind;
     limits = h.limits;
     front = ap (λ (l : List ℕ). get_or l 0 0) r.words_are ∙ (λ i. packed_word (length (sym h.events i)) (sym h.closed i) (flags_of (letters (sym h.events i))));
@@ -121,30 +121,30 @@ cursors_have_tickets rules s b id next r homes at =
     let shown = cursor_shows t.0.gone t.0.next next (sym seat.cursor ∙ ap (cursor_of r.a.book.cursors) t.2 ∙ here) in
     (r.a.ticket_at id, t.0, h, t.2, shown.0, shown.1)
 
-pub standing_have_publishers : StandingHavePublishers
-standing_have_publishers rules s b n r homes at =
-    let here : is_current r.a.book.standing n ≡ true = sym (ap (λ (k : Book). is_current k.standing n) (book_behind rules s b r homes)) ∙ at in
-    let o = r.writers n (r.bounded.standing n here) in let p = number_of n o.0.role o.2 in
+pub active_have_publishers : ActiveHavePublishers
+active_have_publishers rules s b n r homes at =
+    let here : is_current r.a.book.active n ≡ true = sym (ap (λ (k : Book). is_current k.active n) (book_behind rules s b r homes)) ∙ at in
+    let o = r.writers n (r.bounded.active n here) in let p = number_of n o.0.role o.2 in
     let h : HasPublisher s (r.a.writer_at n) p.0 = (o.0, o.1, p.1) in
     let seat = publisher_at rules s r (r.a.writer_at n) p.0 h in
-    (r.a.writer_at n, p.0, h, p.2, stays p.0.gone (sym seat.standing ∙ ap (is_current r.a.book.standing) p.2 ∙ here))
+    (r.a.writer_at n, p.0, h, p.2, stays p.0.gone (sym seat.active ∙ ap (is_current r.a.book.active) p.2 ∙ here))
   where
     stays : (gone : Bool) → not gone ≡ true → gone ≡ false
     stays true e = cc
     stays false e = refl
 
 -- the cursor of a current ticket, in the world
-cursor_in : (rules : Rules) (s : S) (b : Locked) (w : World) (j : ℕ) (t : Taking) → RuleHolds rules s → IsFree s b → StandsForWorld b w → HasTicket s j t → t.gone ≡ false → cursor_of (current w) t.id ≡ Some t.next
-cursor_in rules s b w j t r homes stands h stays = ap (λ c. cursor_of c t.id) (sym stands.for.cursors) ∙ tickets_have_cursors rules s b j t r homes h stays
+cursor_in : (rules : Rules) (s : S) (b : Locked) (w : World) (j : ℕ) (t : Taking) → RuleHolds rules s → IsFree s b → RepresentsWorld b w → HasTicket s j t → t.gone ≡ false → cursor_of (current w) t.id ≡ Some t.next
+cursor_in rules s b w j t r homes represents h stays = ap (λ c. cursor_of c t.id) (sym represents.for.cursors) ∙ tickets_have_cursors rules s b j t r homes h stays
 
 pub base_is_behind : BaseIsBehind
-base_is_behind rules s b w j t r homes stands h stays up = base_bound w t.id t.next stands.for.world (cursor_in rules s b w j t r homes stands h stays) up
+base_is_behind rules s b w j t r homes represents h stays up = base_bound w t.id t.next represents.for.world (cursor_in rules s b w j t r homes represents h stays) up
 
 pub hold_keeps_all : HoldKeepsAll
-hold_keeps_all rules s b w j t r homes stands hold h stays =
+hold_keeps_all rules s b w j t r homes represents hold h stays =
     let behind = (home_behind rules s b r homes).0 in
-    let limits = sym stands.for.limits ∙ behind.for.for.limits ∙ behind.limits in
-    hold_bound w t.id t.next stands.for.world (cursor_in rules s b w j t r homes stands h stays) (ap (λ (l : Limits). l.policy) limits ∙ hold)
+    let limits = sym represents.for.limits ∙ behind.for.for.limits ∙ behind.limits in
+    hold_bound w t.id t.next represents.for.world (cursor_in rules s b w j t r homes represents h stays) (ap (λ (l : Limits). l.policy) limits ∙ hold)
 
 -- ---- a ticket's events
 

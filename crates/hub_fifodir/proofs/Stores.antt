@@ -27,22 +27,22 @@ role_longer : (book : Book) (log : List Event) (f g : ℕ → ℕ) (id j p : ℕ
 role_longer book log f g id j p message s (Ticket t) n own h = h
 role_longer book log f g id j p message s (Publisher q) n own h =
     let other : p ≢ q.number = λ e. n (sym h.its_seat ∙ ap g (sym e) ∙ own) in
-    record { its_seat = h.its_seat; given = h.given; all = by-append q.number log (as_events p message) ∙ ap (λ (l : List ℕ). by q.number log ++ l) (by_other q.number p message other) ∙ append-nil (by q.number log) ∙ h.all; known = h.known; standing = h.standing }
+    record { its_seat = h.its_seat; given = h.given; all = by-append q.number log (as_events p message) ∙ ap (λ (l : List ℕ). by q.number log ++ l) (by_other q.number p message other) ∙ append-nil (by q.number log) ∙ h.all; known = h.known; active = h.active }
 role_longer book log f g id j p message s r n own h = tt
 
-module _ {B : Type 0} (book_of : B → Book) (stands_for : Rules → List Event → ℕ → B → Type 0) (sound : Rules → List Event → Type 0) (rules : Rules) where
+module _ {B : Type 0} (book_of : B → Book) (represents : Rules → List Event → ℕ → B → Type 0) (sound : Rules → List Event → Type 0) (rules : Rules) where
   abbrev St : Type 0
   St = State (Option B) View
 
   abbrev R : St → Type 0
-  R = Rule book_of stands_for sound rules
+  R = Rule book_of represents sound rules
 
   -- what the seat that has the lock knows
   holding : (s : St) (r : R s) (id : ℕ) (v : View) (k : Book) → get_elem? s.views id ≡ maybe.some v → IsLive v.role → v.held ≡ Some k → (r.a.lock ≡ held_by id) × (k ≡ r.a.book) × (v.sight ≡ sight r.a.log r.a.mark)
-  holding s r id v k at live is = let seat = its_seat book_of stands_for sound rules s r id v at live in subst (Holds rules r.a id v.sight) is seat.holds
+  holding s r id v k at live is = let seat = its_seat book_of represents sound rules s r id v at live in subst (Holds rules r.a id v.sight) is seat.holds
 
-  home_taken : (a : Account B) (id : ℕ) (views : List View) → a.lock ≡ held_by id → IsHome book_of stands_for sound rules a a.lock views → At views id (HasHeld a.book)
-  home_taken a id views is h = subst (λ (t : LockState B). IsHome book_of stands_for sound rules a t views) is h
+  home_taken : (a : Account B) (id : ℕ) (views : List View) → a.lock ≡ held_by id → IsHome book_of represents sound rules a a.lock views → At views id (HasHeld a.book)
+  home_taken a id views is h = subst (λ (t : LockState B). IsHome book_of represents sound rules a t views) is h
 
   pub publishes : (slots id : ℕ) (me : Me (Option B) View) (p : Writing) (message : List ℕ) (k : Book) (new : ℕ) → me.0.role ≡ Publisher p → me.0.held ≡ Some k → me.0.sight.closed ≡ 0
       → new ≡ front_word (me.0.sight.seen ++ as_events p.number message) 0 → sound me.0.rules (me.0.sight.seen ++ as_events p.number message)
@@ -50,7 +50,7 @@ module _ {B : Type 0} (book_of : B → Book) (stands_for : Rules → List Event 
   publishes slots id me p message k new role held unclosed is ok s r _ at _ =
       let a = r.a in let v = me.0 in let x = as_events p.number message in let w = view_with_letters v p message in
       let live = numbered_live p.number v.role (subst (IsNumbered p.number) (sym role) refl) in
-      let seat = its_seat book_of stands_for sound rules s r id v at live in
+      let seat = its_seat book_of represents sound rules s r id v at live in
       let h = holding s r id v k at live held in
       let mine = subst (InRole a.book a.log a.ticket_at a.writer_at id v.sight.seen) role seat.in_role in
       let seen : v.sight.seen ≡ a.log = ap (λ (t : Sight). t.seen) h.2 in
@@ -64,7 +64,7 @@ module _ {B : Type 0} (book_of : B → Book) (stands_for : Rules → List Event 
         part = subst (IsPart log 0) (sym same) (part_whole rules a');
         met_part = any_longer a.log x v.met (subst (λ (m : ℕ). IsPartIfAny a.log m v.met) unmarked seat.met_part);
         holds = subst (Holds rules a' id w.sight) (sym held) (h.0, h.1, same);
-        in_role = record { its_seat = mine.its_seat; given = mine.given; all = grew; known = ap (λ (l : List Event). by p.number (l ++ x)) seen ∙ grew; standing = mine.standing };
+        in_role = record { its_seat = mine.its_seat; given = mine.given; all = grew; known = ap (λ (l : List Event). by p.number (l ++ x)) seen ∙ grew; active = mine.active };
       } in
       let word : new ≡ front_word log 0 = is ∙ ap (λ (l : List Event). front_word (l ++ x) 0) seen in
       let taken_home = home_taken a id s.views h.0 r.locked in (
@@ -77,7 +77,7 @@ module _ {B : Type 0} (book_of : B → Book) (stands_for : Rules → List Event 
           homes_are = r.homes_are;
           is_sound = subst (λ (x : Rules). sound x log) seat.ruled (subst (λ (l : List Event). sound v.rules (l ++ x)) seen ok);
           bounded = r.bounded;
-          locked = subst (λ (t : LockState B). IsHome book_of stands_for sound rules a' t (set s.views id w)) (sym h.0) (at_kept (HasHeld a.book) s.views id v w id at (λ e. (tt, e.1)) taken_home);
+          locked = subst (λ (t : LockState B). IsHome book_of represents sound rules a' t (set s.views id w)) (sym h.0) (at_kept (HasHeld a.book) s.views id v w id at (λ e. (tt, e.1)) taken_home);
           each = all_set (Fits rules a') s.views id w (seated rules a' id w w.role seat')
               (λ j u n q. fits_map rules a a' j u u.role (λ f. record {
                 ruled = f.ruled;
@@ -104,7 +104,7 @@ module _ {B : Type 0} (book_of : B → Book) (stands_for : Rules → List Event 
   closes slots id me p k new role held unclosed is s r _ at _ =
       let a = r.a in let v = me.0 in let w = closing v p in
       let live = numbered_live p.number v.role (subst (IsNumbered p.number) (sym role) refl) in
-      let seat = its_seat book_of stands_for sound rules s r id v at live in
+      let seat = its_seat book_of represents sound rules s r id v at live in
       let h = holding s r id v k at live held in
       let mine = subst (InRole a.book a.log a.ticket_at a.writer_at id v.sight.seen) role seat.in_role in
       let seen : v.sight.seen ≡ a.log = ap (λ (t : Sight). t.seen) h.2 in
@@ -129,7 +129,7 @@ module _ {B : Type 0} (book_of : B → Book) (stands_for : Rules → List Event 
           homes_are = r.homes_are;
           is_sound = r.is_sound;
           bounded = r.bounded;
-          locked = subst (λ (t : LockState B). IsHome book_of stands_for sound rules a' t (set s.views id w)) (sym h.0) (at_kept (HasHeld a.book) s.views id v w id at (λ e. e) taken_home);
+          locked = subst (λ (t : LockState B). IsHome book_of represents sound rules a' t (set s.views id w)) (sym h.0) (at_kept (HasHeld a.book) s.views id v w id at (λ e. e) taken_home);
           each = all_set (Fits rules a') s.views id w (seated rules a' id w w.role seat')
               (λ j u n q. fits_map rules a a' j u u.role (λ f. record {
                 ruled = f.ruled;

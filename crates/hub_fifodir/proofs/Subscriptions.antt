@@ -3,7 +3,7 @@ use Rattle.std.proofs.Common.{ℕ, ◌≡◌, ◌≢◌, ◌+◌, ◌<◌, ◌�
 use Rattle.std.proofs.lemmas.Bool.{ne_eqb, eq-eqb, eqb-true, cases_Bool}
 use Rattle.std.specs.Option.{option_map}
 use Rattle.hub_record.specs.World.{World, Subscription, subscription_in, found_from, changed_from, as_cancelled}
-use Rattle.hub_record.specs.Kept.{Kept, StandsFor}
+use Rattle.hub_record.specs.Kept.{Kept, Represents}
 use Rattle.hub_record.proofs.Cursors.{lookup_current}
 use Rattle.hub_fifodir.specs.Rule.{cursor_of, IsGiven}
 
@@ -59,12 +59,12 @@ found_given from (x ∷ rest) i s h =
       | inr e ↦ (let k = found_given (from + 1) rest i s (simp e at h) in let a = k.0 in let b = k.1 in (omega arith, omega arith))
     ]
 
--- ---- the cursors of a record that stands for a world
+-- ---- the cursors of a record that represents a world
 
 abbrev pub next_of : Option Subscription → Option ℕ
 next_of o = option_map (λ (s : Subscription). s.next) o
 
-pub cursor_found : (r : Kept) (w : World) (i : ℕ) → StandsFor r w → cursor_of r.cursors i ≡ next_of (subscription_in w i)
+pub cursor_found : (r : Kept) (w : World) (i : ℕ) → Represents r w → cursor_of r.cursors i ≡ next_of (subscription_in w i)
 cursor_found r w i h = ap (λ c. cursor_of c i) h.cursors ∙ lookup_current 1 w.subscriptions i
 
 -- the current subscription of a cursor
@@ -72,19 +72,19 @@ pub subscription_of : (o : Option Subscription) (next : ℕ) → next_of o ≡ S
 subscription_of None next h = cc
 subscription_of (Some s) next h = (s, refl, cc)
 
-pub cursor_given : (r : Kept) (w : World) (i next : ℕ) → StandsFor r w → cursor_of r.cursors i ≡ Some next → IsGiven i r.given
+pub cursor_given : (r : Kept) (w : World) (i next : ℕ) → Represents r w → cursor_of r.cursors i ≡ Some next → IsGiven i r.given
 cursor_given r w i next h at =
     let s = subscription_of (subscription_in w i) next (sym (cursor_found r w i h) ∙ at) in
     let g = found_given 1 w.subscriptions i s.0 s.1 in
     let a = g.0 in let b = g.1 in let n = h.given in (omega arith, omega arith)
 
-pub found_stands : (from : ℕ) (subs : List Subscription) (i : ℕ) (s : Subscription) → found_from from subs i ≡ Some s → s.current ≡ true
-found_stands from [] i s h = cc
-found_stands from (x ∷ rest) i s h =
+pub found_active : (from : ℕ) (subs : List Subscription) (i : ℕ) (s : Subscription) → found_from from subs i ≡ Some s → s.current ≡ true
+found_active from [] i s h = cc
+found_active from (x ∷ rest) i s h =
     elim (cases_Bool (nat_eq i from)) [
       | inl e ↦ elim (cases_Bool x.current) [
         | inl xs ↦ (let k = simp (e, xs) at h in let is : x ≡ s = cc in ap (λ (z : Subscription). z.current) (sym is) ∙ xs)
         | inr xs ↦ (let k = simp (e, xs) at h in cc)
       ]
-      | inr e ↦ found_stands (from + 1) rest i s (simp e at h)
+      | inr e ↦ found_active (from + 1) rest i s (simp e at h)
     ]

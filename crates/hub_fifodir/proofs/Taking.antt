@@ -15,25 +15,25 @@ use Rattle.hub_fifodir.specs.declared.views.Role.TheVariants.{Visitor, Ticket}
 use Rattle.hub_fifodir.specs.declared.views.Taking.{Taking}
 use Rattle.hub_fifodir.specs.declared.locked.Locked.{Locked}
 use Rattle.hub_fifodir.specs.Events.{slice}
-use Rattle.hub_fifodir.specs.Locks.{StandsForWorld, is_current, KeepsPublishers}
+use Rattle.hub_fifodir.specs.Locks.{RepresentsWorld, is_current, KeepsPublishers}
 use Rattle.hub_fifodir.specs.Rule.{IsSane, IsGiven, IsBounded, cursor_of, cursor_if, book_of, IsBehind, IsSound}
 use Rattle.hub_fifodir.specs.Steps.{M, Locks, Changes, Gives, IsInBook, IsTaker, view_at_rest, taker, new_taker, taker_after, taking_of, got_of, as_gone}
 use Rattle.hub_fifodir.specs.Passes.{is_evicted_by}
 use Rattle.hub_record.proofs.Taking.{AnswerShows, shows_by, answered}
 use Rattle.hub_fifodir.proofs.Logs.{slice_none, slice_join}
 use Rattle.hub_record.proofs.Cursors.{length-changed}
-use Rattle.hub_fifodir.proofs.Subscriptions.{found_changed, found_stopped, found_else, found_new, found_old, found_stands, next_of, cursor_found, subscription_of}
+use Rattle.hub_fifodir.proofs.Subscriptions.{found_changed, found_stopped, found_else, found_new, found_old, found_active, next_of, cursor_found, subscription_of}
 use Rattle.hub_fifodir.proofs.Publishing.{open_when, closed_when}
 use Rattle.hub_fifodir.proofs.Rests.{none_between, bounded_after}
 
 -- the same publishers are current, so only numbers that were given are
-still_low : (b b' : Locked) → IsBounded (book_of b) → KeepsPublishers b b' → (n : ℕ) → is_current b'.standing.keys n ≡ true → IsGiven n b'.given
-still_low b b' low others n at = let g = low.standing n (sym (ap (λ (l : List ℕ). is_current l n) others.0) ∙ at) in let e = others.1 in (g.0, let a = g.1 in omega arith)
+still_low : (b b' : Locked) → IsBounded (book_of b) → KeepsPublishers b b' → (n : ℕ) → is_current b'.active.keys n ≡ true → IsGiven n b'.given
+still_low b b' low others n at = let g = low.active n (sym (ap (λ (l : List ℕ). is_current l n) others.0) ∙ at) in let e = others.1 in (g.0, let a = g.1 in omega arith)
 
 -- ---- a visitor becomes the ticket with the next id
 
 pub rests_as_ticket : (m : M) (b b' : Locked) → m.0.role ≡ Visitor → m.0.held ≡ Some (book_of b) → IsBounded (book_of b) → (h : IsBehind m.0.rules m.0.sight.seen m.0.sight.closed b) → (given : ℕ × ℕ)
-    → StandsForWorld b' (after_subscribe h.world (Ok given)) → KeepsPublishers b b' → Gives m b' (view_at_rest m.0 (new_taker b' m.0.sight.seen))
+    → RepresentsWorld b' (after_subscribe h.world (Ok given)) → KeepsPublishers b b' → Gives m b' (view_at_rest m.0 (new_taker b' m.0.sight.seen))
 rests_as_ticket m b b' role held low h given after others =
     let k : Book = book_of b in let w : World = h.world in let w' : World = after_subscribe h.world (Ok given) in
     let i0 : ℕ = b'.kept.value.given in let len : ℕ = length m.0.sight.seen in
@@ -54,7 +54,7 @@ rests_as_ticket m b b' role held low h given after others =
         ids_up = omega arith;
         numbers_up = omega arith;
         cursors = λ i ne. cursor_found b'.kept.value w' i after.for ∙ ap next_of (found_old 1 w.subscriptions (new_subscription w) i (λ e. ne (e ∙ sym place))) ∙ sym (cursor_found b.kept.value w i h.for.for);
-        standing = λ n ne. ap (λ (l : List ℕ). is_current l n) others.0;
+        active = λ n ne. ap (λ (l : List ℕ). is_current l n) others.0;
         live = tt;
         live' = tt;
         own_id = λ f g j x. inl (omega arith);
@@ -87,7 +87,7 @@ is_new_taker m m3 b' id mark is at ok e = subst (λ (x : M). IsTaker x id mark m
 }
 
 -- the id and the mark that a subscription is given
-pub id_given : (b' : Locked) (w : World) (given : ℕ × ℕ) → given ≡ (length w.subscriptions + 1, length w.events) → StandsForWorld b' (after_subscribe w (Ok given)) → given.0 ≡ b'.kept.value.given
+pub id_given : (b' : Locked) (w : World) (given : ℕ × ℕ) → given ≡ (length w.subscriptions + 1, length w.events) → RepresentsWorld b' (after_subscribe w (Ok given)) → given.0 ≡ b'.kept.value.given
 id_given b' w given e after = ap (λ (p : ℕ × ℕ). p.0) e ∙ sym (after.for.given ∙ length-append w.subscriptions (new_subscription w ∷ []))
 
 module _ (m0 m1 : M) (id mark next : ℕ) (b : Locked) (w : IsTaker m0 id mark next) (h : Locks book_of IsBehind IsSound m0.0 m1.0 b) where
@@ -115,7 +115,7 @@ module _ (m0 m1 : M) (id mark next : ℕ) (b : Locked) (w : IsTaker m0 id mark n
 
   -- ---- a call that makes `f` of its subscription
 
-  module _ (b' : Locked) (f : Subscription → Subscription) (after : StandsForWorld b' (with_changed h.behind.world id f)) (others : KeepsPublishers b b') where
+  module _ (b' : Locked) (f : Subscription → Subscription) (after : RepresentsWorld b' (with_changed h.behind.world id f)) (others : KeepsPublishers b b') where
     cursor_now : (s : Option Subscription) → subscription_in (with_changed h.behind.world id f) id ≡ s → cursor_of b'.kept.value.cursors id ≡ next_of s
     cursor_now s e = cursor_found b'.kept.value (with_changed h.behind.world id f) id after.for ∙ ap next_of e
 
@@ -137,7 +137,7 @@ module _ (m0 m1 : M) (id mark next : ℕ) (b : Locked) (w : IsTaker m0 id mark n
             ids_up = omega arith;
             numbers_up = omega arith;
             cursors = λ i ne. cursor_found b'.kept.value (with_changed h.behind.world id f) i after.for ∙ ap next_of (found_else f 1 h.behind.world.subscriptions id i ne) ∙ sym (cursor_found b.kept.value h.behind.world i h.behind.for.for);
-            standing = λ n ne. ap (λ (l : List ℕ). is_current l n) others.0;
+            active = λ n ne. ap (λ (l : List ℕ). is_current l n) others.0;
             live = tt;
             live' = tt;
             own_id = λ f g j x. inr x.its_seat;
@@ -170,8 +170,8 @@ module _ (m0 m1 : M) (id mark next : ℕ) (b : Locked) (w : IsTaker m0 id mark n
   count_within : (most : ℕ) → count most ≤ length m1.0.sight.seen - next
   count_within most = elim (cases_Bool out) [ inl o ↦ simp o (omega arith) | inr u ↦ simp u (omega arith) ]
 
-  pub count_standing : (most : ℕ) → out ≡ false → count most ≡ min most (length m1.0.sight.seen - next)
-  count_standing most u = ap (λ (b : Bool). if b then 0 else min most (length m1.0.sight.seen - next)) u
+  pub count_active : (most : ℕ) → out ≡ false → count most ≡ min most (length m1.0.sight.seen - next)
+  count_active most u = ap (λ (b : Bool). if b then 0 else min most (length m1.0.sight.seen - next)) u
 
   shows : (most : ℕ) (answer : Result Taken NoId) (x : Taken) → answer ≡ take_reply h.behind.world id most → answer ≡ Ok x → AnswerShows h.behind.world most subscribed.0 (Ok x)
   shows most answer x e is = shows_by h.behind.world most subscribed.0 (Ok x) (sym is ∙ e ∙ ap (reply_for h.behind.world most) subscribed.1)
@@ -215,13 +215,13 @@ module _ (m0 m1 : M) (id mark next : ℕ) (b : Locked) (w : IsTaker m0 id mark n
       → out' ≡ slice next (next + count most) m1.0.sight.seen ++ drop (count most) out
   filled_moved most out out' e = e ∙ (λ i. events_moved most i ++ drop (length (events_moved most i)) out) ∙ ap (λ (n : ℕ). slice next (next + count most) m1.0.sight.seen ++ drop n out) (length_moved most)
 
-  module _ (b' : Locked) (most : ℕ) (after : StandsForWorld b' (after_take h.behind.world id most)) (others : KeepsPublishers b b') where
-    is_current' : StandsForWorld b' (with_changed h.behind.world id (moved_on h.behind.world most))
-    is_current' = subst (λ (o : Option Subscription). StandsForWorld b' (after_take_for h.behind.world id most o)) subscribed.1 after
+  module _ (b' : Locked) (most : ℕ) (after : RepresentsWorld b' (after_take h.behind.world id most)) (others : KeepsPublishers b b') where
+    is_current' : RepresentsWorld b' (with_changed h.behind.world id (moved_on h.behind.world most))
+    is_current' = subst (λ (o : Option Subscription). RepresentsWorld b' (after_take_for h.behind.world id most o)) subscribed.1 after
 
     cursor_own : cursor_of b'.kept.value.cursors id ≡ Some (next + count most)
     cursor_own = let s = subscribed in let subs = h.behind.world.subscriptions in let f = moved_on h.behind.world most in
-        cursor_now b' f is_current' others (Some (f s.0)) (found_changed f 1 subs id s.0 s.1 (found_stands 1 subs id s.0 s.1)) ∙ (λ i. Some (s.2 i + count_is most i))
+        cursor_now b' f is_current' others (Some (f s.0)) (found_changed f 1 subs id s.0 s.1 (found_active 1 subs id s.0 s.1)) ∙ (λ i. Some (s.2 i + count_is most i))
 
     -- nothing was taken
     pub rests_still : count most ≡ 0 → Gives m1 b' (view_at_rest m1.0 m1.0.role)
@@ -272,11 +272,11 @@ module _ (m0 m1 : M) (id mark next : ℕ) (b : Locked) (w : IsTaker m0 id mark n
   pub is_cancelled : (answer : Result (Unit {0}) NoId) → answer ≡ cancel_reply h.behind.world id → IsOk answer
   is_cancelled answer e = subst IsOk (sym (e ∙ ap cancel_for subscribed.1)) refl
 
-  module _ (b' : Locked) (after : StandsForWorld b' (after_cancel h.behind.world id)) (others : KeepsPublishers b b') where
-    stands_on : StandsForWorld b' (with_changed h.behind.world id as_cancelled)
-    stands_on = subst (λ (o : Option Subscription). StandsForWorld b' (after_cancel_for h.behind.world id o)) subscribed.1 after
+  module _ (b' : Locked) (after : RepresentsWorld b' (after_cancel h.behind.world id)) (others : KeepsPublishers b b') where
+    represents_next : RepresentsWorld b' (with_changed h.behind.world id as_cancelled)
+    represents_next = subst (λ (o : Option Subscription). RepresentsWorld b' (after_cancel_for h.behind.world id o)) subscribed.1 after
 
     pub rests_cancelled : Gives m1 b' (view_at_rest m1.0 (as_gone m1.0.role))
     rests_cancelled = let none = found_stopped 1 h.behind.world.subscriptions id subscribed.0 subscribed.1 in
         subst (λ (r : Role). Gives m1 b' (view_at_rest m1.0 (as_gone r))) (sym role_is)
-        (gives b' as_cancelled stands_on others next (got_of m0.0.role) true sane_is (cursor_now b' as_cancelled stands_on others None none))
+        (gives b' as_cancelled represents_next others next (got_of m0.0.role) true sane_is (cursor_now b' as_cancelled represents_next others None none))

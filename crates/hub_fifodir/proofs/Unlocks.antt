@@ -41,19 +41,19 @@ given_more : (n most more : ℕ) → most ≤ more → IsGiven n most → IsGive
 given_more n most more up g = (g.0, let a = g.1 in omega arith)
 
 role_ported : (k k' : Book) (log : List Event) (f g : ℕ → ℕ) (i0 n0 id j : ℕ) (seen : List Event) (r : Role) → k.ids ≤ k'.ids → k.numbers ≤ k'.numbers
-    → ((i : ℕ) → i ≢ i0 → cursor_of k'.cursors i ≡ cursor_of k.cursors i) → ((n : ℕ) → n ≢ n0 → is_current k'.standing n ≡ is_current k.standing n)
+    → ((i : ℕ) → i ≢ i0 → cursor_of k'.cursors i ≡ cursor_of k.cursors i) → ((n : ℕ) → n ≢ n0 → is_current k'.active n ≡ is_current k.active n)
     → (k.ids < i0) ⊎ (f i0 ≡ id) → (k.numbers < n0) ⊎ (g n0 ≡ id) → j ≢ id → InRole k log f g j seen r → InRole k' log (with_value_at f i0 id) (with_value_at g n0 id) j seen r
 role_ported k k' log f g i0 n0 id j s (Ticket t) iu nu cs ss oi on ne h =
     record { its_seat = put_same f i0 id k.ids t.id oi h.given.1 ∙ h.its_seat; given = given_more t.id k.ids k'.ids iu h.given; sane = h.sane; cursor = cs t.id (apart f i0 id j k.ids t.id oi h.given.1 h.its_seat ne) ∙ h.cursor }
 role_ported k k' log f g i0 n0 id j s (Publisher p) iu nu cs ss oi on ne h =
-    record { its_seat = put_same g n0 id k.numbers p.number on h.given.1 ∙ h.its_seat; given = given_more p.number k.numbers k'.numbers nu h.given; all = h.all; known = h.known; standing = ss p.number (apart g n0 id j k.numbers p.number on h.given.1 h.its_seat ne) ∙ h.standing }
+    record { its_seat = put_same g n0 id k.numbers p.number on h.given.1 ∙ h.its_seat; given = given_more p.number k.numbers k'.numbers nu h.given; all = h.all; known = h.known; active = ss p.number (apart g n0 id j k.numbers p.number on h.given.1 h.its_seat ne) ∙ h.active }
 role_ported k k' log f g i0 n0 id j s r iu nu cs ss oi on ne h = tt
 
 -- what a seat shows of itself, after `with_value_at` has given it its id and its number
 own_ported : (k : Book) (log : List Event) (f g : ℕ → ℕ) (i0 n0 id : ℕ) (seen : List Event) (r : Role) → (k.ids < i0) ⊎ (f i0 ≡ id) → (k.numbers < n0) ⊎ (g n0 ≡ id)
     → InRole k log f g id seen r → InRole k log (with_value_at f i0 id) (with_value_at g n0 id) id seen r
 own_ported k log f g i0 n0 id s (Ticket t) oi on h = record { its_seat = put_same f i0 id k.ids t.id oi h.given.1 ∙ h.its_seat; given = h.given; sane = h.sane; cursor = h.cursor }
-own_ported k log f g i0 n0 id s (Publisher p) oi on h = record { its_seat = put_same g n0 id k.numbers p.number on h.given.1 ∙ h.its_seat; given = h.given; all = h.all; known = h.known; standing = h.standing }
+own_ported k log f g i0 n0 id s (Publisher p) oi on h = record { its_seat = put_same g n0 id k.numbers p.number on h.given.1 ∙ h.its_seat; given = h.given; all = h.all; known = h.known; active = h.active }
 own_ported k log f g i0 n0 id s r oi on h = tt
 
 -- what was given has its seat, and what is given now has this one
@@ -66,19 +66,19 @@ owners P views f n0 id most more v w at own keep new old n g = ⊎_elim
     (λ (le : n ≤ most). subst (λ (i : ℕ). At (set views id w) i (P n)) (sym (put_same f n0 id most n own le)) (at_kept (P n) views id v w (f n) at (keep n) (old n (g.0, le))))
     (cases_lt most n)
 
-module _ {B : Type 0} (book_of : B → Book) (stands_for : Rules → List Event → ℕ → B → Type 0) (sound : Rules → List Event → Type 0) (rules : Rules) where
+module _ {B : Type 0} (book_of : B → Book) (represents : Rules → List Event → ℕ → B → Type 0) (sound : Rules → List Event → Type 0) (rules : Rules) where
   abbrev St : Type 0
   St = State (Option B) View
 
   abbrev R : St → Type 0
-  R = Rule book_of stands_for sound rules
+  R = Rule book_of represents sound rules
 
   pub unlocks : (slots id : ℕ) (me : Me (Option B) View) (k : Book) (b : B) (r' : Role) (i0 n0 : ℕ) → me.0.held ≡ Some k → me.1 ≡ (0, Some b) ∷ []
-      → stands_for me.0.rules me.0.sight.seen me.0.sight.closed b → Changes me.0.sight.seen me.0.role r' k (book_of b) i0 n0
+      → represents me.0.rules me.0.sight.seen me.0.sight.closed b → Changes me.0.sight.seen me.0.role r' k (book_of b) i0 n0
       → Allows R slots id me 1 (λ _. 0) (λ _ m. (m.0 ≡ resting me.0.rules me.0.sight r') × (m.1 ≡ []))
   unlocks slots id me k b r' i0 n0 held out fits c s r _ at _ =
       let a = r.a in let v = me.0 in let w = resting v.rules v.sight r' in
-      let seat = its_seat book_of stands_for sound rules s r id v at c.live in
+      let seat = its_seat book_of represents sound rules s r id v at c.live in
       let h = subst (Holds rules a id v.sight) held seat.holds in
       let seen : v.sight.seen ≡ a.log = ap (λ (t : Sight). t.seen) h.2 in
       let closed : v.sight.closed ≡ a.mark = ap (λ (t : Sight). t.closed) h.2 in
@@ -101,18 +101,18 @@ module _ {B : Type 0} (book_of : B → Book) (stands_for : Rules → List Event 
           homes_are = ap (put_back s.homes) out ∙ ap (λ (l : List (maybe.Option (Option B))). set l 0 (maybe.some (Some b))) r.homes_are;
           is_sound = r.is_sound;
           bounded = c.bounded;
-          locked = (subst (λ (x : Rules). stands_for x a.log a.mark b) seat.ruled (subst (λ (n : ℕ). stands_for v.rules a.log n b) closed (subst (λ (l : List Event). stands_for v.rules l v.sight.closed b) seen fits)), refl);
+          locked = (subst (λ (x : Rules). represents x a.log a.mark b) seat.ruled (subst (λ (n : ℕ). represents v.rules a.log n b) closed (subst (λ (l : List Event). represents v.rules l v.sight.closed b) seen fits)), refl);
           each = all_set (Fits rules a') s.views id w (seated rules a' id w r' seat')
               (λ j u n q. fits_map rules a a' j u u.role (λ f. record {
                 ruled = f.ruled;
                 part = f.part;
                 met_part = f.met_part;
                 holds = held_none rules a' j u.sight u.held (held_elsewhere rules a id j u.sight u.held (λ e. n (sym e)) h.0 f.holds);
-                in_role = role_ported k k' a.log a.ticket_at a.writer_at i0 n0 id j u.sight.seen u.role c.ids_up c.numbers_up c.cursors c.standing oi on n (subst (λ (x : Book). InRole x a.log a.ticket_at a.writer_at j u.sight.seen u.role) (sym h.1) f.in_role);
+                in_role = role_ported k k' a.log a.ticket_at a.writer_at i0 n0 id j u.sight.seen u.role c.ids_up c.numbers_up c.cursors c.active oi on n (subst (λ (x : Book). InRole x a.log a.ticket_at a.writer_at j u.sight.seen u.role) (sym h.1) f.in_role);
               }) (r.each j u q));
           reached = here (HasSeen (sight a.log a.mark)) s.views id v w at (c.live', inl h.2);
           closer = λ n. let t = r.closer n in
-              let u = its_seat book_of stands_for sound rules s r (a.writer_at a.mark) t.0 t.1 (numbered_live a.mark t.0.role t.2.0) in
+              let u = its_seat book_of represents sound rules s r (a.writer_at a.mark) t.0 t.1 (numbered_live a.mark t.0.role t.2.0) in
               let le = (by_k a.mark (number_given a.book a.log a.ticket_at a.writer_at (a.writer_at a.mark) a.mark t.0.sight.seen t.0.role t.2.0 u.in_role)).1 in
               subst (λ (i : ℕ). At (set s.views id w) i (HasClosed a.mark a.log)) (moved a.mark le)
               (at_kept (HasClosed a.mark a.log) s.views id v w (a.writer_at a.mark) at (λ p. (c.number_kept a.mark p.0, p.1)) t);

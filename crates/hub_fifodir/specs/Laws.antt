@@ -14,7 +14,7 @@ use Rattle.hub_fifodir.specs.declared.views.Role.TheVariants.{Ticket, Publisher}
 use Rattle.hub_fifodir.specs.declared.locked.Locked.{Locked}
 use Rattle.hub_fifodir.specs.Events.{StartsWith}
 use Rattle.hub_fifodir.specs.Word.{packed_word}
-use Rattle.hub_fifodir.specs.Locks.{StandsForWorld, is_current}
+use Rattle.hub_fifodir.specs.Locks.{RepresentsWorld, is_current}
 use Rattle.hub_fifodir.specs.Rule.{RuleHolds, IsLive, cursor_of}
 
 abbrev Board : Type 0
@@ -52,23 +52,23 @@ CursorsHaveTickets = (rules : Rules) (s : Board) (b : Locked) (id next : ℕ) �
     → (j : ℕ) × (t : Taking) × HasTicket s j t × (t.id ≡ id) × (t.next ≡ next) × (t.gone ≡ false)
 
 -- a current number has its publisher
-abbrev pub StandingHavePublishers : Type 0
-StandingHavePublishers = (rules : Rules) (s : Board) (b : Locked) (n : ℕ) → RuleHolds rules s → IsFree s b → is_current b.standing.keys n ≡ true
+abbrev pub ActiveHavePublishers : Type 0
+ActiveHavePublishers = (rules : Rules) (s : Board) (b : Locked) (n : ℕ) → RuleHolds rules s → IsFree s b → is_current b.active.keys n ≡ true
     → (j : ℕ) × (p : Writing) × HasPublisher s j p × (p.number ≡ n) × (p.gone ≡ false)
 
 -- the base hasn't passed what a current ticket takes next, unless the ticket is evicted
 abbrev pub BaseIsBehind : Type 0
-BaseIsBehind = (rules : Rules) (s : Board) (b : Locked) (w : World) (j : ℕ) (t : Taking) → RuleHolds rules s → IsFree s b → StandsForWorld b w → HasTicket s j t → t.gone ≡ false → is_evicted w t.next ≡ false → base w ≤ t.next
+BaseIsBehind = (rules : Rules) (s : Board) (b : Locked) (w : World) (j : ℕ) (t : Taking) → RuleHolds rules s → IsFree s b → RepresentsWorld b w → HasTicket s j t → t.gone ≡ false → is_evicted w t.next ≡ false → base w ≤ t.next
 
 -- with the policy Hold, no more is pending for a current ticket than may be
 abbrev pub HoldKeepsAll : Type 0
-HoldKeepsAll = (rules : Rules) (s : Board) (b : Locked) (w : World) (j : ℕ) (t : Taking) → RuleHolds rules s → IsFree s b → StandsForWorld b w → rules.limits.policy ≡ Hold → HasTicket s j t → t.gone ≡ false
+HoldKeepsAll = (rules : Rules) (s : Board) (b : Locked) (w : World) (j : ℕ) (t : Taking) → RuleHolds rules s → IsFree s b → RepresentsWorld b w → rules.limits.policy ≡ Hold → HasTicket s j t → t.gone ≡ false
     → length w.events ≤ t.next + w.limits.waiting
 
--- the record behind the lock stands for one history; each seat has seen a prefix of it, and all of it if it has seen
+-- the record behind the lock represents for one history; each seat has seen a prefix of it, and all of it if it has seen
 -- the close; the front word shows its status
 pub record IsHistory (rules : Rules) (s : State (Option Locked) View) (b : Locked) (w : World) : Type 0 where
-  pub stands : StandsForWorld b w
+  pub represents : RepresentsWorld b w
   pub kind : w.kind ≡ rules.kind
   pub limits : w.limits ≡ rules.limits
   pub front : slice_index s.words 0 ≡ packed_word (length w.events) w.closed (flags_of (letters w.events))

@@ -5,21 +5,21 @@ use Rattle.hub_letters.specs.Flags.{flags_of}
 use Rattle.hub_record.specs.declared.limits.TheConstants.{MOST_PASSES}
 use Rattle.hub_record.specs.declared.Status.{Status}
 use Rattle.hub_record.specs.World.{World, letters}
-use Rattle.hub_record.specs.Kept.{StandsFor}
+use Rattle.hub_record.specs.Kept.{Represents}
 use Rattle.hub_fifodir.specs.declared.PassError.{PassError}
 use Rattle.hub_fifodir.specs.declared.PassError.TheVariants as pass
 use Rattle.hub_fifodir.specs.declared.locked.Locked.{Locked}
 
 -- the numbers of the current publishers, and how many numbers were given
 abbrev pub numbers_of : Locked → List ℕ
-numbers_of b = b.standing.keys
+numbers_of b = b.active.keys
 
 abbrev pub given_by : Locked → ℕ
 given_by b = b.given
 
--- its record stands for the world
-pub record StandsForWorld (b : Locked) (w : World) : Type 0 where
-  pub for : StandsFor b.kept.value w
+-- its record represents for the world
+pub record RepresentsWorld (b : Locked) (w : World) : Type 0 where
+  pub for : Represents b.kept.value w
   pub ids : b.ids ≡ w.limits.ids
 
 -- the status of a world's record
@@ -35,22 +35,22 @@ abbrev pub is_current : List ℕ → ℕ → Bool
 is_current numbers n = list_any (nat_eq n) numbers
 
 abbrev pub PublisherReply : Locked → Result ℕ PassError → Type 0
-PublisherReply b (Ok n) = (length b.standing.keys < MOST_PASSES) × (b.given < b.ids) × (n ≡ b.given + 1)
-PublisherReply b (Err pass.Many) = MOST_PASSES ≤ length b.standing.keys
-PublisherReply b (Err pass.Spent) = (length b.standing.keys < MOST_PASSES) × (b.ids ≤ b.given)
-PublisherReply b (Err pass.Memory) = (length b.standing.keys < MOST_PASSES) × (b.given < b.ids)
+PublisherReply b (Ok n) = (length b.active.keys < MOST_PASSES) × (b.given < b.ids) × (n ≡ b.given + 1)
+PublisherReply b (Err pass.Many) = MOST_PASSES ≤ length b.active.keys
+PublisherReply b (Err pass.Spent) = (length b.active.keys < MOST_PASSES) × (b.ids ≤ b.given)
+PublisherReply b (Err pass.Memory) = (length b.active.keys < MOST_PASSES) × (b.given < b.ids)
 
 -- the same publishers are current, and no number was given
 abbrev pub KeepsPublishers : Locked → Locked → Type 0
-KeepsPublishers old new = (new.standing.keys ≡ old.standing.keys) × (new.given ≡ old.given) × (new.ids ≡ old.ids)
+KeepsPublishers old new = (new.active.keys ≡ old.active.keys) × (new.given ≡ old.given) × (new.ids ≡ old.ids)
 
 -- the number that was given is current too; if it wasn't current before, there is one more
 abbrev pub IsAfterPublisher : Locked → Result ℕ PassError → Locked → Type 0
-IsAfterPublisher old (Ok n) new = ((m : ℕ) → is_current new.standing.keys m ≡ cond (nat_eq n m) true (is_current old.standing.keys m)) × (new.given ≡ n)
-    × (length new.standing.keys ≡ length old.standing.keys + (if is_current old.standing.keys n then 0 else 1))
+IsAfterPublisher old (Ok n) new = ((m : ℕ) → is_current new.active.keys m ≡ cond (nat_eq n m) true (is_current old.active.keys m)) × (new.given ≡ n)
+    × (length new.active.keys ≡ length old.active.keys + (if is_current old.active.keys n then 0 else 1))
 IsAfterPublisher old (Err e) new = KeepsPublishers old new
 
 -- the number n isn't current any more, and the others are as before; if it was current, there is one less
 abbrev pub HasLeft : Locked → ℕ → Locked → Type 0
-HasLeft old n new = ((m : ℕ) → is_current new.standing.keys m ≡ cond (nat_eq n m) false (is_current old.standing.keys m)) × (new.given ≡ old.given)
-    × (length new.standing.keys + (if is_current old.standing.keys n then 1 else 0) ≡ length old.standing.keys)
+HasLeft old n new = ((m : ℕ) → is_current new.active.keys m ≡ cond (nat_eq n m) false (is_current old.active.keys m)) × (new.given ≡ old.given)
+    × (length new.active.keys + (if is_current old.active.keys n then 1 else 0) ≡ length old.active.keys)

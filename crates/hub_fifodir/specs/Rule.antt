@@ -18,7 +18,7 @@ use Rattle.hub_fifodir.specs.declared.views.Role.{Role}
 use Rattle.hub_fifodir.specs.declared.views.Role.TheVariants.{Visitor, Ticket, Publisher, Spent}
 use Rattle.hub_fifodir.specs.declared.locked.Locked.{Locked}
 use Rattle.hub_fifodir.specs.Events.{StartsWith, slice, is_closed, front_word}
-use Rattle.hub_fifodir.specs.Locks.{StandsForWorld, is_current}
+use Rattle.hub_fifodir.specs.Locks.{RepresentsWorld, is_current}
 
 -- ---- views
 
@@ -69,7 +69,7 @@ IsGiven n most = (0 < n) × (n ≤ most)
 -- only ids that were given have cursors, and only numbers that were given are current
 pub record IsBounded (book : Book) : Type 0 where
   pub cursors : (i next : ℕ) → cursor_of book.cursors i ≡ Some next → IsGiven i book.ids
-  pub standing : (n : ℕ) → is_current book.standing n ≡ true → IsGiven n book.numbers
+  pub active : (n : ℕ) → is_current book.active n ≡ true → IsGiven n book.numbers
 
 -- free, with the locked value in its slot, or taken by a seat
 pub data LockState (B : Type 0) : Type 0 where
@@ -120,7 +120,7 @@ pub record IsPublisher (book : Book) (log : List Event) (writer_at : ℕ → ℕ
   pub given : IsGiven p.number book.numbers
   pub all : by p.number log ≡ p.mine
   pub known : by p.number seen ≡ p.mine
-  pub standing : is_current book.standing p.number ≡ not p.gone
+  pub active : is_current book.active p.number ≡ not p.gone
 
 abbrev pub InRole : Book → List Event → (ℕ → ℕ) → (ℕ → ℕ) → ℕ → List Event → Role → Type 0
 InRole book log ticket_at writer_at j seen (Ticket t) = IsTicket book ticket_at j seen t
@@ -163,9 +163,9 @@ Somewhere views P = (j : ℕ) × (v : View) × (get_elem? views j ≡ maybe.some
 abbrev pub At : List View → ℕ → (View → Type 0) → Type 0
 At views j P = (v : View) × (get_elem? views j ≡ maybe.some v) × P v
 
-module _ {B : Type 0} (book_of : B → Book) (stands_for : Rules → List Event → ℕ → B → Type 0) (sound : Rules → List Event → Type 0) where
+module _ {B : Type 0} (book_of : B → Book) (represents : Rules → List Event → ℕ → B → Type 0) (sound : Rules → List Event → Type 0) where
   abbrev pub IsHome : Rules → Account B → LockState B → List View → Type 0
-  IsHome rules a (free b) views = stands_for rules a.log a.mark b × (book_of b ≡ a.book)
+  IsHome rules a (free b) views = represents rules a.log a.mark b × (book_of b ≡ a.book)
   IsHome rules a (held_by j) views = At views j (HasHeld a.book)
 
   pub record Ordered (rules : Rules) (s : State (Option B) View) : Type 0 where
@@ -187,12 +187,12 @@ module _ {B : Type 0} (book_of : B → Book) (stands_for : Rules → List Event 
 -- ---- the rule of a fifodir
 
 abbrev pub book_of : Locked → Book
-book_of b = record { cursors = b.kept.value.cursors; ids = b.kept.value.given; standing = b.standing.keys; numbers = b.given }
+book_of b = record { cursors = b.kept.value.cursors; ids = b.kept.value.given; active = b.active.keys; numbers = b.given }
 
--- while the lock is free: the locked value stands for a world with this history
+-- while the lock is free: the locked value represents a world with this history
 pub record IsBehind (rules : Rules) (log : List Event) (mark : ℕ) (b : Locked) : Type 0 where
   pub world : World
-  pub for : StandsForWorld b world
+  pub for : RepresentsWorld b world
   pub events : world.events ≡ log
   pub closed : world.closed ≡ is_closed mark
   pub kind : world.kind ≡ rules.kind

@@ -39,13 +39,13 @@ pub record IsFresh (book : Book) (s : Sight) : Type 0 where
 -- a ticket has its cursor, or none if it was cancelled; a publisher is current unless it left
 abbrev pub IsInBook : Book → Role → Type 0
 IsInBook book (Ticket t) = IsGiven t.id book.ids × (cursor_of book.cursors t.id ≡ cursor_if t.gone t.next)
-IsInBook book (Publisher p) = IsGiven p.number book.numbers × (is_current book.standing p.number ≡ not p.gone)
+IsInBook book (Publisher p) = IsGiven p.number book.numbers × (is_current book.active p.number ≡ not p.gone)
 IsInBook book _ = Unit {0}
 
 abbrev pub Front : ℕ → Sight → Type 0
 Front n s = n ≡ front_word s.seen s.closed
 
-module _ {B : Type 0} (book_of : B → Book) (stands_for : Rules → List Event → ℕ → B → Type 0) (sound : Rules → List Event → Type 0) where
+module _ {B : Type 0} (book_of : B → Book) (represents : Rules → List Event → ℕ → B → Type 0) (sound : Rules → List Event → Type 0) where
   -- the view v has become w: it has seen the whole record of that moment, and knows this state if it has the lock
   pub record Renews (v w : View) (held : Option Book) : Type 0 where
     pub is : w ≡ view v.rules w.sight v.role held None
@@ -58,7 +58,7 @@ module _ {B : Type 0} (book_of : B → Book) (stands_for : Rules → List Event 
   -- the view v has become w by taking the lock, with the value b behind it
   pub record Locks (v w : View) (b : B) : Type 0 where
     pub renews : Renews v w (Some (book_of b))
-    pub behind : stands_for w.rules w.sight.seen w.sight.closed b
+    pub behind : represents w.rules w.sight.seen w.sight.closed b
     pub fresh : IsFresh (book_of b) w.sight
     pub in_book : IsInBook (book_of b) w.role
     pub bounded : IsBounded (book_of b)
@@ -176,7 +176,7 @@ pub record Changes (seen : List Event) (r r' : Role) (k k' : Book) (i0 n0 : ℕ)
   pub ids_up : k.ids ≤ k'.ids
   pub numbers_up : k.numbers ≤ k'.numbers
   pub cursors : (i : ℕ) → i ≢ i0 → cursor_of k'.cursors i ≡ cursor_of k.cursors i
-  pub standing : (n : ℕ) → n ≢ n0 → is_current k'.standing n ≡ is_current k.standing n
+  pub active : (n : ℕ) → n ≢ n0 → is_current k'.active n ≡ is_current k.active n
   pub live : IsLive r
   pub live' : IsLive r'
   pub own_id : (f g : ℕ → ℕ) (j : ℕ) → InRole k seen f g j seen r → (k.ids < i0) ⊎ (f i0 ≡ j)

@@ -2,7 +2,7 @@
 ghost use Rattle.std.specs.Prelude.{◌≡◌, ◌≤◌, ◌++◌, drop, length};
 ghost use Rattle.hub_record.specs.Runs.{by};
 ghost use Rattle.hub_fifodir.specs.Laws.{TicketsDiffer, PublishersDiffer, SeatsAgree, RecordIsHistory};
-ghost use Rattle.hub_fifodir.specs.Laws.{TicketsHaveCursors, CursorsHaveTickets, StandingHavePublishers, BaseIsBehind, HoldKeepsAll};
+ghost use Rattle.hub_fifodir.specs.Laws.{TicketsHaveCursors, CursorsHaveTickets, ActiveHavePublishers, BaseIsBehind, HoldKeepsAll};
 ghost use Rattle.hub_fifodir.specs.Passes.{publisher_number, seen_by, mine};
 ghost use Rattle.hub_fifodir.specs.Passes.{ticket_mark, ticket_next, ticket_seen, ticket_rules, got};
 
@@ -24,7 +24,7 @@ pub fn seats_agree()
     ensures { SeatsAgree }
 {}
 
-/// While the lock is free, the record behind it stands for that history, and the front word shows its status.
+/// While the lock is free, the record behind it represents that history, and the front word shows its status.
 pub fn record_is_history()
     ensures { RecordIsHistory }
 {}
@@ -40,8 +40,8 @@ pub fn cursors_have_tickets()
 {}
 
 /// Each current number has its current publisher.
-pub fn standing_have_publishers()
-    ensures { StandingHavePublishers }
+pub fn active_have_publishers()
+    ensures { ActiveHavePublishers }
 {}
 
 /// The record keeps what a ticket hasn't taken: the base never passes the next event of a current ticket that isn't

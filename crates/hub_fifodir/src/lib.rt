@@ -45,7 +45,7 @@ pub use ticket::Ticket;
 #[derive(Clone, Copy, Debug, PartialEq, Eq, Hash, Error)]
 pub enum PassError {
     /// [`MOST_PASSES`](hub_record::MOST_PASSES) publishers are current. There is room again after one of them leaves.
-    #[error("too many publishers stand")]
+    #[error("too many publishers")]
     Many,
     /// The last number was given. A number is never given again.
     #[error("no number is left")]

@@ -3,7 +3,7 @@ ghost use Rattle.std.specs.Prelude.{◌≡◌, ◌++◌, [], length, drop, IfOk,
 ghost use Rattle.hub_record.specs.World.{World, empty_world, SubscribeReply, after_subscribe, PublishReply, after_publish};
 ghost use Rattle.hub_record.specs.World.{take_reply, take_events, after_take};
 ghost use Rattle.hub_record.specs.World.{cancel_reply, after_cancel, close_reply, after_close};
-ghost use Rattle.hub_fifodir.specs.Locks.{StandsForWorld, status_of, numbers_of, given_by};
+ghost use Rattle.hub_fifodir.specs.Locks.{RepresentsWorld, status_of, numbers_of, given_by};
 ghost use Rattle.hub_fifodir.specs.Locks.{PublisherReply, IsAfterPublisher, HasLeft, KeepsPublishers, KeepsRecord};
 
 use crate::PassError;
@@ -23,7 +23,7 @@ pub struct Locked {
     /// How many numbers may be given in all.
     ids: u64,
     /// The numbers of the current publishers.
-    standing: IndexSet<u64>,
+    active: IndexSet<u64>,
     /// How many numbers were given so far.
     given: u64,
 }
@@ -31,13 +31,13 @@ pub struct Locked {
 impl Locked {
     /// An open record without events, and no publisher.
     pub fn new(alloc: Global, kind: Kind, limits: Limits) -> Result<Locked, AllocError>
-        ensures { IfOk result (λ b. StandsForWorld b (empty_world kind limits) × (numbers_of b ≡ [])
-            × (given_by b ≡ 0)) }
+        ensures { IfOk result (λ b. RepresentsWorld b (empty_world kind limits)
+            × (numbers_of b ≡ []) × (given_by b ≡ 0)) }
     {
         Ok(Locked {
             kept: Box::new(alloc, Record::new(alloc, kind, limits)?)?,
             ids: limits.ids,
-            standing: IndexSet::new(alloc),
+            active: IndexSet::new(alloc),
             given: 0,
         })
     }
@@ -48,14 +48,14 @@ impl Locked {
         ensures after { IsAfterPublisher self.old result self.new }
         ensures record { KeepsRecord self.old self.new }
     {
-        if self.standing.len() >= MOST_PASSES {
+        if self.active.len() >= MOST_PASSES {
             return Err(PassError::Many);
         }
         if self.given >= self.ids {
             return Err(PassError::Spent);
         }
         let number = self.given + 1;
-        match self.standing.insert(number) {
+        match self.active.insert(number) {
             Ok(_) => {
                 self.given = number;
                 Ok(number)
@@ -67,9 +67,9 @@ impl Locked {
     /// Gives the next id, and its mark: the number of events so far.
     #[tactic(auto, using(crate::proofs::Boxes::same_if_refused))]
     pub fn subscribe(&mut self) -> Result<(u64, u64), SubError>
-        ensures reply { (w : World) → StandsForWorld self.old w → SubscribeReply w result }
-        ensures world { (w : World) → StandsForWorld self.old w
-            → StandsForWorld self.new (after_subscribe w result) }
+        ensures reply { (w : World) → RepresentsWorld self.old w → SubscribeReply w result }
+        ensures world { (w : World) → RepresentsWorld self.old w
+            → RepresentsWorld self.new (after_subscribe w result) }
         ensures others { KeepsPublishers self.old self.new }
         ensures err { OnErr result (self.new ≡ self.old) }
     {
@@ -79,10 +79,10 @@ impl Locked {
     /// Adds the whole message, or nothing. It doesn't check whether the publisher is current.
     #[tactic(auto, using(crate::proofs::Boxes::same_if_refused))]
     pub fn publish(&mut self, number: u64, letters: &[Letter]) -> Result<u64, PubError>
-        ensures reply { (w : World) → StandsForWorld self.old w
+        ensures reply { (w : World) → RepresentsWorld self.old w
             → PublishReply w letters.now result }
-        ensures world { (w : World) → StandsForWorld self.old w
-            → StandsForWorld self.new (after_publish w number letters.now result) }
+        ensures world { (w : World) → RepresentsWorld self.old w
+            → RepresentsWorld self.new (after_publish w number letters.now result) }
         ensures others { KeepsPublishers self.old self.new }
         ensures err { OnErr result (self.new ≡ self.old) }
     {
@@ -92,11 +92,11 @@ impl Locked {
     /// Takes what is pending behind a cursor, as far as it fits. An error says that the id has no cursor.
     #[tactic(auto, using(crate::proofs::Boxes::same_if_refused))]
     pub fn take_into(&mut self, id: u64, out: &mut [Event]) -> Result<Taken, NoId>
-        ensures reply { (w : World) → StandsForWorld self.old w
+        ensures reply { (w : World) → RepresentsWorld self.old w
             → result ≡ take_reply w id (length out.old) }
-        ensures world { (w : World) → StandsForWorld self.old w
-            → StandsForWorld self.new (after_take w id (length out.old)) }
-        ensures filled { (w : World) → StandsForWorld self.old w
+        ensures world { (w : World) → RepresentsWorld self.old w
+            → RepresentsWorld self.new (after_take w id (length out.old)) }
+        ensures filled { (w : World) → RepresentsWorld self.old w
             → out.new ≡ take_events w id (length out.old) ++ drop
             (length (take_events w id (length out.old))) out.old }
         ensures others { KeepsPublishers self.old self.new }
@@ -108,9 +108,9 @@ impl Locked {
     /// Ends a subscription. An error says that the id has no subscription.
     #[tactic(auto, using(crate::proofs::Boxes::same_if_refused))]
     pub fn cancel(&mut self, id: u64) -> Result<(), NoId>
-        ensures reply { (w : World) → StandsForWorld self.old w → result ≡ cancel_reply w id }
-        ensures world { (w : World) → StandsForWorld self.old w
-            → StandsForWorld self.new (after_cancel w id) }
+        ensures reply { (w : World) → RepresentsWorld self.old w → result ≡ cancel_reply w id }
+        ensures world { (w : World) → RepresentsWorld self.old w
+            → RepresentsWorld self.new (after_cancel w id) }
         ensures others { KeepsPublishers self.old self.new }
         ensures err { OnErr result (self.new ≡ self.old) }
     {
@@ -122,15 +122,15 @@ impl Locked {
         ensures left { HasLeft self.old number self.new }
         ensures record { KeepsRecord self.old self.new }
     {
-        self.standing.shift_remove(&number);
+        self.active.shift_remove(&number);
     }
 
     /// Closes the record for good. An error says that it was closed before.
     #[tactic(auto, using(crate::proofs::Boxes::same_if_refused))]
     pub fn close(&mut self) -> Result<(), Closed>
-        ensures reply { (w : World) → StandsForWorld self.old w → result ≡ close_reply w }
-        ensures world { (w : World) → StandsForWorld self.old w
-            → StandsForWorld self.new (after_close w) }
+        ensures reply { (w : World) → RepresentsWorld self.old w → result ≡ close_reply w }
+        ensures world { (w : World) → RepresentsWorld self.old w
+            → RepresentsWorld self.new (after_close w) }
         ensures others { KeepsPublishers self.old self.new }
         ensures err { OnErr result (self.new ≡ self.old) }
     {
@@ -139,7 +139,7 @@ impl Locked {
 
     /// The number of events, the flags and whether the record is closed.
     pub fn status(&self) -> Status
-        ensures { (w : World) → StandsForWorld self.now w → result ≡ status_of w }
+        ensures { (w : World) → RepresentsWorld self.now w → result ≡ status_of w }
     {
         Status {
             number: self.kept.end(),
@@ -150,7 +150,7 @@ impl Locked {
 
     /// The number of events so far.
     pub fn front(&self) -> u64
-        ensures { (w : World) → StandsForWorld self.now w → result ≡ length w.events }
+        ensures { (w : World) → RepresentsWorld self.now w → result ≡ length w.events }
     {
         self.kept.end()
     }

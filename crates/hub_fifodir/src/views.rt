@@ -19,7 +19,7 @@ pub struct Book {
     /// How many ids were given.
     pub ids: u64,
     /// The numbers of the current publishers.
-    pub standing: LinkedList<u64>,
+    pub active: LinkedList<u64>,
     /// How many publishers' numbers were given.
     pub numbers: u64,
 }

@@ -8,7 +8,7 @@ use hub_requests::Desk;
 
 /// The replies to lines are the desk's replies to the requests among them, with the refusals in the places of their
 /// lines.
-pub fn refusals_stand_in_place<D: Desk>()
+pub fn refusals_are_in_place<D: Desk>()
     ensures { (old new : D) (lines : List (List ℕ)) (replies : List Reply)
         → Run D.asks old lines replies new → AreInPlace D.asks old lines replies new }
 {}

@@ -2,11 +2,11 @@
 use Rattle.std.proofs.Common.{◌≡◌, ◌≢◌, ℕ, Bool, true, false, List, Option, Some, None, is_some, refl, sym, ap, subst, ◌∙◌, ◌⊎◌, inl, inr, true≢false}
 use Rattle.std.specs.Map.{lookup, set_value}
 use Rattle.std.specs.Str.{bytes_eq}
-use Rattle.hub_record.specs.Kept.{Kept, StandsFor}
+use Rattle.hub_record.specs.Kept.{Kept, Represents}
 use Rattle.hub_record.specs.World.{World, subscription_in}
 use Rattle.hub_local.specs.DeskAnswers.{answer_by, refusal_by_name}
 use Rattle.hub_local.specs.Desks.{Desk, Answer, refusal_answer, world_of, with_world}
-use Rattle.hub_local.specs.Standing.{Local, AreKept, StandsForDesk, StandsForSome, IsAnswer, IsLacking, CarriesOut, Unchanged}
+use Rattle.hub_local.specs.Representing.{Local, AreKept, RepresentsDesk, RepresentsSome, IsAnswer, IsLacking, CarriesOut, Unchanged}
 use Rattle.hub_local.specs.declared.local_desk.LocalFifodir.{LocalFifodir}
 use Rattle.hub_requests.specs.declared.reply.Reply.{Reply}
 use Rattle.hub_requests.specs.declared.reply.Reply.TheVariants.{No}
@@ -23,38 +23,38 @@ pub record IsCarried (new : Local) (desk : Desk) (own : Option Refusal) (done : 
   pub unrefused : own ≡ None
   pub done_is : done ≡ answer
   pub said : reply ≡ answer.reply
-  pub stands : StandsForDesk new answer.desk
+  pub represents : RepresentsDesk new answer.desk
 
 module _ (old new : Local) (needs : Bool) (own : Desk → Option Refusal) (done : Desk → Answer) (left : Desk → Desk → Type 0) (reply : Reply) where
-  pub by_carrying : reply ≢ No no.Memory → ((d : Desk) → StandsForDesk old d → IsCarried new d (own d) (done d) reply) → CarriesOut old needs own done left reply new
+  pub by_carrying : reply ≢ No no.Memory → ((d : Desk) → RepresentsDesk old d → IsCarried new d (own d) (done d) reply) → CarriesOut old needs own done left reply new
   by_carrying real h = record {
     answered = λ _ d st. (let c = h d st in
         let e : answer_by d (own d) (done d) ≡ c.answer = ap (λ (o : Option Refusal). answer_by d o (done d)) c.unrefused ∙ c.done_is in record {
           said = c.said ∙ sym (ap (λ (a : Answer). a.reply) e);
-          stands = subst (λ (a : Answer). StandsForDesk new a.desk) (sym e) c.stands;
+          represents = subst (λ (a : Answer). RepresentsDesk new a.desk) (sym e) c.represents;
         });
     grew = λ e. absurd (real e);
     lacking = λ e. absurd (real e);
   }
 
-  pub by_refusing : (refusal : Refusal) → reply ≡ No refusal → refusal ≢ no.Memory → ((d : Desk) → StandsForDesk old d → own d ≡ Some refusal) → ((d : Desk) → StandsForDesk old d → StandsForDesk new d) → CarriesOut old needs own done left reply new
+  pub by_refusing : (refusal : Refusal) → reply ≡ No refusal → refusal ≢ no.Memory → ((d : Desk) → RepresentsDesk old d → own d ≡ Some refusal) → ((d : Desk) → RepresentsDesk old d → RepresentsDesk new d) → CarriesOut old needs own done left reply new
   by_refusing refusal is real h still = record {
     answered = λ _ d st. (let e : answer_by d (own d) (done d) ≡ refusal_answer d refusal = ap (λ (o : Option Refusal). answer_by d o (done d)) (h d st) in record {
       said = is ∙ sym (ap (λ (a : Answer). a.reply) e);
-      stands = subst (λ (a : Answer). StandsForDesk new a.desk) (sym e) (still d st);
+      represents = subst (λ (a : Answer). RepresentsDesk new a.desk) (sym e) (still d st);
     });
     grew = λ e. absurd (real (let k : refusal ≡ no.Memory = cc in k));
     lacking = λ e. absurd (real (let k : refusal ≡ no.Memory = cc in k));
   }
 
-  pub by_lacking : reply ≡ No no.Memory → needs ≡ true → ((d : Desk) → StandsForDesk old d → IsLacking new (own d) (left d)) → CarriesOut old needs own done left reply new
+  pub by_lacking : reply ≡ No no.Memory → needs ≡ true → ((d : Desk) → RepresentsDesk old d → IsLacking new (own d) (left d)) → CarriesOut old needs own done left reply new
   by_lacking is grows h = record { answered = λ real. absurd (real is); grew = λ _. grows; lacking = λ _. h }
 
 -- if nothing has changed
-pub still_lacking : (new : Local) (d : Desk) (own : Option Refusal) → own ≡ None → StandsForDesk new d → IsLacking new own (Unchanged d)
-still_lacking new d own unrefused stands = record { unrefused = unrefused; desk = d; is_left = refl; stands = stands }
+pub still_lacking : (new : Local) (d : Desk) (own : Option Refusal) → own ≡ None → RepresentsDesk new d → IsLacking new own (Unchanged d)
+still_lacking new d own unrefused represents = record { unrefused = unrefused; desk = d; is_left = refl; represents = represents }
 
--- ---- a desk that has answered stands for some desk
+-- ---- a desk that has answered represents for some desk
 
 pub is_memory : (refusal : Refusal) → (refusal ≡ no.Memory) ⊎ (refusal ≢ no.Memory)
 is_memory no.Memory = inl refl
@@ -64,13 +64,13 @@ is_lack : (reply : Reply) → (reply ≡ No no.Memory) ⊎ (reply ≢ No no.Memo
 is_lack (No refusal) = elim (is_memory refusal) [ inl e ↦ inl (ap (λ (r : Refusal). No r) e) | inr ne ↦ inr (λ e. ne (let k : refusal ≡ no.Memory = cc in k)) ]
 is_lack _ = inr (λ e. cc)
 
-pub stands_on : (before old new : Local) (needs : Bool) (own : Desk → Option Refusal) (done : Desk → Answer) (left : Desk → Desk → Type 0) (reply : Reply) → before ≡ old
-    → CarriesOut old needs own done left reply new → StandsForSome before → StandsForSome new
-stands_on before old new needs own done left reply same a some =
-    let st : StandsForDesk old some.desk = subst (λ (z : Local). StandsForDesk z some.desk) same some.stands in
+pub represents_next : (before old new : Local) (needs : Bool) (own : Desk → Option Refusal) (done : Desk → Answer) (left : Desk → Desk → Type 0) (reply : Reply) → before ≡ old
+    → CarriesOut old needs own done left reply new → RepresentsSome before → RepresentsSome new
+represents_next before old new needs own done left reply same a some =
+    let st : RepresentsDesk old some.desk = subst (λ (z : Local). RepresentsDesk z some.desk) same some.represents in
     elim (is_lack reply) [
-      | inl e ↦ (let l = a.lacking e some.desk st in record { desk = l.desk; stands = l.stands })
-      | inr ne ↦ record { desk = (answer_by some.desk (own some.desk) (done some.desk)).desk; stands = (a.answered ne some.desk st).stands }
+      | inl e ↦ (let l = a.lacking e some.desk st in record { desk = l.desk; represents = l.represents })
+      | inr ne ↦ record { desk = (answer_by some.desk (own some.desk) (done some.desk)).desk; represents = (a.answered ne some.desk st).represents }
     ]
 
 -- ---- with another expression for the desk
@@ -86,7 +86,7 @@ answers_here {before} {old} {needs} {own} {done} {left} {reply} same a = subst (
 -- ---- with another refusal and another answer
 
 pub answers_like : {old new : Local} {needs : Bool} {own own' : Desk → Option Refusal} {done done' : Desk → Answer} {left : Desk → Desk → Type 0} {reply : Reply}
-    → ((d : Desk) → StandsForDesk old d → own' d ≡ own d) → ((d : Desk) → done' d ≡ done d) → CarriesOut old needs own done left reply new → CarriesOut old needs own' done' left reply new
+    → ((d : Desk) → RepresentsDesk old d → own' d ≡ own d) → ((d : Desk) → done' d ≡ done d) → CarriesOut old needs own done left reply new → CarriesOut old needs own' done' left reply new
 answers_like {old} {new} {needs} {own} {own'} {done} {done'} {left} {reply} same like a = record {
   answered = λ real d st. subst (λ (o : Option Refusal). IsAnswer new d o (done' d) reply) (sym (same d st)) (subst (λ (x : Answer). IsAnswer new d (own d) x reply) (sym (like d)) (a.answered real d st));
   grew = a.grew;
@@ -98,8 +98,8 @@ answers_like {old} {new} {needs} {own} {own'} {done} {done'} {left} {reply} same
 pub same_parts : (a b : Local) → a.fifodirs ≡ b.fifodirs → a.holdings ≡ b.holdings → a.given ≡ b.given → a ≡ b
 same_parts a b fifodirs holdings given = λ i. record { fifodirs = fifodirs i; holdings = holdings i; given = given i }
 
-pub stands_same : (old new : Local) (d : Desk) → new ≡ old → StandsForDesk old d → StandsForDesk new d
-stands_same old new d e st = subst (λ (z : Local). StandsForDesk z d) (sym e) st
+pub represents_same : (old new : Local) (d : Desk) → new ≡ old → RepresentsDesk old d → RepresentsDesk new d
+represents_same old new d e st = subst (λ (z : Local). RepresentsDesk z d) (sym e) st
 
 -- ---- another record under a name
 
@@ -115,24 +115,24 @@ pub replaces : (before old new : Local) (name : List ℕ) (r : LocalFifodir) (ke
 replaces before old new name r kept same was fifodirs holdings given =
     subst (λ (z : Local). Replaces z new name r kept) same (record { was = sym was; fifodirs = fifodirs; holdings = holdings; given = given })
 
-module _ (old new : Local) (name : List ℕ) (r : LocalFifodir) (kept : Kept) (put : Replaces old new name r kept) (d : Desk) (st : StandsForDesk old d) where
+module _ (old new : Local) (name : List ℕ) (r : LocalFifodir) (kept : Kept) (put : Replaces old new name r kept) (d : Desk) (st : RepresentsDesk old d) where
   -- the world under the name
-  pub world_there : (w : World) × (world_of d.fifodirs name ≡ Some w) × StandsFor r.kept w
+  pub world_there : (w : World) × (world_of d.fifodirs name ≡ Some w) × Represents r.kept w
   world_there = some_kept name old.fifodirs d.fifodirs r st.fifodirs put.was
 
-  pub stands_replaced : (w w' : World) → world_of d.fifodirs name ≡ Some w → StandsFor kept w' → ((id : ℕ) → is_some (subscription_in w id) ≡ true → is_some (subscription_in w' id) ≡ true)
-      → StandsForDesk new (record d { fifodirs = with_world d.fifodirs name w' })
-  stands_replaced w w' is stands keep = record {
-    fifodirs = subst (λ (es : List (List ℕ × LocalFifodir)). AreKept es (with_world d.fifodirs name w')) (sym put.fifodirs) (kept_set name old.fifodirs d.fifodirs r (record { kept = kept; reports = r.reports }) w' st.fifodirs put.was refl stands);
+  pub represents_replaced : (w w' : World) → world_of d.fifodirs name ≡ Some w → Represents kept w' → ((id : ℕ) → is_some (subscription_in w id) ≡ true → is_some (subscription_in w' id) ≡ true)
+      → RepresentsDesk new (record d { fifodirs = with_world d.fifodirs name w' })
+  represents_replaced w w' is represents keep = record {
+    fifodirs = subst (λ (es : List (List ℕ × LocalFifodir)). AreKept es (with_world d.fifodirs name w')) (sym put.fifodirs) (kept_set name old.fifodirs d.fifodirs r (record { kept = kept; reports = r.reports }) w' st.fifodirs put.was refl represents);
     holdings = put.holdings ∙ st.holdings;
     given = put.given ∙ st.given;
     is_desk = record { held = held_still d.fifodirs (with_world d.fifodirs name w') (λ h. held_in_changed d.fifodirs name w w' is h (λ _. keep h.id)) _ st.is_desk.held; apart = st.is_desk.apart; go_on = st.is_desk.go_on };
   }
 
-  -- if it stands for the same world
-  pub stands_still : (w : World) → world_of d.fifodirs name ≡ Some w → StandsFor kept w → StandsForDesk new d
-  stands_still w is stands = record {
-    fifodirs = subst (λ (es : List (List ℕ × LocalFifodir)). AreKept es d.fifodirs) (sym put.fifodirs) (kept_still name old.fifodirs d.fifodirs r (record { kept = kept; reports = r.reports }) w st.fifodirs put.was is refl stands);
+  -- if it represents for the same world
+  pub represents_still : (w : World) → world_of d.fifodirs name ≡ Some w → Represents kept w → RepresentsDesk new d
+  represents_still w is represents = record {
+    fifodirs = subst (λ (es : List (List ℕ × LocalFifodir)). AreKept es d.fifodirs) (sym put.fifodirs) (kept_still name old.fifodirs d.fifodirs r (record { kept = kept; reports = r.reports }) w st.fifodirs put.was is refl represents);
     holdings = put.holdings ∙ st.holdings;
     given = put.given ∙ st.given;
     is_desk = st.is_desk;
@@ -149,7 +149,7 @@ none_of (Some x) e = absurd (true≢false e)
 pub named : (d : Desk) (name : List ℕ) (w : World) → world_of d.fifodirs name ≡ Some w → refusal_by_name d name ≡ None
 named d name w is = simp is
 
-pub unnamed : (old : Local) (d : Desk) (name : List ℕ) → StandsForDesk old d → None ≡ lookup (bytes_eq name) old.fifodirs → refusal_by_name d name ≡ Some no.Name
+pub unnamed : (old : Local) (d : Desk) (name : List ℕ) → RepresentsDesk old d → None ≡ lookup (bytes_eq name) old.fifodirs → refusal_by_name d name ≡ Some no.Name
 unnamed old d name st none = let e = none_kept name old.fifodirs d.fifodirs st.fifodirs (sym none) in simp e
 
 -- the refusal of a name without a fifodir
@@ -158,4 +158,4 @@ pub no_name : (before old new : Local) (needs : Bool) (name : List ℕ) (done : 
 no_name before old new needs name done left same still none =
     by_refusing old new needs (λ d. refusal_by_name d name) done left (No no.Name) no.Name refl (λ (e : no.Name ≡ no.Memory). cc)
     (λ d st. unnamed old d name st (none ∙ ap (λ (z : Local). lookup (bytes_eq name) z.fifodirs) same))
-    (λ d st. stands_same old new d (still ∙ same) st)
+    (λ d st. represents_same old new d (still ∙ same) st)

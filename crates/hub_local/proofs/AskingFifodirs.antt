@@ -6,7 +6,7 @@ use Rattle.hub_record.specs.declared.Closed.{Closed}
 use Rattle.hub_record.specs.declared.PubError.{PubError}
 use Rattle.hub_record.specs.declared.PubError.TheVariants as post
 use Rattle.hub_record.specs.declared.Status.{Status}
-use Rattle.hub_record.specs.Kept.{Kept, StandsFor}
+use Rattle.hub_record.specs.Kept.{Kept, Represents}
 use Rattle.hub_record.specs.declared.Kind.{Kind}
 use Rattle.hub_record.specs.declared.limits.Limits.{Limits}
 use Rattle.hub_record.specs.World.{World, empty_world, PublishReply, after_publish, close_reply, after_close}
@@ -14,7 +14,7 @@ use Rattle.hub_local.specs.DeskAnswers.{answered_with, in_world, make_answer, pu
 use Rattle.hub_local.specs.Desks.{Desk, Fifodir, refusal_answer, world_of, names_in}
 use Rattle.hub_local.specs.Replies.{publish_reply}
 use Rattle.hub_requests.specs.Refusals.{refusal_of_pub}
-use Rattle.hub_local.specs.Standing.{Local, AreKept, StandsForDesk, CarriesOut, AsksWith, Unchanged}
+use Rattle.hub_local.specs.Representing.{Local, AreKept, RepresentsDesk, CarriesOut, AsksWith, Unchanged}
 use Rattle.hub_local.specs.declared.local_desk.LocalFifodir.{LocalFifodir}
 use Rattle.hub_requests.specs.declared.request.Request.TheVariants.{Pub, Close, Status as Show, Names}
 use Rattle.hub_requests.specs.declared.reply.Reply.{Reply}
@@ -23,7 +23,7 @@ use Rattle.hub_requests.specs.declared.reply.Refusal.TheVariants as no
 use Rattle.std.proofs.lemmas.Bool.{le-leb, lt-leb}
 use Rattle.hub_requests.specs.declared.bounds.TheConstants.{MOST_NAMES}
 use Rattle.hub_local.proofs.Holdings.{held_still, held_with_more}
-use Rattle.hub_local.proofs.Asking.{by_carrying, by_refusing, by_lacking, still_lacking, stands_same, Replaces, world_there, stands_replaced, stands_still, named}
+use Rattle.hub_local.proofs.Asking.{by_carrying, by_refusing, by_lacking, still_lacking, represents_same, Replaces, world_there, represents_replaced, represents_still, named}
 use Rattle.hub_local.proofs.KeptFifodirs.{some_kept, is_some-world_of, length-kept, kept_push}
 use Rattle.hub_local.proofs.RecordReplies.{publish_reply_is}
 use Rattle.hub_requests.specs.declared.reply.Refusal.TheVariants.{Memory}
@@ -32,7 +32,7 @@ use Rattle.std.specs.Prelude.{drop}
 
 -- ---- dir and svc
 
-no_world : (local : Local) (d : Desk) (name : List ℕ) → StandsForDesk local d → is_some (lookup (bytes_eq name) local.fifodirs) ≡ false → is_some (world_of d.fifodirs name) ≡ false
+no_world : (local : Local) (d : Desk) (name : List ℕ) → RepresentsDesk local d → is_some (lookup (bytes_eq name) local.fifodirs) ≡ false → is_some (world_of d.fifodirs name) ≡ false
 no_world local d name st absent = sym (is_some-world_of name local.fifodirs d.fifodirs st.fifodirs) ∙ absent
 
 module _ (old : Local) (name : List ℕ) (kind : Kind) (reports : Option Bool) (limits : Limits) where
@@ -50,25 +50,25 @@ module _ (old : Local) (name : List ℕ) (kind : Kind) (reports : Option Bool) (
 
   -- no fifodir has the name, and there is room for one more
   module _ (absent : is_some (lookup (bytes_eq name) old.fifodirs) ≡ false) (few : length old.fifodirs < MOST_NAMES) where
-    may_make : (d : Desk) → StandsForDesk old d → refusal_to_make d name ≡ None
+    may_make : (d : Desk) → RepresentsDesk old d → refusal_to_make d name ≡ None
     may_make d st = let same = length-kept old.fifodirs d.fifodirs st.fifodirs in
         simp (no_world old d name st absent, lt-leb MOST_NAMES (length d.fifodirs) (omega arith))
 
     pub make_lacks : (new : Local) → new ≡ old → Makes (No no.Memory) new
-    make_lacks new same = by_lacking old new true _ _ _ _ refl refl (λ d st. still_lacking new d (refusal_to_make d name) (may_make d st) (stands_same old new d same st))
+    make_lacks new same = by_lacking old new true _ _ _ _ refl refl (λ d st. still_lacking new d (refusal_to_make d name) (may_make d st) (represents_same old new d same st))
 
-    pub make_done : (new : Local) (kept : Kept) → StandsFor kept (empty_world kind limits)
+    pub make_done : (new : Local) (kept : Kept) → Represents kept (empty_world kind limits)
         → new.fifodirs ≡ old.fifodirs ++ (name, record { kept = kept; reports = reports }) ∷ [] → new.holdings ≡ old.holdings → new.given ≡ old.given → Makes Done new
-    make_done new kept stands fifodirs holdings given = by_carrying old new true _ _ _ Done (λ (e : Done ≡ No no.Memory). cc) (λ d st.
+    make_done new kept represents fifodirs holdings given = by_carrying old new true _ _ _ Done (λ (e : Done ≡ No no.Memory). cc) (λ d st.
         let f : Fifodir = record { name = name; reports = reports; world = empty_world kind limits } in
         let more = d.fifodirs ++ f ∷ [] in record {
           answer = make_answer d name kind reports (Some limits);
           unrefused = may_make d st;
           done_is = refl;
           said = refl;
-          stands = record {
+          represents = record {
             fifodirs = subst (λ (es : List (List ℕ × LocalFifodir)). AreKept es (d.fifodirs ++ f ∷ [])) (sym fifodirs)
-                (kept_push old.fifodirs d.fifodirs _ f st.fifodirs (record { name = refl; reports = refl; world = stands }));
+                (kept_push old.fifodirs d.fifodirs _ f st.fifodirs (record { name = refl; reports = refl; world = represents }));
             holdings = holdings ∙ st.holdings;
             given = given ∙ st.given;
             is_desk = record { held = held_still d.fifodirs more (held_with_more d.fifodirs f) _ st.is_desk.held; apart = st.is_desk.apart; go_on = st.is_desk.go_on };
@@ -78,7 +78,7 @@ module _ (old : Local) (name : List ℕ) (kind : Kind) (reports : Option Bool) (
 -- ---- close
 
 module _ (old new : Local) (name : List ℕ) (r : LocalFifodir) (kept : Kept) (put : Replaces old new name r kept) (reply : Reply) where
-  pub close_done : ((w : World) → StandsFor r.kept w → Ok tt ≡ close_reply w) → ((w : World) → StandsFor r.kept w → StandsFor kept (after_close w)) → reply ≡ Done → AsksWith false old (Close name) reply new
+  pub close_done : ((w : World) → Represents r.kept w → Ok tt ≡ close_reply w) → ((w : World) → Represents r.kept w → Represents kept (after_close w)) → reply ≡ Done → AsksWith false old (Close name) reply new
   close_done replies after is = by_carrying old new false _ _ _ reply (λ e. cc) (λ d st.
       let t = world_there old new name r kept put d st in
       let w = t.0 in record {
@@ -86,10 +86,10 @@ module _ (old new : Local) (name : List ℕ) (r : LocalFifodir) (kept : Kept) (p
         unrefused = named d name w t.1;
         done_is = ap (in_world d (λ v. close_answer d name v (close_reply v))) t.1 ∙ ap (close_answer d name w) (sym (replies w t.2));
         said = is;
-        stands = stands_replaced old new name r kept put d st w (after_close w) t.1 (after w t.2) (λ id k. k);
+        represents = represents_replaced old new name r kept put d st w (after_close w) t.1 (after w t.2) (λ id k. k);
       })
 
-  pub close_refused : (error : Closed) → ((w : World) → StandsFor r.kept w → Err error ≡ close_reply w) → kept ≡ r.kept → reply ≡ No no.Closed → AsksWith false old (Close name) reply new
+  pub close_refused : (error : Closed) → ((w : World) → Represents r.kept w → Err error ≡ close_reply w) → kept ≡ r.kept → reply ≡ No no.Closed → AsksWith false old (Close name) reply new
   close_refused error replies still is = by_carrying old new false _ _ _ reply (λ e. cc) (λ d st.
       let t = world_there old new name r kept put d st in
       let w = t.0 in record {
@@ -97,7 +97,7 @@ module _ (old new : Local) (name : List ℕ) (r : LocalFifodir) (kept : Kept) (p
         unrefused = named d name w t.1;
         done_is = ap (in_world d (λ v. close_answer d name v (close_reply v))) t.1 ∙ ap (close_answer d name w) (sym (replies w t.2));
         said = is;
-        stands = stands_still old new name r kept put d st w t.1 (subst (λ (k : Kept). StandsFor k w) (sym still) t.2);
+        represents = represents_still old new name r kept put d st w t.1 (subst (λ (k : Kept). Represents k w) (sym still) t.2);
       })
 
 -- ---- pub
@@ -109,7 +109,7 @@ real_refusal post.Spent e = cc
 real_refusal post.Full e = cc
 
 module _ (old new : Local) (name message : List ℕ) (r : LocalFifodir) (kept : Kept) (put : Replaces old new name r kept) (reply : Reply) where
-  pub publish_done : (first : ℕ) → ((w : World) → StandsFor r.kept w → PublishReply w message (Ok first)) → ((w : World) → StandsFor r.kept w → StandsFor kept (after_publish w 1 message (Ok first)))
+  pub publish_done : (first : ℕ) → ((w : World) → Represents r.kept w → PublishReply w message (Ok first)) → ((w : World) → Represents r.kept w → Represents kept (after_publish w 1 message (Ok first)))
       → reply ≡ Number first → AsksWith false old (Pub name message) reply new
   publish_done first replies after is = by_carrying old new false _ _ _ reply (λ e. cc) (λ d st.
       let t = world_there old new name r kept put d st in
@@ -119,10 +119,10 @@ module _ (old new : Local) (name message : List ℕ) (r : LocalFifodir) (kept : 
         done_is = ap (in_world d (λ v. publish_answer d name message v (publish_reply v message))) t.1
             ∙ ap (publish_answer d name message w) (sym (publish_reply_is w message (Ok first) (replies w t.2)));
         said = is;
-        stands = stands_replaced old new name r kept put d st w (after_publish w 1 message (Ok first)) t.1 (after w t.2) (λ id k. k);
+        represents = represents_replaced old new name r kept put d st w (after_publish w 1 message (Ok first)) t.1 (after w t.2) (λ id k. k);
       })
 
-  pub publish_refused : (error : PubError) → ((w : World) → StandsFor r.kept w → PublishReply w message (Err error)) → kept ≡ r.kept → reply ≡ No (refusal_of_pub error) → AsksWith false old (Pub name message) reply new
+  pub publish_refused : (error : PubError) → ((w : World) → Represents r.kept w → PublishReply w message (Err error)) → kept ≡ r.kept → reply ≡ No (refusal_of_pub error) → AsksWith false old (Pub name message) reply new
   publish_refused error replies still is = by_carrying old new false _ _ _ reply (λ e. real_refusal error (let k : refusal_of_pub error ≡ no.Memory = cc in k)) (λ d st.
       let t = world_there old new name r kept put d st in
       let w = t.0 in record {
@@ -131,7 +131,7 @@ module _ (old new : Local) (name message : List ℕ) (r : LocalFifodir) (kept : 
         done_is = ap (in_world d (λ v. publish_answer d name message v (publish_reply v message))) t.1
             ∙ ap (publish_answer d name message w) (sym (publish_reply_is w message (Err error) (replies w t.2)));
         said = is;
-        stands = stands_still old new name r kept put d st w t.1 (subst (λ (k : Kept). StandsFor k w) (sym still) t.2);
+        represents = represents_still old new name r kept put d st w t.1 (subst (λ (k : Kept). Represents k w) (sym still) t.2);
       })
 
 -- ---- status
@@ -147,7 +147,7 @@ status_shown local name r shows was number flags is_closed = by_carrying local l
       unrefused = named d name w t.1;
       done_is = ap (in_world d (status_answer d)) t.1;
       said = λ i. State (record { number = ends i; flags = flies i; closed = closes i });
-      stands = st;
+      represents = st;
     })
 
 -- ---- the request for the names of fifodirs
@@ -172,5 +172,5 @@ names_listed local from reply is = by_carrying local local true _ _ _ reply (rea
   unrefused = refl;
   done_is = refl;
   said = is ∙ ap (λ (names : List (List ℕ)). names_reply names from) (kept_names local.fifodirs d.fifodirs st.fifodirs);
-  stands = st;
+  represents = st;
 })

@@ -10,13 +10,13 @@ use Rattle.hub_listen.specs.Listening.{Listening, after_hit, after_quiet, fittin
 use Rattle.hub_letters.specs.declared.mode.Mode.{Mode}
 use Rattle.hub_letters.specs.declared.mode.Mode.TheVariants.{Once, Repeat}
 use Rattle.hub_listen.proofs.Lengths.{length_is_hit, no_length_is_no_hit}
-use Rattle.hub_record.specs.Kept.{Kept, StandsFor}
+use Rattle.hub_record.specs.Kept.{Kept, Represents}
 use Rattle.hub_record.specs.World.{World, Subscription, subscription_in, after_take}
 use Rattle.hub_local.specs.DeskAnswers.{in_world, for_holding, for_hearing, refusal_to_poll, cancel_answer, request_answer, answer_by, refusal_by_handle}
-use Rattle.hub_local.specs.Desks.{Desk, Answer, standing, holding_at, world_of, with_world, without_handle, AreHeld, AreApart, GoesOn, AllGoOn}
+use Rattle.hub_local.specs.Desks.{Desk, Answer, active, holding_at, world_of, with_world, without_handle, AreHeld, AreApart, GoesOn, AllGoOn}
 use Rattle.hub_local.specs.Hearings.{IsAt, Hears}
 use Rattle.hub_local.specs.Polls.{is_out, quiet_reply, to_hear, taken_from, heard_to_hit, heard_quietly, heard_on, ended_by, hear_answer, poll_answer}
-use Rattle.hub_local.specs.Standing.{Local, StandsForDesk, StandsForSome, AsksWith}
+use Rattle.hub_local.specs.Representing.{Local, RepresentsDesk, RepresentsSome, AsksWith}
 use Rattle.hub_local.specs.declared.local_desk.LocalListener.{LocalListener}
 use Rattle.hub_local.specs.declared.local_desk.Holding.{Holding}
 use Rattle.hub_local.specs.declared.local_desk.LocalFifodir.{LocalFifodir}
@@ -25,10 +25,10 @@ use Rattle.hub_requests.specs.declared.request.Request.TheVariants.{Cancel, Poll
 use Rattle.hub_requests.specs.declared.reply.Reply.{Reply}
 use Rattle.hub_requests.specs.declared.reply.Reply.TheVariants.{Hit, Nothing, End, Evicted, No}
 use Rattle.hub_requests.specs.declared.reply.Refusal.TheVariants as no
-use Rattle.hub_local.proofs.Asking.{by_carrying, by_refusing, by_lacking, stands_same, Replaces, stands_replaced, world_there}
+use Rattle.hub_local.proofs.Asking.{by_carrying, by_refusing, by_lacking, represents_same, Replaces, represents_replaced, world_there}
 use Rattle.hub_local.proofs.AskingSubscriptions.{taken_still}
 use Rattle.hub_local.proofs.Hearing.{has_found}
-use Rattle.hub_local.proofs.Holdings.{held_at, standing-with, length-with, lookup_set, held_set, go_on_set, go_on_at, apart_set}
+use Rattle.hub_local.proofs.Holdings.{held_at, active-with, length-with, lookup_set, held_set, go_on_set, go_on_at, apart_set}
 
 -- ---- a desk after a listener has heard
 
@@ -39,7 +39,7 @@ pub record Rehears (old new : Local) (n : ℕ) (h : Holding) (hearing : LocalLis
   pub holdings : new.holdings ≡ set_value (nat_eq n) old.holdings (record h { hearing = Some hearing })
   pub given : new.given ≡ old.given
 
-module _ (old new : Local) (n : ℕ) (h : Holding) (was : Some h ≡ lookup (nat_eq n) old.holdings) (hearing : LocalListener) (r : LocalFifodir) (kept : Kept) (put : Rehears old new n h hearing r kept) (d : Desk) (st : StandsForDesk old d) where
+module _ (old new : Local) (n : ℕ) (h : Holding) (was : Some h ≡ lookup (nat_eq n) old.holdings) (hearing : LocalListener) (r : LocalFifodir) (kept : Kept) (put : Rehears old new n h hearing r kept) (d : Desk) (st : RepresentsDesk old d) where
   replaced : Replaces old (record { fifodirs = new.fifodirs; holdings = old.holdings; given = old.given }) h.name r kept
   replaced = record { was = put.was; fifodirs = put.fifodirs; holdings = refl; given = refl }
 
@@ -47,25 +47,25 @@ module _ (old new : Local) (n : ℕ) (h : Holding) (was : Some h ≡ lookup (nat
   is_held = sym (was ∙ ap (lookup (nat_eq n)) st.holdings)
 
   -- the world and the subscription that it hears
-  pub world_heard : (w : World) × (world_of d.fifodirs h.name ≡ Some w) × StandsFor r.kept w
+  pub world_heard : (w : World) × (world_of d.fifodirs h.name ≡ Some w) × Represents r.kept w
   world_heard = world_there old (record { fifodirs = new.fifodirs; holdings = old.holdings; given = old.given }) h.name r kept replaced d st
 
   pub found_heard : (w : World) → world_of d.fifodirs h.name ≡ Some w → (s : Subscription) × (subscription_in w h.id ≡ Some s)
-  found_heard w there = let s = held_at d.fifodirs (standing d) n h st.is_desk.held is_held in has_found (subscription_in w h.id) (simp there at s)
+  found_heard w there = let s = held_at d.fifodirs (active d) n h st.is_desk.held is_held in has_found (subscription_in w h.id) (simp there at s)
 
-  pub stands_heard : (w : World) (m : ℕ) → world_of d.fifodirs h.name ≡ Some w → StandsFor kept (after_take w h.id m) → hearing.listener.mode ≡ Repeat → StandsForDesk new (heard_on d n h hearing (after_take w h.id m))
-  stands_heard w m there stands goes_on =
+  pub represents_heard : (w : World) (m : ℕ) → world_of d.fifodirs h.name ≡ Some w → Represents kept (after_take w h.id m) → hearing.listener.mode ≡ Repeat → RepresentsDesk new (heard_on d n h hearing (after_take w h.id m))
+  represents_heard w m there represents goes_on =
       let other : Holding = record h { hearing = Some hearing } in
       let fs = with_world d.fifodirs h.name (after_take w h.id m) in
-      let mid = stands_replaced old (record { fifodirs = new.fifodirs; holdings = old.holdings; given = old.given }) h.name r kept replaced d st w (after_take w h.id m) there stands (taken_still w h.id m) in
-      let set = standing-with 1 d.handles n h other is_held in record {
+      let mid = represents_replaced old (record { fifodirs = new.fifodirs; holdings = old.holdings; given = old.given }) h.name r kept replaced d st w (after_take w h.id m) there represents (taken_still w h.id m) in
+      let set = active-with 1 d.handles n h other is_held in record {
         fifodirs = mid.fifodirs;
         holdings = put.holdings ∙ ap (λ (es : List (ℕ × Holding)). set_value (nat_eq n) es other) st.holdings ∙ sym set;
         given = put.given ∙ st.given ∙ sym (length-with 1 d.handles n other);
         is_desk = record {
-          held = subst (AreHeld fs) (sym set) (held_set fs (standing d) n other mid.is_desk.held (held_at fs (standing d) n h mid.is_desk.held is_held));
-          apart = subst AreApart (sym set) (apart_set h other refl refl (standing d) n is_held st.is_desk.apart);
-          go_on = subst AllGoOn (sym set) (go_on_set (standing d) n other st.is_desk.go_on goes_on);
+          held = subst (AreHeld fs) (sym set) (held_set fs (active d) n other mid.is_desk.held (held_at fs (active d) n h mid.is_desk.held is_held));
+          apart = subst AreApart (sym set) (apart_set h other refl refl (active d) n is_held st.is_desk.apart);
+          go_on = subst AllGoOn (sym set) (go_on_set (active d) n other st.is_desk.go_on goes_on);
         };
       }
 
@@ -89,28 +89,28 @@ quiet_evicted count closed out room is_out = simp (lt-ltb count MOST_GATHERED ro
 
 module _ (old new : Local) (n : ℕ) where
   module _ (h : Holding) (was : Some h ≡ lookup (nat_eq n) old.holdings) where
-    there_held : (d : Desk) → StandsForDesk old d → holding_at d n ≡ Some h
+    there_held : (d : Desk) → RepresentsDesk old d → holding_at d n ≡ Some h
     there_held d st = sym (was ∙ ap (lookup (nat_eq n)) st.holdings)
 
     pub poll_plain : h.hearing ≡ None → new ≡ old → AsksWith false old (Poll n) (No no.Id) new
     poll_plain plain same = by_refusing old new true _ _ _ _ no.Id refl (λ e. cc)
-        (λ d st. (let e = there_held d st in simp (e, plain))) (λ d st. stands_same old new d same st)
+        (λ d st. (let e = there_held d st in simp (e, plain))) (λ d st. represents_same old new d same st)
 
     module _ (g : LocalListener) (hears : h.hearing ≡ Some g) where
       pub poll_overlong : MOST_GATHERED ≤ length g.listener.gathered → new ≡ old → AsksWith false old (Poll n) (No no.Overlong) new
       poll_overlong over same = by_refusing old new true _ _ _ _ no.Overlong refl (λ e. cc)
-          (λ d st. (let e = there_held d st in simp (e, hears, le-leb MOST_GATHERED (length g.listener.gathered) over))) (λ d st. stands_same old new d same st)
+          (λ d st. (let e = there_held d st in simp (e, hears, le-leb MOST_GATHERED (length g.listener.gathered) over))) (λ d st. represents_same old new d same st)
 
       -- what is needed to hear more
-      pub unspent : (d : Desk) → StandsForDesk old d → g.listener.mode ≡ Repeat
-      unspent d st = subst GoesOn hears (go_on_at (standing d) n h st.is_desk.go_on (there_held d st))
+      pub unspent : (d : Desk) → RepresentsDesk old d → g.listener.mode ≡ Repeat
+      unspent d st = subst GoesOn hears (go_on_at (active d) n h st.is_desk.go_on (there_held d st))
 
       module _ (room : length g.listener.gathered < MOST_GATHERED) where
-        may_poll : (d : Desk) → StandsForDesk old d → refusal_to_poll (holding_at d n) ≡ None
+        may_poll : (d : Desk) → RepresentsDesk old d → refusal_to_poll (holding_at d n) ≡ None
         may_poll d st = let e = there_held d st in simp (e, hears, lt-leb MOST_GATHERED (length g.listener.gathered) room)
 
         pub poll_lacks : new ≡ old → AsksWith false old (Poll n) (No no.Memory) new
-        poll_lacks same = by_lacking old new true _ _ _ _ refl refl (λ d st. record { unrefused = may_poll d st; desk = d; is_left = inl refl; stands = stands_same old new d same st })
+        poll_lacks same = by_lacking old new true _ _ _ _ refl refl (λ d st. record { unrefused = may_poll d st; desk = d; is_left = inl refl; represents = represents_same old new d same st })
 
 -- ---- what a look has heard
 
@@ -121,9 +121,9 @@ pub record HasLooked (old new : Local) (n : ℕ) (h : Holding) (g hearing : Loca
   pub room : length g.listener.gathered < MOST_GATHERED
   pub put : Rehears old new n h hearing r kept
 
--- this holds of each world that the record stands for and in which a subscription with this id is current
+-- this holds of each world that the record represents and in which a subscription with this id is current
 abbrev pub OfWorlds : Kept → ℕ → (World → Type 0) → Type 0
-OfWorlds kept id P = (w : World) (s : Subscription) → StandsFor kept w → subscription_in w id ≡ Some s → P w
+OfWorlds kept id P = (w : World) (s : Subscription) → Represents kept w → subscription_in w id ≡ Some s → P w
 
 -- and of the one under the name
 record HeardIn (d : Desk) (name : List ℕ) (P : World → Type 0) : Type 0 where
@@ -148,30 +148,30 @@ record HeardHit (new : Local) (d : Desk) (n : ℕ) (h : Holding) (hearing : Loca
   pub after : Desk
   pub model : LocalListener
   pub answer_is : request_answer d (Poll n) ≡ hit_answer n h after hearing.mode hearing.listener.hit
-  pub stands : StandsForDesk new after
+  pub represents : RepresentsDesk new after
   pub held_is : holding_at after n ≡ Some (record h { hearing = Some model })
 
 module _ (old new : Local) (n : ℕ) (h : Holding) (g hearing : LocalListener) (r : LocalFifodir) (kept : Kept) (look : HasLooked old new n h g hearing r kept) where
-  held_there : (d : Desk) → StandsForDesk old d → holding_at d n ≡ Some h
+  held_there : (d : Desk) → RepresentsDesk old d → holding_at d n ≡ Some h
   held_there = there_held old new n h look.held_is
 
-  allowed : (d : Desk) → StandsForDesk old d → refusal_to_poll (holding_at d n) ≡ None
+  allowed : (d : Desk) → RepresentsDesk old d → refusal_to_poll (holding_at d n) ≡ None
   allowed = may_poll old new n h look.held_is g look.hears look.room
 
-  polled_is : (d : Desk) → StandsForDesk old d → (w : World) → world_of d.fifodirs h.name ≡ Some w → request_answer d (Poll n) ≡ poll_answer d n h g w
+  polled_is : (d : Desk) → RepresentsDesk old d → (w : World) → world_of d.fifodirs h.name ≡ Some w → request_answer d (Poll n) ≡ poll_answer d n h g w
   polled_is d st w there =
       ap (for_holding d (λ (k : Holding). for_hearing d (λ (q : LocalListener). in_world d (poll_answer d n k q) (world_of d.fifodirs k.name)) k.hearing)) (held_there d st)
       ∙ ap (for_hearing d (λ (q : LocalListener). in_world d (poll_answer d n h q) (world_of d.fifodirs h.name))) look.hears
       ∙ ap (in_world d (poll_answer d n h g)) there
 
   -- the desk after that
-  module _ (d : Desk) (st : StandsForDesk old d) (w : World) (there : world_of d.fifodirs h.name ≡ Some w) (m : ℕ) (l : Listening) (o : Option ℕ) (at : IsAt g w h.id m l o hearing kept) (goes_on : l.mode ≡ g.listener.mode) where
-    stands_then : StandsForDesk new (heard_on d n h (record { listener = l; mode = g.mode; held = o }) (taken_from g w h.id m))
-    stands_then = subst (λ (q : LocalListener). StandsForDesk new (heard_on d n h q (taken_from g w h.id m))) (λ i. record { listener = at.listener_is i; mode = at.mode_is i; held = at.held_is i })
-        (stands_heard old new n h look.held_is hearing r kept look.put d st w (m - length (option_to_list g.held)) there at.stands (ap (λ (x : Listening). x.mode) at.listener_is ∙ goes_on ∙ unspent old new n h look.held_is g look.hears d st))
+  module _ (d : Desk) (st : RepresentsDesk old d) (w : World) (there : world_of d.fifodirs h.name ≡ Some w) (m : ℕ) (l : Listening) (o : Option ℕ) (at : IsAt g w h.id m l o hearing kept) (goes_on : l.mode ≡ g.listener.mode) where
+    represents_then : RepresentsDesk new (heard_on d n h (record { listener = l; mode = g.mode; held = o }) (taken_from g w h.id m))
+    represents_then = subst (λ (q : LocalListener). RepresentsDesk new (heard_on d n h q (taken_from g w h.id m))) (λ i. record { listener = at.listener_is i; mode = at.mode_is i; held = at.held_is i })
+        (represents_heard old new n h look.held_is hearing r kept look.put d st w (m - length (option_to_list g.held)) there at.represents (ap (λ (x : Listening). x.mode) at.listener_is ∙ goes_on ∙ unspent old new n h look.held_is g look.hears d st))
 
   -- the world that was heard, with what is known of it
-  heard_in : (P : World → Type 0) → OfWorlds r.kept h.id P → (d : Desk) → StandsForDesk old d → HeardIn d h.name P
+  heard_in : (P : World → Type 0) → OfWorlds r.kept h.id P → (d : Desk) → RepresentsDesk old d → HeardIn d h.name P
   heard_in P says d st =
       let t = world_heard old new n h look.held_is hearing r kept look.put d st in
       let f = found_heard old new n h look.held_is hearing r kept look.put d st t.0 t.1 in
@@ -189,7 +189,7 @@ module _ (old new : Local) (n : ℕ) (h : Holding) (g hearing : LocalListener) (
         done_is = polled_is d st w f.there ∙ ap (hear_answer d n h g w letters) ((no_length_is_no_hit g.listener.pattern g.listener.gathered letters).1 f.is.0)
             ∙ ap (λ (x : Reply). record { reply = x; desk = after }) f.is.1;
         said = refl;
-        stands = stands_then d st w f.there m (after_quiet g.listener (take m letters)) None f.is.2 refl;
+        represents = represents_then d st w f.there m (after_quiet g.listener (take m letters)) None f.is.2 refl;
       })
 
   pub poll_nothing : OfWorlds r.kept h.id (λ w. Hears g w h.id heard.Nothing hearing kept) → AsksWith false old (Poll n) Nothing new
@@ -219,11 +219,11 @@ module _ (old new : Local) (n : ℕ) (h : Holding) (g hearing : LocalListener) (
           there = f.there;
           stopped = record { inside = k.1; none = k.2; desk = refl };
         });
-        stands = stands_then d st w f.there (k.0 + 1) (after_quiet g.listener (take k.0 letters)) (slice_get letters k.0) k.3 refl;
+        represents = represents_then d st w f.there (k.0 + 1) (after_quiet g.listener (take k.0 letters)) (slice_get letters k.0) k.3 refl;
       })
 
   module _ (says : OfWorlds r.kept h.id (λ w. Hears g w h.id heard.Hit hearing kept)) where
-    heard_hit : (d : Desk) → StandsForDesk old d → HeardHit new d n h hearing
+    heard_hit : (d : Desk) → RepresentsDesk old d → HeardHit new d n h hearing
     heard_hit d st =
         let f = heard_in (λ w. Hears g w h.id heard.Hit hearing kept) says d st in
         let w = f.world in
@@ -236,15 +236,15 @@ module _ (old new : Local) (n : ℕ) (h : Holding) (g hearing : LocalListener) (
           model = model;
           answer_is = polled_is d st w f.there ∙ ap (hear_answer d n h g w letters) ((length_is_hit g.listener.pattern g.listener.gathered letters k.0).1 k.1)
               ∙ sym (λ i. hit_answer n h after (k.2.mode_is i) (k.2.listener_is i).hit);
-          stands = stands_then d st w f.there k.0 (after_hit g.listener letters k.0) None k.2 refl;
-          held_is = ap (lookup (nat_eq n)) (standing-with 1 d.handles n h other (held_there d st)) ∙ lookup_set (standing d) n h other (held_there d st);
+          represents = represents_then d st w f.there k.0 (after_hit g.listener letters k.0) None k.2 refl;
+          held_is = ap (lookup (nat_eq n)) (active-with 1 d.handles n h other (held_there d st)) ∙ lookup_set (active d) n h other (held_there d st);
         }
 
-    pub hit_stands : (d : Desk) → StandsForDesk old d → StandsForSome new
-    hit_stands d st = let a = heard_hit d st in record { desk = a.after; stands = a.stands }
+    pub hit_represents : (d : Desk) → RepresentsDesk old d → RepresentsSome new
+    hit_represents d st = let a = heard_hit d st in record { desk = a.after; represents = a.represents }
 
     module _ (letters : List ℕ) (shows : letters ≡ hearing.listener.hit) where
-      hit_done : (mode : Mode) → hearing.mode ≡ mode → (d : Desk) → (st : StandsForDesk old d)
+      hit_done : (mode : Mode) → hearing.mode ≡ mode → (d : Desk) → (st : RepresentsDesk old d)
           → request_answer d (Poll n) ≡ hit_answer n h (heard_hit d st).after mode letters
       hit_done mode is d st =
           let a = heard_hit d st in
@@ -257,19 +257,19 @@ module _ (old new : Local) (n : ℕ) (h : Holding) (g hearing : LocalListener) (
             unrefused = allowed d st;
             done_is = hit_done Repeat goes_on d st;
             said = refl;
-            stands = a.stands;
+            represents = a.represents;
           })
 
       -- and its subscription is cancelled
       pub poll_hit_once : hearing.mode ≡ Once → (over : Local) (reply : Reply) → AsksWith false new (Cancel n) reply over → AsksWith false old (Poll n) (Hit letters) over
       poll_hit_once ends over reply cancels = by_carrying old over true _ _ _ (Hit letters) (λ e. cc) (λ d st.
           let a = heard_hit d st in
-          let ended = cancels.answered (λ x. true≢false (sym (cancels.grew x))) a.after a.stands in record {
+          let ended = cancels.answered (λ x. true≢false (sym (cancels.grew x))) a.after a.represents in record {
             answer = record { reply = Hit letters; desk = without_handle a.after n h };
             unrefused = allowed d st;
             done_is = hit_done Once ends d st;
             said = refl;
-            stands = subst (StandsForDesk over) (ap (λ (o : Option Holding). (answer_by a.after (refusal_by_handle o) (for_holding a.after (cancel_answer a.after n) o)).desk) a.held_is) ended.stands;
+            represents = subst (RepresentsDesk over) (ap (λ (o : Option Holding). (answer_by a.after (refusal_by_handle o) (for_holding a.after (cancel_answer a.after n) o)).desk) a.held_is) ended.represents;
           })
 
       -- with another expression for the desk

@@ -16,7 +16,7 @@ use Rattle.hub_local.specs.DeskAnswers.{refusal_to_wait}
 use Rattle.hub_local.specs.Desks.{Desk, Fifodir, world_of, reports_of, with_world, subscription_of}
 use Rattle.hub_local.specs.Opening.{is_there, is_service, refusal_among, OpensAll}
 use Rattle.hub_local.specs.Replies.{subscribe_reply}
-use Rattle.hub_local.specs.Standing.{Local, AreKept, StandsForDesk, CarriesOut}
+use Rattle.hub_local.specs.Representing.{Local, AreKept, RepresentsDesk, CarriesOut}
 use Rattle.hub_local.specs.Waits.{Opening, watch_over, so_far, opening_refused, opened_by, opened_in, with_post, opening_of, without_subscription, without_posts, left_by, shown_by, verdict_shown, wait_shown, wait_answer, LeftByWait}
 use Rattle.hub_local.specs.declared.local_desk.Holding.{Holding}
 use Rattle.hub_local.specs.declared.local_desk.LocalFifodir.{LocalFifodir}
@@ -47,7 +47,7 @@ is_service_is name (e ∷ es) (f ∷ fs) h =
     let ih = is_service_is name es fs h.1 in
     elim (cases_Bool (bytes_eq name f.name)) [ inl t ↦ simp (same, t) (ap is_some h.0.reports) | inr t ↦ simp (same, t) ih ]
 
-refusal_among_is : (local : Local) (d : Desk) (names : List (List ℕ)) → StandsForDesk local d → refusal_among local.fifodirs names ≡ refusal_to_wait d names
+refusal_among_is : (local : Local) (d : Desk) (names : List (List ℕ)) → RepresentsDesk local d → refusal_among local.fifodirs names ≡ refusal_to_wait d names
 refusal_among_is local d names st =
     let there = list_all_same (is_there local.fifodirs) (λ name. is_some (world_of d.fifodirs name)) (λ name. is_some-world_of name local.fifodirs d.fifodirs st.fifodirs) names in
     let serves = list_all_same (is_service local.fifodirs) (λ name. is_some (reports_of d.fifodirs name)) (λ name. is_service_is name local.fifodirs d.fifodirs st.fifodirs) names in
@@ -81,20 +81,20 @@ still_held fs (name ∷ names) (post ∷ posts) g beside s =
     still_held (without_subscription fs name post.id) names posts g beside.1 (held_beside_cancelled fs (record { name = name; id = post.id; hearing = None }) g beside.0 s)
 
 -- the subscription of a handle is current beside the posts that were opened
-pub record StandsBeside (now : List Fifodir) (names : List (List ℕ)) (before posts : List LocalPost) (g : Holding) : Type 0 where
+pub record RepresentsBeside (now : List Fifodir) (names : List (List ℕ)) (before posts : List LocalPost) (g : Holding) : Type 0 where
   pub more : List LocalPost
   pub are : posts ≡ before ++ more
   pub beside : AreBeside names more g
-  pub stands : is_some (subscription_of now g) ≡ true
+  pub represents : is_some (subscription_of now g) ≡ true
 
 stays_stopped : (want : Want) (names : List (List ℕ)) (fs now : List Fifodir) (before posts : List LocalPost) (refusal : Refusal) → fold (with_post want) (opening_refused fs before refusal) names ≡ so_far now posts → ⊥
 stays_stopped want [] fs now before posts refusal e = let k : Some refusal ≡ None = ap (λ (o : Opening). o.refusal) e in cc
 stays_stopped want (name ∷ names) fs now before posts refusal e = stays_stopped want names fs now before posts refusal e
 
 module _ (want : Want) (name : List ℕ) (names rest : List (List ℕ)) (fs now : List Fifodir) (before posts : List LocalPost) (g : Holding) (s : is_some (subscription_of fs g) ≡ true)
-    (later : (mid : List Fifodir) (so_many : List LocalPost) → is_some (subscription_of mid g) ≡ true → fold (with_post want) (so_far mid so_many) names ≡ so_far now posts → StandsBeside now (names ++ rest) so_many posts g) where
+    (later : (mid : List Fifodir) (so_many : List LocalPost) → is_some (subscription_of mid g) ≡ true → fold (with_post want) (so_far mid so_many) names ≡ so_far now posts → RepresentsBeside now (names ++ rest) so_many posts g) where
   beside_one : (w : World) → world_of fs name ≡ Some w → (r : Result (ℕ × ℕ) SubError) → subscribe_reply w ≡ r → fold (with_post want) (opened_by want (so_far fs before) name w r) names ≡ so_far now posts
-      → StandsBeside now (name ∷ (names ++ rest)) before posts g
+      → RepresentsBeside now (name ∷ (names ++ rest)) before posts g
   beside_one w is (Err error) said e = absurd (stays_stopped want names fs now before posts _ e)
   beside_one w is (Ok given) said e =
       let held = held_in_changed fs name w (after_subscribe w (Ok given)) is g (λ same h. found-push 1 w.subscriptions (new_subscription w) g.id h) s in
@@ -103,20 +103,20 @@ module _ (want : Want) (name : List ℕ) (names rest : List (List ℕ)) (fs now 
         more = post ∷ l.more;
         are = l.are ∙ append_assoc before (post ∷ []) l.more;
         beside = (λ same id. unheld_id fs name w (after_subscribe w (Ok given)) is g s (sym same) (sym id ∙ given_is w given said), l.beside);
-        stands = l.stands;
+        represents = l.represents;
       }
 
-  beside_next : (o : Option World) → world_of fs name ≡ o → fold (with_post want) (opened_in want (so_far fs before) name o) names ≡ so_far now posts → StandsBeside now (name ∷ (names ++ rest)) before posts g
+  beside_next : (o : Option World) → world_of fs name ≡ o → fold (with_post want) (opened_in want (so_far fs before) name o) names ≡ so_far now posts → RepresentsBeside now (name ∷ (names ++ rest)) before posts g
   beside_next None is e = absurd (stays_stopped want names fs now before posts _ e)
   beside_next (Some w) is e = beside_one w is (subscribe_reply w) refl e
 
 beside_opened : (want : Want) (names rest : List (List ℕ)) (fs now : List Fifodir) (before posts : List LocalPost) (g : Holding) → is_some (subscription_of fs g) ≡ true
-    → fold (with_post want) (so_far fs before) names ≡ so_far now posts → StandsBeside now (names ++ rest) before posts g
+    → fold (with_post want) (so_far fs before) names ≡ so_far now posts → RepresentsBeside now (names ++ rest) before posts g
 beside_opened want [] rest fs now before posts g s e = record {
   more = [];
   are = ap (λ (o : Opening). o.posts) (sym e) ∙ sym (append-nil before);
   beside = none_beside rest g;
-  stands = subst (λ (z : List Fifodir). is_some (subscription_of z g) ≡ true) (ap (λ (o : Opening). o.fifodirs) e) s;
+  represents = subst (λ (z : List Fifodir). is_some (subscription_of z g) ≡ true) (ap (λ (o : Opening). o.fifodirs) e) s;
 }
 beside_opened want (name ∷ names) rest fs now before posts g s e =
     beside_next want name names rest fs now before posts g s (λ mid so_many held k. beside_opened want names rest mid now so_many posts g held k) (world_of fs name) refl e
@@ -139,10 +139,10 @@ waits_for old new span want names same reply e = subst (λ (ns : List (List ℕ)
 module _ (old new : Local) (span : Span) (want : Want) (names : List (List ℕ)) where
   pub wait_refused : (refusal : Refusal) → new ≡ old → refusal_among old.fifodirs names ≡ Some refusal → Waits old new span want names (No refusal)
   wait_refused refusal same is = by_refusing old new true _ _ _ _ refusal refl (real_among old.fifodirs names refusal is)
-      (λ d st. sym (refusal_among_is old d names st) ∙ is) (λ d st. subst (λ (z : Local). StandsForDesk z d) (sym same) st)
+      (λ d st. sym (refusal_among_is old d names st) ∙ is) (λ d st. subst (λ (z : Local). RepresentsDesk z d) (sym same) st)
 
   module _ (allowed : refusal_among old.fifodirs names ≡ None) where
-    may_wait : (d : Desk) → StandsForDesk old d → refusal_to_wait d names ≡ None
+    may_wait : (d : Desk) → RepresentsDesk old d → refusal_to_wait d names ≡ None
     may_wait d st = sym (refusal_among_is old d names st) ∙ allowed
 
     -- before any post is opened
@@ -151,22 +151,22 @@ module _ (old new : Local) (span : Span) (want : Want) (names : List (List ℕ))
       unrefused = may_wait d st;
       desk = d;
       is_left = record { count = 0; unrefused = refl; left = ap (λ (fs : List Fifodir). record d { fifodirs = fs }) (sym (without_posts-none d.fifodirs names)) };
-      stands = subst (λ (z : Local). StandsForDesk z d) (sym same) st;
+      represents = subst (λ (z : Local). RepresentsDesk z d) (sym same) st;
     })
 
     -- `mid` has the posts, and in `new` they are ended
     module _ (mid : List (List ℕ × LocalFifodir)) (posts : List LocalPost) (holdings : new.holdings ≡ old.holdings) (given : new.given ≡ old.given)
         (back : (fs : List Fifodir) → AreKept mid fs → AreKept new.fifodirs (without_posts fs names posts)) where
-      stands_left : (d : Desk) → StandsForDesk old d → (now : List Fifodir) → AreKept mid now → (count : ℕ) → opening_of want d.fifodirs (take count names) ≡ so_far now posts
-          → StandsForDesk new (record d { fifodirs = without_posts now names posts })
-      stands_left d st now kept count e = record {
+      represents_left : (d : Desk) → RepresentsDesk old d → (now : List Fifodir) → AreKept mid now → (count : ℕ) → opening_of want d.fifodirs (take count names) ≡ so_far now posts
+          → RepresentsDesk new (record d { fifodirs = without_posts now names posts })
+      represents_left d st now kept count e = record {
         fifodirs = back now kept;
         holdings = holdings ∙ st.holdings;
         given = given ∙ st.given;
         is_desk = record {
           held = held_still d.fifodirs (without_posts now names posts) (λ g s.
               let b = beside_opened want (take count names) (drop count names) d.fifodirs now [] posts g s e in
-              still_held now names posts g (subst (λ (ns : List (List ℕ)). AreBeside ns posts g) (take-append-drop count names) (subst (λ (ps : List LocalPost). AreBeside (take count names ++ drop count names) ps g) (sym b.are) b.beside)) b.stands) _ st.is_desk.held;
+              still_held now names posts g (subst (λ (ns : List (List ℕ)). AreBeside ns posts g) (take-append-drop count names) (subst (λ (ps : List LocalPost). AreBeside (take count names ++ drop count names) ps g) (sym b.are) b.beside)) b.represents) _ st.is_desk.held;
           apart = st.is_desk.apart;
           go_on = st.is_desk.go_on;
         };
@@ -179,7 +179,7 @@ module _ (old new : Local) (span : Span) (want : Want) (names : List (List ℕ))
             unrefused = may_wait d st;
             done_is = ap (λ (o : Opening). record { reply = wait_shown span o.posts o.refusal; desk = record d { fifodirs = left_by o names } }) t.2;
             said = is;
-            stands = stands_left d st t.0 t.1 (length names) (ap (opening_of want d.fifodirs) (take_all (length names) names (let same : length names ≤ length names = omega arith in same)) ∙ t.2);
+            represents = represents_left d st t.0 t.1 (length names) (ap (opening_of want d.fifodirs) (take_all (length names) names (let same : length names ≤ length names = omega arith in same)) ∙ t.2);
           })
 
       pub wait_stopped : (refusal : Refusal) → ((fs : List Fifodir) → AreKept old.fifodirs fs → OpensAll want names fs (Err refusal) mid posts) → Waits old new span want names (No refusal)
@@ -193,7 +193,7 @@ module _ (old new : Local) (span : Span) (want : Want) (names : List (List ℕ))
                 unrefused = ap (λ (o : Opening). o.refusal) t.2.opened;
                 left = ap (λ (o : Opening). record d { fifodirs = left_by o names }) (sym t.2.opened);
               };
-              stands = stands_left d st t.0 t.1 t.2.count t.2.opened;
+              represents = represents_left d st t.0 t.1 t.2.count t.2.opened;
             })
         | inr ne ↦ by_carrying old new true _ _ _ _ (λ e. ne (let k : refusal ≡ no.Memory = cc in k)) (λ d st.
             let t = opens d.fifodirs st.fifodirs in record {
@@ -201,6 +201,6 @@ module _ (old new : Local) (span : Span) (want : Want) (names : List (List ℕ))
               unrefused = may_wait d st;
               done_is = ap (λ (o : Opening). record { reply = wait_shown span o.posts o.refusal; desk = record d { fifodirs = left_by o names } }) (t.3 ne);
               said = refl;
-              stands = stands_left d st t.0 t.1 t.2.count t.2.opened;
+              represents = represents_left d st t.0 t.1 t.2.count t.2.opened;
             })
       ]

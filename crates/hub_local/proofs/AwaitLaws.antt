@@ -9,7 +9,7 @@ use Rattle.hub_record.proofs.Taking.{reply_evicted, reply_got, reply_none}
 use Rattle.hub_local.specs.Awaits.{has_something, has_pending, holds_letter, await_answer}
 use Rattle.hub_local.specs.Laws.{AwaitsTellTakes, AwaitsTellPolls}
 use Rattle.hub_local.specs.DeskAnswers.{request_answer, take_shown}
-use Rattle.hub_local.specs.Desks.{Desk, IsDesk, standing, holding_at, world_of, subscription_of}
+use Rattle.hub_local.specs.Desks.{Desk, IsDesk, active, holding_at, world_of, subscription_of}
 use Rattle.hub_local.specs.Polls.{is_out, quiet_reply, to_hear, hear_answer, poll_answer}
 use Rattle.hub_local.specs.declared.local_desk.Holding.{Holding}
 use Rattle.hub_local.specs.declared.local_desk.LocalListener.{LocalListener}
@@ -34,7 +34,7 @@ held_in : (d : Desk) (id : ℕ) (h : Holding) → IsDesk d → holding_at d id �
 held_in d id h is e = by (world_of d.fifodirs h.name) refl
   where
     held : is_some (subscription_of d.fifodirs h) ≡ true
-    held = held_at d.fifodirs (standing d) id h is.held e
+    held = held_at d.fifodirs (active d) id h is.held e
 
     by : (o : Option World) → world_of d.fifodirs h.name ≡ o → IsHeldIn d id h
     by None there = let k = simp there at held in absurd (true≢false (sym k))

@@ -8,12 +8,12 @@ use Rattle.hub_listen.specs.Listening.{Listening, Feeds, is_spent, after_quiet, 
 use Rattle.hub_listen.specs.declared.feed.Feed.TheVariants as fed
 use Rattle.hub_listen.proofs.Prefixes.{HasNoHit-append}
 use Rattle.hub_listen.proofs.Singly.{nothing_is_quiet, one_more, one_more_hit}
-use Rattle.hub_record.specs.Kept.{Kept, StandsFor}
+use Rattle.hub_record.specs.Kept.{Kept, Represents}
 use Rattle.hub_record.specs.World.{World, Subscription, subscription_in, count_to_take, moved_on, after_take}
 use Rattle.hub_record.proofs.Policies.{count_none}
 use Rattle.hub_local.specs.Polls.{is_out, to_hear, taken_from}
 use Rattle.hub_local.specs.Hearings.{behind, IsAt, HearsOne, Hears, TakesOne}
-use Rattle.hub_local.specs.Standing.{HasSubscription}
+use Rattle.hub_local.specs.Representing.{HasSubscription}
 use Rattle.hub_local.specs.declared.local_desk.LocalListener.{LocalListener}
 use Rattle.hub_local.specs.declared.local_desk.listeners.Heard.{Heard}
 use Rattle.hub_local.specs.declared.local_desk.listeners.Heard.TheVariants.{Hit, Nothing, End, Evicted, Lacking}
@@ -29,7 +29,7 @@ pub record HeardPrefix (g : LocalListener) (w : World) (id : ℕ) (n : ℕ) (new
   pub quiet : Feeds g.listener (take n (to_hear g w id)) (Ok fed.Quiet) new.listener
   pub mode_is : new.mode ≡ g.mode
   pub held_is : new.held ≡ held_after g n
-  pub stands : StandsFor kept (taken_from g w id n)
+  pub represents : Represents kept (taken_from g w id n)
 
 -- the subscription, if there is one
 pub has_found : (o : Option Subscription) → is_some o ≡ true → (s : Subscription) × (o ≡ Some s)
@@ -45,13 +45,13 @@ module _ (g : LocalListener) (w : World) (id : ℕ) (s : Subscription) (is : sub
   letters_count = length-append (option_to_list g.held) (behind w id)
 
   -- at the beginning
-  pub prefix_none : (kept : Kept) → is_spent g.listener ≡ false → length g.listener.gathered ≤ MOST_GATHERED → StandsFor kept w → HeardPrefix g w id 0 g kept
-  prefix_none kept unspent short stands = record {
+  pub prefix_none : (kept : Kept) → is_spent g.listener ≡ false → length g.listener.gathered ≤ MOST_GATHERED → Represents kept w → HeardPrefix g w id 0 g kept
+  prefix_none kept unspent short represents = record {
     within = omega arith;
     quiet = nothing_is_quiet g.listener unspent short;
     mode_is = refl;
     held_is = refl;
-    stands = (let t : count_to_take w s (0 - length (option_to_list g.held)) ≡ 0 = count_none w s _ (omega arith) in subst (StandsFor kept) (sym (take_none w id s is (0 - length (option_to_list g.held)) t)) stands);
+    represents = (let t : count_to_take w s (0 - length (option_to_list g.held)) ≡ 0 = count_none w s _ (omega arith) in subst (Represents kept) (sym (take_none w id s is (0 - length (option_to_list g.held)) t)) represents);
   }
 
   pub found_left : (n : ℕ) → subscription_in (taken_from g w id n) id ≡ Some (moved_on w (n - length (option_to_list g.held)) s)
@@ -98,8 +98,8 @@ module _ (g : LocalListener) (w : World) (id : ℕ) (s : Subscription) (is : sub
     letters = to_hear g w id
 
     -- what the next feed needs
-    pub prefix_stands : HasSubscription kept id
-    prefix_stands = record { world = taken_from g w id n; stands = prefix.stands; subscribed = ap is_some (found_left n) }
+    pub prefix_represents : HasSubscription kept id
+    prefix_represents = record { world = taken_from g w id n; represents = prefix.represents; subscribed = ap is_some (found_left n) }
 
     pub prefix_unspent : is_spent new.listener ≡ false
     prefix_unspent = ap is_spent prefix.quiet.3 ∙ prefix.quiet.0
@@ -131,21 +131,21 @@ module _ (g : LocalListener) (w : World) (id : ℕ) (s : Subscription) (is : sub
       none_after : held_after g (n + 1) ≡ None
       none_after = let e : n + 1 ≡ suc n = omega arith in ap (held_after g) e
 
-      pub prefix_more : (new' : LocalListener) (kept' : Kept) → Feeds new.listener (x ∷ []) (Ok fed.Quiet) new'.listener → new'.mode ≡ new.mode → new'.held ≡ None → StandsFor kept' (taken_from new (taken_from g w id n) id 1)
+      pub prefix_more : (new' : LocalListener) (kept' : Kept) → Feeds new.listener (x ∷ []) (Ok fed.Quiet) new'.listener → new'.mode ≡ new.mode → new'.held ≡ None → Represents kept' (taken_from new (taken_from g w id n) id 1)
           → HeardPrefix g w id (n + 1) new' kept'
-      prefix_more new' kept' hears mode held stands = record {
+      prefix_more new' kept' hears mode held represents = record {
         within = (let l = inside in omega arith);
         quiet = one_more g.listener new.listener new'.listener letters n inside (Ok fed.Quiet) prefix.quiet (subst (λ (p : List ℕ). Feeds new.listener p (Ok fed.Quiet) new'.listener) piece hears);
         mode_is = mode ∙ prefix.mode_is;
         held_is = held ∙ sym none_after;
-        stands = subst (StandsFor kept') (taken_one_more n new prefix.held_is inside) stands;
+        represents = subst (Represents kept') (taken_one_more n new prefix.held_is inside) represents;
       }
 
-      pub prefix_hit : (k : ℕ) (new' : LocalListener) (kept' : Kept) → Feeds new.listener (x ∷ []) (Ok (fed.Hit k)) new'.listener → new'.mode ≡ new.mode → new'.held ≡ None → StandsFor kept' (taken_from new (taken_from g w id n) id 1)
+      pub prefix_hit : (k : ℕ) (new' : LocalListener) (kept' : Kept) → Feeds new.listener (x ∷ []) (Ok (fed.Hit k)) new'.listener → new'.mode ≡ new.mode → new'.held ≡ None → Represents kept' (taken_from new (taken_from g w id n) id 1)
           → Hears g w id Hit new' kept'
-      prefix_hit k new' kept' hears mode held stands =
+      prefix_hit k new' kept' hears mode held represents =
           let hit = one_more_hit g.listener new.listener new'.listener letters n k inside prefix.quiet (subst (λ (p : List ℕ). Feeds new.listener p (Ok (fed.Hit k)) new'.listener) piece hears) in
-          (n + 1, hit.0, record { listener_is = hit.1; mode_is = mode ∙ prefix.mode_is; held_is = held; stands = subst (StandsFor kept') (taken_one_more n new prefix.held_is inside) stands })
+          (n + 1, hit.0, record { listener_is = hit.1; mode_is = mode ∙ prefix.mode_is; held_is = held; represents = subst (Represents kept') (taken_one_more n new prefix.held_is inside) represents })
 
       pub prefix_lacks : length g.listener.gathered + n < MOST_GATHERED → (new' : LocalListener) (kept' : Kept) → IsAt new (taken_from g w id n) id 1 new.listener (Some x) new' kept' → Hears g w id Lacking new' kept'
       prefix_lacks room new' kept' at = (
@@ -156,15 +156,15 @@ module _ (g : LocalListener) (w : World) (id : ℕ) (s : Subscription) (is : sub
           listener_is = at.listener_is ∙ prefix.quiet.3;
           mode_is = at.mode_is ∙ prefix.mode_is;
           held_is = at.held_is ∙ sym at_next;
-          stands = subst (StandsFor kept') (taken_one_more n new prefix.held_is inside) at.stands;
+          represents = subst (Represents kept') (taken_one_more n new prefix.held_is inside) at.represents;
         },
       )
 
     -- all letters that there was room for
-    pub prefix_is : (new' : LocalListener) (kept' : Kept) → n ≡ fitting g.listener letters → new'.listener ≡ new.listener → new'.mode ≡ new.mode → new'.held ≡ None → StandsFor kept' (taken_from g w id n)
+    pub prefix_is : (new' : LocalListener) (kept' : Kept) → n ≡ fitting g.listener letters → new'.listener ≡ new.listener → new'.mode ≡ new.mode → new'.held ≡ None → Represents kept' (taken_from g w id n)
         → IsAt g w id (fitting g.listener letters) (after_quiet g.listener (take (fitting g.listener letters) letters)) None new' kept'
-    prefix_is new' kept' all listener mode held stands = subst (λ (k : ℕ). IsAt g w id k (after_quiet g.listener (take k letters)) None new' kept') all
-        (record { listener_is = listener ∙ prefix.quiet.3; mode_is = mode ∙ prefix.mode_is; held_is = held; stands = stands })
+    prefix_is new' kept' all listener mode held represents = subst (λ (k : ℕ). IsAt g w id k (after_quiet g.listener (take k letters)) None new' kept') all
+        (record { listener_is = listener ∙ prefix.quiet.3; mode_is = mode ∙ prefix.mode_is; held_is = held; represents = represents })
 
     module _ (none : to_hear new (taken_from g w id n) id ≡ []) (room : length g.listener.gathered + n < MOST_GATHERED) where
       all_heard : n ≡ length letters
@@ -178,7 +178,7 @@ module _ (g : LocalListener) (w : World) (id : ℕ) (s : Subscription) (is : sub
 
       module _ (new' : LocalListener) (kept' : Kept) (at : IsAt new (taken_from g w id n) id 0 new.listener None new' kept') where
         at_end : IsAt g w id (fitting g.listener letters) (after_quiet g.listener (take (fitting g.listener letters) letters)) None new' kept'
-        at_end = prefix_is new' kept' all_fit at.listener_is at.mode_is at.held_is (subst (StandsFor kept') (none_more n new) at.stands)
+        at_end = prefix_is new' kept' all_fit at.listener_is at.mode_is at.held_is (subst (Represents kept') (none_more n new) at.represents)
 
         out_before : (out : Bool) → is_out (taken_from g w id n) id ≡ out → is_out w id ≡ out
         out_before out e = sym (out_then w id s is (n - length (option_to_list g.held))) ∙ e
@@ -204,7 +204,7 @@ module _ (g : LocalListener) (w : World) (id : ℕ) (s : Subscription) (is : sub
           subst (HasNoHit g.listener.pattern g.listener.gathered) (take-append-drop n letters)
               (HasNoHit-append g.listener.pattern g.listener.gathered (take n letters) (drop n letters) prefix.quiet.1 (omega arith)),
           inl (omega arith),
-          prefix_is new kept fits refl refl (prefix.held_is ∙ none_held n (omega arith)) prefix.stands,
+          prefix_is new kept fits refl refl (prefix.held_is ∙ none_held n (omega arith)) prefix.represents,
         )
       where
         none_held : (m : ℕ) → 1 ≤ m → held_after g m ≡ None
@@ -214,7 +214,7 @@ module _ (g : LocalListener) (w : World) (id : ℕ) (s : Subscription) (is : sub
     -- ---- what the next letter comes to, or that there is none
 
     pub prefix_then : length g.listener.gathered + n < MOST_GATHERED → (heard : Heard) (new' : LocalListener) (kept' : Kept) → HearsOne new (taken_from g w id n) id (Some heard) new' kept' → Hears g w id heard new' kept'
-    prefix_then room Hit new' kept' h = prefix_hit h.0 h.1 h.3 h.2 new' kept' h.4 h.5.mode_is h.5.held_is h.5.stands
+    prefix_then room Hit new' kept' h = prefix_hit h.0 h.1 h.3 h.2 new' kept' h.4 h.5.mode_is h.5.held_is h.5.represents
     prefix_then room Nothing new' kept' h = prefix_nothing h.0 room new' kept' h.2 h.1 h.3
     prefix_then room End new' kept' h = prefix_end h.0 room new' kept' h.2 h.1 h.3
     prefix_then room Evicted new' kept' h = prefix_evicted h.0 room new' kept' h.2 h.1
@@ -225,35 +225,35 @@ module _ (g : LocalListener) (w : World) (id : ℕ) (s : Subscription) (is : sub
 pub record HasNext (g : LocalListener) (w : World) (id : ℕ) (x : ℕ) (kept : Kept) : Type 0 where
   pub rest : List ℕ
   pub first : to_hear g w id ≡ x ∷ rest
-  pub stands : StandsFor kept (taken_from g w id 1)
+  pub represents : Represents kept (taken_from g w id 1)
 
 module _ (g : LocalListener) (w : World) (id : ℕ) (s : Subscription) (is : subscription_in w id ≡ Some s) where
-  pub none_used : (kept : Kept) → StandsFor kept w → (n : ℕ) → n ≡ length (option_to_list g.held) → StandsFor kept (taken_from g w id n)
-  none_used kept stands n same =
+  pub none_used : (kept : Kept) → Represents kept w → (n : ℕ) → n ≡ length (option_to_list g.held) → Represents kept (taken_from g w id n)
+  none_used kept represents n same =
       let t : count_to_take w s (n - length (option_to_list g.held)) ≡ 0 = count_none w s _ (omega arith) in
-      subst (StandsFor kept) (sym (take_none w id s is (n - length (option_to_list g.held)) t)) stands
+      subst (Represents kept) (sym (take_none w id s is (n - length (option_to_list g.held)) t)) represents
 
-  pub held_next : (x y : ℕ) → g.held ≡ Some y → x ≡ y → (kept old : Kept) → StandsFor old w → kept ≡ old → HasNext g w id x kept
-  held_next x y held same kept old stands still = record {
+  pub held_next : (x y : ℕ) → g.held ≡ Some y → x ≡ y → (kept old : Kept) → Represents old w → kept ≡ old → HasNext g w id x kept
+  held_next x y held same kept old represents still = record {
     rest = behind w id;
     first = ap (λ (o : Option ℕ). option_to_list o ++ behind w id) held ∙ ap (λ (z : ℕ). z ∷ behind w id) (sym same);
-    stands = none_used kept (subst (λ (k : Kept). StandsFor k w) (sym still) stands) 1 (sym (ap (λ (o : Option ℕ). length (option_to_list o)) held));
+    represents = none_used kept (subst (λ (k : Kept). Represents k w) (sym still) represents) 1 (sym (ap (λ (o : Option ℕ). length (option_to_list o)) held));
   }
 
   pub taken_next : (x y : ℕ) → g.held ≡ None → x ≡ y → (kept new : Kept) → TakesOne w id (Ok y) new → kept ≡ new → HasNext g w id x kept
   taken_next x y held same kept new takes still = record {
     rest = takes.0;
     first = ap (λ (o : Option ℕ). option_to_list o ++ behind w id) held ∙ takes.1 ∙ ap (λ (z : ℕ). z ∷ takes.0) (sym same);
-    stands = subst (λ (k : Kept). StandsFor k (taken_from g w id 1)) (sym still)
-        (subst (λ (o : Option ℕ). StandsFor new (after_take w id (1 - length (option_to_list o)))) (sym held) takes.2);
+    represents = subst (λ (k : Kept). Represents k (taken_from g w id 1)) (sym still)
+        (subst (λ (o : Option ℕ). Represents new (after_take w id (1 - length (option_to_list o)))) (sym held) takes.2);
   }
 
   pub nothing_next : g.held ≡ None → behind w id ≡ [] → to_hear g w id ≡ []
   nothing_next held none = ap (λ (o : Option ℕ). option_to_list o ++ behind w id) held ∙ none
 
   pub none_next : g.held ≡ None → (heard : Heard) (kept : Kept) → TakesOne w id (Err heard) kept → HearsOne g w id (Some heard) g kept
-  none_next held Nothing kept t = (nothing_next held t.0, t.1, record { listener_is = refl; mode_is = refl; held_is = held; stands = none_used kept t.2 0 (sym (ap (λ (o : Option ℕ). length (option_to_list o)) held)) }, t.3)
-  none_next held End kept t = (nothing_next held t.0, t.1, record { listener_is = refl; mode_is = refl; held_is = held; stands = none_used kept t.2 0 (sym (ap (λ (o : Option ℕ). length (option_to_list o)) held)) }, t.3)
-  none_next held Evicted kept t = (nothing_next held t.0, t.1, record { listener_is = refl; mode_is = refl; held_is = held; stands = none_used kept t.2 0 (sym (ap (λ (o : Option ℕ). length (option_to_list o)) held)) })
+  none_next held Nothing kept t = (nothing_next held t.0, t.1, record { listener_is = refl; mode_is = refl; held_is = held; represents = none_used kept t.2 0 (sym (ap (λ (o : Option ℕ). length (option_to_list o)) held)) }, t.3)
+  none_next held End kept t = (nothing_next held t.0, t.1, record { listener_is = refl; mode_is = refl; held_is = held; represents = none_used kept t.2 0 (sym (ap (λ (o : Option ℕ). length (option_to_list o)) held)) }, t.3)
+  none_next held Evicted kept t = (nothing_next held t.0, t.1, record { listener_is = refl; mode_is = refl; held_is = held; represents = none_used kept t.2 0 (sym (ap (λ (o : Option ℕ). length (option_to_list o)) held)) })
   none_next held Hit kept t = absurd t
   none_next held Lacking kept t = absurd t

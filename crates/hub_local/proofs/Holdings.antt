@@ -5,7 +5,7 @@ use Rattle.std.specs.Map.{lookup, remove_entry, set_value}
 use Rattle.std.specs.Str.{bytes_eq}
 use Rattle.std.proofs.lemmas.Slice.Eq.{bytes_eq-Decides}
 use Rattle.hub_record.specs.World.{World, Subscription, subscription_in, as_cancelled, after_cancel, after_cancel_for}
-use Rattle.hub_local.specs.Desks.{Fifodir, Handle, world_of, with_world, standing_from, without_holding, without_from, subscription_of, AreHeld, IsApart, AreApart, GoesOn, AllGoOn, end_in, without_held, with_holding_from}
+use Rattle.hub_local.specs.Desks.{Fifodir, Handle, world_of, with_world, active_from, without_holding, without_from, subscription_of, AreHeld, IsApart, AreApart, GoesOn, AllGoOn, end_in, without_held, with_holding_from}
 use Rattle.hub_local.specs.declared.local_desk.Holding.{Holding}
 use Rattle.hub_local.proofs.KeptFifodirs.{world_of-push, world_of-with_world}
 use Rattle.hub_local.proofs.Worlds.{found_below, found_changed_other}
@@ -13,7 +13,7 @@ use Rattle.hub_local.proofs.Worlds.{found_below, found_changed_other}
 -- ---- the numbers
 
 -- a number below the first isn't among them
-pub none_below : (from : ℕ) (hs : List Handle) (n : ℕ) → n < from → lookup (nat_eq n) (standing_from from hs) ≡ None
+pub none_below : (from : ℕ) (hs : List Handle) (n : ℕ) → n < from → lookup (nat_eq n) (active_from from hs) ≡ None
 none_below from [] n l = refl
 none_below from (h ∷ rest) n l =
     let no : nat_eq n from ≡ false = ne_eqb n from (λ (e : n ≡ from). omega arith) in
@@ -21,7 +21,7 @@ none_below from (h ∷ rest) n l =
     elim (cases_Bool h.current) [ inl st ↦ simp (st, no) ih | inr st ↦ simp st ih ]
 
 -- nor is a number that wasn't given yet
-pub none_above : (from : ℕ) (hs : List Handle) (n : ℕ) → from + length hs ≤ n → lookup (nat_eq n) (standing_from from hs) ≡ None
+pub none_above : (from : ℕ) (hs : List Handle) (n : ℕ) → from + length hs ≤ n → lookup (nat_eq n) (active_from from hs) ≡ None
 none_above from [] n l = refl
 none_above from (h ∷ rest) n l =
     let no : nat_eq n from ≡ false = ne_eqb n from (λ (e : n ≡ from). omega arith) in
@@ -29,7 +29,7 @@ none_above from (h ∷ rest) n l =
     elim (cases_Bool h.current) [ inl st ↦ simp (st, no) ih | inr st ↦ simp st ih ]
 
 -- if the first number is found, it is current
-pub current_first : (from : ℕ) (x : Handle) (rest : List Handle) (n : ℕ) (h : Holding) → nat_eq n from ≡ true → lookup (nat_eq n) (standing_from from (x ∷ rest)) ≡ Some h → x.current ≡ true
+pub current_first : (from : ℕ) (x : Handle) (rest : List Handle) (n : ℕ) (h : Holding) → nat_eq n from ≡ true → lookup (nat_eq n) (active_from from (x ∷ rest)) ≡ Some h → x.current ≡ true
 current_first from x rest n h t e =
     elim (cases_Bool x.current) [
       | inl st ↦ st
@@ -39,23 +39,23 @@ current_first from x rest n h t e =
     ]
 
 -- and another number is found behind it
-pub found_behind : (from : ℕ) (x : Handle) (rest : List Handle) (n : ℕ) (h : Holding) → nat_eq n from ≡ false → lookup (nat_eq n) (standing_from from (x ∷ rest)) ≡ Some h
-    → lookup (nat_eq n) (standing_from (from + 1) rest) ≡ Some h
+pub found_behind : (from : ℕ) (x : Handle) (rest : List Handle) (n : ℕ) (h : Holding) → nat_eq n from ≡ false → lookup (nat_eq n) (active_from from (x ∷ rest)) ≡ Some h
+    → lookup (nat_eq n) (active_from (from + 1) rest) ≡ Some h
 found_behind from x rest n h t e = elim (cases_Bool x.current) [ inl st ↦ (let k = simp (st, t) at e in k) | inr st ↦ (let k = simp st at e in k) ]
 
-pub standing-push : (from : ℕ) (hs : List Handle) (h : Handle) (n : ℕ) → h.current ≡ true → n ≡ from + length hs → standing_from from (hs ++ h ∷ []) ≡ standing_from from hs ++ (n, h.holding) ∷ []
-standing-push from [] h n st is = let same : from ≡ n = omega arith in simp st (ap (λ (z : ℕ). (z, h.holding) ∷ []) same)
-standing-push from (x ∷ rest) h n st is =
-    let ih = standing-push (from + 1) rest h n st (omega arith) in
+pub active-push : (from : ℕ) (hs : List Handle) (h : Handle) (n : ℕ) → h.current ≡ true → n ≡ from + length hs → active_from from (hs ++ h ∷ []) ≡ active_from from hs ++ (n, h.holding) ∷ []
+active-push from [] h n st is = let same : from ≡ n = omega arith in simp st (ap (λ (z : ℕ). (z, h.holding) ∷ []) same)
+active-push from (x ∷ rest) h n st is =
+    let ih = active-push (from + 1) rest h n st (omega arith) in
     elim (cases_Bool x.current) [ inl xs ↦ simp xs (ap (λ (z : List (ℕ × Holding)). (from, x.holding) ∷ z) ih) | inr xs ↦ simp xs ih ]
 
-pub standing-without : (from : ℕ) (hs : List Handle) (n : ℕ) (h : Holding) → lookup (nat_eq n) (standing_from from hs) ≡ Some h
-    → standing_from from (without_from from hs n) ≡ remove_entry (nat_eq n) (standing_from from hs)
-standing-without from [] n h e = refl
-standing-without from (x ∷ rest) n h e =
+pub active-without : (from : ℕ) (hs : List Handle) (n : ℕ) (h : Holding) → lookup (nat_eq n) (active_from from hs) ≡ Some h
+    → active_from from (without_from from hs n) ≡ remove_entry (nat_eq n) (active_from from hs)
+active-without from [] n h e = refl
+active-without from (x ∷ rest) n h e =
     elim (cases_Bool (nat_eq n from)) [
       | inl t ↦ (let st = current_first from x rest n h t e in simp (t, st))
-      | inr t ↦ (let ih = standing-without (from + 1) rest n h (found_behind from x rest n h t e) in
+      | inr t ↦ (let ih = active-without (from + 1) rest n h (found_behind from x rest n h t e) in
           elim (cases_Bool x.current) [ inl st ↦ simp (t, st) (ap (λ (z : List (ℕ × Holding)). (from, x.holding) ∷ z) ih) | inr st ↦ simp (t, st) ih ])
     ]
 
@@ -63,9 +63,9 @@ pub length-without : (from : ℕ) (hs : List Handle) (n : ℕ) → length (witho
 length-without from [] n = refl
 length-without from (x ∷ rest) n = elim (cases_Bool (nat_eq n from)) [ inl t ↦ simp t | inr t ↦ simp t (ap suc (length-without (from + 1) rest n)) ]
 
-pub standing-dropped : (from : ℕ) (hs : List Handle) → standing_from from (map without_holding hs) ≡ []
-standing-dropped from [] = refl
-standing-dropped from (h ∷ rest) = standing-dropped (from + 1) rest
+pub active-dropped : (from : ℕ) (hs : List Handle) → active_from from (map without_holding hs) ≡ []
+active-dropped from [] = refl
+active-dropped from (h ∷ rest) = active-dropped (from + 1) rest
 
 pub length-dropped : (hs : List Handle) → length (map without_holding hs) ≡ length hs
 length-dropped [] = refl
@@ -196,13 +196,13 @@ held_beside_cancelled fs h g apart s = by (world_of fs h.name) refl
 
 -- ---- another holding under a number, for the same subscription
 
-pub standing-with : (from : ℕ) (hs : List Handle) (n : ℕ) (h new : Holding) → lookup (nat_eq n) (standing_from from hs) ≡ Some h
-    → standing_from from (with_holding_from from hs n new) ≡ set_value (nat_eq n) (standing_from from hs) new
-standing-with from [] n h new e = refl
-standing-with from (x ∷ rest) n h new e =
+pub active-with : (from : ℕ) (hs : List Handle) (n : ℕ) (h new : Holding) → lookup (nat_eq n) (active_from from hs) ≡ Some h
+    → active_from from (with_holding_from from hs n new) ≡ set_value (nat_eq n) (active_from from hs) new
+active-with from [] n h new e = refl
+active-with from (x ∷ rest) n h new e =
     elim (cases_Bool (nat_eq n from)) [
       | inl t ↦ (let st = current_first from x rest n h t e in simp (t, st))
-      | inr t ↦ (let ih = standing-with (from + 1) rest n h new (found_behind from x rest n h t e) in
+      | inr t ↦ (let ih = active-with (from + 1) rest n h new (found_behind from x rest n h t e) in
           elim (cases_Bool x.current) [ inl st ↦ simp (t, st) (ap (λ (z : List (ℕ × Holding)). (from, x.holding) ∷ z) ih) | inr st ↦ simp (t, st) ih ])
     ]
 

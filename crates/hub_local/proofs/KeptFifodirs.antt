@@ -4,10 +4,10 @@ use Rattle.std.proofs.lemmas.Bool.{cases_Bool}
 use Rattle.std.proofs.lemmas.Slice.Eq.{bytes_eq-Decides}
 use Rattle.std.specs.Map.{lookup, set_value}
 use Rattle.std.specs.Str.{bytes_eq}
-use Rattle.hub_record.specs.Kept.{StandsFor}
+use Rattle.hub_record.specs.Kept.{Represents}
 use Rattle.hub_record.specs.World.{World}
 use Rattle.hub_local.specs.Desks.{Fifodir, world_of, with_world}
-use Rattle.hub_local.specs.Standing.{IsKept, AreKept}
+use Rattle.hub_local.specs.Representing.{IsKept, AreKept}
 use Rattle.hub_local.specs.declared.local_desk.LocalFifodir.{LocalFifodir}
 
 module _ (name : List ℕ) where
@@ -31,9 +31,9 @@ module _ (name : List ℕ) where
         | inr t ↦ simp t (none_kept es fs h.1 (simp (same, t) at e))
       ]
 
-  -- the world for which a kept fifodir stands
+  -- the world that a kept fifodir represents
   pub some_kept : (es : List (List ℕ × LocalFifodir)) (fs : List Fifodir) (r : LocalFifodir) → AreKept es fs → lookup (bytes_eq name) es ≡ Some r
-      → (w : World) × (world_of fs name ≡ Some w) × StandsFor r.kept w
+      → (w : World) × (world_of fs name ≡ Some w) × Represents r.kept w
   some_kept [] [] r h e = absurd (let k : ⊥ = cc in k)
   some_kept [] (f ∷ fs) r h e = absurd h
   some_kept (x ∷ es) [] r h e = absurd h
@@ -42,13 +42,13 @@ module _ (name : List ℕ) where
       elim (cases_Bool (bytes_eq name f.name)) [
         | inl t ↦ (let k = simp (same, t) at e in
             let is : x.1 ≡ r = cc in
-            (f.world, simp t, subst (λ (z : LocalFifodir). StandsFor z.kept f.world) is h.0.world))
+            (f.world, simp t, subst (λ (z : LocalFifodir). Represents z.kept f.world) is h.0.world))
         | inr t ↦ (let g = some_kept es fs r h.1 (simp (same, t) at e) in (g.0, simp t g.1, g.2))
       ]
 
   -- another record under the name, and another world
   pub kept_set : (es : List (List ℕ × LocalFifodir)) (fs : List Fifodir) (r new : LocalFifodir) (w : World) → AreKept es fs → lookup (bytes_eq name) es ≡ Some r
-      → new.reports ≡ r.reports → StandsFor new.kept w → AreKept (set_value (bytes_eq name) es new) (with_world fs name w)
+      → new.reports ≡ r.reports → Represents new.kept w → AreKept (set_value (bytes_eq name) es new) (with_world fs name w)
   kept_set [] [] r new w h e n s = tt
   kept_set [] (f ∷ fs) r new w h e n s = absurd h
   kept_set (x ∷ es) [] r new w h e n s = absurd h
@@ -69,9 +69,9 @@ module _ (name : List ℕ) where
         | inr t ↦ simp t (ap (λ (z : List Fifodir). f ∷ z) (with_world-same fs w (simp t at e)))
       ]
 
-  -- another record under the name that stands for the same world
+  -- another record under the name that represents the same world
   pub kept_still : (es : List (List ℕ × LocalFifodir)) (fs : List Fifodir) (r new : LocalFifodir) (w : World) → AreKept es fs → lookup (bytes_eq name) es ≡ Some r
-      → world_of fs name ≡ Some w → new.reports ≡ r.reports → StandsFor new.kept w → AreKept (set_value (bytes_eq name) es new) fs
+      → world_of fs name ≡ Some w → new.reports ≡ r.reports → Represents new.kept w → AreKept (set_value (bytes_eq name) es new) fs
   kept_still es fs r new w h e is n s = subst (λ (z : List Fifodir). AreKept (set_value (bytes_eq name) es new) z) (with_world-same fs w is) (kept_set es fs r new w h e n s)
 
   pub world_of-push : (fs : List Fifodir) (f : Fifodir) (w : World) → world_of fs name ≡ Some w → world_of (fs ++ f ∷ []) name ≡ Some w

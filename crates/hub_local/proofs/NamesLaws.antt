@@ -14,7 +14,7 @@ use Rattle.hub_record.specs.declared.SubError.{SubError}
 use Rattle.hub_record.specs.declared.PubError.{PubError}
 use Rattle.hub_record.specs.declared.Closed.{Closed}
 use Rattle.hub_local.specs.DeskAnswers.{own_refusal, request_answer, answer_by, in_world, for_holding, for_hearing, make_answer, subscribe_answer, publish_answer, close_answer, new_hearing}
-use Rattle.hub_local.specs.Desks.{Desk, Answer, Fifodir, names_in, world_of, with_world, holding_at, end_in, without_held, without_all, standing}
+use Rattle.hub_local.specs.Desks.{Desk, Answer, Fifodir, names_in, world_of, with_world, holding_at, end_in, without_held, without_all, active}
 use Rattle.hub_local.specs.Laws.{NamesStay, NamesOutliveTheEnd, name_made}
 use Rattle.hub_local.specs.Polls.{hear_answer, heard_on, heard_to_hit, ended_by, taken_from, to_hear}
 use Rattle.hub_listen.specs.Hit.{hit_length}
@@ -144,4 +144,4 @@ names_stay d read (Wait span want turns names) =
 names_stay d read request = answer_stays d (own_refusal d read request) (request_answer d request) refl
 
 pub names_outlive_the_end : NamesOutliveTheEnd
-names_outlive_the_end d = names_in-without_all d.fifodirs (values_of (standing d))
+names_outlive_the_end d = names_in-without_all d.fifodirs (values_of (active d))

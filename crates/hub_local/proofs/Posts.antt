@@ -10,7 +10,7 @@ use Rattle.hub_letters.specs.declared.want.Want.{Want}
 use Rattle.hub_record.specs.declared.Status.{Status}
 use Rattle.hub_record.specs.declared.SubError.{SubError}
 use Rattle.hub_record.specs.declared.SubError.TheVariants as sub
-use Rattle.hub_record.specs.Kept.{Kept, StandsFor}
+use Rattle.hub_record.specs.Kept.{Kept, Represents}
 use Rattle.hub_record.specs.World.{World, SubscribeReply, after_subscribe}
 use Rattle.hub_letters.specs.declared.span.Span.{Span}
 use Rattle.hub_wait.specs.Verdicts.{Tallied, tally_of}
@@ -19,7 +19,7 @@ use Rattle.hub_local.specs.Desks.{Fifodir, reports_of, with_world}
 use Rattle.hub_local.specs.Opening.{OpensPost, OpensAll}
 use Rattle.hub_local.specs.Replies.{subscribe_reply}
 use Rattle.hub_requests.specs.Refusals.{refusal_of_sub}
-use Rattle.hub_local.specs.Standing.{AreKept}
+use Rattle.hub_local.specs.Representing.{AreKept}
 use Rattle.hub_local.specs.Waits.{status_of, watch_over, Opening, so_far, opening_refused, opened_by, opened_in, with_post, opening_of, without_posts}
 use Rattle.hub_local.specs.declared.local_desk.LocalFifodir.{LocalFifodir}
 use Rattle.hub_local.specs.declared.local_desk.waits.LocalPost.{LocalPost}
@@ -58,7 +58,7 @@ module _ (want : Want) (name : List ℕ) (es : List (List ℕ × LocalFifodir)) 
   opens_nowhere none = (h, λ real posts. ap (opened_in want (so_far fs posts) name) (none_kept name es fs h none))
 
   module _ (r : LocalFifodir) (kept : Kept) (was : lookup (bytes_eq name) es ≡ Some r) where
-    pub opens_one : (given : ℕ × ℕ) (status : Status) (watch : Watching) → ((w : World) → StandsFor r.kept w → SubscribeReply w (Ok given)) → ((w : World) → StandsFor r.kept w → StandsFor kept (after_subscribe w (Ok given)))
+    pub opens_one : (given : ℕ × ℕ) (status : Status) (watch : Watching) → ((w : World) → Represents r.kept w → SubscribeReply w (Ok given)) → ((w : World) → Represents r.kept w → Represents kept (after_subscribe w (Ok given)))
         → status.number ≡ kept.end → status.flags ≡ kept.flags → status.closed ≡ kept.closed → watch ≡ new_watching want (unwrap_or r.reports false) status
         → OpensPost want name fs (Ok (record { id = given.0; watch = watch })) (set_value (bytes_eq name) es (record { kept = kept; reports = r.reports }))
     opens_one given status watch replies after number flags is_closed watches =
@@ -77,11 +77,11 @@ module _ (want : Want) (name : List ℕ) (es : List (List ℕ × LocalFifodir)) 
               ∙ ap (λ (z : Watching). so_far now (posts ++ record { id = given.0; watch = z } ∷ [])) same,
         )
 
-    pub opens_refused : (error : SubError) (refusal : Refusal) → ((w : World) → StandsFor r.kept w → SubscribeReply w (Err error)) → kept ≡ r.kept → refusal ≡ refusal_of_sub error
+    pub opens_refused : (error : SubError) (refusal : Refusal) → ((w : World) → Represents r.kept w → SubscribeReply w (Err error)) → kept ≡ r.kept → refusal ≡ refusal_of_sub error
         → OpensPost want name fs (Err refusal) (set_value (bytes_eq name) es (record { kept = kept; reports = r.reports }))
     opens_refused error refusal replies still is =
         let t = some_kept name es fs r h was in (
-          kept_still name es fs r (record { kept = kept; reports = r.reports }) t.0 h was t.1 refl (subst (λ (k : Kept). StandsFor k t.0) (sym still) t.2),
+          kept_still name es fs r (record { kept = kept; reports = r.reports }) t.0 h was t.1 refl (subst (λ (k : Kept). Represents k t.0) (sym still) t.2),
           λ real posts. ap (opened_in want (so_far fs posts) name) t.1
               ∙ ap (opened_by want (so_far fs posts) name t.0) (sym (subscribe_reply_is t.0 (Err error) (replies t.0 t.2) (λ e. real (let k : error ≡ sub.Memory = cc in is ∙ ap refusal_of_sub k))))
               ∙ ap (opening_refused fs posts) (sym is),

@@ -16,7 +16,7 @@ use Rattle.hub_record.specs.declared.SubError.{SubError}
 use Rattle.hub_record.specs.declared.SubError.TheVariants as sub
 use Rattle.hub_record.specs.declared.PubError.{PubError}
 use Rattle.hub_record.specs.declared.PubError.TheVariants as post
-use Rattle.hub_record.specs.World.{World, current, standing, letters, needed, IsLawfulIn, IsUnlawfulIn, SubscribeReply, HasRoom, IsFull, PublishReply}
+use Rattle.hub_record.specs.World.{World, current, active, letters, needed, IsLawfulIn, IsUnlawfulIn, SubscribeReply, HasRoom, IsFull, PublishReply}
 use Rattle.hub_local.specs.Replies.{SubscribeIsOf, PublishIsOf, subscribe_reply, is_lawful_in, first_unlawful, is_full, lawful_reply, open_reply, publish_reply}
 
 pub subscribe_reply_is : (w : World) (r : Result (ℕ × ℕ) SubError) → SubscribeReply w r → r ≢ Err sub.Memory → r ≡ subscribe_reply w
@@ -94,8 +94,8 @@ first_unlawful_some Service word message i h = first_in word message i h
 
 no_room : (w : World) (n : ℕ) → IsFull w n → is_full w n ≡ true
 no_room w n h =
-    elim (cases_Bool (nat_eq (length (standing w)) 0)) [
-      | inl e ↦ absurd (h.0 (nil_from_length (standing w) (eqb-true _ 0 e)))
+    elim (cases_Bool (nat_eq (length (active w)) 0)) [
+      | inl e ↦ absurd (h.0 (nil_from_length (active w) (eqb-true _ 0 e)))
       | inr e ↦ simp (e, lt-ltb w.limits.waiting _ h.1)
     ]
 
@@ -103,7 +103,7 @@ room : (w : World) (n : ℕ) → HasRoom w n → is_full w n ≡ false
 room w n (inl none) = simp none
 room w n (inr fits) =
     let t = le-ltb w.limits.waiting (needed w n) fits in
-    elim (cases_Bool (nat_eq (length (standing w)) 0)) [ inl e ↦ simp e | inr e ↦ simp (e, t) ]
+    elim (cases_Bool (nat_eq (length (active w)) 0)) [ inl e ↦ simp e | inr e ↦ simp (e, t) ]
 
 pub publish_reply_is : (w : World) (message : List ℕ) (r : Result ℕ PubError) → PublishReply w message r → r ≡ publish_reply w message
 publish_reply_is w message (Ok first) h =
@@ -191,17 +191,17 @@ some_unlawful_in Plain word message i e = let n = first_unlawful_none Plain word
 
 full_holds : (w : World) (n : ℕ) → is_full w n ≡ true → IsFull w n
 full_holds w n e =
-    elim (cases_Bool (nat_eq (length (standing w)) 0)) [
+    elim (cases_Bool (nat_eq (length (active w)) 0)) [
       | inl z ↦ (let k = simp z at e in absurd (true≢false (sym k)))
       | inr z ↦ (λ none. eqb-false _ 0 z (ap length none), ltb-true w.limits.waiting _ (simp z at e))
     ]
 
 room_holds : (w : World) (n : ℕ) → is_full w n ≡ false → HasRoom w n
-room_holds w n e = by (standing w) refl
+room_holds w n e = by (active w) refl
   where
-    by : (xs : List (ℕ × ℕ)) → standing w ≡ xs → HasRoom w n
+    by : (xs : List (ℕ × ℕ)) → active w ≡ xs → HasRoom w n
     by [] is = inl is
-    by (x ∷ xs) is = inr (ltb-false w.limits.waiting (needed w n) (let z : nat_eq (length (standing w)) 0 ≡ false = ap (λ (ys : List (ℕ × ℕ)). nat_eq (length ys) 0) is ∙ ne_eqb (length (x ∷ xs)) 0 (λ (same : length (x ∷ xs) ≡ 0). omega arith) in simp z at e))
+    by (x ∷ xs) is = inr (ltb-false w.limits.waiting (needed w n) (let z : nat_eq (length (active w)) 0 ≡ false = ap (λ (ys : List (ℕ × ℕ)). nat_eq (length ys) 0) is ∙ ne_eqb (length (x ∷ xs)) 0 (λ (same : length (x ∷ xs) ≡ 0). omega arith) in simp z at e))
 
 module _ (w : World) (message : List ℕ) (lawful : IsLawfulIn w.kind (letters w.events)) where
   lawful_holds : w.closed ≡ false → first_unlawful w.kind (letters w.events) message ≡ None → PublishReply w message (lawful_reply w (length message))

@@ -2,7 +2,7 @@
 use Rattle.std.proofs.Common.{◌≡◌, ◌≢◌, ℕ, Bool, true, false, List, [], ◌∷◌, ◌++◌, Option, None, Some, option_to_list, refl, sym, ap, subst, ◌∙◌}
 use Rattle.std.proofs.lemmas.List.Elements.{All-head, All-tail}
 use Rattle.hub_local.specs.DeskAnswers.{answer, answer_to, answers, desk_after, pattern_in, first_read, later_reads, AreReads}
-use Rattle.hub_local.specs.Standing.{StandsForDesk, RunsAnswer, IsReadAs, over, asked}
+use Rattle.hub_local.specs.Representing.{RepresentsDesk, RunsAnswer, IsReadAs, over, asked}
 use Rattle.hub_requests.specs.declared.reply.Reply.{Reply}
 use Rattle.hub_requests.specs.declared.reply.Reply.TheVariants.{No}
 use Rattle.hub_requests.specs.declared.reply.Refusal.TheVariants.{Memory}
@@ -30,11 +30,11 @@ are_with_read true (Some text) reads texts reply real is rest = (is refl real, r
 are_with_read false (Some text) reads texts reply real is rest = rest
 
 pub runs_answer : RunsAnswer
-runs_answer old new requests replies desk (over local) real st = record { reads = []; are_reads = tt; said = refl; stands = st }
+runs_answer old new requests replies desk (over local) real st = record { reads = []; are_reads = tt; said = refl; represents = st }
 runs_answer old new requests replies desk (asked first mid last request rest reply others here later) real st =
     let is_real = All-head (λ x. x ≢ No Memory) reply others real in
     let now = here.answers.answered is_real desk st in
-    let then = runs_answer mid last rest others (answer desk here.read request).desk later (All-tail (λ x. x ≢ No Memory) reply others real) now.stands in
+    let then = runs_answer mid last rest others (answer desk here.read request).desk later (All-tail (λ x. x ≢ No Memory) reply others real) now.represents in
     let reads = with_read here.read (pattern_in request) then.reads in
     let one : answer_to desk reads request ≡ answer desk here.read request =
     ap (λ (read : Bool). answer desk read request) (first_with_read here.read (pattern_in request) then.reads reply here.is_read) in
@@ -42,5 +42,5 @@ runs_answer old new requests replies desk (asked first mid last request rest rep
       reads = reads;
       are_reads = are_with_read here.read (pattern_in request) then.reads _ reply is_real here.is_read then.are_reads;
       said = (λ i. now.said i ∷ then.said i) ∙ sym (λ i. (one i).reply ∷ answers (one i).desk (more i) rest);
-      stands = subst (StandsForDesk last) (sym (λ i. desk_after (one i).desk (more i) rest)) then.stands;
+      represents = subst (RepresentsDesk last) (sym (λ i. desk_after (one i).desk (more i) rest)) then.represents;
     }

@@ -2,12 +2,12 @@
 use Rattle.std.proofs.Common.{◌≡◌, if◌then◌else◌, ℕ, zero, suc, ◌+◌, ◌-◌, ◌<◌, ◌≤◌, Bool, true, false, List, [], ◌∷◌, ◌++◌, length, take, drop, get_or, min, nat_eq, Option, Some, is_some, Ok, refl, sym, ap, subst, ◌∙◌, inl, inr, true≢false, append_assoc, append-nil, ⊎_elim, arith, nat_lt, None}
 use Rattle.std.proofs.lemmas.Bool.{cases_Bool, cases_lt}
 use Rattle.std.proofs.lemmas.List.{length-drop, length-map, drop-drop, drop-map, nil_from_length}
-use Rattle.hub_record.specs.Kept.{Kept, StandsFor}
+use Rattle.hub_record.specs.Kept.{Kept, Represents}
 use Rattle.hub_record.specs.World.{World, Subscription, letters, is_evicted, subscription_in, found_from, changed_from, with_changed, count_to_take, events_to_take, moved_on, reply_for, take_reply, take_events, moved_for, after_take, after_take_for, pending_for}
 use Rattle.hub_record.specs.declared.Event.{Event}
 use Rattle.hub_record.specs.declared.Taken.{Taken}
 use Rattle.hub_record.specs.declared.Taken.TheVariants as taken
-use Rattle.hub_record.proofs.Policies.{count_standing, count_evicted, count_within, goes_on_up, end_up}
+use Rattle.hub_record.proofs.Policies.{count_active, count_evicted, count_within, goes_on_up, end_up}
 use Rattle.hub_record.proofs.Taking.{AnswerShows, shows_by, reply_evicted, reply_got, reply_none}
 use Rattle.hub_local.specs.Polls.{waiting_for, is_out, is_out_for}
 use Rattle.hub_local.specs.Hearings.{behind}
@@ -123,11 +123,11 @@ module _ (w : World) (id : ℕ) (s : Subscription) (is : subscription_in w id �
   moved_on_more m x e up below =
       let at : x.next ≡ s.next = ap (λ (y : Subscription). y.next) e in
       let up_here : is_evicted w x.next ≡ false = ap (λ (y : Subscription). is_evicted w y.next) e ∙ up in
-      let all = count_standing w x m up_here in
+      let all = count_active w x m up_here in
       let one : count_to_take w x m ≡ m = omega arith in
-      let later = count_standing w (moved_on w m x) 1 (goes_on_up w x.next (count_to_take w x m) up_here) in
+      let later = count_active w (moved_on w m x) 1 (goes_on_up w x.next (count_to_take w x m) up_here) in
       let two : count_to_take w (moved_on w m x) 1 ≡ 1 = omega arith in
-      let sum = count_standing w x (m + 1) up_here in
+      let sum = count_active w x (m + 1) up_here in
       let both : count_to_take w x (m + 1) ≡ m + 1 = omega arith in
       let next : x.next + count_to_take w x m + count_to_take w (moved_on w m x) 1 ≡ x.next + count_to_take w x (m + 1) = omega arith in
       let gathered : (x.gathered ++ take (count_to_take w x m) (drop x.next w.events)) ++ take (count_to_take w (moved_on w m x) 1) (drop (x.next + count_to_take w x m) w.events)
@@ -190,7 +190,7 @@ module _ (w : World) (id : ℕ) (s : Subscription) (is : subscription_in w id �
         let all = length-drop s.next w.events in
         ap (λ (u : World). behind u id) first ∙ ap (λ (o : Option Subscription). letters (waiting_for v o)) later
         ∙ ap (λ (b : Bool). letters (if b then [] else drop (s.next + count_to_take w s m) w.events)) (goes_on_up w s.next (count_to_take w s m) up)
-        ∙ ap (λ (n : ℕ). letters (drop (s.next + n) w.events)) (count_standing w s m up)
+        ∙ ap (λ (n : ℕ). letters (drop (s.next + n) w.events)) (count_active w s m up)
         ∙ ap letters (sym (drop-drop (min m (length w.events - s.next)) s.next w.events))
         ∙ ap (λ (n : ℕ). letters (drop (min m n) (drop s.next w.events))) (sym all)
         ∙ ap letters (drop-min (drop s.next w.events) m) ∙ sym (drop-map (λ (e : Event). e.letter) m (drop s.next w.events)) ∙ sym (ap (drop m) (behind_up up)))
@@ -214,20 +214,20 @@ module _ (w : World) (id : ℕ) (s : Subscription) (is : subscription_in w id �
   got_end e = shown_by taken.End e
 
   -- it is evicted
-  module _ (said : Ok taken.Evicted ≡ take_reply w id 1) (kept : Kept) (stands : StandsFor kept (after_take w id 1)) where
+  module _ (said : Ok taken.Evicted ≡ take_reply w id 1) (kept : Kept) (represents : Represents kept (after_take w id 1)) where
     out : is_evicted w s.next ≡ true
     out = shown_by taken.Evicted said
 
-    pub evicted_one : (behind w id ≡ []) × (is_out w id ≡ true) × StandsFor kept w
-    evicted_one = (behind_out out, out_is ∙ out, subst (StandsFor kept) (take_none w id s is 1 (count_evicted w s 1 out)) stands)
+    pub evicted_one : (behind w id ≡ []) × (is_out w id ≡ true) × Represents kept w
+    evicted_one = (behind_out out, out_is ∙ out, subst (Represents kept) (take_none w id s is 1 (count_evicted w s 1 out)) represents)
 
   -- none is pending
-  module _ (none : length w.events ≤ s.next) (kept : Kept) (stands : StandsFor kept (after_take w id 1)) where
+  module _ (none : length w.events ≤ s.next) (kept : Kept) (represents : Represents kept (after_take w id 1)) where
     pub none_behind : behind w id ≡ []
     none_behind = let l = length-up (end_up w s.next none) in nil_from_length (behind w id) (omega arith)
 
-    pub still_stands : StandsFor kept w
-    still_stands = let c = count_within w s 1 in let t : count_to_take w s 1 ≡ 0 = omega arith in subst (StandsFor kept) (take_none w id s is 1 t) stands
+    pub still_represents : Represents kept w
+    still_represents = let c = count_within w s 1 in let t : count_to_take w s 1 ≡ 0 = omega arith in subst (Represents kept) (take_none w id s is 1 t) represents
 
     pub not_out : is_out w id ≡ false
     not_out = out_is ∙ end_up w s.next none
@@ -236,7 +236,7 @@ module _ (w : World) (id : ℕ) (s : Subscription) (is : subscription_in w id �
   pub one_behind : s.next < length w.events → is_evicted w s.next ≡ false → (out room : List Event) (d : Event) → out ≡ take_events w id 1 ++ room → (rest : List ℕ) × (behind w id ≡ (get_or out 0 d).letter ∷ rest)
   one_behind some up out room d filled =
       let one = drop-one w.events s.next some in
-      let c = count_standing w s 1 up in
+      let c = count_active w s 1 up in
       let t : count_to_take w s 1 ≡ 1 = omega arith in
       let took : take_events w id 1 ≡ one.0 ∷ [] = ap (moved_for w 1) is ∙ (λ i. take (t i) (one.1 i)) in
       let first : out ≡ one.0 ∷ room = filled ∙ ap (λ (z : List Event). z ++ room) took in

@@ -146,7 +146,7 @@ all_given_back names posts name None (Some new) none h = absurd h
 all_given_back names posts name (Some old) None none h = absurd h
 all_given_back names posts name (Some old) (Some new) none h = record {
   used = h.more;
-  none_stands = none_found (1 + length old.subscriptions) h.more (λ id f.
+  none_active = none_found (1 + length old.subscriptions) h.more (λ id f.
       let above = found_above (1 + length old.subscriptions) h.more id f in
       none id (h.owed id (omega arith) (ap is_some (ap (λ (v : World). subscription_in v id) h.same ∙ found_from-append 1 old.subscriptions h.more id above) ∙ f)));
   same = h.same;

@@ -20,7 +20,7 @@ use Rattle.hub_record.specs.declared.Taken.TheVariants as taken
 use Rattle.hub_record.specs.declared.NoId.{NoId}
 use Rattle.hub_record.specs.declared.Closed.{Closed}
 use Rattle.hub_requests.specs.declared.bounds.TheConstants.{MOST_NAMES}
-use Rattle.hub_local.specs.Desks.{Desk, Answer, names_in, world_of, reports_of, with_world, standing, holding_at, without_handle, refusal_answer}
+use Rattle.hub_local.specs.Desks.{Desk, Answer, names_in, world_of, reports_of, with_world, active, holding_at, without_handle, refusal_answer}
 use Rattle.hub_local.specs.Polls.{poll_answer, LeftByPoll}
 use Rattle.hub_local.specs.Awaits.{await_answer}
 use Rattle.hub_local.specs.Replies.{subscribe_reply, publish_reply}
@@ -52,7 +52,7 @@ refusal_by_name d name = if is_some (world_of d.fifodirs name) then None else So
 abbrev pub refusal_to_hold : Desk → List ℕ → Option Refusal
 refusal_to_hold d name =
     if is_some (world_of d.fifodirs name) then
-    refusal_of_handle (length (standing d)) (length d.handles)
+    refusal_of_handle (length (active d)) (length d.handles)
     else Some no.Name
 
 -- the same for a listener; `read` says whether its text is a pattern

@@ -54,16 +54,16 @@ names_in fifodirs = map (λ f. f.name) fifodirs
 -- ---- handles by number
 
 -- what the current handles hold, by their numbers; the first of the list has the number `from`
-abbrev pub standing_from : ℕ → List Handle → List (ℕ × Holding)
-standing_from from [] = []
-standing_from from (h ∷ rest) = if h.current then (from, h.holding) ∷ standing_from (from + 1) rest else standing_from (from + 1) rest
+abbrev pub active_from : ℕ → List Handle → List (ℕ × Holding)
+active_from from [] = []
+active_from from (h ∷ rest) = if h.current then (from, h.holding) ∷ active_from (from + 1) rest else active_from (from + 1) rest
 
-abbrev pub standing : Desk → List (ℕ × Holding)
-standing d = standing_from 1 d.handles
+abbrev pub active : Desk → List (ℕ × Holding)
+active d = active_from 1 d.handles
 
 -- what the current handle with this number holds
 abbrev pub holding_at : Desk → ℕ → Option Holding
-holding_at d number = lookup (nat_eq number) (standing d)
+holding_at d number = lookup (nat_eq number) (active d)
 
 abbrev pub without_holding : Handle → Handle
 without_holding h = record h { current = false }
@@ -108,9 +108,9 @@ AllGoOn [] = Unit {0}
 AllGoOn (e ∷ es) = GoesOn e.1.hearing × AllGoOn es
 
 pub record IsDesk (d : Desk) : Type 0 where
-  pub held : AreHeld d.fifodirs (standing d)
-  pub apart : AreApart (standing d)
-  pub go_on : AllGoOn (standing d)
+  pub held : AreHeld d.fifodirs (active d)
+  pub apart : AreApart (active d)
+  pub go_on : AllGoOn (active d)
 
 -- ---- an answer
 
@@ -143,4 +143,4 @@ without_all fifodirs (h ∷ rest) = without_all (without_held fifodirs h) rest
 
 -- no handle is current, none is forgotten, and their subscriptions are cancelled
 abbrev pub desk_after_end : Desk → Desk
-desk_after_end d = record { fifodirs = without_all d.fifodirs (values_of (standing d)); handles = map without_holding d.handles }
+desk_after_end d = record { fifodirs = without_all d.fifodirs (values_of (active d)); handles = map without_holding d.handles }

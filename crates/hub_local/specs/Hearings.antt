@@ -4,7 +4,7 @@ use Rattle.hub_letters.specs.declared.bounds.TheConstants.{MOST_GATHERED}
 use Rattle.hub_listen.specs.Hit.{IsHit, HasNoHit}
 use Rattle.hub_listen.specs.Listening.{Listening, Feeds, after_hit, after_quiet, fitting}
 use Rattle.hub_listen.specs.declared.feed.Feed.TheVariants as fed
-use Rattle.hub_record.specs.Kept.{Kept, StandsFor}
+use Rattle.hub_record.specs.Kept.{Kept, Represents}
 use Rattle.hub_record.specs.World.{World, letters, subscription_in, after_take}
 use Rattle.hub_local.specs.Polls.{waiting_for, is_out, to_hear, taken_from}
 use Rattle.hub_local.specs.declared.local_desk.LocalListener.{LocalListener}
@@ -17,10 +17,10 @@ behind w id = letters (waiting_for w (subscription_in w id))
 
 -- the next of them was taken, or there is none
 abbrev pub TakesOne : World → ℕ → Result ℕ Heard → Kept → Type 0
-TakesOne w id (Ok x) kept = (rest : List ℕ) × (behind w id ≡ x ∷ rest) × StandsFor kept (after_take w id 1)
-TakesOne w id (Err Nothing) kept = (behind w id ≡ []) × (w.closed ≡ false) × StandsFor kept w × (is_out w id ≡ false)
-TakesOne w id (Err End) kept = (behind w id ≡ []) × (w.closed ≡ true) × StandsFor kept w × (is_out w id ≡ false)
-TakesOne w id (Err Evicted) kept = (behind w id ≡ []) × (is_out w id ≡ true) × StandsFor kept w
+TakesOne w id (Ok x) kept = (rest : List ℕ) × (behind w id ≡ x ∷ rest) × Represents kept (after_take w id 1)
+TakesOne w id (Err Nothing) kept = (behind w id ≡ []) × (w.closed ≡ false) × Represents kept w × (is_out w id ≡ false)
+TakesOne w id (Err End) kept = (behind w id ≡ []) × (w.closed ≡ true) × Represents kept w × (is_out w id ≡ false)
+TakesOne w id (Err Evicted) kept = (behind w id ≡ []) × (is_out w id ≡ true) × Represents kept w
 TakesOne w id (Err heard) kept = ⊥
 
 -- the hearing `new` has this listener and this held letter, and the first n of the letters were taken from the record
@@ -28,7 +28,7 @@ pub record IsAt (g : LocalListener) (w : World) (id : ℕ) (n : ℕ) (listener :
   pub listener_is : new.listener ≡ listener
   pub mode_is : new.mode ≡ g.mode
   pub held_is : new.held ≡ held
-  pub stands : StandsFor kept (taken_from g w id n)
+  pub represents : Represents kept (taken_from g w id n)
 
 -- the next letter was heard without a hit, was a hit, or couldn't be searched; or there is none
 abbrev pub HearsOne : LocalListener → World → ℕ → Option Heard → LocalListener → Kept → Type 0

@@ -6,5 +6,5 @@ pub mod Waits
 pub mod DeskAnswers
 pub mod Laws
 pub mod Hearings
-pub mod Standing
+pub mod Representing
 pub mod Opening

@@ -6,7 +6,7 @@ use Rattle.std.specs.Option.{option_and_then}
 use Rattle.std.specs.Str.{bytes_eq}
 use Rattle.hub_letters.specs.declared.want.Want.{Want}
 use Rattle.hub_local.specs.Desks.{Fifodir, with_world}
-use Rattle.hub_local.specs.Standing.{AreKept}
+use Rattle.hub_local.specs.Representing.{AreKept}
 use Rattle.hub_local.specs.Waits.{so_far, opening_refused, with_post, opening_of}
 use Rattle.hub_local.specs.declared.local_desk.LocalFifodir.{LocalFifodir}
 use Rattle.hub_local.specs.declared.local_desk.waits.LocalPost.{LocalPost}

@@ -4,7 +4,7 @@ use Rattle.std.specs.Option.{option_map}
 use Rattle.hub_letters.specs.Stages.{stage_by_code}
 use Rattle.hub_letters.specs.declared.stage.Stage.TheVariants.{Off}
 use Rattle.hub_record.specs.declared.limits.TheConstants.{MOST_PASSES}
-use Rattle.hub_record.specs.World.{World, current, standing, letters, needed, IsLawfulIn, SubscribeReply, PublishReply}
+use Rattle.hub_record.specs.World.{World, current, active, letters, needed, IsLawfulIn, SubscribeReply, PublishReply}
 use Rattle.hub_record.specs.declared.Kind.{Kind}
 use Rattle.hub_record.specs.declared.Kind.TheVariants.{Plain, Service}
 use Rattle.hub_record.specs.declared.SubError.{SubError}
@@ -32,9 +32,9 @@ first_unlawful kind word [] = None
 first_unlawful kind word (letter ∷ rest) =
     if is_lawful_in kind (word ++ letter ∷ []) then option_map (λ place. place + 1) (first_unlawful kind (word ++ letter ∷ []) rest) else Some 0
 
--- a subscription stands, and n more events need more room than there is
+-- a subscription is active, and n more events need more room than there is
 abbrev pub is_full : World → ℕ → Bool
-is_full w n = if length (standing w) == 0 then false else nat_lt w.limits.waiting (needed w n)
+is_full w n = if length (active w) == 0 then false else nat_lt w.limits.waiting (needed w n)
 
 -- the reply to a message of n letters that is lawful
 abbrev pub lawful_reply : World → ℕ → Result ℕ PubError

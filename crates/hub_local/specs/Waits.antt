@@ -113,7 +113,7 @@ pub record LeftByWait (d : Desk) (want : Want) (names : List (List ℕ)) (new : 
 -- more ids were given, none of them is current, and nothing else has changed
 pub record HasUsedIds (old new : World) : Type 0 where
   pub used : List Subscription
-  pub none_stands : list_any (λ s. s.current) used ≡ false
+  pub none_active : list_any (λ s. s.current) used ≡ false
   pub same : new ≡ record old { subscriptions = old.subscriptions ++ used }
 
 abbrev pub HasUsedIdsThere : Option World → Option World → Type 0

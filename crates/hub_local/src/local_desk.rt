@@ -59,7 +59,7 @@ pub struct LocalDesk {
 }
 
 impl Model for LocalDesk {
-    ghost use Rattle.hub_local.specs.Standing.{Local, StandsForSome};
+    ghost use Rattle.hub_local.specs.Representing.{Local, RepresentsSome};
 
     ghost Value = { Local };
 
@@ -69,7 +69,7 @@ impl Model for LocalDesk {
       given = d.given;
     } };
 
-    ghost invariant = { λ d. StandsForSome (record {
+    ghost invariant = { λ d. RepresentsSome (record {
       fifodirs = d.fifodirs.entries;
       holdings = d.holdings.entries;
       given = d.given;
@@ -78,11 +78,11 @@ impl Model for LocalDesk {
 
 impl LocalDesk {
     ghost use Rattle.hub_local.specs.Desks.{new_desk};
-    ghost use Rattle.hub_local.specs.Standing.{StandsForDesk};
+    ghost use Rattle.hub_local.specs.Representing.{RepresentsDesk};
 
     /// A desk without fifodirs and handles.
     pub fn new(alloc: Global) -> Result<LocalDesk, AllocError>
-        ensures { IfOk result (λ desk. StandsForDesk desk new_desk) }
+        ensures { IfOk result (λ desk. RepresentsDesk desk new_desk) }
     {
         Ok(LocalDesk {
             alloc,
@@ -94,7 +94,7 @@ impl LocalDesk {
 }
 
 impl Desk for LocalDesk {
-    ghost use Rattle.hub_local.specs.Standing.{AsksDesk, Ended};
+    ghost use Rattle.hub_local.specs.Representing.{AsksDesk, Ended};
 
     ghost asks = { AsksDesk };
 

@@ -1,4 +1,4 @@
--- What the code's fields stand for.
+-- What the code's fields mean.
 use Rattle.std.specs.Prelude.{◌≡◌, ◌≢◌, ℕ, ◌≤◌, List, [], ◌∷◌, ◌++◌, length, map, take, Option, MatchOption, Result, Ok, Err, All}
 use Rattle.std.specs.List.{AllZip}
 use Rattle.hub_requests.specs.declared.reply.Refusal.{Refusal}

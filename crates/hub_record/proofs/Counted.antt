@@ -5,13 +5,13 @@ use Rattle.std.proofs.lemmas.List.{length-set, get_or-set_same, get_or-set_other
 use Rattle.std.proofs.lemmas.List.Sums.{fails_before_first, passes_at_first}
 use Rattle.std.specs.Map.{lookup, set_value, remove_entry}
 use Rattle.hub_record.specs.World.{least}
-use Rattle.hub_record.specs.Backlog.{standing_at, standing_in, with_one_more, with_one_less, first_place}
-use Rattle.hub_record.proofs.Standing.{one, none, one_at, standing_at-push, standing_at-set_value, standing_at-remove_entry, standing_at-some, standing_at-two, least_bound, least_bound_standing, least_met}
-use Rattle.hub_record.proofs.Slow.{standing_at-standing_in}
+use Rattle.hub_record.specs.Backlog.{active_at, active_in, with_one_more, with_one_less, first_place}
+use Rattle.hub_record.proofs.Active.{one, none, one_at, active_at-push, active_at-set_value, active_at-remove_entry, active_at-some, active_at-two, least_bound, least_bound_active, least_met}
+use Rattle.hub_record.proofs.Slow.{active_at-active_in}
 
 -- place k counts the cursors at base + k
 abbrev pub Counts : ℕ → List ℕ → List (ℕ × ℕ) → Type 0
-Counts base counts cs = (k : ℕ) → get_or counts k 0 ≡ standing_at (base + k) cs
+Counts base counts cs = (k : ℕ) → get_or counts k 0 ≡ active_at (base + k) cs
 
 -- ---- one place
 
@@ -66,13 +66,13 @@ pub counts_push : (base id v p : ℕ) (counts : List ℕ) (cs : List (ℕ × ℕ
 counts_push base id v p counts cs h at inside k =
     let here = h k in
     let more = get_or-one_more counts p k inside in
-    let s = standing_at-push (base + k) id v cs in
+    let s = active_at-push (base + k) id v cs in
     let shift = one_at-shift base k p v at in
     omega arith
 
 -- at the place of a cursor the count isn't 0
 pub some_at_place : (base v p : ℕ) (test : ℕ → Bool) (counts : List ℕ) (cs : List (ℕ × ℕ)) → Counts base counts cs → lookup test cs ≡ Some v → v ≡ base + p → 0 < get_or counts p 0
-some_at_place base v p test counts cs h e at = let here = h p in let some = standing_at-some test cs v (base + p) e at in omega arith
+some_at_place base v p test counts cs h e at = let here = h p in let some = active_at-some test cs v (base + p) e at in omega arith
 
 pub counts_set_value : (base v w p q : ℕ) (test : ℕ → Bool) (counts : List ℕ) (cs : List (ℕ × ℕ)) → Counts base counts cs → lookup test cs ≡ Some v → v ≡ base + p → w ≡ base + q → q < length counts → Counts base (with_one_more (with_one_less counts p) q) (set_value test cs w)
 counts_set_value base v w p q test counts cs h e at to inside k =
@@ -80,7 +80,7 @@ counts_set_value base v w p q test counts cs h e at to inside k =
     let less = get_or-one_less counts p k (some_at_place base v p test counts cs h e at) in
     let long = length-set counts p (get_or counts p 0 - 1) in
     let more = get_or-one_more (with_one_less counts p) q k (omega arith) in
-    let s = standing_at-set_value (base + k) test cs v w e in
+    let s = active_at-set_value (base + k) test cs v w e in
     let from = one_at-shift base k p v at in
     let into = one_at-shift base k q w to in
     omega arith
@@ -89,7 +89,7 @@ pub counts_remove_entry : (base v p : ℕ) (test : ℕ → Bool) (counts : List 
 counts_remove_entry base v p test counts cs h e at k =
     let here = h k in
     let less = get_or-one_less counts p k (some_at_place base v p test counts cs h e at) in
-    let s = standing_at-remove_entry (base + k) test cs v e in
+    let s = active_at-remove_entry (base + k) test cs v e in
     let from = one_at-shift base k p v at in
     omega arith
 
@@ -97,25 +97,25 @@ counts_remove_entry base v p test counts cs h e at k =
 pub counts_remove_below : (base v : ℕ) (test : ℕ → Bool) (counts : List ℕ) (cs : List (ℕ × ℕ)) → Counts base counts cs → lookup test cs ≡ Some v → v < base → Counts base counts (remove_entry test cs)
 counts_remove_below base v test counts cs h e below k =
     let here = h k in
-    let s = standing_at-remove_entry (base + k) test cs v e in
+    let s = active_at-remove_entry (base + k) test cs v e in
     let z = none (base + k) v (λ is. absurd (omega arith)) in
     omega arith
 
 -- nor is a slow one, if no more is behind the base than there is room for
-pub counts_standing : (room base end : ℕ) (counts : List ℕ) (cs : List (ℕ × ℕ)) → end ≤ base + room → Counts base counts cs → Counts base counts (standing_in room end cs)
-counts_standing room base end counts cs near h k = h k ∙ sym (standing_at-standing_in room end (base + k) cs (omega arith))
+pub counts_active : (room base end : ℕ) (counts : List ℕ) (cs : List (ℕ × ℕ)) → end ≤ base + room → Counts base counts cs → Counts base counts (active_in room end cs)
+counts_active room base end counts cs near h k = h k ∙ sym (active_at-active_in room end (base + k) cs (omega arith))
 
 -- ---- the base
 
 pub counts_drop : (base r : ℕ) (counts : List ℕ) (cs : List (ℕ × ℕ)) → Counts base counts cs → Counts (base + r) (drop r counts) cs
-counts_drop base r counts cs h k = get_or-drop r counts k 0 ∙ h (r + k) ∙ ap (λ n. standing_at n cs) (omega arith)
+counts_drop base r counts cs h k = get_or-drop r counts k 0 ∙ h (r + k) ∙ ap (λ n. active_at n cs) (omega arith)
 
 -- no cursor is before the first place
 none_before : (base end r : ℕ) (counts : List ℕ) (cs : List (ℕ × ℕ)) → base ≤ least end cs → Counts base counts cs → r ≤ first_place counts → base + r ≤ end → base + r ≤ least end cs
 none_before base end r counts cs low h before inside = elim (cases_lt (least end cs) (base + r)) [
   | inl below ↦ (let at : base + (least end cs - base) ≡ least end cs = omega arith in
       let none = ltb-false 0 (get_or counts (least end cs - base) 0) (fails_before_first (λ n. nat_lt 0 n) counts (least end cs - base) 0 (omega arith)) in
-      let here = h (least end cs - base) ∙ ap (λ n. standing_at n cs) at in
+      let here = h (least end cs - base) ∙ ap (λ n. active_at n cs) at in
       elim (least_met end cs) [ inl last ↦ absurd (omega arith) | inr some ↦ absurd (omega arith) ])
   | inr above ↦ above
 ]
@@ -126,7 +126,7 @@ some_at_first base end r counts cs h is inside =
     let some = ltb-true 0 (get_or counts (first_place counts) 0) (passes_at_first (λ n. nat_lt 0 n) counts 0 (omega arith)) in
     let here = h r in
     let same = ap (λ n. get_or counts n 0) is in
-    least_bound_standing end (base + r) cs (omega arith)
+    least_bound_active end (base + r) cs (omega arith)
 
 -- the base that the counts tell
 pub base_told : (base end size r : ℕ) (counts : List ℕ) (cs : List (ℕ × ℕ)) → base ≤ least end cs → Counts base counts cs → end ≡ base + size → length counts ≡ size + 1 → r ≡ min (first_place counts) size → base + r ≡ least end cs
@@ -168,7 +168,7 @@ first_of_all base q counts cs h some all =
     let first = h (first_place counts) in
     elim (cases_lt (first_place counts) q) [
       | inl before ↦ (let other = ltb-true 0 (get_or counts (first_place counts) 0) (passes_at_first (λ n. nat_lt 0 n) counts 0 (omega arith)) in
-          let both = standing_at-two (base + first_place counts) (base + q) cs (λ e. absurd (omega arith)) in absurd (omega arith))
+          let both = active_at-two (base + first_place counts) (base + q) cs (λ e. absurd (omega arith)) in absurd (omega arith))
       | inr above ↦ elim (cases_lt q (first_place counts)) [
         | inl later ↦ (let none = ltb-false 0 (get_or counts q 0) (fails_before_first (λ n. nat_lt 0 n) counts q 0 later) in absurd (omega arith))
         | inr at ↦ omega arith

@@ -11,7 +11,7 @@ use Rattle.hub_record.specs.declared.runs.Call.TheVariants.{Subscribe, Take, Can
 use Rattle.hub_record.specs.declared.runs.Said.{Said}
 use Rattle.hub_record.specs.declared.runs.Said.TheVariants.{Subscribed}
 use Rattle.hub_record.specs.World.{World, Subscription, is_evicted, subscription_in, pending_for, found_from, changed_from, new_subscription, events_to_take, moved_on, moved_for, take_events, SubscribeReply, count_to_take, as_cancelled, after_take, after_take_for, after_cancel_for}
-use Rattle.hub_record.proofs.Policies.{count_evicted, count_standing}
+use Rattle.hub_record.proofs.Policies.{count_evicted, count_active}
 use Rattle.hub_record.specs.Runs.{gathered_from, lists_of, with_more_events, after_call}
 
 pub gathered_changed : (f : Subscription → Subscription) → ((s : Subscription) → (f s).gathered ≡ s.gathered) → (from : ℕ) (subs : List Subscription) (id : ℕ) → gathered_from from (changed_from f from subs id) ≡ gathered_from from subs
@@ -116,8 +116,8 @@ pub asks : (w : World) (id max waiting : ℕ) → waiting ≡ unwrap_or (pending
 asks w id max waiting e s is = elim (cases_Bool (is_evicted w s.next)) [
   | inl out ↦ count_evicted w s (min waiting max) out ∙ sym (count_evicted w s max out)
   | inr up ↦ (let k = e ∙ ap (λ o. unwrap_or (pending_for w o) 0) is ∙ ap (λ (b : Bool). unwrap_or (if b then None else Some (length w.events - s.next)) 0) up in
-      let one = count_standing w s (min waiting max) up in
-      let all = count_standing w s max up in
+      let one = count_active w s (min waiting max) up in
+      let all = count_active w s max up in
       omega arith)
 ]
 
@@ -130,7 +130,7 @@ whole w id max waiting old new e l h = h ∙ ap (λ z. take_events w id (length 
     by (Some s) is = elim (cases_Bool (is_evicted w s.next)) [
       | inl out ↦ (let k = e ∙ ap (λ o. unwrap_or (pending_for w o) 0) is ∙ ap (λ (b : Bool). unwrap_or (if b then None else Some (length w.events - s.next)) 0) out in omega arith)
       | inr up ↦ (let k = e ∙ ap (λ o. unwrap_or (pending_for w o) 0) is ∙ ap (λ (b : Bool). unwrap_or (if b then None else Some (length w.events - s.next)) 0) up in
-          let n = count_standing w s (length old) up in
+          let n = count_active w s (length old) up in
           let d = length-drop s.next w.events in
           let t = length-take-le (count_to_take w s (length old)) (drop s.next w.events) (omega arith) in
           omega arith)

@@ -10,10 +10,10 @@ use Rattle.std.specs.Map.{lookup, set_value, remove_entry, keys_of, values_of}
 use Rattle.circular_buffer.specs.Buffer.{Buffer, buffer}
 use Rattle.hub_record.specs.declared.limits.TheConstants.{MOST_EVENTS, MOST_PASSES}
 use Rattle.hub_record.specs.World.{least, is_slow, as_events}
-use Rattle.hub_record.specs.Backlog.{IsKept, lowest_in, standing_in, standing_at, first_place, with_one_more, with_one_less}
-use Rattle.hub_record.proofs.Standing.{one, none, standing_at-le-length}
-use Rattle.hub_record.proofs.Slow.{standing_in-behind, standing_at-standing_in, lowest_near, lowest-push, lowest_bound_at, lowest_grown, slow_stay, none_stand}
-use Rattle.hub_record.proofs.Counted.{Counts, get_or-one_less, get_or-one_more, some_at_place, counts_lengthen, counts_push, counts_set_value, counts_standing, counts_drop, base_told, first_at_base, first_stays, first_of_all}
+use Rattle.hub_record.specs.Backlog.{IsKept, lowest_in, active_in, active_at, first_place, with_one_more, with_one_less}
+use Rattle.hub_record.proofs.Active.{one, none, active_at-le-length}
+use Rattle.hub_record.proofs.Slow.{active_in-behind, active_at-active_in, lowest_near, lowest-push, lowest_bound_at, lowest_grown, slow_stay, none_active_at}
+use Rattle.hub_record.proofs.Counted.{Counts, get_or-one_less, get_or-one_more, some_at_place, counts_lengthen, counts_push, counts_set_value, counts_active, counts_drop, base_told, first_at_base, first_stays, first_of_all}
 
 -- a new id is above all others
 pub new_id_above : (room base end given id : ℕ) (counts : Buffer ℕ) (cs : List (ℕ × ℕ)) → IsKept room base counts end given cs → id ≡ given + 1 → All (λ k. k < id) (keys_of cs)
@@ -47,7 +47,7 @@ few_at_place room base end given v p q test counts less cs k e from is =
     let same = ap (λ (b : Buffer ℕ). get_or b.items q 0) is in
     let l = get_or-one_less counts.items p q (some_at_place base v p test counts.items cs k.counted e from) in
     let here = k.counted q in
-    let most = standing_at-le-length (base + q) cs in
+    let most = active_at-le-length (base + q) cs in
     let few = k.few in
     omega arith
 
@@ -58,8 +58,8 @@ length-remove_entry-le test (c ∷ cs) =
     elim (cases_Bool (test c.0)) [ inl t ↦ simp t (omega arith) | inr t ↦ simp t (omega arith) ]
 
 -- a new id's cursor is at the end, which the last place counts
-pub kept_stand : (room base end given size : ℕ) (counts more : Buffer ℕ) (cs after : List (ℕ × ℕ)) → IsKept room base counts end given cs → end ≡ base + size → length cs < MOST_PASSES → after ≡ cs ++ (given + 1, end) ∷ [] → more ≡ buffer (with_one_more counts.items size) counts.capacity → IsKept room base more end (given + 1) after
-kept_stand room base end given size counts more cs after k at few is counted =
+pub kept_active : (room base end given size : ℕ) (counts more : Buffer ℕ) (cs after : List (ℕ × ℕ)) → IsKept room base counts end given cs → end ≡ base + size → length cs < MOST_PASSES → after ≡ cs ++ (given + 1, end) ∷ [] → more ≡ buffer (with_one_more counts.items size) counts.capacity → IsKept room base more end (given + 1) after
+kept_active room base end given size counts more cs after k at few is counted =
     let to = k.to_end in
     let fits = k.fits in
     let long = length-set counts.items size (get_or counts.items size 0 + 1) in
@@ -93,7 +93,7 @@ kept_released room base end given size r room' end' counts now cs at counted lon
     let items = ap (λ (b : Buffer ℕ). length b.items) is in
     let cap = ap (λ (b : Buffer ℕ). b.capacity) is in
     record {
-      lowest = base_told base end size r counts.items (standing_in room end cs) low (counts_standing room base end counts.items cs near counted) at long told ∙ (λ i. lowest_in (sym same_room i) (sym same i) cs);
+      lowest = base_told base end size r counts.items (active_in room end cs) low (counts_active room base end counts.items cs near counted) at long told ∙ (λ i. lowest_in (sym same_room i) (sym same i) cs);
       counted = subst (λ (b : Buffer ℕ). Counts (base + r) b.items cs) (sym is) (counts_drop base r counts.items cs counted);
       to_end = omega arith;
       fits = omega arith;
@@ -140,22 +140,22 @@ kept_more room base end given size more over room' end' some counts longer cs k 
     (kept_pushed room base end given size more over 0 room' end' counts (buffer (drop over counts.items) counts.capacity) longer longer cs k at fits is_over refl is_longer (omega arith) refl same_room same small)
 
 -- if no cursor is at the base, each is slow
-pub none_near : (room base end given : ℕ) (counts : Buffer ℕ) (cs : List (ℕ × ℕ)) → IsKept room base counts end given cs → get_or counts.items 0 0 ≡ 0 → standing_in room end cs ≡ []
+pub none_near : (room base end given : ℕ) (counts : Buffer ℕ) (cs : List (ℕ × ℕ)) → IsKept room base counts end given cs → get_or counts.items 0 0 ≡ 0 → active_in room end cs ≡ []
 none_near room base end given counts cs k none =
     let near = kept_near room base end given counts cs k in
     let here = k.counted 0 in
-    let same : standing_at (base + 0) cs ≡ standing_at base cs = ap (λ n. standing_at n cs) (omega arith) in
-    let all = standing_at-standing_in room end base cs near in
-    none_stand base end (standing_in room end cs) (standing_in-behind room end end cs k.behind) k.lowest (omega arith)
+    let same : active_at (base + 0) cs ≡ active_at base cs = ap (λ n. active_at n cs) (omega arith) in
+    let all = active_at-active_in room end base cs near in
+    none_active_at base end (active_in room end cs) (active_in-behind room end end cs k.behind) k.lowest (omega arith)
 
 -- and if one is, not each is
-pub some_near : (room base end given : ℕ) (counts : Buffer ℕ) (cs : List (ℕ × ℕ)) → IsKept room base counts end given cs → 0 < get_or counts.items 0 0 → standing_in room end cs ≡ [] → ⊥
+pub some_near : (room base end given : ℕ) (counts : Buffer ℕ) (cs : List (ℕ × ℕ)) → IsKept room base counts end given cs → 0 < get_or counts.items 0 0 → active_in room end cs ≡ [] → ⊥
 some_near room base end given counts cs k some none =
     let near = kept_near room base end given counts cs k in
     let here = k.counted 0 in
-    let same : standing_at (base + 0) cs ≡ standing_at base cs = ap (λ n. standing_at n cs) (omega arith) in
-    let all = standing_at-standing_in room end base cs near in
-    let zero = ap (standing_at base) none in
+    let same : active_at (base + 0) cs ≡ active_at base cs = ap (λ n. active_at n cs) (omega arith) in
+    let all = active_at-active_in room end base cs near in
+    let zero = ap (active_at base) none in
     absurd (omega arith)
 
 -- so a cursor is at the base, if events are pending behind one that isn't slow
@@ -224,7 +224,7 @@ kept_still room base end given more base' end' counts cs k none is_base is_end s
           let here = nothing n (omega arith) none in
           let there = nothing (more + n) (omega arith) none in
           let at = k.counted (more + n) in
-          let same : standing_at (base + (more + n)) cs ≡ standing_at (base' + n) cs = ap (λ m. standing_at m cs) (omega arith) in
+          let same : active_at (base + (more + n)) cs ≡ active_at (base' + n) cs = ap (λ m. active_at m cs) (omega arith) in
           omega arith;
       to_end = omega arith;
       fits = k.fits;

@@ -11,10 +11,10 @@ use Rattle.hub_record.specs.declared.limits.Policy.{Policy}
 use Rattle.hub_record.specs.declared.limits.Policy.TheVariants.{Hold, Evict}
 use Rattle.hub_record.specs.declared.Event.{Event}
 use Rattle.hub_record.specs.World.{least, is_slow}
-use Rattle.hub_record.specs.Backlog.{Held, IsKept, IsStill, IsSlow, HasRoomFor, room_for, pending, pending_if, ArePending, Copies, ShowsBy, RemovesBy, next_of, lowest, lowest_in, standing_in, first_place, with_one_more, with_one_less, with_new_id, with_events, with_cursors}
+use Rattle.hub_record.specs.Backlog.{Held, IsKept, IsStill, IsSlow, HasRoomFor, room_for, pending, pending_if, ArePending, Copies, ShowsBy, RemovesBy, next_of, lowest, lowest_in, active_in, first_place, with_one_more, with_one_less, with_new_id, with_events, with_cursors}
 use Rattle.hub_record.specs.declared.backlog.Found.TheVariants.{Lost}
-use Rattle.hub_record.proofs.Standing.{none}
-use Rattle.hub_record.proofs.Slow.{standing_in-remove_slow, lowest-set_value, lowest-remove_entry}
+use Rattle.hub_record.proofs.Active.{none}
+use Rattle.hub_record.proofs.Slow.{active_in-remove_slow, lowest-set_value, lowest-remove_entry}
 use Rattle.hub_record.proofs.Counted.{Counts, counts_remove_entry, counts_remove_below}
 use Rattle.hub_record.proofs.Keeps.{kept_near, near_above, slow_below, cursor_within, length-remove_entry-le, kept_released, none_near, some_near, counts_moved}
 
@@ -24,10 +24,10 @@ pub none_at_base : (counts : List ℕ) (some : Bool) → some ≡ nat_lt 0 (get_
 none_at_base counts some is not = let none = ltb-false 0 (get_or counts 0 0) (sym is ∙ not) in omega arith
 
 -- whether a cursor is at the base tells whether each is slow
-pub is_still : (room base end given : ℕ) (counts : Buffer ℕ) (cs : List (ℕ × ℕ)) (some : Bool) → IsKept room base counts end given cs → some ≡ nat_lt 0 (get_or counts.items 0 0) → some ≡ false → standing_in room end cs ≡ []
+pub is_still : (room base end given : ℕ) (counts : Buffer ℕ) (cs : List (ℕ × ℕ)) (some : Bool) → IsKept room base counts end given cs → some ≡ nat_lt 0 (get_or counts.items 0 0) → some ≡ false → active_in room end cs ≡ []
 is_still room base end given counts cs some k is not = none_near room base end given counts cs k (none_at_base counts.items some is not)
 
-pub not_still : (room base end given : ℕ) (counts : Buffer ℕ) (cs : List (ℕ × ℕ)) (some : Bool) → IsKept room base counts end given cs → some ≡ nat_lt 0 (get_or counts.items 0 0) → some ≡ true → standing_in room end cs ≡ [] → ⊥
+pub not_still : (room base end given : ℕ) (counts : Buffer ℕ) (cs : List (ℕ × ℕ)) (some : Bool) → IsKept room base counts end given cs → some ≡ nat_lt 0 (get_or counts.items 0 0) → some ≡ true → active_in room end cs ≡ [] → ⊥
 not_still room base end given counts cs some k is so = some_near room base end given counts cs k (ltb-true 0 (get_or counts.items 0 0) (sym is ∙ so))
 
 pub room_told : (inside now : Held) (policy is : Policy) (more : ℕ) → inside ≡ now → policy ≡ is → (IsStill inside → ⊥) → IsTrue (nat_le (room_for is inside more) inside.room) ↔ HasRoomFor policy now more
@@ -118,7 +118,7 @@ kept_remove_slow room base end given v test counts cs after k e is below =
     let n = ap length is in
     let o = length-remove_entry-le test cs in
     record {
-      lowest = k.lowest ∙ ap (least end) (sym (standing_in-remove_slow room end test cs v e slow)) ∙ ap (lowest_in room end) (sym is);
+      lowest = k.lowest ∙ ap (least end) (sym (active_in-remove_slow room end test cs v e slow)) ∙ ap (lowest_in room end) (sym is);
       counted = subst (Counts base counts.items) (sym is) (counts_remove_below base v test counts.items cs k.counted e below);
       to_end = k.to_end;
       fits = k.fits;
@@ -150,8 +150,8 @@ still_held base room given items cs cs' entries low now is =
     (λ i. record { room = room; end = base + length items; events = drop (apart i) items; given = given; cursors = is i })
 
 -- a new id has its cursor
-pub stood : (inside now : Held) (cursors : List (ℕ × ℕ)) → inside ≡ now → cursors ≡ inside.cursors ++ (inside.given + 1, inside.end) ∷ [] → record inside { given = inside.given + 1; cursors = cursors } ≡ with_new_id now
-stood inside now cursors is at = ap (λ cs. record inside { given = inside.given + 1; cursors = cs }) at ∙ ap with_new_id is
+pub was_at : (inside now : Held) (cursors : List (ℕ × ℕ)) → inside ≡ now → cursors ≡ inside.cursors ++ (inside.given + 1, inside.end) ∷ [] → record inside { given = inside.given + 1; cursors = cursors } ≡ with_new_id now
+was_at inside now cursors is at = ap (λ cs. record inside { given = inside.given + 1; cursors = cs }) at ∙ ap with_new_id is
 
 -- ---- push
 
@@ -223,7 +223,7 @@ copies before now id next n base given counts slice filled is found k above apar
     subst (λ h. Copies h id n slice filled) is (record {
       pending = record {
         next = next;
-        stood = found;
+        was_at = found;
         waited = omega arith;
         fits = omega arith;
         within = omega arith;
@@ -238,7 +238,7 @@ copies before now id next n base given counts slice filled is found k above apar
 pub pending_at : (before now : Held) (id n next base given : ℕ) (counts : Buffer ℕ) → before ≡ now → IsKept before.room base counts before.end given before.cursors → ArePending now.room now.end now.cursors id n → lookup (nat_eq id) before.cursors ≡ Some next → (base ≤ next) × (next < before.end) × (next + n ≤ before.end)
 pending_at before now id n next base given counts is k pending found =
     let p = subst (λ h. ArePending h.room h.end h.cursors id n) (sym is) pending in
-    let stood = p.stood in
+    let was_at = p.was_at in
     let at : p.next ≡ next = cc in
     let waited = p.waited in
     let fits = p.fits in
@@ -262,6 +262,6 @@ removes before now after id next is found moved = subst (λ h. RemovesBy h after
 -- a slow cursor held nothing
 pub removes_slow : (before now : Held) (id next : ℕ) (cursors : List (ℕ × ℕ)) → before ≡ now → lookup (nat_eq id) before.cursors ≡ Some next → before.room < before.end - next → cursors ≡ remove_entry (nat_eq id) before.cursors → RemovesBy now (record before { cursors = cursors }) id (Ok tt)
 removes_slow before now id next cursors is found slow gone =
-    let same = ap (least before.end) (standing_in-remove_slow before.room before.end (nat_eq id) before.cursors next found (lt-ltb before.room (before.end - next) slow)) in
+    let same = ap (least before.end) (active_in-remove_slow before.room before.end (nat_eq id) before.cursors next found (lt-ltb before.room (before.end - next) slow)) in
     let none : 0 ≡ lowest_in before.room before.end (remove_entry (nat_eq id) before.cursors) - lowest before = omega arith in
     removes before now (record before { cursors = cursors }) id next is found (λ i. record before { cursors = gone i; events = drop (none i) before.events })

@@ -1,19 +1,19 @@
--- What stands in a world, by its policy, and the bound on what is pending.
+-- What is active in a world, by its policy, and the bound on what is pending.
 use Rattle.std.proofs.Common.{ℕ, ◌≡◌, ◌+◌, ◌-◌, ◌≤◌, ◌⊎◌, not, ◌&&◌, Bool, true, false, if◌then◌else◌, List, [], ◌∷◌, Some, filter, length, min, nat_eq, refl, sym, ap, ◌∙◌, inl, inr, arith}
 use Rattle.std.proofs.lemmas.Bool.{cases_Bool, le-ltb, ltb-false}
 use Rattle.std.specs.Map.{lookup}
 use Rattle.hub_record.specs.declared.limits.Policy.{Policy}
 use Rattle.hub_record.specs.declared.limits.Policy.TheVariants.{Hold, Evict}
-use Rattle.hub_record.specs.World.{World, Subscription, IsWorld, current, standing, is_slow, evicts, is_evicted, count_to_take, least, base, load}
-use Rattle.hub_record.specs.Backlog.{standing_in, lowest_in}
-use Rattle.hub_record.proofs.Standing.{least_bound_at}
+use Rattle.hub_record.specs.World.{World, Subscription, IsWorld, current, active, is_slow, evicts, is_evicted, count_to_take, least, base, load}
+use Rattle.hub_record.specs.Backlog.{active_in, lowest_in}
+use Rattle.hub_record.proofs.Active.{least_bound_at}
 use Rattle.hub_record.proofs.Slow.{lowest_near, lowest_bound_at, none_is_slow}
 
 policy_is : (p : Policy) → (p ≡ Hold) ⊎ (p ≡ Evict)
 policy_is Hold = inl refl
 policy_is Evict = inr refl
 
--- the cursors that stand with this policy
+-- the active cursors with this policy
 by_policy : Policy → World → List (ℕ × ℕ)
 by_policy p w = filter (λ c. not (evicts p && is_slow w.limits.waiting (length w.events) c.1)) (current w)
 
@@ -21,13 +21,13 @@ all_of : (cs : List (ℕ × ℕ)) → filter (λ (c : ℕ × ℕ). true) cs ≡ 
 all_of [] = refl
 all_of (c ∷ cs) = ap (λ z. c ∷ z) (all_of cs)
 
-pub standing_hold : (w : World) → w.limits.policy ≡ Hold → standing w ≡ current w
+pub active_hold : (w : World) → w.limits.policy ≡ Hold → active w ≡ current w
 unfolding by_policy
-standing_hold w is = ap (λ p. by_policy p w) is ∙ all_of (current w)
+active_hold w is = ap (λ p. by_policy p w) is ∙ all_of (current w)
 
-standing_evict : (w : World) → w.limits.policy ≡ Evict → standing w ≡ standing_in w.limits.waiting (length w.events) (current w)
+active_evict : (w : World) → w.limits.policy ≡ Evict → active w ≡ active_in w.limits.waiting (length w.events) (current w)
 unfolding by_policy
-standing_evict w is = ap (λ p. by_policy p w) is
+active_evict w is = ap (λ p. by_policy p w) is
 
 -- with the policy Hold, no more is pending for any current subscription than may be
 abbrev pub Holds : World → Type 0
@@ -35,21 +35,21 @@ Holds w = w.limits.policy ≡ Hold → length w.events ≤ least (length w.event
 
 pub loaded_by : (w : World) → Holds w → load w ≤ w.limits.waiting
 loaded_by w h = elim (policy_is w.limits.policy) [
-  | inl hold ↦ (let k = h hold in let s = ap (least (length w.events)) (standing_hold w hold) in omega arith)
-  | inr evict ↦ (let k = lowest_near w.limits.waiting (length w.events) (current w) in let s = ap (least (length w.events)) (standing_evict w evict) in omega arith)
+  | inl hold ↦ (let k = h hold in let s = ap (least (length w.events)) (active_hold w hold) in omega arith)
+  | inr evict ↦ (let k = lowest_near w.limits.waiting (length w.events) (current w) in let s = ap (least (length w.events)) (active_evict w evict) in omega arith)
 ]
 
 pub holds : (w : World) → IsWorld w → Holds w
-holds w i hold = let k = i.loaded in let s = ap (least (length w.events)) (standing_hold w hold) in omega arith
+holds w i hold = let k = i.loaded in let s = ap (least (length w.events)) (active_hold w hold) in omega arith
 
-pub standing_is : (w : World) → IsWorld w → standing w ≡ standing_in w.limits.waiting (length w.events) (current w)
-standing_is w i = elim (policy_is w.limits.policy) [
-  | inl hold ↦ standing_hold w hold ∙ sym (none_is_slow w.limits.waiting (length w.events) (current w) (holds w i hold))
-  | inr evict ↦ standing_evict w evict
+pub active_is : (w : World) → IsWorld w → active w ≡ active_in w.limits.waiting (length w.events) (current w)
+active_is w i = elim (policy_is w.limits.policy) [
+  | inl hold ↦ active_hold w hold ∙ sym (none_is_slow w.limits.waiting (length w.events) (current w) (holds w i hold))
+  | inr evict ↦ active_evict w evict
 ]
 
 pub base_is_lowest : (w : World) → IsWorld w → base w ≡ lowest_in w.limits.waiting (length w.events) (current w)
-base_is_lowest w i = ap (least (length w.events)) (standing_is w i)
+base_is_lowest w i = ap (least (length w.events)) (active_is w i)
 
 -- a current subscription is evicted if it is slow, and with the policy Hold none is slow
 pub evicted_is_slow : (w : World) (id next : ℕ) → IsWorld w → lookup (nat_eq id) (current w) ≡ Some next → is_evicted w next ≡ is_slow w.limits.waiting (length w.events) next
@@ -60,7 +60,7 @@ evicted_is_slow w id next i e = elim (policy_is w.limits.policy) [
   | inr evict ↦ ap (λ p. evicts p && is_slow w.limits.waiting (length w.events) next) evict
 ]
 
--- the base is at the next of a subscription that stands, or below it
+-- the base is at the next of an active subscription, or below it
 pub base_bound : (w : World) (id next : ℕ) → IsWorld w → lookup (nat_eq id) (current w) ≡ Some next → is_evicted w next ≡ false → base w ≤ next
 base_bound w id next i e up =
     let low = base_is_lowest w i in
@@ -98,5 +98,5 @@ end_up w next at = elim (cases_Bool (evicts w.limits.policy)) [
 pub count_evicted : (w : World) (s : Subscription) (most : ℕ) → is_evicted w s.next ≡ true → count_to_take w s most ≡ 0
 count_evicted w s most e = ap (λ (b : Bool). if b then 0 else min most (length w.events - s.next)) e
 
-pub count_standing : (w : World) (s : Subscription) (most : ℕ) → is_evicted w s.next ≡ false → count_to_take w s most ≡ min most (length w.events - s.next)
-count_standing w s most e = ap (λ (b : Bool). if b then 0 else min most (length w.events - s.next)) e
+pub count_active : (w : World) (s : Subscription) (most : ℕ) → is_evicted w s.next ≡ false → count_to_take w s most ≡ min most (length w.events - s.next)
+count_active w s most e = ap (λ (b : Bool). if b then 0 else min most (length w.events - s.next)) e

@@ -4,28 +4,28 @@ use Rattle.std.proofs.lemmas.Bool.{cases_Bool, lt-ltb, le-ltb, ltb-true, ltb-fal
 use Rattle.std.proofs.lemmas.List.Elements.{All-nil, All-cons, All-head, All-tail}
 use Rattle.std.specs.Map.{lookup, set_value, remove_entry, values_of}
 use Rattle.hub_record.specs.World.{least, is_slow}
-use Rattle.hub_record.specs.Backlog.{standing_at, standing_in, lowest_in}
-use Rattle.hub_record.proofs.Standing.{one, none, standing_at-cons, least-push, least_met}
+use Rattle.hub_record.specs.Backlog.{active_at, active_in, lowest_in}
+use Rattle.hub_record.proofs.Active.{one, none, active_at-cons, least-push, least_met}
 
 module _ (room end : ℕ) where
-  slow_cons : (c : ℕ × ℕ) (cs : List (ℕ × ℕ)) → is_slow room end c.1 ≡ true → standing_in room end (c ∷ cs) ≡ standing_in room end cs
+  slow_cons : (c : ℕ × ℕ) (cs : List (ℕ × ℕ)) → is_slow room end c.1 ≡ true → active_in room end (c ∷ cs) ≡ active_in room end cs
   slow_cons c cs t = simp t
 
-  near_cons : (c : ℕ × ℕ) (cs : List (ℕ × ℕ)) → is_slow room end c.1 ≡ false → standing_in room end (c ∷ cs) ≡ c ∷ standing_in room end cs
+  near_cons : (c : ℕ × ℕ) (cs : List (ℕ × ℕ)) → is_slow room end c.1 ≡ false → active_in room end (c ∷ cs) ≡ c ∷ active_in room end cs
   near_cons c cs t = simp t
 
   -- a cursor that isn't slow comes last
-  pub standing_in-push : (id v : ℕ) (cs : List (ℕ × ℕ)) → is_slow room end v ≡ false → standing_in room end (cs ++ (id, v) ∷ []) ≡ standing_in room end cs ++ (id, v) ∷ []
-  standing_in-push id v [] t = near_cons (id, v) [] t
-  standing_in-push id v (c ∷ cs) t =
-      let ih = standing_in-push id v cs t in
+  pub active_in-push : (id v : ℕ) (cs : List (ℕ × ℕ)) → is_slow room end v ≡ false → active_in room end (cs ++ (id, v) ∷ []) ≡ active_in room end cs ++ (id, v) ∷ []
+  active_in-push id v [] t = near_cons (id, v) [] t
+  active_in-push id v (c ∷ cs) t =
+      let ih = active_in-push id v cs t in
       elim (cases_Bool (is_slow room end c.1)) [
         | inl s ↦ slow_cons c (cs ++ (id, v) ∷ []) s ∙ ih ∙ ap (λ z. z ++ (id, v) ∷ []) (sym (slow_cons c cs s))
         | inr s ↦ near_cons c (cs ++ (id, v) ∷ []) s ∙ ap (λ z. c ∷ z) ih ∙ ap (λ z. z ++ (id, v) ∷ []) (sym (near_cons c cs s))
       ]
 
   pub lowest-push : (id : ℕ) (cs : List (ℕ × ℕ)) → lowest_in room end (cs ++ (id, end) ∷ []) ≡ lowest_in room end cs
-  lowest-push id cs = ap (least end) (standing_in-push id end cs (le-ltb room (end - end) (omega arith))) ∙ least-push end id (standing_in room end cs)
+  lowest-push id cs = ap (least end) (active_in-push id end cs (le-ltb room (end - end) (omega arith))) ∙ least-push end id (active_in room end cs)
 
   -- no more is behind the least than there is room for
   pub lowest_near : (cs : List (ℕ × ℕ)) → end ≤ lowest_in room end cs + room
@@ -88,54 +88,54 @@ module _ (room end : ℕ) where
       ]
 
   -- a slow cursor that is removed
-  pub standing_in-remove_slow : (test : ℕ → Bool) (cs : List (ℕ × ℕ)) (v : ℕ) → lookup test cs ≡ Some v → is_slow room end v ≡ true → standing_in room end (remove_entry test cs) ≡ standing_in room end cs
-  standing_in-remove_slow test [] v e slow = cc
-  standing_in-remove_slow test (c ∷ cs) v e slow =
+  pub active_in-remove_slow : (test : ℕ → Bool) (cs : List (ℕ × ℕ)) (v : ℕ) → lookup test cs ≡ Some v → is_slow room end v ≡ true → active_in room end (remove_entry test cs) ≡ active_in room end cs
+  active_in-remove_slow test [] v e slow = cc
+  active_in-remove_slow test (c ∷ cs) v e slow =
       elim (cases_Bool (test c.0)) [
         | inl t ↦ (let k = simp t at e in
             let is : c.1 ≡ v = cc in
             let gone : remove_entry test (c ∷ cs) ≡ cs = simp t in
-            ap (standing_in room end) gone ∙ sym (slow_cons c cs (ap (is_slow room end) is ∙ slow)))
-        | inr t ↦ (let ih = standing_in-remove_slow test cs v (simp t at e) slow in
+            ap (active_in room end) gone ∙ sym (slow_cons c cs (ap (is_slow room end) is ∙ slow)))
+        | inr t ↦ (let ih = active_in-remove_slow test cs v (simp t at e) slow in
             let stays : remove_entry test (c ∷ cs) ≡ c ∷ remove_entry test cs = simp t in
             elim (cases_Bool (is_slow room end c.1)) [
-              | inl s ↦ ap (standing_in room end) stays ∙ slow_cons c (remove_entry test cs) s ∙ ih ∙ sym (slow_cons c cs s)
-              | inr s ↦ ap (standing_in room end) stays ∙ near_cons c (remove_entry test cs) s ∙ ap (λ z. c ∷ z) ih ∙ sym (near_cons c cs s)
+              | inl s ↦ ap (active_in room end) stays ∙ slow_cons c (remove_entry test cs) s ∙ ih ∙ sym (slow_cons c cs s)
+              | inr s ↦ ap (active_in room end) stays ∙ near_cons c (remove_entry test cs) s ∙ ap (λ z. c ∷ z) ih ∙ sym (near_cons c cs s)
             ])
       ]
 
-  -- at a number that isn't slow each cursor stands
-  pub standing_at-standing_in : (n : ℕ) (cs : List (ℕ × ℕ)) → end ≤ n + room → standing_at n (standing_in room end cs) ≡ standing_at n cs
-  standing_at-standing_in n [] near = refl
-  standing_at-standing_in n (c ∷ cs) near =
-      let ih = standing_at-standing_in n cs near in
+  -- at a number that isn't slow each cursor is active
+  pub active_at-active_in : (n : ℕ) (cs : List (ℕ × ℕ)) → end ≤ n + room → active_at n (active_in room end cs) ≡ active_at n cs
+  active_at-active_in n [] near = refl
+  active_at-active_in n (c ∷ cs) near =
+      let ih = active_at-active_in n cs near in
       elim (cases_Bool (is_slow room end c.1)) [
         | inl s ↦ (let far = ltb-true room (end - c.1) s in
             let here = none n c.1 (λ e. absurd (omega arith)) in
-            let some = standing_at-cons n c cs in
-            let l = ap (standing_at n) (slow_cons c cs s) in omega arith)
-        | inr s ↦ (let one = standing_at-cons n c (standing_in room end cs) in
-            let all = standing_at-cons n c cs in
-            let l = ap (standing_at n) (near_cons c cs s) in omega arith)
+            let some = active_at-cons n c cs in
+            let l = ap (active_at n) (slow_cons c cs s) in omega arith)
+        | inr s ↦ (let one = active_at-cons n c (active_in room end cs) in
+            let all = active_at-cons n c cs in
+            let l = ap (active_at n) (near_cons c cs s) in omega arith)
       ]
 
-  pub standing_in-behind : (n : ℕ) (cs : List (ℕ × ℕ)) → All (λ v. v ≤ n) (values_of cs) → All (λ v. v ≤ n) (values_of (standing_in room end cs))
-  standing_in-behind n [] h = All-nil (λ v. v ≤ n)
-  standing_in-behind n (c ∷ cs) h =
-      let ih = standing_in-behind n cs (All-tail (λ v. v ≤ n) c.1 (values_of cs) h) in
+  pub active_in-behind : (n : ℕ) (cs : List (ℕ × ℕ)) → All (λ v. v ≤ n) (values_of cs) → All (λ v. v ≤ n) (values_of (active_in room end cs))
+  active_in-behind n [] h = All-nil (λ v. v ≤ n)
+  active_in-behind n (c ∷ cs) h =
+      let ih = active_in-behind n cs (All-tail (λ v. v ≤ n) c.1 (values_of cs) h) in
       elim (cases_Bool (is_slow room end c.1)) [
         | inl s ↦ simp s ih
-        | inr s ↦ simp s (All-cons (λ v. v ≤ n) c.1 (values_of (standing_in room end cs)) (All-head (λ v. v ≤ n) c.1 (values_of cs) h) ih)
+        | inr s ↦ simp s (All-cons (λ v. v ≤ n) c.1 (values_of (active_in room end cs)) (All-head (λ v. v ≤ n) c.1 (values_of cs) h) ih)
       ]
 
   -- if the least of all cursors isn't slow, none is
-  pub none_is_slow : (cs : List (ℕ × ℕ)) → end ≤ least end cs + room → standing_in room end cs ≡ cs
+  pub none_is_slow : (cs : List (ℕ × ℕ)) → end ≤ least end cs + room → active_in room end cs ≡ cs
   none_is_slow [] h = refl
   none_is_slow (c ∷ cs) h =
       let ih = none_is_slow cs (omega arith) in
       near_cons c cs (le-ltb room (end - c.1) (omega arith)) ∙ ap (λ z. c ∷ z) ih
 
--- a later end: what was no cursor that stands is none still, and at most room events are behind the bound
+-- a later end: what was no active cursor is none still, and at most room events are behind the bound
 pub lowest_grown : (room b c end end' : ℕ) (cs : List (ℕ × ℕ)) → b ≤ lowest_in room end cs → (c ≤ b) ⊎ (c + room ≤ end') → c ≤ end' → end ≤ end' → c ≤ lowest_in room end' cs
 lowest_grown room b c end end' [] low far in_end grows = in_end
 lowest_grown room b c end end' (x ∷ cs) low far in_end grows = elim (cases_Bool (is_slow room end' x.1)) [
@@ -153,21 +153,21 @@ lowest_grown room b c end end' (x ∷ cs) low far in_end grows = elim (cases_Boo
 ]
 
 -- a slow cursor stays slow
-pub slow_stay : (room end end' : ℕ) (cs : List (ℕ × ℕ)) → standing_in room end cs ≡ [] → end ≤ end' → standing_in room end' cs ≡ []
+pub slow_stay : (room end end' : ℕ) (cs : List (ℕ × ℕ)) → active_in room end cs ≡ [] → end ≤ end' → active_in room end' cs ≡ []
 slow_stay room end end' [] none grows = refl
 slow_stay room end end' (c ∷ cs) none grows = elim (cases_Bool (is_slow room end c.1)) [
   | inl s ↦ (let far = ltb-true room (end - c.1) s in
       slow_cons room end' c cs (lt-ltb room (end' - c.1) (omega arith)) ∙ slow_stay room end end' cs (sym (slow_cons room end c cs s) ∙ none) grows)
-  | inr s ↦ (let some : c ∷ standing_in room end cs ≡ [] = sym (near_cons room end c cs s) ∙ none in cc)
+  | inr s ↦ (let some : c ∷ active_in room end cs ≡ [] = sym (near_cons room end c cs s) ∙ none in cc)
 ]
 
 -- if no cursor is at the least number there is none
-pub none_stand : (base end : ℕ) (cs : List (ℕ × ℕ)) → All (λ v. v ≤ end) (values_of cs) → base ≡ least end cs → standing_at base cs ≡ 0 → cs ≡ []
-none_stand base end [] h low z = refl
-none_stand base end (c ∷ cs) h low z =
+pub none_active_at : (base end : ℕ) (cs : List (ℕ × ℕ)) → All (λ v. v ≤ end) (values_of cs) → base ≡ least end cs → active_at base cs ≡ 0 → cs ≡ []
+none_active_at base end [] h low z = refl
+none_active_at base end (c ∷ cs) h low z =
     let last = All-head (λ v. v ≤ end) c.1 (values_of cs) h in
-    let here = standing_at-cons base c cs in
+    let here = active_at-cons base c cs in
     elim (least_met end (c ∷ cs)) [
       | inl at ↦ (let o = one base c.1 (omega arith) in absurd (omega arith))
-      | inr some ↦ (let same = ap (λ n. standing_at n (c ∷ cs)) low in absurd (omega arith))
+      | inr some ↦ (let same = ap (λ n. active_at n (c ∷ cs)) low in absurd (omega arith))
     ]

@@ -1,4 +1,4 @@
--- After a take or a cancel a record stands for the world after it.
+-- After a take or a cancel a record represents the world after it.
 use Rattle.std.proofs.Common.{ℕ, ◌≡◌, ◌+◌, ◌-◌, ◌<◌, ◌≤◌, min, Bool, true, false, if◌then◌else◌, inl, inr, List, [], ◌++◌, length, take, drop, Option, Some, None, Result, Ok, Err, IsOk, IsSome, nat_eq, nat_lt, refl, sym, ap, subst, ◌∙◌, append-nil, arith}
 use Rattle.std.proofs.lemmas.Bool.{cases_Bool, lt-ltb, le-ltb, ltb-true, ltb-false}
 use Rattle.std.proofs.lemmas.List.{length-drop, length-take-le}
@@ -11,12 +11,12 @@ use Rattle.hub_record.specs.declared.Taken.TheVariants.{Got, Nothing, End, Evict
 use Rattle.hub_record.specs.declared.NoId.{NoId}
 use Rattle.hub_record.specs.World.{World, Subscription, IsWorld, current, is_slow, is_evicted, subscription_in, changed_from, with_changed, least, base, as_cancelled, events_to_take, moved_on, moved_for, count_to_take, take_events, reply_for, take_reply, after_take, after_take_for, cancel_for, cancel_reply, after_cancel, after_cancel_for}
 use Rattle.hub_record.specs.Backlog.{Held, IsSlow, Copies, RemovesBy, next_of, lowest, lowest_in, with_cursors}
-use Rattle.hub_record.specs.Kept.{Kept, StandsFor, SaysPending}
+use Rattle.hub_record.specs.Kept.{Kept, Represents, SaysPending}
 use Rattle.hub_record.proofs.Cursors.{lookup_current, set_current, removed_current, unchanged, within-changed, length-changed}
-use Rattle.hub_record.proofs.Standing.{least-set_value, least-remove_entry}
+use Rattle.hub_record.proofs.Active.{least-set_value, least-remove_entry}
 use Rattle.hub_record.proofs.Slow.{lowest_bound_at, lowest-set_value, lowest-remove_entry}
-use Rattle.hub_record.proofs.Policies.{base_is_lowest, loaded_by, holds, evicted_is_slow, count_within, count_evicted, count_standing}
-use Rattle.hub_record.proofs.StandsForWorlds.{held_of, with_held, found_some, found_none, lowest_is, later, recut_stands, still}
+use Rattle.hub_record.proofs.Policies.{base_is_lowest, loaded_by, holds, evicted_is_slow, count_within, count_evicted, count_active}
+use Rattle.hub_record.proofs.RepresentsWorlds.{held_of, with_held, found_some, found_none, lowest_is, later, recut_represents, still}
 
 -- ---- cancel
 
@@ -44,18 +44,18 @@ some_of : (o : Option ℕ) → IsSome o → (v : ℕ) × (o ≡ Some v)
 some_of None h = cc
 some_of (Some v) h = (v, refl)
 
-pub cancel_by : (r : Kept) (h : Held) (w : World) (id room : ℕ) (result : Result (Unit {0}) NoId) → StandsFor r w → room ≡ r.limits.waiting → RemovesBy (held_of r room) h id result → (result ≡ cancel_reply w id) × StandsFor (with_held r h) (after_cancel w id)
+pub cancel_by : (r : Kept) (h : Held) (w : World) (id room : ℕ) (result : Result (Unit {0}) NoId) → Represents r w → room ≡ r.limits.waiting → RemovesBy (held_of r room) h id result → (result ≡ cancel_reply w id) × Represents (with_held r h) (after_cancel w id)
 cancel_by r h w id room (Ok done) s at b =
     let v = some_of (lookup (nat_eq id) r.cursors) b.0 in
     let f = found_some r w id v.0 s v.1 in
     let c = cancelled w id f.0 s.world f.1 in
-    let stands : StandsFor (with_held r h) (with_changed w id as_cancelled) =
-    recut_stands r h w (changed_from as_cancelled 1 w.subscriptions id) _ room s at c.1 (length-changed as_cancelled 1 w.subscriptions id)
+    let represents : Represents (with_held r h) (with_changed w id as_cancelled) =
+    recut_represents r h w (changed_from as_cancelled 1 w.subscriptions id) _ room s at c.1 (length-changed as_cancelled 1 w.subscriptions id)
     (ap (remove_entry (nat_eq id)) s.cursors ∙ sym (removed_current 1 w.subscriptions id f.0 f.1)) c.0 b.1 in
-    (ap cancel_for (sym f.1), subst (λ o. StandsFor (with_held r h) (after_cancel_for w id o)) (sym f.1) stands)
+    (ap cancel_for (sym f.1), subst (λ o. Represents (with_held r h) (after_cancel_for w id o)) (sym f.1) represents)
 cancel_by r h w id room (Err no_id) s at b =
     let f = found_none r w id s b.0 in
-    (ap cancel_for (sym f), subst (λ o. StandsFor (with_held r h) (after_cancel_for w id o)) (sym f) (still r h w room b.1 s))
+    (ap cancel_for (sym f), subst (λ o. Represents (with_held r h) (after_cancel_for w id o)) (sym f) (still r h w room b.1 s))
 
 -- ---- take
 
@@ -98,8 +98,8 @@ moved_world w id most s i f =
     }
 
 -- a cursor of the record that isn't slow, and its subscription
-near_standing : (r : Kept) (w : World) (id v room : ℕ) (s : Subscription) → StandsFor r w → room ≡ r.limits.waiting → subscription_in w id ≡ Some s → s.next ≡ v → is_slow room r.end v ≡ is_evicted w s.next
-near_standing r w id v room s st at f is =
+near_active : (r : Kept) (w : World) (id v room : ℕ) (s : Subscription) → Represents r w → room ≡ r.limits.waiting → subscription_in w id ≡ Some s → s.next ≡ v → is_slow room r.end v ≡ is_evicted w s.next
+near_active r w id v room s st at f is =
     (λ i. is_slow ((at ∙ ap (λ (l : Limits). l.waiting) st.limits) i) (st.end i) (sym is i)) ∙ sym (evicted_is_slow w id s.next st.world (cursor_is w id s f))
 
 -- ---- the replies to a take
@@ -126,36 +126,36 @@ nothing_told w id s slice filled reply f none written is = (
 )
 
 -- n events are taken from what is kept
-events_taken : (r : Kept) (w : World) (id v most count room : ℕ) → StandsFor r w → room ≡ r.limits.waiting → lookup (nat_eq id) r.cursors ≡ Some v → is_slow room r.end v ≡ false → count ≡ min most (r.end - v) → take_events w id most ≡ take count (drop (v - lowest (held_of r room)) r.events)
+events_taken : (r : Kept) (w : World) (id v most count room : ℕ) → Represents r w → room ≡ r.limits.waiting → lookup (nat_eq id) r.cursors ≡ Some v → is_slow room r.end v ≡ false → count ≡ min most (r.end - v) → take_events w id most ≡ take count (drop (v - lowest (held_of r room)) r.events)
 events_taken r w id v most count room s at e near c =
     let f = found_some r w id v s e in
     let n = s.end in
     let is = f.2 in
-    let counted = count_standing w f.0 most (sym (near_standing r w id v room f.0 s at f.1 is) ∙ near) in
+    let counted = count_active w f.0 most (sym (near_active r w id v room f.0 s at f.1 is) ∙ near) in
     let same : count_to_take w f.0 most ≡ count = omega arith in
     let b : lowest (held_of r room) ≡ base w = lowest_is r w room s at in
     let l = lowest_bound_at room r.end (nat_eq id) r.cursors v e near in
     ap (moved_for w most) f.1 ∙ (λ i. take (same i) (drop (is i) w.events)) ∙ ap (take count) (sym (later w v (omega arith))) ∙ sym (λ i. take count (drop (v - b i) (s.events i)))
 
-pub tells_some : (r : Kept) (w : World) (id n room : ℕ) (slice filled : List Event) → StandsFor r w → room ≡ r.limits.waiting → Copies (held_of r room) id n slice filled → TellsTake w id slice filled (Ok (Got n))
+pub tells_some : (r : Kept) (w : World) (id n room : ℕ) (slice filled : List Event) → Represents r w → room ≡ r.limits.waiting → Copies (held_of r room) id n slice filled → TellsTake w id slice filled (Ok (Got n))
 tells_some r w id n room slice filled s at t =
     let p = t.pending in
-    let f = found_some r w id p.next s p.stood in
+    let f = found_some r w id p.next s p.was_at in
     let m = s.end in
     let is = f.2 in
     let waited = p.waited in
     let count = t.count in
     let near : is_slow room r.end p.next ≡ false = le-ltb room (r.end - p.next) p.fits in
-    let up : is_evicted w f.0.next ≡ false = sym (near_standing r w id p.next room f.0 s at f.1 is) ∙ near in
+    let up : is_evicted w f.0.next ≡ false = sym (near_active r w id p.next room f.0 s at f.1 is) ∙ near in
     let yes : nat_lt f.0.next (length w.events) ≡ true = lt-ltb f.0.next (length w.events) (omega arith) in
-    let counted = count_standing w f.0 (length slice) up in
+    let counted = count_active w f.0 (length slice) up in
     let same : n ≡ count_to_take w f.0 (length slice) = omega arith in
     let reply : Ok (Got n) ≡ reply_for w (length slice) (Some f.0) = ap (λ z. Ok (Got z)) same ∙ sym (reply_got w (length slice) f.0 up yes) in
     let b : lowest (held_of r room) ≡ base w = lowest_is r w room s at in
-    let low = lowest_bound_at room r.end (nat_eq id) r.cursors p.next p.stood near in
+    let low = lowest_bound_at room r.end (nat_eq id) r.cursors p.next p.was_at near in
     let kept = ap length s.events in
     let dropped = length-drop (base w) w.events in
-    let events = events_taken r w id p.next (length slice) n room s at p.stood near count in
+    let events = events_taken r w id p.next (length slice) n room s at p.was_at near count in
     let d = length-drop (p.next - lowest (held_of r room)) r.events in
     let long : length (take n (drop (p.next - lowest (held_of r room)) r.events)) ≡ n = length-take-le n (drop (p.next - lowest (held_of r room)) r.events) (omega arith) in
     let size : n ≡ length (take_events w id (length slice)) = sym long ∙ ap length (sym events) in (
@@ -163,25 +163,25 @@ tells_some r w id n room slice filled s at t =
       t.copied ∙ (λ i. sym events i ++ drop (size i) slice),
     )
 
-pub tells_nothing : (r : Kept) (w : World) (id room : ℕ) (slice filled : List Event) → StandsFor r w → room ≡ r.limits.waiting → lookup (nat_eq id) r.cursors ≡ Some r.end → filled ≡ slice → TellsTake w id slice filled (if r.closed then Ok End else Ok Nothing)
+pub tells_nothing : (r : Kept) (w : World) (id room : ℕ) (slice filled : List Event) → Represents r w → room ≡ r.limits.waiting → lookup (nat_eq id) r.cursors ≡ Some r.end → filled ≡ slice → TellsTake w id slice filled (if r.closed then Ok End else Ok Nothing)
 tells_nothing r w id room slice filled s at e written =
     let f = found_some r w id r.end s e in
     let m = s.end in
     let is = f.2 in
     let near : is_slow room r.end r.end ≡ false = le-ltb room (r.end - r.end) (omega arith) in
-    let up : is_evicted w f.0.next ≡ false = sym (near_standing r w id r.end room f.0 s at f.1 is) ∙ near in
+    let up : is_evicted w f.0.next ≡ false = sym (near_active r w id r.end room f.0 s at f.1 is) ∙ near in
     let no : nat_lt f.0.next (length w.events) ≡ false = le-ltb f.0.next (length w.events) (omega arith) in
-    let counted = count_standing w f.0 (length slice) up in
+    let counted = count_active w f.0 (length slice) up in
     nothing_told w id f.0 slice filled (if r.closed then Ok End else Ok Nothing) f.1 (omega arith) written
     (ap (λ (b : Bool). if b then Ok End else Ok Nothing) s.closed ∙ sym (reply_none w (length slice) f.0 up no))
 
-pub tells_lost : (r : Kept) (w : World) (id room : ℕ) (slice filled : List Event) → StandsFor r w → room ≡ r.limits.waiting → IsSlow (held_of r room) id → filled ≡ slice → TellsTake w id slice filled (Ok Evicted)
-tells_lost r w id room slice filled s at (next, stood, slow) written =
-    let f = found_some r w id next s stood in
-    let out : is_evicted w f.0.next ≡ true = sym (near_standing r w id next room f.0 s at f.1 f.2) ∙ lt-ltb room (r.end - next) slow in
+pub tells_lost : (r : Kept) (w : World) (id room : ℕ) (slice filled : List Event) → Represents r w → room ≡ r.limits.waiting → IsSlow (held_of r room) id → filled ≡ slice → TellsTake w id slice filled (Ok Evicted)
+tells_lost r w id room slice filled s at (next, was_at, slow) written =
+    let f = found_some r w id next s was_at in
+    let out : is_evicted w f.0.next ≡ true = sym (near_active r w id next room f.0 s at f.1 f.2) ∙ lt-ltb room (r.end - next) slow in
     nothing_told w id f.0 slice filled (Ok Evicted) f.1 (count_evicted w f.0 (length slice) out) written (sym (reply_evicted w (length slice) f.0 out))
 
-pub tells_none : (r : Kept) (w : World) (id : ℕ) (slice filled : List Event) → StandsFor r w → lookup (nat_eq id) r.cursors ≡ None → filled ≡ slice → TellsTake w id slice filled (Err (record {}))
+pub tells_none : (r : Kept) (w : World) (id : ℕ) (slice filled : List Event) → Represents r w → lookup (nat_eq id) r.cursors ≡ None → filled ≡ slice → TellsTake w id slice filled (Err (record {}))
 tells_none r w id slice filled s e written =
     let f = found_none r w id s e in
     (ap (reply_for w (length slice)) (sym f), written ∙ sym (ap (λ z. z ++ drop (length z) slice) (ap (moved_for w (length slice)) f)))
@@ -219,24 +219,24 @@ pub answered : (w : World) (most : ℕ) (s : Subscription) (answer : Result Take
 answered w most s (Ok x) h = refl
 answered w most s (Err e) h = absurd h
 
--- ---- what stands after a take
+-- ---- what represents after a take
 
 -- events were taken, and the cursor is behind them
-pub take_stands : (r : Kept) (h : Held) (w : World) (id most n room : ℕ) → StandsFor r w → room ≡ r.limits.waiting → SaysPending r id (Got n) → Ok (Got n) ≡ take_reply w id most
-    → IfSome (next_of (held_of r room) id) (λ next. h ≡ with_cursors (held_of r room) (set_value (nat_eq id) r.cursors (next + n))) → StandsFor (with_held r h) (after_take w id most)
-take_stands r h w id most n room s at pending told moved =
-    let f = found_some r w id pending.next s pending.stood in
+pub take_represents : (r : Kept) (h : Held) (w : World) (id most n room : ℕ) → Represents r w → room ≡ r.limits.waiting → SaysPending r id (Got n) → Ok (Got n) ≡ take_reply w id most
+    → IfSome (next_of (held_of r room) id) (λ next. h ≡ with_cursors (held_of r room) (set_value (nat_eq id) r.cursors (next + n))) → Represents (with_held r h) (after_take w id most)
+take_represents r h w id most n room s at pending told moved =
+    let f = found_some r w id pending.next s pending.was_at in
     let is = f.2 in
     let got = shows_by w most f.0 (Ok (Got n)) (told ∙ ap (reply_for w most) f.1) in
     let counted = got.1 in
     let same : pending.next + n ≡ f.0.next + count_to_take w f.0 most = omega arith in
-    let on = subst (λ o. IfSome o (λ next. h ≡ with_cursors (held_of r room) (set_value (nat_eq id) r.cursors (next + n)))) pending.stood moved in
+    let on = subst (λ o. IfSome o (λ next. h ≡ with_cursors (held_of r room) (set_value (nat_eq id) r.cursors (next + n)))) pending.was_at moved in
     let world = moved_world w id most f.0 s.world f.1 in
     let fast : is_slow w.limits.waiting (length w.events) f.0.next ≡ false = sym (evicted_is_slow w id f.0.next s.world (cursor_is w id f.0 f.1)) ∙ got.2 in
-    let stands : StandsFor (with_held r h) (with_changed w id (moved_on w most)) =
-    recut_stands r h w (changed_from (moved_on w most) 1 w.subscriptions id) _ room s at world (length-changed (moved_on w most) 1 w.subscriptions id)
+    let represents : Represents (with_held r h) (with_changed w id (moved_on w most)) =
+    recut_represents r h w (changed_from (moved_on w most) 1 w.subscriptions id) _ room s at world (length-changed (moved_on w most) 1 w.subscriptions id)
     ((λ i. set_value (nat_eq id) (s.cursors i) (same i)) ∙ sym (set_current (moved_on w most) (λ s. refl) 1 w.subscriptions id f.0 f.1)) (moved_base w id most f.0 s.world world f.1 fast) on in
-    subst (λ o. StandsFor (with_held r h) (after_take_for w id most o)) (sym f.1) stands
+    subst (λ o. Represents (with_held r h) (after_take_for w id most o)) (sym f.1) represents
 
 -- an answer without events moves nothing
 nothing_counted : (w : World) (most : ℕ) (s : Subscription) (taken : Taken) → AnswerShows w most s (Ok taken) → ((n : ℕ) → taken ≡ Got n → ⊥) → count_to_take w s most ≡ 0

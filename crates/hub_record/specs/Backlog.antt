@@ -24,12 +24,12 @@ abbrev pub nothing_held : ℕ → Held
 nothing_held room = record { room = room; end = 0; events = []; given = 0; cursors = [] }
 
 -- the cursors behind which no more events are pending than there is room for
-abbrev pub standing_in : (room end : ℕ) → List (ℕ × ℕ) → List (ℕ × ℕ)
-standing_in room end cursors = filter (λ c. not (is_slow room end c.1)) cursors
+abbrev pub active_in : (room end : ℕ) → List (ℕ × ℕ) → List (ℕ × ℕ)
+active_in room end cursors = filter (λ c. not (is_slow room end c.1)) cursors
 
 -- the least of these, or the end
 abbrev pub lowest_in : (room end : ℕ) → List (ℕ × ℕ) → ℕ
-lowest_in room end cursors = least end (standing_in room end cursors)
+lowest_in room end cursors = least end (active_in room end cursors)
 
 -- the number of the first event that is kept
 abbrev pub lowest : Held → ℕ
@@ -52,7 +52,7 @@ abbrev pub with_cursors : Held → List (ℕ × ℕ) → Held
 with_cursors h cursors = record h { cursors = cursors; events = drop (lowest_in h.room h.end cursors - lowest h) h.events }
 
 abbrev pub IsStill : Held → Type 0
-IsStill h = standing_in h.room h.end h.cursors ≡ []
+IsStill h = active_in h.room h.end h.cursors ≡ []
 
 -- how many events have to be kept at once after n more: all that are kept and these, or these alone
 abbrev pub room_for : Policy → Held → ℕ → ℕ
@@ -67,7 +67,7 @@ HasRoomFor policy h n = IsStill h ⊎ (room_for policy h n ≤ h.room)
 -- the cursor of an id isn't slow, events are pending behind it, and these are at least n
 pub record ArePending (room end : ℕ) (cursors : List (ℕ × ℕ)) (id n : ℕ) : Type 0 where
   pub next : ℕ
-  pub stood : lookup (nat_eq id) cursors ≡ Some next
+  pub was_at : lookup (nat_eq id) cursors ≡ Some next
   pub waited : next < end
   pub fits : end - next ≤ room
   pub within : next + n ≤ end
@@ -107,13 +107,13 @@ RemovesBy before after id (Err no_id) = (next_of before id ≡ None) × (after �
 -- ---- what is also kept, so that the least cursor is found without a look at all of them
 
 -- how many cursors are at a number
-abbrev pub standing_at : ℕ → List (ℕ × ℕ) → ℕ
-standing_at number cursors = count_by (λ n. n == number) (values_of cursors)
+abbrev pub active_at : ℕ → List (ℕ × ℕ) → ℕ
+active_at number cursors = count_by (λ n. n == number) (values_of cursors)
 
 -- the counts are, event by event from the base on, how many cursors are at it; the last is for the end
 pub record IsKept (room base : ℕ) (counts : Buffer ℕ) (end given : ℕ) (cursors : List (ℕ × ℕ)) : Type 0 where
   pub lowest : base ≡ lowest_in room end cursors
-  pub counted : (k : ℕ) → get_or counts.items k 0 ≡ standing_at (base + k) cursors
+  pub counted : (k : ℕ) → get_or counts.items k 0 ≡ active_at (base + k) cursors
   pub to_end : base + length counts.items ≡ end + 1
   pub fits : counts.capacity ≡ room + 1
   pub behind : All (λ n. n ≤ end) (values_of cursors)

@@ -139,7 +139,7 @@ impl Backlog {
     }
 
     /// Gives the next id a cursor at the end. Returns the id and its cursor.
-    pub fn stand(&mut self) -> Result<(u64, u64), AllocError>
+    pub fn subscribe(&mut self) -> Result<(u64, u64), AllocError>
         requires few { length self.old.cursors < MOST_PASSES }
         requires left { self.old.given < MOST_IDS }
         ensures given { IfOk result (λ r. r ≡ (self.old.given + 1, self.old.end)) }

@@ -1,8 +1,8 @@
 //! Laws of the model, which no clause of a single call says. They are about the definitions alone, and so they hold for
-//! every record that stands for a world.
+//! every record that represents a world.
 ghost use Rattle.std.specs.Prelude.{◌≡◌, ◌≢◌, ◌<◌, ◌≤◌, ◌+◌, ℕ, List, [], Ok, length, get_or, false};
-ghost use Rattle.hub_record.specs.World.{World, IsWorld, empty_world, standing};
-ghost use Rattle.hub_record.specs.Kept.{Kept, StandsFor};
+ghost use Rattle.hub_record.specs.World.{World, IsWorld, empty_world, active};
+ghost use Rattle.hub_record.specs.Kept.{Kept, Represents};
 ghost use Rattle.hub_record.specs.Runs.{IsRun, SaidTo, AllGatherSinceMark, after_call, by, ids_given, letters_published, world_after};
 
 use crate::{Call, Kind, Limits, Said};
@@ -30,11 +30,11 @@ pub fn one_reply()
         → IsRun w calls other → one ≡ other }
 {}
 
-/// A record never keeps more events than may be pending, and keeps none if no subscription stands.
-#[tactic(auto, using(crate::proofs::StandsForWorlds::kept_bound, crate::proofs::StandsForWorlds::kept_none))]
+/// A record never keeps more events than may be pending, and keeps none if no subscription is active.
+#[tactic(auto, using(crate::proofs::RepresentsWorlds::kept_bound, crate::proofs::RepresentsWorlds::kept_none))]
 pub fn no_more_than_may_wait()
-    ensures most { (r : Kept) (w : World) → StandsFor r w → length r.events ≤ w.limits.waiting }
-    ensures none { (r : Kept) (w : World) → StandsFor r w → standing w ≡ [] → r.events ≡ [] }
+    ensures most { (r : Kept) (w : World) → Represents r w → length r.events ≤ w.limits.waiting }
+    ensures none { (r : Kept) (w : World) → Represents r w → active w ≡ [] → r.events ≡ [] }
 {}
 
 /// Every run keeps the bounds of a world. There are at most `total` events, at most `waiting` are pending, at most `ids` ids

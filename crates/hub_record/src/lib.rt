@@ -13,13 +13,13 @@
 //! event is dropped that is pending for a subscription: the message is refused whole (`PubError::Full`), and there is
 //! room again after the slowest subscription takes or is cancelled. With `Policy::Evict` the slowest subscriptions give
 //! way: they are evicted, and each take of one reports `Taken::Evicted`. So no subscription gets a list with a hole that
-//! looks whole. If no subscription stands nothing is kept, and no message is too long for the ring.
+//! looks whole. If no subscription is active nothing is kept, and no message is too long for the ring.
 //!
 //! **Closing.** A closed record takes no event and no subscription any more. Unless a subscription is evicted, it can still
 //! take the events that are pending; after them a take reports `Taken::End`.
 //!
 //! Each call is the model's call on one list of all events (`specs/World.antt`). `specs/Kept.antt` says when a record
-//! stands for a world of the model.
+//! represents a world of the model.
 #![tactic(auto)]
 
 mod backlog;

@@ -2,7 +2,7 @@
 ghost use Rattle.std.specs.Prelude.{◌≡◌, ◌≤◌, ◌+◌, ◌-◌, ◌++◌, ◌∷◌, [], List, ℕ, None, IfOk, OnOk, OnErr, length, map, nat_eq};
 ghost use Rattle.std.specs.Map.{lookup};
 ghost use Rattle.hub_record.specs.World.{World as Modelled, empty_world};
-ghost use Rattle.hub_record.specs.Kept.{StandsFor};
+ghost use Rattle.hub_record.specs.Kept.{Represents};
 ghost use Rattle.hub_record.specs.Runs.{IsRun, world_after, SaidTo, after_call, AllGatherSinceMark};
 ghost use Rattle.hub_record.specs.Runs.{by, letters_published, gathered_from, lists_of, with_more_events};
 
@@ -54,11 +54,11 @@ pub struct World {
 impl World {
     /// Carries out one call. After an error the world is inconsistent and must be dropped.
     fn answer(&mut self, alloc: Global, call: &Call) -> Result<Said, AllocError>
-        ensures said { (w : Modelled) → StandsFor self.old.state w
+        ensures said { (w : Modelled) → Represents self.old.state w
             → IfOk result (λ said. SaidTo w call.now said) }
-        ensures after { (w : Modelled) → StandsFor self.old.state w
-            → IfOk result (λ said. StandsFor self.new.state (after_call w call.now said)) }
-        ensures gathered { (w : Modelled) → StandsFor self.old.state w
+        ensures after { (w : Modelled) → Represents self.old.state w
+            → IfOk result (λ said. Represents self.new.state (after_call w call.now said)) }
+        ensures gathered { (w : Modelled) → Represents self.old.state w
             → lists_of self.old.gathered.entries ≡ gathered_from 1 w.subscriptions
             → IfOk result (λ said. lists_of self.new.gathered.entries ≡ gathered_from 1
             (after_call w call.now said).subscriptions) }
@@ -124,7 +124,7 @@ pub fn replay(
     calls: &[Call],
 ) -> Result<World, AllocError>
     ensures replies { IfOk result (λ r. IsRun (empty_world kind limits) calls.now r.replies.items) }
-    ensures state { IfOk result (λ r. StandsFor r.state
+    ensures state { IfOk result (λ r. Represents r.state
         (world_after (empty_world kind limits) calls.now r.replies.items)) }
     ensures gathered { IfOk result (λ r. lists_of r.gathered.entries ≡ gathered_from 1
         (world_after (empty_world kind limits) calls.now r.replies.items).subscriptions) }

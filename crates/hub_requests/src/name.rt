@@ -64,7 +64,7 @@ impl Name {
     }
 }
 
-fn may_stand_in_name(byte: u8) -> bool
+fn may_be_in_name(byte: u8) -> bool
     ensures { result ≡ is_name_byte byte }
 {
     matches!(byte, b'A'..=b'Z' | b'a'..=b'z' | b'0'..=b'9' | b'_' | b'.' | b'-')
@@ -73,7 +73,7 @@ fn may_stand_in_name(byte: u8) -> bool
 fn has_name_bytes(text: &[u8]) -> bool
     ensures { result ≡ list_all is_name_byte text.now }
 {
-    text.iter().all(|b| may_stand_in_name(*b))
+    text.iter().all(|b| may_be_in_name(*b))
 }
 
 impl PartialEq for Name {

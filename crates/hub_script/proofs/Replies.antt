@@ -6,7 +6,7 @@ use Rattle.std.proofs.lemmas.List.Elements.{All-head, All-tail}
 use Rattle.std.specs.List.{AllZip}
 use Rattle.hub_local.specs.DeskAnswers.{answers}
 use Rattle.hub_local.specs.Desks.{new_desk}
-use Rattle.hub_local.specs.Standing.{Local, StandsForDesk, AsksDesk, Ended, Runs, over, asked}
+use Rattle.hub_local.specs.Representing.{Local, RepresentsDesk, AsksDesk, Ended, Runs, over, asked}
 use Rattle.hub_requests.specs.Texts.{text_of}
 use Rattle.hub_requests.specs.declared.reply.Reply.{Reply}
 use Rattle.hub_requests.specs.declared.request.Request.{Request}
@@ -44,10 +44,10 @@ runs_of (request ∷ requests) (reply ∷ given) old new asked_all =
     let (mid, one, rest) = asked_all in asked old mid new request requests reply given one (runs_of requests given mid new rest)
 
 -- the replies of a run over a new desk, if none is `no memory`
-replies_placed : (lines : List (List ℕ)) (replies : List Reply) (old new : Local) → StandsForDesk old new_desk
+replies_placed : (lines : List (List ℕ)) (replies : List Reply) (old new : Local) → RepresentsDesk old new_desk
     → AreInPlace AsksDesk old lines replies new → NoneIsMemory replies → (patterns : List Bool) × AreReplies patterns lines replies
-replies_placed lines replies old new stands p none =
-    let models = runs_answer old new (requests_of p.reads) p.given new_desk (runs_of (requests_of p.reads) p.given old new p.asked) (p.given_whole none) stands in (
+replies_placed lines replies old new represents p none =
+    let models = runs_answer old new (requests_of p.reads) p.given new_desk (runs_of (requests_of p.reads) p.given old new p.asked) (p.given_whole none) represents in (
       models.reads,
       record {
         reads = p.reads;
@@ -64,34 +64,34 @@ output_of : (input : List ℕ) (replies : List Reply) → (patterns : List Bool)
 output_of input replies (patterns, answered) = (patterns, record { replies = replies; answered = answered; texts = refl })
 
 -- a session over a new desk that ended with its input
-pub session_serves : (old new : Local) (held holds had has : Option (List ℕ)) (n : ℕ) → StandsForDesk old new_desk
+pub session_serves : (old new : Local) (held holds had has : Option (List ℕ)) (n : ℕ) → RepresentsDesk old new_desk
     → Finished AsksDesk Ended old new held holds had has n → Serves held holds had has n
-session_serves old new held holds had has n stands f = record {
+session_serves old new held holds had has n represents f = record {
   input = f.input;
   consumed = f.consumed;
   whole = f.whole;
   counted = f.counted;
   desk = old;
-  is_new = stands;
+  is_new = represents;
   left = f.mid;
   served = f.served;
   each = run_length (lines_of f.input) f.served.replies old f.mid f.served.run ∙ sym f.counted;
   output = λ none. output_of f.input f.served.replies
-      (replies_placed (lines_of f.input) f.served.replies old f.mid stands
+      (replies_placed (lines_of f.input) f.served.replies old f.mid represents
       (run_in_place AsksDesk old f.mid (lines_of f.input) f.served.replies f.served.run) none);
 }
 
 -- a session over a new desk that stopped
-pub session_stops : (old new : Local) (held holds had has : Option (List ℕ)) (e : FrontError) → StandsForDesk old new_desk
+pub session_stops : (old new : Local) (held holds had has : Option (List ℕ)) (e : FrontError) → RepresentsDesk old new_desk
     → Stopped MAX_READS AsksDesk Ended old new held holds had has e → Stops held holds had has e
-session_stops old new held holds had has e stands s =
-    record { input = s.input; consumed = s.consumed; desk = old; is_new = stands; left = s.mid; stopped = s.stopped }
+session_stops old new held holds had has e represents s =
+    record { input = s.input; consumed = s.consumed; desk = old; is_new = represents; left = s.mid; stopped = s.stopped }
 
 -- what a new desk keeps
 empty_local : Local
 empty_local = record { fifodirs = []; holdings = []; given = 0 }
 
-empty_is_new : StandsForDesk empty_local new_desk
+empty_is_new : RepresentsDesk empty_local new_desk
 unfolding empty_local
 empty_is_new = search rules
 

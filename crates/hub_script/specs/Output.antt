@@ -5,7 +5,7 @@ use Rattle.std.specs.List.{AllZip}
 use Rattle.std.specs.Io.KnownBytes.{Consumes, IsAtEnd}
 use Rattle.hub_local.specs.DeskAnswers.{answers, patterns_in, AreReads}
 use Rattle.hub_local.specs.Desks.{new_desk}
-use Rattle.hub_local.specs.Standing.{Local, StandsForDesk, AsksDesk}
+use Rattle.hub_local.specs.Representing.{Local, RepresentsDesk, AsksDesk}
 use Rattle.hub_requests.specs.Texts.{text_of}
 use Rattle.hub_requests.specs.declared.reply.Reply.{Reply}
 use Rattle.hub_requests.specs.declared.request.Request.{Request}
@@ -42,7 +42,7 @@ pub record Serves (held holds had has : Option (List ℕ)) (n : ℕ) : Type 0 wh
   pub whole : IsAtEnd has
   pub counted : n ≡ length (lines_of input)
   pub desk : Local
-  pub is_new : StandsForDesk desk new_desk
+  pub is_new : RepresentsDesk desk new_desk
   pub left : Local
   pub served : Served AsksDesk desk (lines_of input) held holds left
   pub each : length served.replies ≡ n
@@ -53,6 +53,6 @@ pub record Stops (held holds had has : Option (List ℕ)) (e : FrontError) : Typ
   pub input : List ℕ
   pub consumed : Consumes had has input
   pub desk : Local
-  pub is_new : StandsForDesk desk new_desk
+  pub is_new : RepresentsDesk desk new_desk
   pub left : Local
   pub stopped : StopsAt MAX_READS AsksDesk desk input held holds has left e

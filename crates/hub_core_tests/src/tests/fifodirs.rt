@@ -212,7 +212,7 @@ static EVICTING: [Row; 3] = [
         ],
     },
     Row {
-        name: "a long message fits if no ticket stands",
+        name: "a long message fits if there is no ticket",
         kind: Kind::Plain,
         limits: (2, 100, 10),
         steps: &[

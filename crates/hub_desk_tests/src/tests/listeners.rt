@@ -140,7 +140,7 @@ fn the_end_cancels_listeners(rt: HostRuntime) {
 static WEB: &str = "dir web 1 1 -> ok";
 
 /// 128 listeners and 128 subscriptions are current.
-static ALL_STAND: &str = "
+static ALL_ACTIVE: &str = "
     sub web -> no many
     listen web once ( -> no many
     listen db once ( -> no name
@@ -150,14 +150,14 @@ static ALL_STAND: &str = "
 ";
 
 #[test]
-fn standing_handles_are_limited(rt: HostRuntime) {
+fn current_handles_are_limited(rt: HostRuntime) {
     run_anew(
         &rt,
         &[
             Rows(WEB),
             Handles("listen web repeat a", 1, 128),
             Handles("sub web", 129, 256),
-            Rows(ALL_STAND),
+            Rows(ALL_ACTIVE),
         ],
     );
 }

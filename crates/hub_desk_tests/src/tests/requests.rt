@@ -151,7 +151,7 @@ fn names_are_limited(rt: HostRuntime) {
 static WEB: &str = "dir web 1 1 -> ok";
 
 /// 256 subscriptions are current.
-static ALL_STAND: &str = "
+static ALL_ACTIVE: &str = "
     sub web -> no many
     sub db -> no name
     cancel 5 -> ok
@@ -159,10 +159,10 @@ static ALL_STAND: &str = "
 ";
 
 #[test]
-fn standing_handles_are_limited(rt: HostRuntime) {
+fn current_handles_are_limited(rt: HostRuntime) {
     run_anew(
         &rt,
-        &[Rows(WEB), Handles("sub web", 1, 256), Rows(ALL_STAND)],
+        &[Rows(WEB), Handles("sub web", 1, 256), Rows(ALL_ACTIVE)],
     );
 }
 

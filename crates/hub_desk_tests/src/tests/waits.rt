@@ -131,7 +131,7 @@ static GIVEN_BACK: &str = "
 ";
 
 /// A wait leaves alone what is current.
-static OTHERS_STAND: &str = "
+static OTHERS_ACTIVE: &str = "
     svc web 2 1000 1 -> ok
     sub web -> ok 1
     pub web su -> ok 0
@@ -143,13 +143,13 @@ static OTHERS_STAND: &str = "
 
 #[test]
 fn a_wait_leaves_nothing_behind(rt: HostRuntime) {
-    run_each(&rt, &[GIVEN_BACK, OTHERS_STAND]);
+    run_each(&rt, &[GIVEN_BACK, OTHERS_ACTIVE]);
 }
 
 static WEB: &str = "svc web 64 1000 1 -> ok";
 
 /// 256 handles are current; a wait needs none.
-static ALL_STAND: &str = "
+static ALL_ACTIVE: &str = "
     sub web -> no many
     pub web su -> ok 0
     wait all up 0 web web -> yes 2 2
@@ -160,6 +160,6 @@ static ALL_STAND: &str = "
 fn a_wait_works_beside_all_handles(rt: HostRuntime) {
     run_anew(
         &rt,
-        &[Rows(WEB), Handles("sub web", 1, 256), Rows(ALL_STAND)],
+        &[Rows(WEB), Handles("sub web", 1, 256), Rows(ALL_ACTIVE)],
     );
 }

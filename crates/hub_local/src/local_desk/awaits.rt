@@ -1,9 +1,9 @@
 //! The request that asks whether a handle's next take or poll has something to do.
 ghost use Rattle.std.specs.Prelude.{◌≡◌, ℕ, Some, false};
-ghost use Rattle.hub_record.specs.Kept.{StandsFor};
+ghost use Rattle.hub_record.specs.Kept.{Represents};
 ghost use Rattle.hub_record.specs.World.{World, Subscription, subscription_in};
 ghost use Rattle.hub_local.specs.Awaits.{has_something, holds_letter};
-ghost use Rattle.hub_local.specs.Standing.{AsksWith};
+ghost use Rattle.hub_local.specs.Representing.{AsksWith};
 ghost use Rattle.hub_requests.specs.declared.request.Request.TheVariants.{Await};
 
 use crate::local_desk::{Holding, LocalDesk, LocalListener};
@@ -31,7 +31,7 @@ impl LocalDesk {
 
 /// Whether the next take or poll of the handle has something to do.
 fn has_something(holding: &Holding, kept: &Record) -> bool
-    ensures { (w : World) (s : Subscription) → StandsFor kept.now w
+    ensures { (w : World) (s : Subscription) → Represents kept.now w
         → subscription_in w holding.now.id ≡ Some s → result ≡ has_something holding.now w }
 {
     holds_letter(&holding.hearing) || kept.closed() || kept.waiting(holding.id) != Some(0)

@@ -1,7 +1,7 @@
 //! The requests about a fifodir: make one, publish to it, close it, and report its status.
 ghost use Rattle.std.specs.Prelude.{Some, false, true};
 ghost use Rattle.hub_local.specs.DeskAnswers.{make_answer, refusal_to_make};
-ghost use Rattle.hub_local.specs.Standing.{CarriesOut, AsksWith, Unchanged};
+ghost use Rattle.hub_local.specs.Representing.{CarriesOut, AsksWith, Unchanged};
 ghost use Rattle.hub_requests.specs.declared.request.Request.TheVariants.{Pub, Close, Status as Show};
 
 use crate::local_desk::{LocalDesk, LocalFifodir};

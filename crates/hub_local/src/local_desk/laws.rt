@@ -1,7 +1,7 @@
 //! Laws of a desk: each is the contract of a function that does nothing.
 ghost use Rattle.hub_local.specs.Laws.{AwaitsTellPolls, AwaitsTellTakes, NamesOutliveTheEnd, NamesStay};
 ghost use Rattle.hub_local.specs.Replies.{PublishIsOf, SubscribeIsOf};
-ghost use Rattle.hub_local.specs.Standing.{RunsAnswer};
+ghost use Rattle.hub_local.specs.Representing.{RunsAnswer};
 ghost use Rattle.hub_local.specs.Waits.{WaitsUseIds};
 
 use crate::local_desk::LocalDesk;

@@ -1,10 +1,10 @@
 //! The requests about a listener: begin one, and look for its next hit.
 ghost use Rattle.std.specs.Prelude.{◌≡◌, ◌≢◌, ◌<◌, Some, length, false};
 ghost use Rattle.hub_listen.specs.Listening.{is_spent};
-ghost use Rattle.hub_record.specs.Kept.{StandsFor};
+ghost use Rattle.hub_record.specs.Kept.{Represents};
 ghost use Rattle.hub_record.specs.World.{World, Subscription, subscription_in};
 ghost use Rattle.hub_local.specs.Hearings.{Hears, HearsOne, TakesOne};
-ghost use Rattle.hub_local.specs.Standing.{AsksDesk, AsksWith, HasSubscription};
+ghost use Rattle.hub_local.specs.Representing.{AsksDesk, AsksWith, HasSubscription};
 ghost use Rattle.hub_requests.specs.declared.request.Request.TheVariants.{Listen, Poll};
 
 use crate::local_desk::{LocalDesk, LocalListener};
@@ -89,7 +89,7 @@ fn hear(hearing: &mut LocalListener, kept: &mut Record, id: u64) -> Heard
     requires current { HasSubscription kept.old id }
     requires unspent { is_spent hearing.old.listener ≡ false }
     requires room { length hearing.old.listener.gathered < MOST_GATHERED }
-    ensures { (w : World) (s : Subscription) → StandsFor kept.old w → subscription_in w id ≡ Some s
+    ensures { (w : World) (s : Subscription) → Represents kept.old w → subscription_in w id ≡ Some s
         → Hears hearing.old w id result hearing.new kept.new }
 {
     for _ in hearing.listener.text().len()..MOST_GATHERED {
@@ -106,7 +106,7 @@ fn hear_one(hearing: &mut LocalListener, kept: &mut Record, id: u64) -> Option<H
     requires current { HasSubscription kept.old id }
     requires unspent { is_spent hearing.old.listener ≡ false }
     requires room { length hearing.old.listener.gathered < MOST_GATHERED }
-    ensures { (w : World) (s : Subscription) → StandsFor kept.old w → subscription_in w id ≡ Some s
+    ensures { (w : World) (s : Subscription) → Represents kept.old w → subscription_in w id ≡ Some s
         → HearsOne hearing.old w id result hearing.new kept.new }
 {
     let letter = match hearing.held {
@@ -134,7 +134,7 @@ fn hear_one(hearing: &mut LocalListener, kept: &mut Record, id: u64) -> Option<H
 /// Takes the next pending event, and returns its letter.
 fn take_one(kept: &mut Record, id: u64) -> Result<Letter, Heard>
     requires { HasSubscription kept.old id }
-    ensures { (w : World) (s : Subscription) → StandsFor kept.old w → subscription_in w id ≡ Some s
+    ensures { (w : World) (s : Subscription) → Represents kept.old w → subscription_in w id ≡ Some s
         → TakesOne w id result kept.new }
 {
     let mut room = [Event::FILLER];

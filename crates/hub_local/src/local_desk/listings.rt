@@ -1,6 +1,6 @@
 //! The request for the names of fifodirs.
 ghost use Rattle.std.specs.Prelude.{false};
-ghost use Rattle.hub_local.specs.Standing.{AsksWith};
+ghost use Rattle.hub_local.specs.Representing.{AsksWith};
 ghost use Rattle.hub_requests.specs.declared.request.Request.TheVariants.{Names};
 
 use crate::local_desk::LocalDesk;

@@ -1,7 +1,7 @@
 //! The requests about a subscription: begin one, take from it, and end it.
 ghost use Rattle.std.specs.Prelude.{◌≡◌, ◌≤◌, ◌<◌, List, length, None, Some, false, true, nat_eq, IfOk, OnOk, OnErr};
 ghost use Rattle.indexmap.specs.IndexMap.{values, spare, insert_entry};
-ghost use Rattle.hub_record.specs.Kept.{StandsFor};
+ghost use Rattle.hub_record.specs.Kept.{Represents};
 ghost use Rattle.hub_record.specs.World.{World, letters, take_reply, take_events, after_take};
 ghost use Rattle.hub_requests.specs.declared.bounds.TheConstants.{MOST_TAKEN};
 ghost use Rattle.hub_local.specs.Opening.{Begins, is_there};
@@ -9,7 +9,7 @@ ghost use Rattle.hub_local.specs.DeskAnswers.{in_world, refusal_to_hold, subscri
 ghost use Rattle.hub_local.specs.Desks.{Desk, Fifodir, GoesOn, without_held, without_all, world_of};
 ghost use Rattle.hub_requests.specs.Ranges.{IsTake};
 ghost use Rattle.hub_local.specs.Replies.{subscribe_reply};
-ghost use Rattle.hub_local.specs.Standing.{AreKept, CarriesOut, AsksWith, HasSubscription, StandsForDesk, Unchanged};
+ghost use Rattle.hub_local.specs.Representing.{AreKept, CarriesOut, AsksWith, HasSubscription, RepresentsDesk, Unchanged};
 ghost use Rattle.hub_requests.specs.declared.reply.Reply.TheVariants.{No};
 ghost use Rattle.hub_requests.specs.declared.request.Request.TheVariants.{Sub, Take, Cancel};
 
@@ -32,7 +32,7 @@ impl LocalDesk {
 
     /// Why there can be no further handle for a subscription to the fifodir of this name. None if there can.
     pub(super) fn refusal_to_hold(&self, name: &Name) -> Option<Refusal>
-        ensures { (desk : Desk) → StandsForDesk self.now desk
+        ensures { (desk : Desk) → RepresentsDesk self.now desk
             → result ≡ refusal_to_hold desk name.now }
     {
         if !self.fifodirs.contains_key(name) {
@@ -43,7 +43,7 @@ impl LocalDesk {
 
     /// Subscribes, and gives the subscription the next handle.
     pub(super) fn hold(&mut self, name: &Name, hearing: Option<LocalListener>) -> Reply
-        requires unrefused { (desk : Desk) → StandsForDesk self.old desk
+        requires unrefused { (desk : Desk) → RepresentsDesk self.old desk
             → refusal_to_hold desk name.now ≡ None }
         requires goes_on { GoesOn hearing }
         ensures { CarriesOut self.old true (λ desk. refusal_to_hold desk name.now)
@@ -157,11 +157,11 @@ pub(super) fn release_all(
 fn take_waiting(alloc: Global, kept: &mut Record, id: u64, most: usize) -> Result<Reply, AllocError>
     requires current { HasSubscription kept.old id }
     requires few { most ≤ MOST_TAKEN }
-    ensures reply { (w : World) → StandsFor kept.old w
+    ensures reply { (w : World) → Represents kept.old w
         → IfOk result (λ reply. reply ≡ take_shown (letters (take_events w id most))
         (take_reply w id most)) }
-    ensures after { (w : World) → StandsFor kept.old w
-        → OnOk result (StandsFor kept.new (after_take w id most)) }
+    ensures after { (w : World) → Represents kept.old w
+        → OnOk result (Represents kept.new (after_take w id most)) }
     ensures err { OnErr result (kept.new ≡ kept.old) }
 {
     let waiting = kept.waiting(id).unwrap_or(0);
@@ -178,11 +178,11 @@ fn take_letters(
 ) -> Result<Reply, AllocError>
     requires current { HasSubscription kept.old id }
     requires few { length room.old ≤ MOST_TAKEN }
-    ensures reply { (w : World) → StandsFor kept.old w
+    ensures reply { (w : World) → Represents kept.old w
         → IfOk result (λ reply. reply ≡ take_shown
         (letters (take_events w id (length room.old))) (take_reply w id (length room.old))) }
-    ensures after { (w : World) → StandsFor kept.old w
-        → OnOk result (StandsFor kept.new (after_take w id (length room.old))) }
+    ensures after { (w : World) → Represents kept.old w
+        → OnOk result (Represents kept.new (after_take w id (length room.old))) }
     ensures err { OnErr result (kept.new ≡ kept.old) }
 {
     let letters = Vec::with_capacity(alloc, room.len())?;

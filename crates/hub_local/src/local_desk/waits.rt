@@ -4,7 +4,7 @@ ghost use Rattle.std.specs.List.{list_all};
 ghost use Rattle.hub_requests.specs.declared.bounds.TheConstants.{MOST_SERVICES};
 ghost use Rattle.hub_local.specs.DeskAnswers.{refusal_to_wait};
 ghost use Rattle.hub_local.specs.Desks.{Fifodir};
-ghost use Rattle.hub_local.specs.Standing.{AreKept, CarriesOut};
+ghost use Rattle.hub_local.specs.Representing.{AreKept, CarriesOut};
 ghost use Rattle.hub_requests.specs.declared.reply.Reply.TheVariants.{No};
 ghost use Rattle.hub_local.specs.Waits.{without_subscription, without_posts, number_of, verdict_shown, wait_answer, LeftByWait};
 ghost use Rattle.hub_local.specs.Opening.{is_there, is_service, refusal_among, OpensPost, OpensAll};

@@ -76,7 +76,7 @@ fn the_gate_fails_is_over_or_is_asked_enough(rt: HostRuntime) -> Result<(), Fail
 static LONGER: [&str; 4] = ["", "a", "a\n\n", "a\nb\nc\n"];
 
 #[test]
-fn results_stand_in_the_order_of_the_gate(rt: HostRuntime) -> Result<(), Fail> {
+fn results_are_in_the_order_of_the_gate(rt: HostRuntime) -> Result<(), Fail> {
     let mut sessions: Vec<(&'static [u8], Vec<u8>)> = Vec::new(rt.alloc());
     for input in &LONGER {
         sessions.push((input.as_bytes(), Vec::new(rt.alloc())))?;
@@ -90,7 +90,7 @@ fn results_stand_in_the_order_of_the_gate(rt: HostRuntime) -> Result<(), Fail> {
 
 // The first session that is given reads once and fails at its second read, and the other at its first.
 #[test]
-fn a_fault_stands_at_its_session(rt: HostRuntime) -> Result<(), Fail> {
+fn a_fault_is_at_its_session(rt: HostRuntime) -> Result<(), Fail> {
     let mut sessions: Vec<(Dripping<'static>, Vec<u8>)> = Vec::new(rt.alloc());
     sessions.push((Dripping::new(b"", 64, 1), Vec::new(rt.alloc())))?;
     sessions.push((

@@ -1,7 +1,7 @@
 use Rattle.std.proofs.Common.{refl, sym, ap, ◌∙◌, subst}
 use Rattle.hub_fifodir.specs.declared.views.View.{View}
 use Rattle.hub_fifodir.specs.Rule.{IsLive}
-use Rattle.hub_fifodir.proofs.Rests.{rests, rests_as_publisher, same_book, still_stands}
+use Rattle.hub_fifodir.proofs.Rests.{rests, rests_as_publisher, same_book, still_represents}
 use Rattle.hub_fifodir.proofs.fifodir.Fifodir.publisher.Goals as goal
 
 pub rest_as_publisher-requires-clause-gives : goal.rest_as_publisher-requires-clause-gives
@@ -13,7 +13,7 @@ rest_as_publisher-requires-clause-gives g c = let h = c.lock-held.ensures.holdin
 pub rest-requires-clause-gives : goal.rest-requires-clause-gives
 rest-requires-clause-gives g c = let b = c.lock-held.result.locked in let b' = c.publisher.new.self in
     let h = c.lock-held.ensures.holding.1 in let err = c.in-Err.ensures in let w = h.behind.world in
-    let after = still_stands b b' w err.record h.behind.for in
+    let after = still_represents b b' w err.record h.behind.for in
     let role = ap (λ (v : View). v.role) h.renews.is ∙ ap (λ (v : View). v.role) c.enter-seat.ensures.view in
     rests c.lock-held.new.seat.me b b' (subst IsLive (sym role) tt) (ap (λ (v : View). v.held) h.renews.is) h.bounded
     (same_book b b' w w h.behind.for after refl err.after)

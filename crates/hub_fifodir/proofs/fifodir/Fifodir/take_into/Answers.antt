@@ -4,7 +4,7 @@ use Rattle.hub_fifodir.specs.declared.views.Sight.{Sight}
 use Rattle.hub_fifodir.specs.Passes.{is_evicted_by}
 use Rattle.hub_fifodir.specs.Events.{slice}
 use Rattle.hub_fifodir.specs.Steps.{M}
-use Rattle.hub_fifodir.proofs.Taking.{is_answered, on_got, on_nothing, on_end, on_evicted, count_standing, rules_moved, rules_still, rests_still, rests_moved, moved_taker, sight_moved, got_moved, got_still, filled_moved}
+use Rattle.hub_fifodir.proofs.Taking.{is_answered, on_got, on_nothing, on_end, on_evicted, count_active, rules_moved, rules_still, rests_still, rests_moved, moved_taker, sight_moved, got_moved, got_still, filled_moved}
 use Rattle.hub_fifodir.proofs.fifodir.Fifodir.take_into.Goals as goal
 
 pub unwrap-taken-requires : goal.unwrap-taken-requires
@@ -44,7 +44,7 @@ returns-in-Got-clause-took g c = let me = c.args.me.now in let t = c.lock-held i
     let same = sight_moved me.seat.me t.new.seat.me me.id me.mark me.next t.result.locked me.is_taker h c.take_into.new.self (length c.args.out.now) (e.world w h.behind.for) e.others c.in-Got.count is.1 c.rest_moved.new.seat.me c.rest_moved.ensures.view in
     let rules = rules_moved me.seat.me t.new.seat.me me.id me.mark me.next t.result.locked me.is_taker h c.take_into.new.self (length c.args.out.now) (e.world w h.behind.for) e.others c.in-Got.count is.1 c.rest_moved.new.seat.me c.rest_moved.ensures.view in (
       subst (λ (s : Sight). me.next < length s.seen) (sym same) is.0,
-      is.1 ∙ count_standing me.seat.me t.new.seat.me me.id me.mark me.next t.result.locked me.is_taker h (length c.args.out.now) is.2 ∙ ap (λ (s : Sight). min (length c.args.out.now) (length s.seen - me.next)) (sym same),
+      is.1 ∙ count_active me.seat.me t.new.seat.me me.id me.mark me.next t.result.locked me.is_taker h (length c.args.out.now) is.2 ∙ ap (λ (s : Sight). min (length c.args.out.now) (length s.seen - me.next)) (sym same),
       refl,
       got_moved me.seat.me t.new.seat.me me.id me.mark me.next t.result.locked me.is_taker h c.take_into.new.self (length c.args.out.now) (e.world w h.behind.for) e.others c.in-Got.count is.1 c.rest_moved.new.seat.me c.rest_moved.ensures.view,
       (λ i. is_evicted_by (rules i) (same i) me.next) ∙ is.2,

@@ -1,5 +1,5 @@
 use Rattle.std.proofs.Common.{false, refl, ap}
-use Rattle.hub_local.proofs.Asking.{same_parts, replaces, no_name, stands_on}
+use Rattle.hub_local.proofs.Asking.{same_parts, replaces, no_name, represents_next}
 use Rattle.hub_local.proofs.AskingFifodirs.{close_done, close_refused}
 use Rattle.hub_local.proofs.local_desk.LocalDesk.close.Goals as goal
 use Rattle.hub_local.proofs.local_desk.LocalDesk.close.Goals.{in-Ok, in-Err}
@@ -16,4 +16,4 @@ returns c =
     ]
 
 pub invariant_of-self-2 : goal.invariant_of-self-2
-invariant_of-self-2 c = stands_on _ c.args.self.now _ _ _ _ _ _ c.self.view_is (returns c) c.self.invariant
+invariant_of-self-2 c = represents_next _ c.args.self.now _ _ _ _ _ _ c.self.view_is (returns c) c.self.invariant

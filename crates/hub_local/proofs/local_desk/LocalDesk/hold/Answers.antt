@@ -1,9 +1,9 @@
 use Rattle.std.proofs.Common.{◌≡◌, ◌++◌, ◌∷◌, [], ℕ, ◌+◌, List, refl, ap, ◌∙◌, nat_eq}
 use Rattle.std.specs.Map.{lookup}
 use Rattle.indexmap.proofs.CallerLemmas.{insert_entry-new}
-use Rattle.hub_local.specs.Standing.{Local}
+use Rattle.hub_local.specs.Representing.{Local}
 use Rattle.hub_local.specs.declared.local_desk.Holding.{Holding}
-use Rattle.hub_local.proofs.Asking.{answers_from, stands_on}
+use Rattle.hub_local.proofs.Asking.{answers_from, represents_next}
 use Rattle.hub_local.proofs.AskingHolds.{hold_done, hold_refused, fresh_number, named_there, unrefused_at}
 use Rattle.hub_local.proofs.local_desk.LocalDesk.hold.Goals as goal
 use Rattle.hub_local.proofs.local_desk.LocalDesk.hold.Goals.{in-Some-1, in-None-1}
@@ -11,7 +11,7 @@ use Rattle.hub_local.proofs.local_desk.LocalDesk.hold.Goals.{in-Some-1, in-None-
 pub begin-requires : goal.begin-requires
 begin-requires c =
     let may = unrefused_at c.args.name.now c.self.view_is c.requires.unrefused in
-    record { there = named_there _ c.args.name.now c.self.invariant.desk c.self.invariant.stands (may c.self.invariant.desk c.self.invariant.stands) }
+    record { there = named_there _ c.args.name.now c.self.invariant.desk c.self.invariant.represents (may c.self.invariant.desk c.self.invariant.represents) }
 
 pub returns-in-Ok : goal.returns-in-Ok
 returns-in-Ok c =
@@ -20,21 +20,21 @@ returns-in-Ok c =
     answers_from c.self.view_is (hold_done _ _ c.args.name.now c.args.hearing (unrefused_at c.args.name.now c.self.view_is c.requires.unrefused)
     c.requires.goes_on (c.in-Ok.name, c.in-Ok.id) c.in-Ok.ensures.begins
     (c.give.ensures
-    ∙ insert_entry-new nat_eq c.begin.new.holdings n h (ap (lookup (nat_eq n)) c.in-Ok.ensures.same ∙ fresh_number _ c.self.invariant.desk c.self.invariant.stands)
+    ∙ insert_entry-new nat_eq c.begin.new.holdings n h (ap (lookup (nat_eq n)) c.in-Ok.ensures.same ∙ fresh_number _ c.self.invariant.desk c.self.invariant.represents)
     ∙ ap (λ (es : List (ℕ × Holding)). es ++ (n, h) ∷ []) c.in-Ok.ensures.same
     ∙ ap (λ (k : List ℕ). c.self.inside.holdings.entries ++ (n, record { name = k; id = c.in-Ok.id; hearing = c.args.hearing }) ∷ []) c.in-Ok.ensures.name)
     refl)
 
 pub invariant_of-self : goal.invariant_of-self
-invariant_of-self c = stands_on _ c.args.self.now _ _ _ _ _ _ c.self.view_is (returns-in-Ok c) c.self.invariant
+invariant_of-self c = represents_next _ c.args.self.now _ _ _ _ _ _ c.self.view_is (returns-in-Ok c) c.self.invariant
 
 pub invariant_of-self-in-Err : goal.invariant_of-self-in-Err
-invariant_of-self-in-Err c = stands_on _ c.args.self.now _ _ _ _ _ _ c.self.view_is
+invariant_of-self-in-Err c = represents_next _ c.args.self.now _ _ _ _ _ _ c.self.view_is
     (answers_from c.self.view_is (hold_refused _ _ c.args.name.now c.args.hearing (unrefused_at c.args.name.now c.self.view_is c.requires.unrefused)
     c.in-Err.refusal c.in-Err.ensures.begins c.in-Err.ensures.same refl _ refl)) c.self.invariant
 
 pub invariant_of-self-in-Err-2 : goal.invariant_of-self-in-Err-2
-invariant_of-self-in-Err-2 c = stands_on _ c.args.self.now _ _ _ _ _ _ c.self.view_is
+invariant_of-self-in-Err-2 c = represents_next _ c.args.self.now _ _ _ _ _ _ c.self.view_is
     (answers_from c.self.view_is (hold_refused _ _ c.args.name.now c.args.hearing (unrefused_at c.args.name.now c.self.view_is c.requires.unrefused)
     c.in-Err.refusal c.in-Err.ensures.begins c.in-Err.ensures.same refl _ refl)) c.self.invariant
 

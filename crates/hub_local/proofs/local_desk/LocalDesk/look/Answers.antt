@@ -6,7 +6,7 @@ use Rattle.hub_local.proofs.AskingSubscriptions.{held_somewhere}
 use Rattle.hub_local.proofs.local_desk.LocalDesk.look.Goals as goal
 
 pub unreachable-requires : goal.unreachable-requires
-unreachable-requires c = held_somewhere _ c.self.invariant.desk c.self.invariant.stands c.args.id c.in-Some.holding.now c.in-Some.ensures.value c.in_default-get.ensures.value
+unreachable-requires c = held_somewhere _ c.self.invariant.desk c.self.invariant.represents c.args.id c.in-Some.holding.now c.in-Some.ensures.value c.in_default-get.ensures.value
 
 pub returns-then-has_something : goal.returns-then-has_something
 returns-then-has_something c = λ turns.

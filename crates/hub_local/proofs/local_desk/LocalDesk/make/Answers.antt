@@ -2,7 +2,7 @@ use Rattle.std.proofs.Common.{◌++◌, ◌∷◌, [], ℕ, List, is_some, refl,
 use Rattle.std.specs.Map.{lookup}
 use Rattle.std.specs.Str.{bytes_eq}
 use Rattle.indexmap.proofs.CallerLemmas.{insert_entry-new}
-use Rattle.hub_local.proofs.Asking.{answers_from, answers_here, none_of, same_parts, stands_on}
+use Rattle.hub_local.proofs.Asking.{answers_from, answers_here, none_of, same_parts, represents_next}
 use Rattle.hub_local.proofs.AskingFifodirs.{make_exists, make_many, make_lacks, make_done}
 use Rattle.hub_local.proofs.local_desk.LocalDesk.make.Goals as goal
 
@@ -35,4 +35,4 @@ returns c =
     answers_from c.self.view_is (make_lacks _ c.args.name.now _ _ _ (sym c.contains_key.ensures ∙ c.if-contains_key.false) (let n = c.len.ensures.len in let m = c.if-len-ge-MOST_NAMES.false in omega arith) _ (same_parts _ _ c.in-Err.ensures.err refl refl))
 
 pub invariant_of-self : goal.invariant_of-self
-invariant_of-self c = stands_on _ c.args.self.now _ _ _ _ _ _ c.self.view_is (returns-in-Ok-insert c) c.self.invariant
+invariant_of-self c = represents_next _ c.args.self.now _ _ _ _ _ _ c.self.view_is (returns-in-Ok-insert c) c.self.invariant

@@ -1,7 +1,7 @@
 use Rattle.std.proofs.Common.{false, ap, sym, ◌∙◌}
 use Rattle.std.specs.Map.{lookup}
 use Rattle.std.specs.Str.{bytes_eq}
-use Rattle.hub_local.specs.Standing.{Local}
+use Rattle.hub_local.specs.Representing.{Local}
 use Rattle.hub_local.proofs.Asking.{no_name}
 use Rattle.hub_local.proofs.AskingFifodirs.{status_shown}
 use Rattle.hub_local.proofs.local_desk.LocalDesk.status.Goals as goal

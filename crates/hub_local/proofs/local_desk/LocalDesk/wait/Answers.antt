@@ -1,8 +1,8 @@
 use Rattle.std.proofs.Common.{List, refl, sym, ap, subst, ◌∙◌}
-use Rattle.hub_local.specs.Standing.{AreKept}
+use Rattle.hub_local.specs.Representing.{AreKept}
 use Rattle.hub_local.specs.Waits.{without_posts, verdict_shown}
 use Rattle.hub_local.specs.declared.local_desk.waits.LocalPost.{LocalPost}
-use Rattle.hub_local.proofs.Asking.{answers_from, answers_here, stands_on}
+use Rattle.hub_local.proofs.Asking.{answers_from, answers_here, represents_next}
 use Rattle.hub_local.proofs.AskingServices.{waits_for, wait_refused, wait_lacks, wait_done, wait_stopped}
 use Rattle.hub_local.proofs.local_desk.LocalDesk.wait.Goals as goal
 
@@ -34,7 +34,7 @@ returns c =
     c.in-Err.refusal (λ fs k. c.in-Err.ensures.opens fs k)))
 
 pub invariant_of-self : goal.invariant_of-self
-invariant_of-self c = stands_on _ c.args.self.now _ _ _ _ _ _ c.self.view_is (returns-in-Ok-opened c) c.self.invariant
+invariant_of-self c = represents_next _ c.args.self.now _ _ _ _ _ _ c.self.view_is (returns-in-Ok-opened c) c.self.invariant
 
 pub invariant_of-self-2 : goal.invariant_of-self-2
-invariant_of-self-2 c = stands_on _ c.args.self.now _ _ _ _ _ _ c.self.view_is (returns c) c.self.invariant
+invariant_of-self-2 c = represents_next _ c.args.self.now _ _ _ _ _ _ c.self.view_is (returns c) c.self.invariant

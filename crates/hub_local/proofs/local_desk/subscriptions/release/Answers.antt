@@ -1,6 +1,6 @@
 use Rattle.std.proofs.Common.{ap, subst, sym}
 use Rattle.hub_local.specs.Desks.{without_held}
-use Rattle.hub_local.specs.Standing.{AreKept}
+use Rattle.hub_local.specs.Representing.{AreKept}
 use Rattle.hub_local.proofs.AskingSubscriptions.{released, unreleased}
 use Rattle.hub_local.proofs.local_desk.subscriptions.release.Goals as goal
 

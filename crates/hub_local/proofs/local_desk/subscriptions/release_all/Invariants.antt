@@ -1,6 +1,6 @@
 use Rattle.std.proofs.Common.{◌≡◌, List}
 use Rattle.hub_local.specs.Desks.{Fifodir, without_all}
-use Rattle.hub_local.specs.Standing.{AreKept}
+use Rattle.hub_local.specs.Representing.{AreKept}
 use Rattle.hub_local.proofs.local_desk.subscriptions.release_all.Given as goal
 
 -- from here the rest of the list leads to what the whole list leads to

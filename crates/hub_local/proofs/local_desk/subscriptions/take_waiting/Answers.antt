@@ -1,6 +1,6 @@
 use Rattle.std.proofs.Common.{◌≡◌, min, length, List, Result, IfOk, OnOk, ap, ◌∙◌, subst}
 use Rattle.std.specs.Option.{unwrap_or}
-use Rattle.hub_record.specs.Kept.{StandsFor}
+use Rattle.hub_record.specs.Kept.{Represents}
 use Rattle.hub_record.specs.declared.Event.{Event}
 use Rattle.hub_record.specs.declared.NoId.{NoId}
 use Rattle.hub_record.specs.declared.Taken.{Taken}
@@ -20,5 +20,5 @@ pub returns-clause-after : goal.returns-clause-after
 returns-clause-after c = λ w st.
     let n : length c.deref_mut.result.now ≡ min c.args.most c.unwrap_or-waiting.result = c.deref_mut.ensures.len ∙ c.in_ok-room.ensures.len ∙ c.min.ensures in
     let same = same_take w c.args.id c.args.most c.unwrap_or-waiting.result (c.unwrap_or-waiting.ensures ∙ ap (λ o. unwrap_or o 0) (c.waiting.ensures w st)) in
-    subst (λ (k : World). OnOk c.take_letters.result (StandsFor c.take_letters.new.kept k)) same.after
-    (subst (λ k. OnOk c.take_letters.result (StandsFor c.take_letters.new.kept (after_take w c.args.id k))) n (c.take_letters.ensures.after w st))
+    subst (λ (k : World). OnOk c.take_letters.result (Represents c.take_letters.new.kept k)) same.after
+    (subst (λ k. OnOk c.take_letters.result (Represents c.take_letters.new.kept (after_take w c.args.id k))) n (c.take_letters.ensures.after w st))

@@ -1,5 +1,5 @@
 use Rattle.std.proofs.Common.{ap, subst, sym, None}
-use Rattle.hub_local.specs.Standing.{AreKept}
+use Rattle.hub_local.specs.Representing.{AreKept}
 use Rattle.hub_local.specs.Waits.{without_subscription}
 use Rattle.hub_local.specs.declared.local_desk.Holding.{Holding}
 use Rattle.hub_local.proofs.AskingSubscriptions.{released, unreleased}

@@ -1,6 +1,6 @@
 use Rattle.std.proofs.Common.{◌≡◌, List, drop}
 use Rattle.hub_local.specs.Desks.{Fifodir}
-use Rattle.hub_local.specs.Standing.{AreKept}
+use Rattle.hub_local.specs.Representing.{AreKept}
 use Rattle.hub_local.specs.Waits.{without_posts}
 use Rattle.hub_local.proofs.local_desk.waits.give_back.Given as goal
 

@@ -1,7 +1,7 @@
 use Rattle.std.proofs.Common.{subst, List, ℕ, Err}
 use Rattle.std.proofs.lemmas.Result.{err_from_is_err_and}
 use Rattle.hub_local.specs.Desks.{Fifodir}
-use Rattle.hub_local.specs.Standing.{AreKept}
+use Rattle.hub_local.specs.Representing.{AreKept}
 use Rattle.hub_local.specs.Opening.{OpensPost}
 use Rattle.hub_local.proofs.Posts.{opens_until}
 use Rattle.hub_local.proofs.local_desk.waits.open_all.Goals as goal

@@ -1,6 +1,6 @@
 use Rattle.std.proofs.Common.{◌≡◌, ◌≤◌, List, length, take, vec_len, vec_capacity}
 use Rattle.hub_local.specs.Desks.{Fifodir}
-use Rattle.hub_local.specs.Standing.{AreKept}
+use Rattle.hub_local.specs.Representing.{AreKept}
 use Rattle.hub_local.specs.Waits.{so_far, opening_of}
 use Rattle.hub_local.proofs.local_desk.waits.open_all.Given as goal
 

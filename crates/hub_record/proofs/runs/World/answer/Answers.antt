@@ -2,7 +2,7 @@ use Rattle.std.proofs.Common.{◌≡◌, length, min, sym, ap, ◌∙◌, subst}
 use Rattle.std.specs.Option.{unwrap_or}
 use Rattle.hub_record.specs.World.{count_to_take}
 use Rattle.hub_record.specs.Runs.{with_more_events, lists_of}
-use Rattle.hub_record.specs.Kept.{StandsFor}
+use Rattle.hub_record.specs.Kept.{Represents}
 use Rattle.hub_record.proofs.Gathered.{gathered_at_cancel, gathered_at_take, gathered_at_subscribe, rewritten, take_at, asks}
 use Rattle.hub_record.proofs.runs.World.answer.Goals as goal
 
@@ -19,7 +19,7 @@ returns-in-Take-clause-after c = λ w s.
     let v = c.in_ok-out-in-Take.ensures.len in
     let m = c.min.ensures in
     let l : length c.deref_mut.result.now ≡ min c.unwrap_or-waiting.result c.in-Take.max = c.deref_mut.ensures.len ∙ v ∙ m in
-    subst (λ z. StandsFor c.take_into-reply.new.self z) (take_at w _ _ _ _ (length c.deref_mut.result.now) c.in-Take.is (λ k is. ap (count_to_take w k) l ∙ asks w _ _ _ e k is)) (c.take_into-reply.ensures.after w s)
+    subst (λ z. Represents c.take_into-reply.new.self z) (take_at w _ _ _ _ (length c.deref_mut.result.now) c.in-Take.is (λ k is. ap (count_to_take w k) l ∙ asks w _ _ _ e k is)) (c.take_into-reply.ensures.after w s)
 
 pub returns-in-Take-clause-gathered : goal.returns-in-Take-clause-gathered
 returns-in-Take-clause-gathered c = λ w s h.

@@ -1,12 +1,12 @@
--- What follows from a record that stands for a world.
+-- What follows from a record that represents a world.
 use Rattle.std.proofs.Common.{ℕ, ◌≡◌, ◌-◌, ◌≤◌, Bool, if◌then◌else◌, List, [], length, drop, Option, Some, None, nat_eq, refl, sym, ap, subst, ◌∙◌, arith}
 use Rattle.std.proofs.lemmas.List.{length-drop, drop-drop, drop_all}
 use Rattle.std.specs.Option.{option_map}
 use Rattle.std.specs.Map.{lookup}
 use Rattle.hub_record.specs.declared.limits.Limits.{Limits}
-use Rattle.hub_record.specs.World.{World, Subscription, IsWorld, current, current_from, standing, is_slow, subscription_in, pending_for, least, base}
+use Rattle.hub_record.specs.World.{World, Subscription, IsWorld, current, current_from, active, is_slow, subscription_in, pending_for, least, base}
 use Rattle.hub_record.specs.Backlog.{Held, pending, pending_if, lowest, lowest_in, with_cursors}
-use Rattle.hub_record.specs.Kept.{Kept, StandsFor}
+use Rattle.hub_record.specs.Kept.{Kept, Represents}
 use Rattle.hub_record.proofs.Cursors.{lookup_current}
 use Rattle.hub_record.proofs.Policies.{base_is_lowest, evicted_is_slow}
 
@@ -19,7 +19,7 @@ with_held r h = record r { end = h.end; events = h.events; given = h.given; curs
 
 -- ---- the cursor of an id and the subscription
 
-pub found_some : (r : Kept) (w : World) (id v : ℕ) → StandsFor r w → lookup (nat_eq id) r.cursors ≡ Some v → (s : Subscription) × (subscription_in w id ≡ Some s) × (s.next ≡ v)
+pub found_some : (r : Kept) (w : World) (id v : ℕ) → Represents r w → lookup (nat_eq id) r.cursors ≡ Some v → (s : Subscription) × (subscription_in w id ≡ Some s) × (s.next ≡ v)
 found_some r w id v s e = by (subscription_in w id) refl
   where
     seen : option_map (λ (s : Subscription). s.next) (subscription_in w id) ≡ Some v
@@ -29,7 +29,7 @@ found_some r w id v s e = by (subscription_in w id) refl
     by None is = let k = seen in let j = ap (option_map (λ (s : Subscription). s.next)) is in cc
     by (Some s) is = let k = seen in let j = ap (option_map (λ (s : Subscription). s.next)) is in (s, is, cc)
 
-pub found_none : (r : Kept) (w : World) (id : ℕ) → StandsFor r w → lookup (nat_eq id) r.cursors ≡ None → subscription_in w id ≡ None
+pub found_none : (r : Kept) (w : World) (id : ℕ) → Represents r w → lookup (nat_eq id) r.cursors ≡ None → subscription_in w id ≡ None
 found_none r w id s e = by (subscription_in w id) refl
   where
     seen : option_map (λ (s : Subscription). s.next) (subscription_in w id) ≡ None
@@ -41,14 +41,14 @@ found_none r w id s e = by (subscription_in w id) refl
 
 -- ---- the base
 
-pub base_is : (r : Kept) (w : World) → StandsFor r w → lowest_in r.limits.waiting r.end r.cursors ≡ base w
+pub base_is : (r : Kept) (w : World) → Represents r w → lowest_in r.limits.waiting r.end r.cursors ≡ base w
 base_is r w s = (λ i. lowest_in (s.limits i).waiting (s.end i) (s.cursors i)) ∙ sym (base_is_lowest w s.world)
 
-pub lowest_is : (r : Kept) (w : World) (room : ℕ) → StandsFor r w → room ≡ r.limits.waiting → lowest (held_of r room) ≡ base w
+pub lowest_is : (r : Kept) (w : World) (room : ℕ) → Represents r w → room ≡ r.limits.waiting → lowest (held_of r room) ≡ base w
 lowest_is r w room s at = ap (λ n. lowest_in n r.end r.cursors) at ∙ base_is r w s
 
 -- what is pending behind the cursor of an id
-pub waiting_is : (r : Kept) (w : World) (id room : ℕ) → StandsFor r w → room ≡ r.limits.waiting → pending (held_of r room) id ≡ pending_for w (subscription_in w id)
+pub waiting_is : (r : Kept) (w : World) (id room : ℕ) → Represents r w → room ≡ r.limits.waiting → pending (held_of r room) id ≡ pending_for w (subscription_in w id)
 waiting_is r w id room s at = by (subscription_in w id) refl
   where
     most : room ≡ w.limits.waiting
@@ -71,23 +71,23 @@ pub later : (w : World) (n : ℕ) → base w ≤ n → drop (n - base w) (drop (
 later w n l = drop-drop (n - base w) (base w) w.events ∙ ap (λ n. drop n w.events) (omega arith)
 
 -- what is kept is the load
-pub kept_bound : (r : Kept) (w : World) → StandsFor r w → length r.events ≤ w.limits.waiting
+pub kept_bound : (r : Kept) (w : World) → Represents r w → length r.events ≤ w.limits.waiting
 kept_bound r w s =
     let k = ap length s.events in
     let d = length-drop (base w) w.events in
     let l = s.world.loaded in
     omega arith
 
-pub kept_none : (r : Kept) (w : World) → StandsFor r w → standing w ≡ [] → r.events ≡ []
+pub kept_none : (r : Kept) (w : World) → Represents r w → active w ≡ [] → r.events ≡ []
 kept_none r w s none = s.events ∙ ap (λ cs. drop (least (length w.events) cs) w.events) none ∙ drop_all (length w.events) w.events (omega arith)
 
 -- ---- subscriptions that change, with their cursors
 
 -- what is held has changed with the subscriptions
-pub stands_with : (r : Kept) (h : Held) (w : World) (subs : List Subscription) → StandsFor r w → IsWorld (record w { subscriptions = subs })
+pub represents_with : (r : Kept) (h : Held) (w : World) (subs : List Subscription) → Represents r w → IsWorld (record w { subscriptions = subs })
     → h.end ≡ r.end → h.events ≡ drop (base (record w { subscriptions = subs })) w.events → h.given ≡ length subs → h.cursors ≡ current_from 1 subs
-    → StandsFor (with_held r h) (record w { subscriptions = subs })
-stands_with r h w subs s i end events given cursors = record {
+    → Represents (with_held r h) (record w { subscriptions = subs })
+represents_with r h w subs s i end events given cursors = record {
   world = i;
   kind = s.kind;
   limits = s.limits;
@@ -100,14 +100,14 @@ stands_with r h w subs s i end events given cursors = record {
   cursors = cursors;
 }
 
-pub recut_stands : (r : Kept) (h : Held) (w : World) (subs : List Subscription) (cs : List (ℕ × ℕ)) (room : ℕ) → StandsFor r w → room ≡ r.limits.waiting → IsWorld (record w { subscriptions = subs }) → length subs ≡ length w.subscriptions → cs ≡ current_from 1 subs → base w ≤ base (record w { subscriptions = subs }) → h ≡ with_cursors (held_of r room) cs → StandsFor (with_held r h) (record w { subscriptions = subs })
-recut_stands r h w subs cs room s at i long is l e =
+pub recut_represents : (r : Kept) (h : Held) (w : World) (subs : List Subscription) (cs : List (ℕ × ℕ)) (room : ℕ) → Represents r w → room ≡ r.limits.waiting → IsWorld (record w { subscriptions = subs }) → length subs ≡ length w.subscriptions → cs ≡ current_from 1 subs → base w ≤ base (record w { subscriptions = subs }) → h ≡ with_cursors (held_of r room) cs → Represents (with_held r h) (record w { subscriptions = subs })
+recut_represents r h w subs cs room s at i long is l e =
     let now : lowest_in room r.end cs ≡ base (record w { subscriptions = subs }) = (λ j. lowest_in ((at ∙ ap (λ (l : Limits). l.waiting) s.limits) j) (s.end j) (is j)) ∙ sym (base_is_lowest (record w { subscriptions = subs }) i) in
     let was = lowest_is r w room s at in
-    stands_with r h w subs s i (ap (λ (h : Held). h.end) e)
+    represents_with r h w subs s i (ap (λ (h : Held). h.end) e)
     (ap (λ (h : Held). h.events) e ∙ (λ j. drop (now j - was j) (s.events j)) ∙ later w (base (record w { subscriptions = subs })) l)
     (ap (λ (h : Held). h.given) e ∙ s.given ∙ sym long) (ap (λ (h : Held). h.cursors) e ∙ is)
 
 -- nothing changed
-pub still : (r : Kept) (h : Held) (w : World) (room : ℕ) → h ≡ held_of r room → StandsFor r w → StandsFor (with_held r h) w
-still r h w room e s = subst (λ z. StandsFor (with_held r z) w) (sym e) s
+pub still : (r : Kept) (h : Held) (w : World) (room : ℕ) → h ≡ held_of r room → Represents r w → Represents (with_held r h) w
+still r h w room e s = subst (λ z. Represents (with_held r z) w) (sym e) s

@@ -1,9 +1,9 @@
--- What a `LocalDesk` stands for.
+-- What a `LocalDesk` represents for.
 use Rattle.std.specs.Prelude.{ℕ, ◌≡◌, ◌≢◌, Bool, true, false, List, [], ◌∷◌, length, All, Option, None, Some, is_some}
-use Rattle.hub_record.specs.Kept.{Kept, StandsFor}
+use Rattle.hub_record.specs.Kept.{Kept, Represents}
 use Rattle.hub_record.specs.World.{World, subscription_in}
 use Rattle.hub_listen.specs.Hit.{IsPattern}
-use Rattle.hub_local.specs.Desks.{Fifodir, Desk, IsDesk, Answer, standing, desk_after_end}
+use Rattle.hub_local.specs.Desks.{Fifodir, Desk, IsDesk, Answer, active, desk_after_end}
 use Rattle.hub_local.specs.DeskAnswers.{own_refusal, request_answer, answer_by, LeftBy, pattern_in, patterns_in, AreReads, answers, desk_after}
 use Rattle.hub_local.specs.declared.local_desk.LocalFifodir.{LocalFifodir}
 use Rattle.hub_local.specs.declared.local_desk.Holding.{Holding}
@@ -24,30 +24,30 @@ pub record Local : Type 0 where
 pub record IsKept (entry : List ℕ × LocalFifodir) (fifodir : Fifodir) : Type 0 where
   pub name : entry.0 ≡ fifodir.name
   pub reports : entry.1.reports ≡ fifodir.reports
-  pub world : StandsFor entry.1.kept fifodir.world
+  pub world : Represents entry.1.kept fifodir.world
 
--- each stands for the model's, in the same order
+-- each represents for the model's, in the same order
 abbrev pub AreKept : List (List ℕ × LocalFifodir) → List Fifodir → Type 0
 AreKept [] [] = Unit {0}
 AreKept [] (f ∷ fs) = ⊥
 AreKept (e ∷ es) [] = ⊥
 AreKept (e ∷ es) (f ∷ fs) = IsKept e f × AreKept es fs
 
-pub record StandsForDesk (local : Local) (desk : Desk) : Type 0 where
+pub record RepresentsDesk (local : Local) (desk : Desk) : Type 0 where
   pub fifodirs : AreKept local.fifodirs desk.fifodirs
-  pub holdings : local.holdings ≡ standing desk
+  pub holdings : local.holdings ≡ active desk
   pub given : local.given ≡ length desk.handles
   pub is_desk : IsDesk desk
 
--- every `LocalDesk` stands for some desk
-pub record StandsForSome (local : Local) : Type 0 where
+-- every `LocalDesk` represents for some desk
+pub record RepresentsSome (local : Local) : Type 0 where
   pub desk : Desk
-  pub stands : StandsForDesk local desk
+  pub represents : RepresentsDesk local desk
 
--- the record stands for a world in which the subscription is current
+-- the record represents a world in which the subscription is current
 pub record HasSubscription (kept : Kept) (id : ℕ) : Type 0 where
   pub world : World
-  pub stands : StandsFor kept world
+  pub represents : Represents kept world
   pub subscribed : is_some (subscription_in world id) ≡ true
 
 -- ---- what a request does
@@ -55,21 +55,21 @@ pub record HasSubscription (kept : Kept) (id : ℕ) : Type 0 where
 -- the answer of a desk that refuses with `own`, and else does `done`
 pub record IsAnswer (local : Local) (desk : Desk) (own : Option Refusal) (done : Answer) (reply : Reply) : Type 0 where
   pub said : reply ≡ (answer_by desk own done).reply
-  pub stands : StandsForDesk local (answer_by desk own done).desk
+  pub represents : RepresentsDesk local (answer_by desk own done).desk
 
 -- the desk's own refusals come before `no memory`, which leaves a desk as `left` says
 pub record IsLacking (local : Local) (own : Option Refusal) (left : Desk → Type 0) : Type 0 where
   pub unrefused : own ≡ None
   pub desk : Desk
   pub is_left : left desk
-  pub stands : StandsForDesk local desk
+  pub represents : RepresentsDesk local desk
 
 -- A request is refused with `own` if there is one, and else carried out as `done` says. `grows` says whether it needs
 -- memory, and `left` what it may leave if memory runs out.
 pub record CarriesOut (old : Local) (grows : Bool) (own : Desk → Option Refusal) (done : Desk → Answer) (left : Desk → Desk → Type 0) (reply : Reply) (new : Local) : Type 0 where
-  pub answered : reply ≢ No Memory → (desk : Desk) → StandsForDesk old desk → IsAnswer new desk (own desk) (done desk) reply
+  pub answered : reply ≢ No Memory → (desk : Desk) → RepresentsDesk old desk → IsAnswer new desk (own desk) (done desk) reply
   pub grew : reply ≡ No Memory → grows ≡ true
-  pub lacking : reply ≡ No Memory → (desk : Desk) → StandsForDesk old desk → IsLacking new (own desk) (left desk)
+  pub lacking : reply ≡ No Memory → (desk : Desk) → RepresentsDesk old desk → IsLacking new (own desk) (left desk)
 
 -- the requests that need memory
 abbrev pub grows : Request → Bool
@@ -103,7 +103,7 @@ pub record AsksDesk (old : Local) (request : Request) (reply : Reply) (new : Loc
   pub answers : AsksWith read old request reply new
 
 pub record Ended (old new : Local) : Type 0 where
-  pub stands : (desk : Desk) → StandsForDesk old desk → StandsForDesk new (desk_after_end desk)
+  pub represents : (desk : Desk) → RepresentsDesk old desk → RepresentsDesk new (desk_after_end desk)
 
 -- ---- runs
 
@@ -114,13 +114,13 @@ pub data Runs : Local → List Request → List Reply → Local → Type 0 where
       → AsksDesk old request reply mid → Runs mid requests replies new → Runs old (request ∷ requests) (reply ∷ replies) new
 
 -- if no reply of a run is `no memory`, the replies are the model's answers, with a yes or no for each pattern, and the
--- desk stands for the model's
+-- desk represents for the model's
 pub record IsModels (desk : Desk) (requests : List Request) (replies : List Reply) (new : Local) : Type 0 where
   pub reads : List Bool
   pub are_reads : AreReads reads (patterns_in requests)
   pub said : replies ≡ answers desk reads requests
-  pub stands : StandsForDesk new (desk_after desk reads requests)
+  pub represents : RepresentsDesk new (desk_after desk reads requests)
 
 abbrev pub RunsAnswer : Type 0
 RunsAnswer = (old new : Local) (requests : List Request) (replies : List Reply) (desk : Desk)
-    → Runs old requests replies new → All (λ reply. reply ≢ No Memory) replies → StandsForDesk old desk → IsModels desk requests replies new
+    → Runs old requests replies new → All (λ reply. reply ≢ No Memory) replies → RepresentsDesk old desk → IsModels desk requests replies new
