@@ -1,7 +1,7 @@
 //! The program `ftrighub`: runs the words of the command line with the real streams, and ends with the status.
 #![tactic(auto)]
 
-use hub_commands::{Dialer, end_status, run, tell_end};
+use hub_commands::{Dialer, Notes, end_status, run, tell_end};
 use std::alloc::Global;
 use std::io;
 use std::process::ExitCode;
@@ -9,7 +9,7 @@ use std::process::ExitCode;
 fn main(rt: HostRuntime) -> ExitCode {
     let alloc: Global = rt.alloc();
     let mut dialer = Dialer::new(rt);
-    let mut faults = rt.stderr();
+    let mut faults = Notes::new(rt.stderr());
     let ended = run(
         &rt,
         alloc,

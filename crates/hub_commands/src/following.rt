@@ -10,7 +10,6 @@ use hub_ask::{ANSWER, Replies, Requests};
 use hub_io::Sink;
 use hub_look::{Following, Peer, follow};
 use std::alloc::Global;
-use std::io::Write;
 use std::rt::Clock;
 use std::sync::Wait;
 
@@ -43,7 +42,7 @@ where
     SW: Requests + Drop,
     D: Dial<SR, SW>,
     W: Sink,
-    F: Write,
+    F: Sink,
     // If a word has an LF, it is refused: no connection is made, and nothing is written. Else one connection is made, over which
     // only looks go.
     ensures { LooksWith

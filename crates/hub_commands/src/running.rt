@@ -20,7 +20,7 @@ use hub_script::script;
 use hub_server::Report;
 use std::alloc::{AllocGlobal, Global};
 use std::fs::{File, Files};
-use std::io::{ErrorKind, Write};
+use std::io::ErrorKind;
 use std::net::Net;
 use std::rt::Runtime;
 use std::sync::Wait;
@@ -63,7 +63,7 @@ where
     D: Dial<SR, SW>,
     R: Source,
     W: Sink,
-    F: Write,
+    F: Sink,
     // What the subcommand of the plan ensures, and what the plan doesn't need is as it was.
     ensures { CarriesOut
         (record { reaches = D.reaches; remaining = SR.remaining; contents = SW.contents })
@@ -150,7 +150,7 @@ where
     D: Dial<SR, SW>,
     R: Source,
     W: Sink,
-    F: Write,
+    F: Sink,
     // One plan is carried out. Or there is none, and everything is as it was.
     ensures { Runs
         (record { reaches = D.reaches; remaining = SR.remaining; contents = SW.contents })

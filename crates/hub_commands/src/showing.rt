@@ -10,7 +10,6 @@ use hub_ask::{ANSWER, Replies, Requests};
 use hub_io::Sink;
 use hub_look::{Peer, show_states};
 use std::alloc::Global;
-use std::io::Write;
 use std::sync::Wait;
 
 /// Writes how these fifodirs of the hub at the socket are, or all of the hub if none is named, and returns the exit status. `notes`
@@ -30,7 +29,7 @@ where
     SW: Requests + Drop,
     D: Dial<SR, SW>,
     W: Sink,
-    F: Write,
+    F: Sink,
     // If a name has an LF, it is refused: no connection is made, and nothing is written. Else one connection is made, over which
     // only looks go.
     ensures { LooksWith

@@ -1,1 +1,6 @@
+pub mod Asked
 pub mod Asks
+pub mod Judged
+pub mod LinesSoFar
+pub mod Refusals
+pub mod Takes

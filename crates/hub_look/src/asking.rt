@@ -1,19 +1,43 @@
 //! Looks at one fifodir.
-ghost use Rattle.std.specs.Prelude.{◌≡◌};
+ghost use Rattle.std.specs.Prelude.{◌≡◌, IfOk, IfErr};
+ghost use Rattle.hub_protocol.specs.Spelling.{form_of, spelling};
+ghost use Rattle.hub_ask.specs.Asking.{IsAnswered};
+ghost use Rattle.hub_ask.specs.Hearing.{line_of};
+ghost use Rattle.hub_look.specs.Stops.{IsOwnFault, IsOwnStop};
+ghost use Rattle.hub_look.specs.Tables.{IsJudged};
 ghost use Rattle.hub_look.specs.Looking.{IsLook};
 
 use crate::look::look_of;
 use crate::peer::Peer;
 use crate::stop::{Stop, tell_refusal};
-use hub_ask::{AskError, Heard, Outcome, Replies, Requests, State};
+use hub_ask::{AskError, Heard, Outcome, Replies, Requests};
+use hub_io::Sink;
 use hub_protocol::BorrowedReply;
-use hub_requests::Request;
+use hub_record::Status;
+use hub_requests::{Refusal, Request};
 use std::alloc::Global;
-use std::io::Write;
 use std::sync::Wait;
 
+/// Sends a look, and returns the reply.
+pub(crate) fn ask_once<H: Wait, SR: Replies, SW: Requests>(
+    rt: &H,
+    alloc: Global,
+    request: Request,
+    peer: &mut Peer<SR, SW>,
+) -> Result<Heard, Stop>
+    requires { IsLook request }
+    ensures begun { peer.new.begun ≡ peer.old.begun }
+    ensures ok { IfOk result (λ heard. IsAnswered
+        (SW.contents peer.old.client.sender) (SW.contents peer.new.client.sender)
+        (SR.remaining peer.old.client.receiver) (SR.remaining peer.new.client.receiver)
+        (spelling (form_of request)) (line_of heard)) }
+    ensures err { IfErr result IsOwnFault }
+{
+    Ok(peer.ask(rt, alloc, &request)?)
+}
+
 /// Sends a look, and returns the reply. If it is refused, that is told of this name, and the command ends.
-pub(crate) fn ask_about<H: Wait, SR: Replies, SW: Requests, F: Write>(
+pub(crate) fn ask_about<H: Wait, SR: Replies, SW: Requests, F: Sink>(
     rt: &H,
     alloc: Global,
     request: &Request,
@@ -22,7 +46,8 @@ pub(crate) fn ask_about<H: Wait, SR: Replies, SW: Requests, F: Write>(
     notes: &mut F,
 ) -> Result<Heard, Stop>
     requires { IsLook request.now }
-    ensures { peer.new.begun ≡ peer.old.begun }
+    ensures begun { peer.new.begun ≡ peer.old.begun }
+    ensures err { IfErr result IsOwnStop }
 {
     let heard = peer.ask(rt, alloc, request)?;
     if let BorrowedReply::No(refusal) = heard.reply() {
@@ -34,7 +59,7 @@ pub(crate) fn ask_about<H: Wait, SR: Replies, SW: Requests, F: Write>(
 
 /// Asks for a handle at a fifodir by the look that these words spell. If it is refused, that is told of this name, and the command
 /// ends.
-pub(crate) fn handle_for<H: Wait, SR: Replies, SW: Requests, F: Write>(
+pub(crate) fn handle_for<H: Wait, SR: Replies, SW: Requests, F: Sink>(
     rt: &H,
     alloc: Global,
     words: &[&str],
@@ -42,7 +67,8 @@ pub(crate) fn handle_for<H: Wait, SR: Replies, SW: Requests, F: Write>(
     peer: &mut Peer<SR, SW>,
     notes: &mut F,
 ) -> Result<u64, Stop>
-    ensures { peer.new.begun ≡ peer.old.begun }
+    ensures begun { peer.new.begun ≡ peer.old.begun }
+    ensures err { IfErr result IsOwnStop }
 {
     let request = match look_of(alloc, words)? {
         Ok(request) => request,
@@ -58,30 +84,45 @@ pub(crate) fn handle_for<H: Wait, SR: Replies, SW: Requests, F: Write>(
     }
 }
 
-/// How the fifodir is. None if the hub refuses to say, which is told.
-pub(crate) fn state_of<H: Wait, SR: Replies, SW: Requests, F: Write>(
+/// How the fifodir is, or why the hub doesn't say, which is told.
+pub(crate) fn state_of<H: Wait, SR: Replies, SW: Requests, F: Sink>(
     rt: &H,
     alloc: Global,
     name: &str,
     peer: &mut Peer<SR, SW>,
     notes: &mut F,
-) -> Result<Option<State>, Stop>
-    ensures { peer.new.begun ≡ peer.old.begun }
+) -> Result<Result<Status, Refusal>, Stop>
+    ensures begun { peer.new.begun ≡ peer.old.begun }
+    ensures ok { IfOk result (IsJudged
+        (record {
+          sent = SW.contents peer.old.client.sender;
+          had = SR.remaining peer.old.client.receiver;
+          noted = F.contents notes.old;
+          faults = F.faults notes.old;
+        })
+        (record {
+          sent = SW.contents peer.new.client.sender;
+          had = SR.remaining peer.new.client.receiver;
+          noted = F.contents notes.new;
+          faults = F.faults notes.new;
+        })
+        name.now) }
+    ensures err { IfErr result IsOwnFault }
 {
     let request = match look_of(alloc, &["status", name])? {
         Ok(request) => request,
         Err(refusal) => {
             tell_refusal(alloc, name, refusal, notes)?;
-            return Ok(None);
+            return Ok(Err(refusal));
         }
     };
     let heard = peer.ask(rt, alloc, &request)?;
-    if let BorrowedReply::No(refusal) = heard.reply() {
-        tell_refusal(alloc, name, refusal, notes)?;
-        return Ok(None);
-    }
-    match State::of(heard.line()) {
-        Some(state) => Ok(Some(state)),
-        None => Err(Stop::Fault(AskError::Unknown)),
+    match heard.reply() {
+        BorrowedReply::State(status) => Ok(Ok(status)),
+        BorrowedReply::No(refusal) => {
+            tell_refusal(alloc, name, refusal, notes)?;
+            Ok(Err(refusal))
+        }
+        _ => Err(Stop::Fault(AskError::Unknown)),
     }
 }

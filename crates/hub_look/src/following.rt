@@ -1,6 +1,8 @@
 //! What is followed, and how it is written.
+ghost use Rattle.std.specs.Prelude.{IfOk, is_some};
+ghost use Rattle.hub_look.specs.EventLines.{IsTextOf};
 
-use crate::events::{lines_of, plain_lines_of, stamp};
+use crate::events::{hit_line, lines_of, plain_hit_line, plain_lines_of, stamp};
 use std::alloc::{AllocError, Global};
 use std::rt::Clock;
 
@@ -25,16 +27,19 @@ impl Following<'_> {
         alloc: Global,
         name: &str,
         next: Option<u64>,
-        letters: &str,
-    ) -> Result<String, AllocError> {
-        match (self.pattern, self.is_plain) {
-            (Some(_), true) => format!(in alloc; "{letters}\n"),
-            (None, true) => plain_lines_of(alloc, letters),
-            (Some(_), false) => {
+        letters: &[u8],
+    ) -> Result<Vec<u8>, AllocError>
+        ensures { IfOk result (λ it. IsTextOf (is_some self.now.pattern) self.now.is_plain
+            name.now next letters.now it.items) }
+    {
+        match (self.pattern.is_some(), self.is_plain) {
+            (true, true) => plain_hit_line(alloc, letters),
+            (false, true) => plain_lines_of(alloc, letters),
+            (true, false) => {
                 let stamp = stamp(clock, alloc)?;
-                format!(in alloc; "{stamp} {name} {letters}\n")
+                hit_line(alloc, stamp.as_str(), name, letters)
             }
-            (None, false) => {
+            (false, false) => {
                 let stamp = stamp(clock, alloc)?;
                 lines_of(alloc, stamp.as_str(), name, next, letters)
             }

@@ -1,6 +1,8 @@
 //! The requests that only look.
-ghost use Rattle.std.specs.Prelude.{◌≡◌, IfOk, MatchBool, MatchResult};
+ghost use Rattle.std.specs.Prelude.{◌≡◌, IfOk, IfErr, MatchBool, MatchResult};
 ghost use Rattle.hub_requests.specs.declared.reply.Refusal.TheVariants as refusal;
+ghost use Rattle.hub_client.specs.declared.fault.RelayError.TheVariants as relay;
+ghost use Rattle.hub_ask.specs.declared.fault.AskError.TheVariants as ask;
 ghost use Rattle.hub_ask.specs.Lines.{joined};
 ghost use Rattle.hub_look.specs.Looking.{IsLook, LooksBy};
 
@@ -46,7 +48,8 @@ fn only_look(request: Request) -> Result<Request, Refusal>
 /// The look that the line of these words spells, or why a hub refuses the line. A line that spells another request has no word of a
 /// look.
 pub(crate) fn look_of(alloc: Global, words: &[&str]) -> Result<Result<Request, Refusal>, AskError>
-    ensures { IfOk result (LooksBy (joined (λ word. word.now) words.now)) }
+    ensures ok { IfOk result (LooksBy (joined (λ word. word.now) words.now)) }
+    ensures err { IfErr result (λ error. error ≡ ask.Relay relay.Memory) }
 {
     let line = words.join(alloc, " ")?;
     match parse(alloc, line.as_bytes()) {

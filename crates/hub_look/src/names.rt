@@ -1,14 +1,15 @@
 //! The names of a hub.
-ghost use Rattle.std.specs.Prelude.{◌≡◌};
+ghost use Rattle.std.specs.Prelude.{◌≡◌, IfErr};
+ghost use Rattle.hub_look.specs.Stops.{IsOwnStop};
 
 use crate::asking::ask_about;
 use crate::peer::Peer;
 use crate::stop::Stop;
 use hub_ask::{AskError, Replies, Requests};
+use hub_io::Sink;
 use hub_protocol::BorrowedReply;
 use hub_requests::{MOST_NAMES, Request};
 use std::alloc::{AllocError, Global};
-use std::io::Write;
 use std::str;
 use std::sync::Wait;
 
@@ -21,7 +22,9 @@ fn put_words(alloc: Global, words: &str, names: &mut Vec<String>) -> Result<(), 
 }
 
 // Puts the names that a reply lists behind these. It lists one at least.
-fn put_names(alloc: Global, listed: &[u8], names: &mut Vec<String>) -> Result<(), Stop> {
+fn put_names(alloc: Global, listed: &[u8], names: &mut Vec<String>) -> Result<(), Stop>
+    ensures { IfErr result IsOwnStop }
+{
     match str::from_utf8(listed) {
         Ok(words) if !words.is_empty() => Ok(put_words(alloc, words, names)?),
         _ => Err(Stop::Fault(AskError::Unknown)),
@@ -29,13 +32,14 @@ fn put_names(alloc: Global, listed: &[u8], names: &mut Vec<String>) -> Result<()
 }
 
 /// All names of the hub, in the order in which their fifodirs were made.
-pub(crate) fn all_names<H: Wait, SR: Replies, SW: Requests, F: Write>(
+pub(crate) fn all_names<H: Wait, SR: Replies, SW: Requests, F: Sink>(
     rt: &H,
     alloc: Global,
     peer: &mut Peer<SR, SW>,
     notes: &mut F,
 ) -> Result<Vec<String>, Stop>
-    ensures { peer.new.begun ≡ peer.old.begun }
+    ensures begun { peer.new.begun ≡ peer.old.begun }
+    ensures err { IfErr result IsOwnStop }
 {
     let mut names = Vec::new(alloc);
     // Each reply but the last has a name at least.

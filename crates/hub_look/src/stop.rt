@@ -1,17 +1,19 @@
 //! Why a command ends before its work is done.
-ghost use Rattle.std.specs.Prelude.{◌≡◌};
+ghost use Rattle.std.specs.Prelude.{◌≡◌, ◌++◌, ◌∷◌, [], IfOk, IfErr, OnOk, codes, MatchResult};
+ghost use Rattle.std.specs.Io.KnownBytes.{Appends};
+ghost use Rattle.hub_io.specs.Faults.{AppendsPart};
+ghost use Rattle.hub_look.specs.Streams.{IsToldTo};
+ghost use Rattle.hub_look.specs.Tables.{note_of, reason_of};
 ghost use Rattle.hub_ask.specs.declared.fault.AskError.TheVariants as ask;
 ghost use Rattle.hub_client.specs.declared.fault.RelayError.TheVariants as relay;
-ghost use Rattle.hub_look.specs.declared.stop.Stop.TheVariants.{Fault};
+ghost use Rattle.hub_look.specs.declared.stop.Stop.TheVariants as stops;
 
 use hub_ask::{AskError, Outcome};
 use hub_client::RelayError;
-use hub_io::{Sink, write_whole};
+use hub_io::{FrontError, Sink, write_whole};
 use hub_protocol::write_reply;
 use hub_requests::{Refusal, Reply};
 use std::alloc::{AllocError, Global};
-use std::io::{self, Write};
-use std::str;
 
 /// Why a command ends before its work is done.
 #[derive(Clone, Copy, Debug, PartialEq, Eq)]
@@ -24,7 +26,10 @@ pub(crate) enum Stop {
 
 impl Stop {
     /// How the command that stopped so went.
-    pub(crate) fn outcome(self) -> Result<Outcome, AskError> {
+    pub(crate) fn outcome(self) -> Result<Outcome, AskError>
+        ensures { MatchResult result (λ it. self ≡ stops.Reply it)
+            (λ error. self ≡ stops.Fault error) }
+    {
         match self {
             Stop::Fault(error) => Err(error),
             Stop::Reply(outcome) => Ok(outcome),
@@ -33,7 +38,7 @@ impl Stop {
 }
 
 impl From<AskError> for Stop {
-    ghost from_gives = { λ error it. it ≡ Fault error };
+    ghost from_gives = { λ error it. it ≡ stops.Fault error };
 
     fn from(error: AskError) -> Stop {
         Stop::Fault(error)
@@ -41,7 +46,7 @@ impl From<AskError> for Stop {
 }
 
 impl From<AllocError> for Stop {
-    ghost from_gives = { λ _ it. it ≡ Fault (ask.Relay relay.Memory) };
+    ghost from_gives = { λ _ it. it ≡ stops.Fault (ask.Relay relay.Memory) };
 
     fn from(_error: AllocError) -> Stop {
         Stop::Fault(AskError::Relay(RelayError::Memory))
@@ -49,47 +54,74 @@ impl From<AllocError> for Stop {
 }
 
 /// Writes the text whole.
-pub(crate) fn write_text<W: Sink>(output: &mut W, text: &str) -> Result<(), Stop> {
-    match write_whole(output, text.as_bytes()) {
+pub(crate) fn write_text<W: Sink>(output: &mut W, text: &[u8]) -> Result<(), Stop>
+    ensures ok { OnOk result (Appends (W.contents output.old) (W.contents output.new) text.now) }
+    ensures err { IfErr result (λ stop. (stop ≡ stops.Fault (ask.Relay relay.Output))
+        × AppendsPart (W.contents output.old) (W.contents output.new) text.now) }
+{
+    match write_whole(output, text) {
         Ok(()) => Ok(()),
         Err(_) => Err(Stop::Fault(AskError::Relay(RelayError::Output))),
     }
 }
 
+// Writes a note. That a write fails isn't told.
+fn write_note<F: Sink>(note: &[u8], notes: &mut F)
+    ensures { IsToldTo (F.contents notes.old) (F.contents notes.new)
+        (F.faults notes.old) (F.faults notes.new) note.now }
+{
+    let _: Result<(), FrontError> = write_whole(notes, note);
+}
+
+// The beginning of a note on this name.
+fn note_on(alloc: Global, name: &str) -> Result<Vec<u8>, AllocError>
+    ensures { IfOk result (λ it. it.items ≡ name.now ++ codes ": ") }
+{
+    let mut note = Vec::from_slice(alloc, name.as_bytes())?;
+    note.extend_from_slice(b": ")?;
+    Ok(note)
+}
+
+// Puts a line that says why the hub refuses something behind these bytes.
+fn put_reason(refusal: Refusal, line: &mut Vec<u8>) -> Result<(), AllocError>
+    ensures { OnOk result (line.new.items ≡ line.old.items ++ (reason_of refusal ++ 10 ∷ [])) }
+{
+    match refusal {
+        Refusal::Name => line.extend_from_slice(b"no such fifodir\n"),
+        Refusal::Closed => line.extend_from_slice(b"closed\n"),
+        _ => write_reply(&Reply::No(refusal), line),
+    }
+}
+
 /// Writes a line that says what the hub refuses of this name.
-pub(crate) fn tell_refusal<F: Write>(
+pub(crate) fn tell_refusal<F: Sink>(
     alloc: Global,
     name: &str,
     refusal: Refusal,
     notes: &mut F,
-) -> Result<(), AllocError> {
-    match refusal {
-        Refusal::Name => tell(alloc, name, "no such fifodir", notes),
-        Refusal::Closed => tell(alloc, name, "closed", notes),
-        _ => {
-            let mut line = Vec::new(alloc);
-            write_reply(&Reply::No(refusal), &mut line)?;
-            tell(alloc, name, words_of(&line), notes)
-        }
-    }
-}
-
-// The words of a reply's line. None of its bytes is beyond ASCII.
-fn words_of(line: &[u8]) -> &str {
-    match str::from_utf8(line) {
-        Ok(words) => words.trim_end(),
-        Err(_) => "",
-    }
+) -> Result<(), AllocError>
+    ensures ok { OnOk result (IsToldTo (F.contents notes.old) (F.contents notes.new)
+        (F.faults notes.old) (F.faults notes.new) (note_of name.now (reason_of refusal))) }
+{
+    let mut note = note_on(alloc, name)?;
+    put_reason(refusal, &mut note)?;
+    write_note(&note, notes);
+    Ok(())
 }
 
 /// Writes a line on this name.
-pub(crate) fn tell<F: Write>(
+pub(crate) fn tell<F: Sink>(
     alloc: Global,
     name: &str,
     what: &str,
     notes: &mut F,
-) -> Result<(), AllocError> {
-    let line = format!(in alloc; "{name}: {what}\n")?;
-    let _: io::Result<()> = notes.write_all(line.as_bytes());
+) -> Result<(), AllocError>
+    ensures ok { OnOk result (IsToldTo (F.contents notes.old) (F.contents notes.new)
+        (F.faults notes.old) (F.faults notes.new) (note_of name.now what.now)) }
+{
+    let mut note = note_on(alloc, name)?;
+    note.extend_from_slice(what.as_bytes())?;
+    note.push(b'\n')?;
+    write_note(&note, notes);
     Ok(())
 }

@@ -1,15 +1,17 @@
 //! The beginning of a follow: a handle for each fifodir.
-ghost use Rattle.std.specs.Prelude.{◌≡◌};
+ghost use Rattle.std.specs.Prelude.{◌≡◌, IfOk, IfErr, IfSome};
+ghost use Rattle.hub_look.specs.Follows.{name_of};
+ghost use Rattle.hub_look.specs.Stops.{IsOwnStop};
 
 use crate::asking::{ask_about, handle_for, state_of};
 use crate::following::Following;
 use crate::peer::Peer;
 use crate::stop::Stop;
 use hub_ask::{AskError, Outcome, Replies, Requests};
+use hub_io::Sink;
 use hub_protocol::BorrowedReply;
 use hub_requests::Request;
 use std::alloc::Global;
-use std::io::Write;
 use std::sync::Wait;
 
 /// How often it tries to subscribe between two events, so that it knows the number of the next one.
@@ -28,36 +30,39 @@ pub(crate) struct Followed {
 }
 
 // How many events the fifodir has.
-fn events_of<H: Wait, SR: Replies, SW: Requests, F: Write>(
+fn events_of<H: Wait, SR: Replies, SW: Requests, F: Sink>(
     rt: &H,
     alloc: Global,
     name: &str,
     peer: &mut Peer<SR, SW>,
     notes: &mut F,
 ) -> Result<u64, Stop>
-    ensures { peer.new.begun ≡ peer.old.begun }
+    ensures begun { peer.new.begun ≡ peer.old.begun }
+    ensures err { IfErr result IsOwnStop }
 {
     match state_of(rt, alloc, name, peer, notes)? {
-        Some(state) => Ok(state.events),
-        None => Err(Stop::Reply(Outcome::Refused)),
+        Ok(status) => Ok(status.number),
+        Err(_) => Err(Stop::Reply(Outcome::Refused)),
     }
 }
 
 /// Subscribes, and knows the number of the next event: no event came between a look before and one after it. None if one came.
-fn subscribe_between<H: Wait, SR: Replies, SW: Requests, F: Write>(
+fn subscribe_between<H: Wait, SR: Replies, SW: Requests, F: Sink>(
     rt: &H,
     alloc: Global,
     name: &str,
     peer: &mut Peer<SR, SW>,
     notes: &mut F,
 ) -> Result<Option<Followed>, Stop>
-    ensures { peer.new.begun ≡ peer.old.begun }
+    ensures begun { peer.new.begun ≡ peer.old.begun }
+    ensures name { IfOk result (λ it. IfSome it (λ followed. name_of followed ≡ name.now)) }
+    ensures err { IfErr result IsOwnStop }
 {
     let before = events_of(rt, alloc, name, peer, notes)?;
     let handle = handle_for(rt, alloc, &["sub", name], name, peer, notes)?;
     if events_of(rt, alloc, name, peer, notes)? == before {
         return Ok(Some(Followed {
-            name: name.to_string(alloc)?,
+            name: String::from_str(alloc, name)?,
             handle,
             next: Some(before),
             is_over: false,
@@ -72,14 +77,16 @@ fn subscribe_between<H: Wait, SR: Replies, SW: Requests, F: Write>(
 }
 
 // Subscribes, and knows the number of the next event unless the fifodir is too busy.
-fn subscribe_numbered<H: Wait, SR: Replies, SW: Requests, F: Write>(
+fn subscribe_numbered<H: Wait, SR: Replies, SW: Requests, F: Sink>(
     rt: &H,
     alloc: Global,
     name: &str,
     peer: &mut Peer<SR, SW>,
     notes: &mut F,
 ) -> Result<Followed, Stop>
-    ensures { peer.new.begun ≡ peer.old.begun }
+    ensures begun { peer.new.begun ≡ peer.old.begun }
+    ensures name { IfOk result (λ followed. name_of followed ≡ name.now) }
+    ensures err { IfErr result IsOwnStop }
 {
     'tries: for _ in 0..TRIES {
         if let Some(followed) = subscribe_between(rt, alloc, name, peer, notes)? {
@@ -90,7 +97,7 @@ fn subscribe_numbered<H: Wait, SR: Replies, SW: Requests, F: Write>(
 }
 
 // Subscribes by the look that these words spell. The number of the next event isn't known.
-fn subscribe_by<H: Wait, SR: Replies, SW: Requests, F: Write>(
+fn subscribe_by<H: Wait, SR: Replies, SW: Requests, F: Sink>(
     rt: &H,
     alloc: Global,
     words: &[&str],
@@ -98,11 +105,13 @@ fn subscribe_by<H: Wait, SR: Replies, SW: Requests, F: Write>(
     peer: &mut Peer<SR, SW>,
     notes: &mut F,
 ) -> Result<Followed, Stop>
-    ensures { peer.new.begun ≡ peer.old.begun }
+    ensures begun { peer.new.begun ≡ peer.old.begun }
+    ensures name { IfOk result (λ followed. name_of followed ≡ name.now) }
+    ensures err { IfErr result IsOwnStop }
 {
     let handle = handle_for(rt, alloc, words, name, peer, notes)?;
     Ok(Followed {
-        name: name.to_string(alloc)?,
+        name: String::from_str(alloc, name)?,
         handle,
         next: None,
         is_over: false,
@@ -110,7 +119,7 @@ fn subscribe_by<H: Wait, SR: Replies, SW: Requests, F: Write>(
 }
 
 /// Subscribes to the fifodir as it is to be followed.
-pub(crate) fn subscribe<H: Wait, SR: Replies, SW: Requests, F: Write>(
+pub(crate) fn subscribe<H: Wait, SR: Replies, SW: Requests, F: Sink>(
     rt: &H,
     alloc: Global,
     following: &Following<'_>,
@@ -118,7 +127,9 @@ pub(crate) fn subscribe<H: Wait, SR: Replies, SW: Requests, F: Write>(
     peer: &mut Peer<SR, SW>,
     notes: &mut F,
 ) -> Result<Followed, Stop>
-    ensures { peer.new.begun ≡ peer.old.begun }
+    ensures begun { peer.new.begun ≡ peer.old.begun }
+    ensures name { IfOk result (λ followed. name_of followed ≡ name.now) }
+    ensures err { IfErr result IsOwnStop }
 {
     match following.pattern {
         Some(pattern) => {

@@ -1,14 +1,19 @@
 //! A table of how fifodirs are.
-ghost use Rattle.std.specs.Prelude.{◌≡◌};
+ghost use Rattle.std.specs.Prelude.{◌≡◌, ◌⊎◌, ◌++◌, [], map, IfOk, IfErr, OnOk};
+ghost use Rattle.hub_requests.specs.Texts.{openness};
+ghost use Rattle.hub_look.specs.Stops.{IsFaultOf, IsOwnFault, IsRefusal};
+ghost use Rattle.hub_look.specs.Tables.{FailsToShow, FailsToShowAll, FailsToShowStates, IsTable, ShowsAll, ShowsStates, ShowsTable, beside, columns_of, outcome_after, readiness, row_by, row_of, running, width_of, yes_or_no};
 
 use crate::asking::state_of;
 use crate::names::all_names;
 use crate::peer::Peer;
 use crate::stop::{Stop, write_text};
-use hub_ask::{AskError, Outcome, Replies, Requests, State};
+use hub_ask::{AskError, Outcome, Replies, Requests};
 use hub_io::Sink;
+use hub_letters::Flags;
+use hub_record::Status;
+use hub_requests::Refusal;
 use std::alloc::{AllocError, Global};
-use std::io::Write;
 use std::sync::Wait;
 
 /// The heading of the column of names.
@@ -17,55 +22,154 @@ const NAME: &str = "NAME";
 /// The headings of the columns behind it.
 const HEADINGS: &str = "STATE  READY     SUPERVISED  FAILED  OPEN    EVENTS";
 
-// The columns of a fifodir in this state.
-fn columns_of(alloc: Global, state: State) -> Result<String, AllocError> {
-    let flags = state.flags;
-    let up = if flags.up { "up" } else { "down" };
-    let ready = match (flags.settled, flags.up) {
+// Puts a word behind the line, with spaces up to the width of its column, and two before the next one.
+fn put_column(width: usize, word: &str, line: &mut String) -> Result<(), AllocError>
+    ensures { OnOk result (line.new.bytes.items
+        ≡ line.old.bytes.items ++ beside width word.now []) }
+{
+    line.push_str(word)?;
+    let mut missing = width.saturating_sub(word.len());
+    'spaces: while missing > 0 {
+        line.push_str(" ")?;
+        missing -= 1;
+    }
+    line.push_str("  ")
+}
+
+fn running(flags: Flags) -> &'static str
+    ensures { result.now ≡ running flags }
+{
+    if flags.up { "up" } else { "down" }
+}
+
+fn readiness(flags: Flags) -> &'static str
+    ensures { result.now ≡ readiness flags }
+{
+    match (flags.settled, flags.up) {
         (true, true) => "ready",
         (true, false) => "settled",
         (false, _) => "settling",
-    };
-    let supervised = if flags.supervised { "yes" } else { "no" };
-    let failed = if flags.failed { "yes" } else { "no" };
-    let open = if state.is_closed { "closed" } else { "open" };
-    let events = state.events;
-    format!(in alloc; "{up:<5}  {ready:<8}  {supervised:<10}  {failed:<6}  {open:<6}  {events}")
+    }
 }
 
-// A row of the table. The names have a column of this width.
-fn row_of(alloc: Global, width: usize, name: &str, columns: &str) -> Result<String, AllocError> {
-    format!(in alloc; "{name:<width$}  {columns}\n")
+fn yes_or_no(answer: bool) -> &'static str
+    ensures { result.now ≡ yes_or_no answer }
+{
+    if answer { "yes" } else { "no" }
+}
+
+fn openness(is_closed: bool) -> &'static str
+    ensures { result.now ≡ openness is_closed }
+{
+    if is_closed { "closed" } else { "open" }
+}
+
+// The columns of a fifodir in this state.
+fn columns_of(alloc: Global, status: Status) -> Result<String, AllocError>
+    ensures { IfOk result (λ it. it.bytes.items ≡ columns_of status) }
+{
+    let flags = status.flags;
+    let mut columns = String::new(alloc);
+    put_column(5, running(flags), &mut columns)?;
+    put_column(8, readiness(flags), &mut columns)?;
+    put_column(10, yes_or_no(flags.supervised), &mut columns)?;
+    put_column(6, yes_or_no(flags.failed), &mut columns)?;
+    put_column(6, openness(status.closed), &mut columns)?;
+    columns.push_str(status.number.to_string(alloc)?.as_str())?;
+    Ok(columns)
+}
+
+// Puts a row behind the table. The names have a column of this width.
+fn put_row(width: usize, name: &str, columns: &str, table: &mut String) -> Result<(), AllocError>
+    ensures { OnOk result (table.new.bytes.items
+        ≡ table.old.bytes.items ++ row_of width name.now columns.now) }
+{
+    put_column(width, name, table)?;
+    table.push_str(columns)?;
+    table.push_str("\n")
+}
+
+// The width of the column of these names.
+fn width_of(names: &[&str]) -> usize
+    ensures { result ≡ width_of (λ name. name.now) names.now }
+{
+    let mut width = NAME.len();
+    'names: for name in names {
+        width = width.max(name.len());
+    }
+    width
+}
+
+// Puts the row of a name behind the table, if the hub says how it is.
+fn put_verdict(
+    alloc: Global,
+    width: usize,
+    name: &str,
+    verdict: &Result<Status, Refusal>,
+    table: &mut String,
+) -> Result<(), AllocError>
+    ensures { OnOk result (table.new.bytes.items
+        ≡ table.old.bytes.items ++ row_by width name.now verdict.now) }
+{
+    if let Ok(status) = verdict {
+        let columns = columns_of(alloc, *status)?;
+        put_row(width, name, columns.as_str(), table)?;
+    }
+    Ok(())
+}
+
+// How a command goes on that went so, after what the hub says of one more name.
+fn outcome_after(outcome: Outcome, verdict: &Result<Status, Refusal>) -> Outcome
+    ensures { result ≡ outcome_after outcome verdict.now }
+{
+    match verdict {
+        Ok(_) => outcome,
+        Err(_) => Outcome::Refused,
+    }
 }
 
 // The rows of these names, below the headings. None of a refused name, which makes the outcome a refusal.
-fn table_of<H: Wait, SR: Replies, SW: Requests, F: Write>(
+fn table_of<H: Wait, SR: Replies, SW: Requests, F: Sink>(
     rt: &H,
     alloc: Global,
     names: &[&str],
     peer: &mut Peer<SR, SW>,
     notes: &mut F,
 ) -> Result<(String, Outcome), Stop>
-    ensures { peer.new.begun ≡ peer.old.begun }
+    ensures begun { peer.new.begun ≡ peer.old.begun }
+    ensures ok { IfOk result (λ it. IsTable (λ name. name.now)
+        (record {
+          sent = SW.contents peer.old.client.sender;
+          had = SR.remaining peer.old.client.receiver;
+          noted = F.contents notes.old;
+          faults = F.faults notes.old;
+        })
+        (record {
+          sent = SW.contents peer.new.client.sender;
+          had = SR.remaining peer.new.client.receiver;
+          noted = F.contents notes.new;
+          faults = F.faults notes.new;
+        })
+        names.now it.0.bytes.items it.1) }
+    ensures err { IfErr result IsOwnFault }
 {
-    let width = names.iter().map(|name| name.len()).max().unwrap_or(0);
-    let width = width.max(NAME.len());
-    let mut table = row_of(alloc, width, NAME, HEADINGS)?;
+    let width = width_of(names);
+    let mut table = String::new(alloc);
+    put_row(width, NAME, HEADINGS, &mut table)?;
     let mut outcome = Outcome::Done;
     'names: for name in names {
-        match state_of(rt, alloc, name, peer, notes)? {
-            Some(state) => {
-                let columns = columns_of(alloc, state)?;
-                table.push_str(row_of(alloc, width, name, columns.as_str())?.as_str())?;
-            }
-            None => outcome = Outcome::Refused,
-        }
+        let verdict = state_of(rt, alloc, name, peer, notes)?;
+        put_verdict(alloc, width, name, &verdict, &mut table)?;
+        outcome = outcome_after(outcome, &verdict);
     }
     Ok((table, outcome))
 }
 
 // The texts of these names.
-fn words_of(alloc: Global, names: &[String]) -> Result<Vec<&str>, AllocError> {
+fn words_of(alloc: Global, names: &[String]) -> Result<Vec<&str>, AllocError>
+    ensures { IfOk result (λ words. map (λ word. word.now) words.items
+        ≡ map (λ name. name.bytes.items) names.now) }
+{
     let mut words = Vec::with_capacity(alloc, names.len())?;
     'names: for name in names {
         words.push(name.as_str())?;
@@ -73,8 +177,8 @@ fn words_of(alloc: Global, names: &[String]) -> Result<Vec<&str>, AllocError> {
     Ok(words)
 }
 
-// Writes the table of these names, or of all names of the hub.
-fn write_table<H: Wait, SR: Replies, SW: Requests, W: Sink, F: Write>(
+// Writes the table of these names.
+fn show_each<H: Wait, SR: Replies, SW: Requests, W: Sink, F: Sink>(
     rt: &H,
     alloc: Global,
     names: &[&str],
@@ -82,21 +186,76 @@ fn write_table<H: Wait, SR: Replies, SW: Requests, W: Sink, F: Write>(
     output: &mut W,
     notes: &mut F,
 ) -> Result<Outcome, Stop>
-    ensures { peer.new.begun ≡ peer.old.begun }
+    ensures begun { peer.new.begun ≡ peer.old.begun }
+    ensures ok { IfOk result (ShowsTable (λ name. name.now)
+        (record {
+          sent = SW.contents peer.old.client.sender;
+          had = SR.remaining peer.old.client.receiver;
+          noted = F.contents notes.old;
+          faults = F.faults notes.old;
+        })
+        (record {
+          sent = SW.contents peer.new.client.sender;
+          had = SR.remaining peer.new.client.receiver;
+          noted = F.contents notes.new;
+          faults = F.faults notes.new;
+        })
+        (W.contents output.old) (W.contents output.new) names.now) }
+    ensures err { IfErr result (IsFaultOf (FailsToShow (λ name. name.now)
+        (record {
+          sent = SW.contents peer.old.client.sender;
+          had = SR.remaining peer.old.client.receiver;
+          noted = F.contents notes.old;
+          faults = F.faults notes.old;
+        })
+        (record {
+          sent = SW.contents peer.new.client.sender;
+          had = SR.remaining peer.new.client.receiver;
+          noted = F.contents notes.new;
+          faults = F.faults notes.new;
+        })
+        (W.contents output.old) (W.contents output.new) names.now)) }
 {
-    let (table, outcome) = if names.is_empty() {
-        let listed = all_names(rt, alloc, peer, notes)?;
-        table_of(rt, alloc, &words_of(alloc, &listed)?, peer, notes)?
-    } else {
-        table_of(rt, alloc, names, peer, notes)?
-    };
-    write_text(output, table.as_str())?;
+    let (table, outcome) = table_of(rt, alloc, names, peer, notes)?;
+    write_text(output, table.as_bytes())?;
     Ok(outcome)
+}
+
+// Writes the table of all names of the hub.
+fn show_all<H: Wait, SR: Replies, SW: Requests, W: Sink, F: Sink>(
+    rt: &H,
+    alloc: Global,
+    peer: &mut Peer<SR, SW>,
+    output: &mut W,
+    notes: &mut F,
+) -> Result<Outcome, Stop>
+    ensures begun { peer.new.begun ≡ peer.old.begun }
+    ensures ok { IfOk result (ShowsAll
+        (record {
+          sent = SW.contents peer.new.client.sender;
+          had = SR.remaining peer.new.client.receiver;
+          noted = F.contents notes.new;
+          faults = F.faults notes.new;
+        })
+        (W.contents output.old) (W.contents output.new)) }
+    ensures err { IfErr result (λ stop. IsRefusal stop (W.contents output.new ≡ W.contents output.old)
+        ⊎ IsFaultOf (FailsToShowAll
+        (record {
+          sent = SW.contents peer.new.client.sender;
+          had = SR.remaining peer.new.client.receiver;
+          noted = F.contents notes.new;
+          faults = F.faults notes.new;
+        })
+        (W.contents output.old) (W.contents output.new)) stop) }
+{
+    let listed = all_names(rt, alloc, peer, notes)?;
+    let names = words_of(alloc, &listed)?;
+    show_each(rt, alloc, &names, peer, output, notes)
 }
 
 /// Writes a table to the output: a row for each of these fifodirs, or for each of the hub if none is named. For a name that the hub
 /// refuses, `notes` gets a line, and the outcome is [`Outcome::Refused`].
-pub fn show_states<H: Wait, SR: Replies, SW: Requests, W: Sink, F: Write>(
+pub fn show_states<H: Wait, SR: Replies, SW: Requests, W: Sink, F: Sink>(
     rt: &H,
     alloc: Global,
     names: &[&str],
@@ -105,9 +264,44 @@ pub fn show_states<H: Wait, SR: Replies, SW: Requests, W: Sink, F: Write>(
     notes: &mut F,
 ) -> Result<Outcome, AskError>
     // What it sends are looks (`Peer`).
-    ensures { peer.new.begun ≡ peer.old.begun }
+    ensures begun { peer.new.begun ≡ peer.old.begun }
+    // The status of each name was asked for once, in order. The table has the rows of what was replied, and each refusal has a note.
+    ensures ok { IfOk result (ShowsStates (λ name. name.now)
+        (record {
+          sent = SW.contents peer.old.client.sender;
+          had = SR.remaining peer.old.client.receiver;
+          noted = F.contents notes.old;
+          faults = F.faults notes.old;
+        })
+        (record {
+          sent = SW.contents peer.new.client.sender;
+          had = SR.remaining peer.new.client.receiver;
+          noted = F.contents notes.new;
+          faults = F.faults notes.new;
+        })
+        (W.contents output.old) (W.contents output.new) names.now) }
+    // Unless writing the table failed, nothing of it is written.
+    ensures err { IfErr result (FailsToShowStates (λ name. name.now)
+        (record {
+          sent = SW.contents peer.old.client.sender;
+          had = SR.remaining peer.old.client.receiver;
+          noted = F.contents notes.old;
+          faults = F.faults notes.old;
+        })
+        (record {
+          sent = SW.contents peer.new.client.sender;
+          had = SR.remaining peer.new.client.receiver;
+          noted = F.contents notes.new;
+          faults = F.faults notes.new;
+        })
+        (W.contents output.old) (W.contents output.new) names.now) }
 {
-    match write_table(rt, alloc, names, peer, output, notes) {
+    let shown = if names.is_empty() {
+        show_all(rt, alloc, peer, output, notes)
+    } else {
+        show_each(rt, alloc, names, peer, output, notes)
+    };
+    match shown {
         Ok(outcome) => Ok(outcome),
         Err(stop) => stop.outcome(),
     }

@@ -1,6 +1,10 @@
-use Rattle.std.proofs.Common.{◌≡◌}
+use Rattle.std.proofs.Common.{◌≡◌, map, take}
+use Rattle.hub_look.specs.Follows.{name_of}
 use Rattle.hub_look.proofs.news.subscribe_to_all.Given as goal
 
--- the peer began at the same sender
+-- the names so far are followed, and the peer began at the same sender
 abbrev pub invariant-names : goal.invariant-names
-invariant-names g l = l.peer.begun ≡ l.fn.peer.begun
+invariant-names g l = record {
+  begun : l.peer.begun ≡ l.fn.peer.begun;
+  named : map name_of l.all.items ≡ map (λ name. name.now) (take l.name-index l.names);
+}

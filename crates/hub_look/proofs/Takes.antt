@@ -1,0 +1,218 @@
+-- What a reply makes of a fifodir that is followed.
+use Rattle.std.proofs.Common.{◌≡◌, ◌≢◌, ℕ, List, Bool, IsErrAnd, true, false, if◌then◌else◌, Option, None, Some, Result, Ok, Err, OnOk, IfErr, length, refl, sym, ap, ◌∙◌, subst, codes, Bor}
+use Rattle.std.specs.Io.KnownBytes.{Appends}
+use Rattle.hub_requests.specs.Texts.{text_of}
+use Rattle.hub_requests.specs.declared.request.Request.{Request}
+use Rattle.hub_requests.specs.declared.request.Request.TheVariants as request
+use Rattle.hub_requests.specs.declared.reply.Refusal.{Refusal}
+use Rattle.hub_requests.specs.declared.reply.Reply.{Reply}
+use Rattle.hub_requests.specs.declared.reply.Reply.TheVariants as reply
+use Rattle.hub_protocol.specs.Replies.{IsOfHub, IsShown, Shows}
+use Rattle.hub_protocol.specs.Spelling.{form_of, spelling}
+use Rattle.hub_protocol.specs.declared.replies.BorrowedReply.{BorrowedReply}
+use Rattle.hub_protocol.specs.declared.replies.BorrowedReply.TheVariants as shown
+use Rattle.hub_client.specs.declared.fault.RelayError.TheVariants as relay
+use Rattle.hub_ask.specs.Asking.{IsAnswered}
+use Rattle.hub_ask.specs.declared.fault.AskError.{AskError}
+use Rattle.hub_ask.specs.declared.fault.AskError.TheVariants.{Relay}
+use Rattle.hub_look.specs.Stops.{IsOwnFault}
+use Rattle.hub_ask.specs.declared.outcome.Outcome.TheVariants as outcome
+use Rattle.hub_look.specs.EventLines.{IsTextOf, number_after}
+use Rattle.hub_look.specs.Follows.{Manner, IsTaken, EndsTake, FailsToWrite, RefusesAwait, ends_by, name_of, taking}
+use Rattle.hub_look.specs.Streams.{IsReplied, IsToldTo, Streams}
+use Rattle.hub_look.specs.Tables.{note_of, reason_of}
+use Rattle.hub_look.specs.declared.stop.Stop.{Stop}
+use Rattle.hub_look.specs.declared.stop.Stop.TheVariants as stops
+use Rattle.hub_look.specs.declared.subscribing.Followed.{Followed}
+use Rattle.hub_look.proofs.Refusals.{no_shown}
+
+-- ---- which reply is shown
+
+none_shown : (it : Reply) → Shows shown.Nothing it → it ≡ reply.Nothing
+none_shown reply.Nothing h = refl
+none_shown it h = absurd h
+
+end_shown : (it : Reply) → Shows shown.End it → it ≡ reply.End
+end_shown reply.End h = refl
+end_shown it h = absurd h
+
+evicted_shown : (it : Reply) → Shows shown.Evicted it → it ≡ reply.Evicted
+evicted_shown reply.Evicted h = refl
+evicted_shown it h = absurd h
+
+-- the reply to a request, by what was shown of it
+replied_by : (sent sends had has noted : Option (List ℕ)) (faults : Option ℕ) (asked : Request) (text : List ℕ) (read : BorrowedReply) (it : Reply) (h : IsShown text read)
+    → h.reply ≡ it → IsAnswered sent sends had has (spelling (form_of asked)) text
+    → IsReplied (record { sent = sent; had = had; noted = noted; faults = faults }) (record { sent = sends; had = has; noted = noted; faults = faults }) asked it
+replied_by sent sends had has noted faults asked text read it h same answered = record {
+  of_hub = subst IsOfHub same h.of_hub;
+  answered = subst (IsAnswered sent sends had has (spelling (form_of asked))) (h.spelled ∙ ap text_of same) answered;
+  noted = refl;
+  faults = refl;
+}
+
+-- ---- an await
+
+pub refuses_await : (sent sends had has noted notes : Option (List ℕ)) (faults failed : Option ℕ) (followed : Followed) (turns : ℕ) (text name : List ℕ) (refusal : Refusal)
+    → name ≡ name_of followed → IsAnswered sent sends had has (spelling (form_of (request.Await followed.handle turns))) text → IsShown text (shown.No refusal)
+    → IsToldTo noted notes faults failed (note_of name (reason_of refusal))
+    → RefusesAwait followed (record { sent = sent; had = had; noted = noted; faults = faults }) (record { sent = sends; had = has; noted = notes; faults = failed }) turns
+refuses_await sent sends had has noted notes faults failed followed turns text name refusal is_name answered h told = record {
+  refusal = refusal;
+  between = record { sent = sends; had = has; noted = noted; faults = faults };
+  replied = replied_by sent sends had has noted faults (request.Await followed.handle turns) text (shown.No refusal) (reply.No refusal) h (no_shown refusal h.reply h.shows) answered;
+  told = record { sent = refl; had = refl; noted = subst (λ n. IsToldTo noted notes faults failed (note_of n (reason_of refusal))) is_name told };
+}
+
+-- ---- a take
+
+-- the request is the one for what is pending
+taken_by : (manner : Manner) (sent sends had has noted : Option (List ℕ)) (faults : Option ℕ) (followed : Followed) (asked : Request) (text : List ℕ) (read : BorrowedReply) (it : Reply) (h : IsShown text read)
+    → h.reply ≡ it → asked ≡ taking manner.is_hit manner.is_once followed.handle → IsAnswered sent sends had has (spelling (form_of asked)) text
+    → IsReplied (record { sent = sent; had = had; noted = noted; faults = faults }) (record { sent = sends; had = has; noted = noted; faults = faults }) (taking manner.is_hit manner.is_once followed.handle) it
+taken_by manner sent sends had has noted faults followed asked text read it h same is answered =
+    replied_by sent sends had has noted faults (taking manner.is_hit manner.is_once followed.handle) text read it h same (subst (λ r. IsAnswered sent sends had has (spelling (form_of r)) text) is answered)
+
+pub took_nothing : (manner : Manner) (sent sends had has noted held : Option (List ℕ)) (faults : Option ℕ) (followed : Followed) (asked : Request) (text : List ℕ)
+    → asked ≡ taking manner.is_hit manner.is_once followed.handle → IsAnswered sent sends had has (spelling (form_of asked)) text → IsShown text shown.Nothing
+    → (it : Reply) × IsTaken manner followed followed (record { sent = sent; had = had; noted = noted; faults = faults }) (record { sent = sends; had = has; noted = noted; faults = faults }) held held it
+    × (ends_by manner.is_once it ≡ None)
+took_nothing manner sent sends had has noted held faults followed asked text is answered h = (
+  reply.Nothing,
+  record {
+    between = record { sent = sends; had = has; noted = noted; faults = faults };
+    replied = taken_by manner sent sends had has noted faults followed asked text shown.Nothing reply.Nothing h (none_shown h.reply h.shows) is answered;
+    told = refl;
+    written = refl;
+    moved = refl;
+  },
+  refl,
+)
+
+pub took_end : (manner : Manner) (sent sends had has noted held : Option (List ℕ)) (faults : Option ℕ) (followed : Followed) (asked : Request) (text : List ℕ)
+    → asked ≡ taking manner.is_hit manner.is_once followed.handle → IsAnswered sent sends had has (spelling (form_of asked)) text → IsShown text shown.End
+    → (it : Reply) × IsTaken manner followed (record followed { is_over = true }) (record { sent = sent; had = had; noted = noted; faults = faults }) (record { sent = sends; had = has; noted = noted; faults = faults }) held held it
+    × (ends_by manner.is_once it ≡ None)
+took_end manner sent sends had has noted held faults followed asked text is answered h = (
+  reply.End,
+  record {
+    between = record { sent = sends; had = has; noted = noted; faults = faults };
+    replied = taken_by manner sent sends had has noted faults followed asked text shown.End reply.End h (end_shown h.reply h.shows) is answered;
+    told = refl;
+    written = refl;
+    moved = refl;
+  },
+  refl,
+)
+
+pub took_eviction : (manner : Manner) (sent sends had has noted notes held : Option (List ℕ)) (faults failed : Option ℕ) (followed : Followed) (asked : Request) (text name : List ℕ)
+    → name ≡ name_of followed → asked ≡ taking manner.is_hit manner.is_once followed.handle → IsAnswered sent sends had has (spelling (form_of asked)) text → IsShown text shown.Evicted
+    → IsToldTo noted notes faults failed (note_of name (codes "evicted"))
+    → EndsTake manner followed followed (record { sent = sent; had = had; noted = noted; faults = faults }) (record { sent = sends; had = has; noted = notes; faults = failed }) held held (stops.Reply outcome.Nothing)
+took_eviction manner sent sends had has noted notes held faults failed followed asked text name is_name is answered h told = (
+  reply.Evicted,
+  record {
+    between = record { sent = sends; had = has; noted = noted; faults = faults };
+    replied = taken_by manner sent sends had has noted faults followed asked text shown.Evicted reply.Evicted h (evicted_shown h.reply h.shows) is answered;
+    told = record { sent = refl; had = refl; noted = subst (λ n. IsToldTo noted notes faults failed (note_of n (codes "evicted"))) is_name told };
+    written = refl;
+    moved = refl;
+  },
+  refl,
+)
+
+pub took_refusal : (manner : Manner) (sent sends had has noted notes held : Option (List ℕ)) (faults failed : Option ℕ) (followed : Followed) (asked : Request) (text name : List ℕ) (refusal : Refusal)
+    → name ≡ name_of followed → asked ≡ taking manner.is_hit manner.is_once followed.handle → IsAnswered sent sends had has (spelling (form_of asked)) text → IsShown text (shown.No refusal)
+    → IsToldTo noted notes faults failed (note_of name (reason_of refusal))
+    → EndsTake manner followed followed (record { sent = sent; had = had; noted = noted; faults = faults }) (record { sent = sends; had = has; noted = notes; faults = failed }) held held (stops.Reply outcome.Refused)
+took_refusal manner sent sends had has noted notes held faults failed followed asked text name refusal is_name is answered h told = (
+  reply.No refusal,
+  record {
+    between = record { sent = sends; had = has; noted = noted; faults = faults };
+    replied = taken_by manner sent sends had has noted faults followed asked text (shown.No refusal) (reply.No refusal) h (no_shown refusal h.reply h.shows) is answered;
+    told = record { sent = refl; had = refl; noted = subst (λ n. IsToldTo noted notes faults failed (note_of n (reason_of refusal))) is_name told };
+    written = refl;
+    moved = refl;
+  },
+  refl,
+)
+
+got_shown : (letters : Bor (List ℕ)) (it : Reply) → Shows (shown.Got letters) it → it ≡ reply.Got letters.now
+got_shown letters (reply.Got other) h = ap reply.Got (sym h)
+got_shown letters it h = absurd h
+
+hit_shown : (letters : Bor (List ℕ)) (it : Reply) → Shows (shown.Hit letters) it → it ≡ reply.Hit letters.now
+hit_shown letters (reply.Hit other) h = ap reply.Hit (sym h)
+hit_shown letters it h = absurd h
+
+pub took_letters : (manner : Manner) (sent sends had has noted held holds : Option (List ℕ)) (faults : Option ℕ) (followed later : Followed) (asked : Request) (text : List ℕ) (letters : Bor (List ℕ))
+    → asked ≡ taking manner.is_hit manner.is_once followed.handle → IsAnswered sent sends had has (spelling (form_of asked)) text → IsShown text (shown.Got letters)
+    → (lines : List ℕ) × IsTextOf manner.is_hit manner.is_plain (name_of followed) followed.next letters.now lines × Appends held holds lines
+    → later ≡ record followed { next = number_after followed.next (length letters.now) }
+    → IsTaken manner followed later (record { sent = sent; had = had; noted = noted; faults = faults }) (record { sent = sends; had = has; noted = noted; faults = faults }) held holds (reply.Got letters.now)
+took_letters manner sent sends had has noted held holds faults followed later asked text letters is answered h written moved = record {
+  between = record { sent = sends; had = has; noted = noted; faults = faults };
+  replied = taken_by manner sent sends had has noted faults followed asked text (shown.Got letters) (reply.Got letters.now) h (got_shown letters h.reply h.shows) is answered;
+  told = refl;
+  written = written;
+  moved = moved;
+}
+
+pub took_hit : (manner : Manner) (sent sends had has noted held holds : Option (List ℕ)) (faults : Option ℕ) (followed later : Followed) (asked : Request) (text : List ℕ) (letters : Bor (List ℕ))
+    → asked ≡ taking manner.is_hit manner.is_once followed.handle → IsAnswered sent sends had has (spelling (form_of asked)) text → IsShown text (shown.Hit letters)
+    → (lines : List ℕ) × IsTextOf manner.is_hit manner.is_plain (name_of followed) followed.next letters.now lines × Appends held holds lines
+    → later ≡ record followed { next = number_after followed.next (length letters.now) }
+    → IsTaken manner followed later (record { sent = sent; had = had; noted = noted; faults = faults }) (record { sent = sends; had = has; noted = noted; faults = faults }) held holds (reply.Hit letters.now)
+took_hit manner sent sends had has noted held holds faults followed later asked text letters is answered h written moved = record {
+  between = record { sent = sends; had = has; noted = noted; faults = faults };
+  replied = taken_by manner sent sends had has noted faults followed asked text (shown.Hit letters) (reply.Hit letters.now) h (hit_shown letters h.reply h.shows) is answered;
+  told = refl;
+  written = written;
+  moved = moved;
+}
+
+-- after letters it goes on, unless the first ones were enough
+pub goes_on : (manner : Manner) (followed later : Followed) (before after : Streams) (held holds : Option (List ℕ)) (is_once : Bool) (result : Result Bool Stop) (it : Reply)
+    → result ≡ (if is_once then Err (stops.Reply outcome.Done) else Ok true) → ends_by is_once it ≡ (if is_once then Some outcome.Done else None)
+    → IsTaken manner followed later before after held holds it
+    → OnOk result ((it : Reply) × IsTaken manner followed later before after held holds it × (ends_by is_once it ≡ None))
+goes_on manner followed later before after held holds true result it is ends h =
+    subst (λ r. OnOk r ((it : Reply) × IsTaken manner followed later before after held holds it × (ends_by true it ≡ None))) (sym is) tt
+goes_on manner followed later before after held holds false result it is ends h =
+    subst (λ r. OnOk r ((it : Reply) × IsTaken manner followed later before after held holds it × (ends_by false it ≡ None))) (sym is) (it, h, ends)
+
+pub ends_there : (is_hit is_plain is_once : Bool) (followed later : Followed) (before after : Streams) (held holds : Option (List ℕ)) (result : Result Bool Stop) (it : Reply)
+    → result ≡ (if is_once then Err (stops.Reply outcome.Done) else Ok true) → ends_by is_once it ≡ (if is_once then Some outcome.Done else None)
+    → IsTaken (record { is_hit = is_hit; is_plain = is_plain; is_once = is_once }) followed later before after held holds it
+    → IfErr result (EndsTake (record { is_hit = is_hit; is_plain = is_plain; is_once = is_once }) followed later before after held holds)
+ends_there is_hit is_plain true followed later before after held holds result it is ends h =
+    subst (λ r. IfErr r (EndsTake (record { is_hit = is_hit; is_plain = is_plain; is_once = true }) followed later before after held holds)) (sym is) (it, h, ends)
+ends_there is_hit is_plain false followed later before after held holds result it is ends h =
+    subst (λ r. IfErr r (EndsTake (record { is_hit = is_hit; is_plain = is_plain; is_once = false }) followed later before after held holds)) (sym is) tt
+
+-- ---- faults
+
+pub fails_taking : (manner : Manner) (followed later : Followed) (before after : Streams) (held holds : Option (List ℕ)) (stop : Stop)
+    → FailsToWrite manner followed held holds stop → EndsTake manner followed later before after held holds stop
+fails_taking manner followed later before after held holds (stops.Reply went) h = absurd h
+fails_taking manner followed later before after held holds (stops.Fault (Relay relay.Output)) h = h
+fails_taking manner followed later before after held holds (stops.Fault error) h = h
+
+-- writing the letters failed
+pub fails_so : {T : Type 0} (manner : Manner) (followed later : Followed) (before after : Streams) (held holds : Option (List ℕ)) (result : Result T Stop) (stop : Stop)
+    → IsErrAnd result (λ it. it ≡ stop) → FailsToWrite manner followed held holds stop → IfErr result (EndsTake manner followed later before after held holds)
+fails_so manner followed later before after held holds (Ok it) stop is h = tt
+fails_so manner followed later before after held holds (Err other) stop is h =
+    fails_taking manner followed later before after held holds other (subst (FailsToWrite manner followed held holds) (sym is) h)
+
+own_fault : (manner : Manner) (followed later : Followed) (before after : Streams) (held : Option (List ℕ)) (error : AskError)
+    → error ≢ Relay relay.Output → EndsTake manner followed later before after held held (stops.Fault error)
+own_fault manner followed later before after held (Relay relay.Output) other = absurd (other refl)
+own_fault manner followed later before after held error other = refl
+
+-- asking failed
+pub own_so : {T : Type 0} (manner : Manner) (followed later : Followed) (before after : Streams) (held : Option (List ℕ)) (result : Result T Stop) (stop : Stop)
+    → IsErrAnd result (λ it. it ≡ stop) → IsOwnFault stop → IfErr result (EndsTake manner followed later before after held held)
+own_so manner followed later before after held (Ok it) stop is own = tt
+own_so manner followed later before after held (Err other) stop is own =
+    subst (EndsTake manner followed later before after held held) (sym (is ∙ own.1)) (own_fault manner followed later before after held own.0 own.2)

@@ -1,0 +1,191 @@
+-- What a follow asks of a fifodir, and what it writes for each reply.
+use Rattle.std.specs.Prelude.{◌≡◌, ◌≢◌, ◌⊎◌, ℕ, zero, suc, List, ◌∷◌, ◌++◌, length, map, codes, Bool, true, false, if◌then◌else◌, Option, None, Some, MatchOption}
+use Rattle.std.specs.Io.KnownBytes.{Appends}
+use Rattle.std.specs.List.{list_all}
+use Rattle.hub_io.specs.Faults.{AppendsPart}
+use Rattle.hub_requests.specs.declared.bounds.TheConstants.{MOST_TAKEN}
+use Rattle.hub_requests.specs.declared.request.Request.{Request}
+use Rattle.hub_requests.specs.declared.request.Request.TheVariants as request
+use Rattle.hub_requests.specs.declared.reply.Reply.{Reply}
+use Rattle.hub_requests.specs.declared.reply.Reply.TheVariants as reply
+use Rattle.hub_requests.specs.declared.reply.Refusal.{Refusal}
+use Rattle.hub_client.specs.declared.fault.RelayError.TheVariants as relay
+use Rattle.hub_ask.specs.declared.fault.AskError.TheVariants.{Relay}
+use Rattle.hub_ask.specs.declared.outcome.Outcome.{Outcome}
+use Rattle.hub_ask.specs.declared.outcome.Outcome.TheVariants as outcome
+use Rattle.hub_look.specs.EventLines.{IsTextOf, number_after}
+use Rattle.hub_look.specs.Stops.{IsOwnStop}
+use Rattle.hub_look.specs.Streams.{Streams, IsReplied, IsNoted}
+use Rattle.hub_look.specs.Tables.{note_of, reason_of}
+use Rattle.hub_look.specs.declared.subscribing.Followed.{Followed}
+use Rattle.hub_look.specs.declared.stop.Stop.{Stop}
+use Rattle.hub_look.specs.declared.stop.Stop.TheVariants as stops
+
+-- how letters are followed: by the hits of a pattern, with nothing else on a line, and until the first ones came
+pub record Manner : Type 0 where
+  pub is_hit : Bool
+  pub is_plain : Bool
+  pub is_once : Bool
+
+-- the request for what is pending for a handle
+abbrev pub taking : (is_hit is_once : Bool) (id : ℕ) → Request
+taking true once id = request.Poll id
+taking false true id = request.Take id 1
+taking false false id = request.Take id MOST_TAKEN
+
+-- the name of a fifodir that is followed
+abbrev pub name_of : Followed → List ℕ
+name_of followed = followed.name.bytes.items
+
+-- The letters of a reply are written once, as those of the fifodir, and nothing is written for another reply.
+abbrev pub IsWrittenFor : Manner → Followed → Reply → (held holds : Option (List ℕ)) → Type 0
+IsWrittenFor manner followed (reply.Got letters) held holds =
+    (text : List ℕ) × IsTextOf manner.is_hit manner.is_plain (name_of followed) followed.next letters text × Appends held holds text
+IsWrittenFor manner followed (reply.Hit letters) held holds =
+    (text : List ℕ) × IsTextOf manner.is_hit manner.is_plain (name_of followed) followed.next letters text × Appends held holds text
+IsWrittenFor manner followed other held holds = holds ≡ held
+
+-- what is known of the fifodir after a reply: letters move the number of the next one, and after an end nothing comes
+abbrev pub followed_after : Followed → Reply → Followed
+followed_after followed (reply.Got letters) = record followed { next = number_after followed.next (length letters) }
+followed_after followed (reply.Hit letters) = record followed { next = number_after followed.next (length letters) }
+followed_after followed reply.End = record followed { is_over = true }
+followed_after followed other = followed
+
+-- what a note says of a reply
+abbrev pub told_of : Reply → Option (List ℕ)
+told_of (reply.No refusal) = Some (reason_of refusal)
+told_of reply.Evicted = Some (codes "evicted")
+told_of other = None
+
+-- a reply that ends a follow, and how it went by that
+abbrev pub ends_by : (is_once : Bool) → Reply → Option Outcome
+ends_by is_once (reply.Got letters) = if is_once then Some outcome.Done else None
+ends_by is_once (reply.Hit letters) = if is_once then Some outcome.Done else None
+ends_by is_once (reply.No refusal) = Some outcome.Refused
+ends_by is_once reply.Evicted = Some outcome.Nothing
+ends_by is_once other = None
+
+-- The hub was asked once for what is pending for the fifodir's handle, and this was its reply, which is told and written.
+pub record IsTaken (manner : Manner) (followed later : Followed) (before after : Streams) (held holds : Option (List ℕ)) (reply : Reply) : Type 0 where
+  pub between : Streams
+  pub replied : IsReplied before between (taking manner.is_hit manner.is_once followed.handle) reply
+  pub told : MatchOption (told_of reply) (after ≡ between) (λ reason. IsNoted between after (note_of (name_of followed) reason))
+  pub written : IsWrittenFor manner followed reply held holds
+  pub moved : later ≡ followed_after followed reply
+
+-- Of the letters that came a part was written.
+pub record IsCutShort (manner : Manner) (followed : Followed) (held holds : Option (List ℕ)) : Type 0 where
+  pub letters : List ℕ
+  pub text : List ℕ
+  pub lines : IsTextOf manner.is_hit manner.is_plain (name_of followed) followed.next letters text
+  pub written : AppendsPart held holds text
+
+-- How letters aren't written: of their text a part was, if the output failed, and else nothing.
+abbrev pub FailsToWrite : Manner → Followed → (held holds : Option (List ℕ)) → Stop → Type 0
+FailsToWrite manner followed held holds (stops.Reply went) = ⊥
+FailsToWrite manner followed held holds (stops.Fault (Relay relay.Output)) = IsCutShort manner followed held holds
+FailsToWrite manner followed held holds (stops.Fault error) = holds ≡ held
+
+-- How a take ends a follow: by its reply, or by a fault. Unless writing the letters failed, nothing was written then.
+abbrev pub EndsTake : Manner → (followed later : Followed) → (before after : Streams) → (held holds : Option (List ℕ)) → Stop → Type 0
+EndsTake manner followed later before after held holds (stops.Reply went) =
+    (reply : Reply) × IsTaken manner followed later before after held holds reply × (ends_by manner.is_once reply ≡ Some went)
+EndsTake manner followed later before after held holds (stops.Fault (Relay relay.Output)) = IsCutShort manner followed held holds
+EndsTake manner followed later before after held holds (stops.Fault error) = holds ≡ held
+
+-- The hub was asked once, for so many turns, whether something comes for the fifodir's handle, and refused it. There is one note of it.
+pub record RefusesAwait (followed : Followed) (before after : Streams) (turns : ℕ) : Type 0 where
+  pub refusal : Refusal
+  pub between : Streams
+  pub replied : IsReplied before between (request.Await followed.handle turns) (reply.No refusal)
+  pub told : IsNoted between after (note_of (name_of followed) (reason_of refusal))
+
+-- How an await ends a follow.
+abbrev pub EndsAwait : Followed → (before after : Streams) → (turns : ℕ) → Stop → Type 0
+EndsAwait followed before after turns (stops.Reply outcome.Refused) = RefusesAwait followed before after turns
+EndsAwait followed before after turns (stops.Reply other) = ⊥
+EndsAwait followed before after turns (stops.Fault error) = error ≢ Relay relay.Output
+
+-- the reply to an await that says whether something comes
+abbrev pub comes_by : (comes : Bool) → Reply
+comes_by true = reply.Done
+comes_by false = reply.Late
+
+-- ---- the whole follow
+
+-- the fifodirs that are followed, the streams, and the output
+pub record Scene : Type 0 where
+  pub all : List Followed
+  pub streams : Streams
+  pub held : Option (List ℕ)
+
+-- The hub was asked once about one of the fifodirs: whether something comes, or for what is pending. The others are as they were.
+pub record IsAskedOne (manner : Manner) (before after : Scene) : Type 0 where
+  pub left : List Followed
+  pub followed : Followed
+  pub later : Followed
+  pub right : List Followed
+  pub among : before.all ≡ left ++ followed ∷ right
+  pub others : after.all ≡ left ++ later ∷ right
+  pub asked : ((turns : ℕ) × (comes : Bool) × IsReplied before.streams after.streams (request.Await followed.handle turns) (comes_by comes)
+      × (later ≡ followed) × (after.held ≡ before.held))
+      ⊎ ((reply : Reply) × IsTaken manner followed later before.streams after.streams before.held after.held reply
+      × (ends_by manner.is_once reply ≡ None))
+
+-- It was asked so many times so, one after another.
+abbrev pub AreAsked : Manner → (count : ℕ) → (before after : Scene) → Type 0
+AreAsked manner zero before after = after ≡ before
+AreAsked manner (suc count) before after = (between : Scene) × AreAsked manner count before between × IsAskedOne manner between after
+
+-- One more reply, about one of the fifodirs, or a fault ends the follow.
+pub record EndsLook (manner : Manner) (before : Scene) (after : Streams) (holds : Option (List ℕ)) (stop : Stop) : Type 0 where
+  pub left : List Followed
+  pub followed : Followed
+  pub later : Followed
+  pub right : List Followed
+  pub among : before.all ≡ left ++ followed ∷ right
+  pub asked : ((turns : ℕ) × EndsAwait followed before.streams after turns stop × (holds ≡ before.held))
+      ⊎ EndsTake manner followed later before.streams after before.held holds stop
+
+-- It was asked some times so, and then the follow ended.
+pub record EndsLooks (manner : Manner) (before : Scene) (after : Streams) (holds : Option (List ℕ)) (stop : Stop) : Type 0 where
+  pub count : ℕ
+  pub between : Scene
+  pub looks : AreAsked manner count before between
+  pub ends : EndsLook manner between after holds stop
+
+-- Each fifodir is followed by its name, and the hub was asked some times about one of them. between is how the streams were when all
+-- were subscribed to.
+pub record IsUnderWay (manner : Manner) (names : List (List ℕ)) (held : Option (List ℕ)) (now : Scene) : Type 0 where
+  pub start : List Followed
+  pub between : Streams
+  pub named : map name_of start ≡ names
+  pub count : ℕ
+  pub looks : AreAsked manner count (record { all = start; streams = between; held = held }) now
+
+-- nothing will come of any of them
+abbrev pub AreOver : List Followed → Type 0
+AreOver all = list_all (λ followed. followed.is_over) all ≡ true
+
+-- They were followed until nothing will come any more.
+pub record IsFollowed (manner : Manner) (names : List (List ℕ)) (after : Streams) (held holds : Option (List ℕ)) : Type 0 where
+  pub all : List Followed
+  pub followed : IsUnderWay manner names held (record { all = all; streams = after; held = holds })
+  pub over : AreOver all
+
+-- They were followed until a reply or a fault ended that.
+pub record EndsUnderWay (manner : Manner) (names : List (List ℕ)) (after : Streams) (held holds : Option (List ℕ)) (stop : Stop) : Type 0 where
+  pub now : Scene
+  pub followed : IsUnderWay manner names held now
+  pub ends : EndsLooks manner now after holds stop
+
+-- How a follow ends by a reply or a fault: until all are subscribed to, nothing is written.
+abbrev pub EndsFollow : Manner → (names : List (List ℕ)) → (after : Streams) → (held holds : Option (List ℕ)) → Stop → Type 0
+EndsFollow manner names after held holds stop =
+    (IsOwnStop stop × (holds ≡ held)) ⊎ EndsUnderWay manner names after held holds stop
+
+-- A follow has this outcome: nothing will come any more, or a reply ended it.
+abbrev pub FollowsTo : Manner → (names : List (List ℕ)) → (after : Streams) → (held holds : Option (List ℕ)) → Outcome → Type 0
+FollowsTo manner names after held holds went =
+    ((went ≡ outcome.Nothing) × IsFollowed manner names after held holds) ⊎ EndsFollow manner names after held holds (stops.Reply went)

@@ -1,0 +1,37 @@
+-- What a command that looks at a hub has sent, heard and told.
+use Rattle.std.specs.Prelude.{◌≡◌, ◌⊎◌, ℕ, List, Option}
+use Rattle.std.specs.Io.KnownBytes.{Appends}
+use Rattle.hub_io.specs.Faults.{AppendsPart}
+use Rattle.hub_io.specs.Telling.{Rises}
+use Rattle.hub_requests.specs.Texts.{text_of}
+use Rattle.hub_requests.specs.declared.request.Request.{Request}
+use Rattle.hub_requests.specs.declared.reply.Reply.{Reply}
+use Rattle.hub_protocol.specs.Replies.{IsOfHub}
+use Rattle.hub_protocol.specs.Spelling.{form_of, spelling}
+use Rattle.hub_ask.specs.Asking.{IsAnswered}
+
+-- what was sent to the hub, what is left of its replies, the notes, and how many writes of notes failed
+pub record Streams : Type 0 where
+  pub sent : Option (List ℕ)
+  pub had : Option (List ℕ)
+  pub noted : Option (List ℕ)
+  pub faults : Option ℕ
+
+-- The request was sent once, as its one line, and the first line that came then is that of the reply, which is one of a hub. There is no
+-- note of it.
+pub record IsReplied (before after : Streams) (request : Request) (reply : Reply) : Type 0 where
+  pub of_hub : IsOfHub reply
+  pub answered : IsAnswered before.sent after.sent before.had after.had (spelling (form_of request)) (text_of reply)
+  pub noted : after.noted ≡ before.noted
+  pub faults : after.faults ≡ before.faults
+
+-- The note was written whole, or a write failed and a part of it was written.
+abbrev pub IsToldTo : (noted notes : Option (List ℕ)) (faults failed : Option ℕ) (note : List ℕ) → Type 0
+IsToldTo noted notes faults failed note =
+    (Appends noted notes note × Rises faults failed 0) ⊎ (AppendsPart noted notes note × Rises faults failed 1)
+
+-- The note was told, and nothing was sent or heard.
+pub record IsNoted (before after : Streams) (note : List ℕ) : Type 0 where
+  pub sent : after.sent ≡ before.sent
+  pub had : after.had ≡ before.had
+  pub noted : IsToldTo before.noted after.noted before.faults after.faults note
