@@ -1,9 +1,9 @@
 //! Runs the rows of examples in `data/` through the desks: the desk of one thread, with the whole input at once and
 //! with one byte a read, and the desk of a session that is alone over a hub.
 //!
-//! Its arguments are the rows' names. It prints the name of each row whose output was byte for byte the same each time,
-//! and stops at the first row whose output wasn't: it says which desk gave it, and in which line it differs. It also stops
-//! if a row of the folder isn't among the names.
+//! A row is an input, `ROW.in`, and the output that is expected for it, `ROW.out`. The program stops at the first row whose
+//! output isn't byte for byte the same each time: it says which desk gave it, and in which line it differs. It also stops if
+//! there is no row.
 #![tactic(auto)]
 
 mod sharing;
@@ -12,10 +12,10 @@ use anyhow::{Result, anyhow};
 use ftrighub::{Desk, Enter, LocalDesk, Source, serve};
 use hub_fakes::Dripping;
 use std::alloc::{AllocGlobal, Global};
+use std::fs;
 use std::process::ExitCode;
 use std::rt::Runtime;
 use std::sync::Wait;
-use std::{env, fs};
 
 fn main(rt: HostRuntime) -> ExitCode {
     match run(&rt, rt.alloc()) {
@@ -31,38 +31,20 @@ fn run(
     rt: &(impl Runtime + AllocGlobal + Wait + Enter + Clone + Drop),
     alloc: Global,
 ) -> Result<()> {
-    let mut names: Vec<String> = Vec::new(alloc);
-    for name in env::args(rt)?.skip(1) {
-        names.push(name)?;
-    }
-    for name in &names {
-        let row = Row::read(rt, name.as_str())?;
-        row.holds(rt, alloc, name.as_str())?;
-        println!(rt; "{name}")?;
-    }
-    find_unnamed(rt, &names)
-}
-
-/// An error names a row of the folder that isn't among the names.
-fn find_unnamed(rt: &(impl Runtime + AllocGlobal + Clone + Drop), names: &[String]) -> Result<()> {
+    let mut any = false;
     for entry in fs::read_dir(rt, ".")? {
         let entry = entry?;
-        if let Some(row) = entry.file_name().strip_suffix(".in") {
-            if !is_among(names, row) {
-                return Err(anyhow!("row {row} isn't in `args`"));
-            }
+        if let Some(name) = entry.file_name().strip_suffix(".in") {
+            let row = Row::read(rt, name)?;
+            row.holds(rt, alloc, name)?;
+            any = true;
         }
     }
+    if !any {
+        return Err(anyhow!("no row is here"));
+    }
+    println!(rt; "each row holds")?;
     Ok(())
-}
-
-fn is_among(names: &[String], row: &str) -> bool {
-    for name in names {
-        if name.as_str() == row {
-            return true;
-        }
-    }
-    false
 }
 
 /// An input, and the output that is expected for it.
