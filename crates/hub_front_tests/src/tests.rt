@@ -5,5 +5,4 @@ mod relays;
 mod replies;
 mod scripts;
 mod serving;
-mod told;
 mod writing;

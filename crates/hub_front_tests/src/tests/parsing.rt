@@ -1,6 +1,5 @@
 //! Lines and what they are read as.
 
-use crate::tests::told::words_of;
 use hub_protocol::{Bad, parse, write_request};
 use hub_requests::Request;
 use std::alloc::Global;
@@ -11,112 +10,51 @@ pub fn read(alloc: Global, line: &[u8]) -> Result<Request, Bad> {
     parse(alloc, line)
 }
 
-/// Lines, and the requests that they spell, in words.
-static GOOD: [(&str, &str); 34] = [
-    (
-        "dir web 64 1000",
-        "make web: 64 may wait, 1000 in all, evicts false",
-    ),
-    ("dir w 1 1", "make w: 1 may wait, 1 in all, evicts false"),
-    (
-        "dir w 4096 1000000000000",
-        "make w: 4096 may wait, 1000000000000 in all, evicts false",
-    ),
-    (
-        "svc v 4 10 0",
-        "make service v: 4 may wait, 10 in all, reports false, evicts false",
-    ),
-    (
-        "svc v 4 10 1",
-        "make service v: 4 may wait, 10 in all, reports true, evicts false",
-    ),
+/// Lines that spell requests.
+static GOOD: [&str; 34] = [
+    "dir web 64 1000",
+    "dir w 1 1",
+    "dir w 4096 1000000000000",
+    "svc v 4 10 0",
+    "svc v 4 10 1",
     // The last word.
-    (
-        "dir evict 64 1000 evict",
-        "make evict: 64 may wait, 1000 in all, evicts true",
-    ),
-    (
-        "svc v 4 10 0 evict",
-        "make service v: 4 may wait, 10 in all, reports false, evicts true",
-    ),
-    (
-        "svc v 4 10 1 evict",
-        "make service v: 4 may wait, 10 in all, reports true, evicts true",
-    ),
-    ("sub A-Z_a.z09", "subscribe to A-Z_a.z09"),
-    (
-        "sub abcdefghijklmnopqrstuvwxyz012345",
-        "subscribe to abcdefghijklmnopqrstuvwxyz012345",
-    ),
-    ("pub web !~x", "publish !~x to web"),
-    ("take 1 256", "take 256 of 1"),
-    ("take 0 1", "take 1 of 0"),
-    ("cancel 9999999999999", "cancel 9999999999999"),
-    ("close dir", "close dir"),
-    ("status -", "show -"),
-    (
-        "listen web repeat u.*U",
-        "listen to web again and again, for [u.*U]",
-    ),
-    ("listen web once (", "listen to web once, for [(]"),
-    ("listen w once  ", "listen to w once, for [ ]"),
-    (
-        "listen w repeat  a  b ",
-        "listen to w again and again, for [ a  b ]",
-    ),
-    ("poll 1", "look after 1"),
-    ("poll 9999999999999", "look after 9999999999999"),
-    ("await 1 0", "for 0 turns, until something comes for 1"),
-    (
-        "await 0 1000000",
-        "for 1000000 turns, until something comes for 0",
-    ),
-    (
-        "await 9999999999999 5000",
-        "for 5000 turns, until something comes for 9999999999999",
-    ),
-    ("names 0", "list the names from 0 on"),
-    (
-        "names 9999999999999",
-        "list the names from 9999999999999 on",
-    ),
-    (
-        "wait all up 0 web web",
-        "for 0 turns, until up is each of web web",
-    ),
-    (
-        "wait any ready 2 b a",
-        "for 2 turns, until ready is one of b a",
-    ),
-    (
-        "wait any down 1000000 v",
-        "for 1000000 turns, until down is one of v",
-    ),
-    (
-        "wait all finished 3 web",
-        "for 3 turns, until finished is each of web",
-    ),
-    (
-        "wait all restarted 5 web",
-        "for 5 turns, until up again is each of web",
-    ),
-    (
-        "wait any restarted-ready 30000 db web",
-        "for 30000 turns, until ready again is one of db web",
-    ),
-    (
-        "wait any up 1 a b c d e f g h i j k l m n o p q r s t u v w x y z 1 2 3 4 5 6",
-        "for 1 turns, until up is one of a b c d e f g h i j k l m n o p q r s t u v w x y z 1 2 3 4 5 6",
-    ),
+    "dir evict 64 1000 evict",
+    "svc v 4 10 0 evict",
+    "svc v 4 10 1 evict",
+    "sub A-Z_a.z09",
+    "sub abcdefghijklmnopqrstuvwxyz012345",
+    "pub web !~x",
+    "take 1 256",
+    "take 0 1",
+    "cancel 9999999999999",
+    "close dir",
+    "status -",
+    "listen web repeat u.*U",
+    "listen web once (",
+    "listen w once  ",
+    "listen w repeat  a  b ",
+    "poll 1",
+    "poll 9999999999999",
+    "await 1 0",
+    "await 0 1000000",
+    "await 9999999999999 5000",
+    "names 0",
+    "names 9999999999999",
+    "wait all up 0 web web",
+    "wait any ready 2 b a",
+    "wait any down 1000000 v",
+    "wait all finished 3 web",
+    "wait all restarted 5 web",
+    "wait any restarted-ready 30000 db web",
+    "wait any up 1 a b c d e f g h i j k l m n o p q r s t u v w x y z 1 2 3 4 5 6",
 ];
 
-fn expect_request(rt: &impl Abort, alloc: Global, line: &str, want: &str) {
+/// The line is read, and what is read is written as the line again. Which request that is, the contracts of `parse` and
+/// `write_request` say; what it does, the rows of `hub_rows` say.
+fn expect_request(rt: &impl Abort, alloc: Global, line: &str) {
     let request = read(alloc, line.as_bytes());
     assert!(rt; request.is_ok(), "{line}");
     if let Ok(request) = request {
-        if let Ok(told) = words_of(alloc, &request) {
-            assert_eq!(rt; told.as_str(), want);
-        }
         expect_line(rt, alloc, &request, line);
     }
 }
@@ -133,8 +71,8 @@ fn expect_line(rt: &impl Abort, alloc: Global, request: &Request, line: &str) {
 
 #[test]
 fn good_lines_spell_requests(rt: HostRuntime) {
-    for (line, want) in &GOOD {
-        expect_request(&rt, rt.alloc(), line, want);
+    for line in &GOOD {
+        expect_request(&rt, rt.alloc(), line);
     }
 }
 
