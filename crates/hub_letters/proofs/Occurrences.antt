@@ -6,9 +6,8 @@ use Rattle.std.proofs.lemmas.List.Elements.{All-nil, All-cons, All-head, All-tai
 use Rattle.hub_letters.specs.declared.want.Want.{Want}
 use Rattle.hub_letters.specs.declared.want.Want.TheVariants.{Down, Finished}
 use Rattle.hub_letters.specs.Wants.{is_hopeless, NeedsUp}
-use Rattle.hub_letters.specs.Marks.{Mark, Began, Ran, Reported, Died, Finished, GaveUp, Exited, Other, mark, later, last_among, is_hope, is_gave_up}
+use Rattle.hub_letters.specs.Marks.{Mark, Began, Ran, Reported, Died, Finished, GaveUp, Exited, Other, mark, later, last_among, is_hope, is_gave_up, is_among, LastIs}
 use Rattle.hub_letters.specs.Flags.{up_by, settled_by, flags_of}
-use Rattle.hub_letters.specs.Occurrences.{is_among, LastIs}
 
 -- the letters that have a mark of their own
 abbrev named : List ℕ
@@ -113,8 +112,3 @@ pub hopeless_by_last : (want : Want) (word : List ℕ)
 hopeless_by_last Down word = (λ e. absurd (let z = e in cc), λ l. absurd (l.0.0 refl))
 hopeless_by_last Finished word = (λ e. absurd (let z = e in cc), λ l. absurd (l.0.1 refl))
 hopeless_by_last want word = let h = by_last is_hope is_gave_up _ _ refl word in (λ e. ((λ z. cc, λ z. cc), h.0 e), λ l. h.1 l.1)
-
--- what two say together is what each says
-pub both_true : (a b : Bool) → ((a && b) ≡ true) ↔ ((a ≡ true) × (b ≡ true))
-both_true true b = (λ e. (refl, e), λ each. each.1)
-both_true false b = (λ e. absurd (let z = e in cc), λ each. absurd (let z = each.0 in cc))

@@ -1,7 +1,7 @@
 -- The letters after which no run of a service goes on.
 use Rattle.std.specs.Prelude.{ℕ, Bool, List, codes}
 use Rattle.std.specs.List.{list_any}
-use Rattle.hub_letters.specs.Occurrences.{is_among}
+use Rattle.hub_letters.specs.Marks.{is_among}
 
 abbrev pub falls : ℕ → Bool
 falls letter = is_among (codes "sdD") letter

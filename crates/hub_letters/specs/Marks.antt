@@ -1,5 +1,6 @@
 -- What each letter says, and the last letter of a kind in a word. A word is a list of letters, each seen as its byte.
-use Rattle.std.specs.Prelude.{ℕ, ◌==◌, Bool, true, false, if◌then◌else◌, List, [], ◌∷◌, Option, Some, None}
+use Rattle.std.specs.Prelude.{ℕ, ◌==◌, Bool, true, false, if◌then◌else◌, List, [], ◌∷◌, Option, Some, None, ◌≡◌, ◌++◌, All}
+use Rattle.std.specs.List.{list_any}
 
 -- what a letter says
 pub data Mark : Type 0 where
@@ -55,3 +56,19 @@ is_began m = false
 abbrev pub is_gave_up : Option Mark → Bool
 is_gave_up (Some GaveUp) = true
 is_gave_up m = false
+
+-- ---- the last letter of a word that is one of some letters
+
+-- Letters are named as on a service's pages: s u U d D O x
+
+abbrev pub is_among : List ℕ → ℕ → Bool
+is_among these letter = list_any (λ c. letter == c) these
+
+-- the last letter of the word that is one of `all` is one of `these`
+pub record LastIs (all these : List ℕ) (word : List ℕ) : Type 0 where
+  pub before : List ℕ
+  pub letter : ℕ
+  pub after : List ℕ
+  pub split : word ≡ before ++ letter ∷ after
+  pub is_one : is_among these letter ≡ true
+  pub is_last : All (λ c. is_among all c ≡ false) after

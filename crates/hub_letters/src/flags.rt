@@ -1,9 +1,7 @@
 //! The flags of a service.
 ghost use Rattle.std.specs.Prelude.{◌≡◌, ◌↔◌, ◌≤◌, ◌<◌, ◌++◌, ℕ, List, [], ◌∷◌, Some, map, codes, MatchOption, true, false};
-ghost use Rattle.hub_letters.specs.Marks.{mark};
-ghost use Rattle.hub_letters.specs.Flags.{flags_of, flags_next, flags_folded, no_flags, code_of};
-ghost use Rattle.hub_letters.specs.Occurrences.{LastIs};
-ghost use Rattle.hub_letters.specs.Codes.{sixteen_flags, coded_words};
+ghost use Rattle.hub_letters.specs.Marks.{mark, LastIs};
+ghost use Rattle.hub_letters.specs.Flags.{flags_of, flags_next, flags_folded, no_flags, code_of, sixteen_flags, coded_words};
 
 use crate::letter::Letter;
 
@@ -98,6 +96,7 @@ impl Flags {
     }
 
     /// A law: the flags folded over a word, letter by letter, are the flags of the word.
+    #[tactic(auto, using(crate::proofs::Folded::flags_law))]
     pub fn fold_to_those_of_the_word()
         ensures { (word : List ℕ) → flags_folded no_flags (map mark word) ≡ flags_of word }
     {}

@@ -61,6 +61,7 @@ impl Letter {
     }
 
     /// A law: a letter falls exactly if no service is up after it, whatever came before.
+    #[tactic(auto, using(crate::proofs::Folded::end_every_run))]
     pub fn falls_end_every_run()
         ensures { (letter : ℕ) → (falls letter ≡ true)
             ↔ ((word : List ℕ) → (flags_of (word ++ letter ∷ [])).up ≡ false) }

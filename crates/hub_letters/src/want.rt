@@ -2,7 +2,7 @@
 ghost use Rattle.std.specs.Prelude.{◌≡◌, ◌↔◌, ℕ, Bool, true, false, List, codes};
 ghost use Rattle.hub_letters.specs.Wants.{is_met, is_hopeless, NeedsUp};
 ghost use Rattle.hub_letters.specs.Flags.{flags_of};
-ghost use Rattle.hub_letters.specs.Occurrences.{LastIs};
+ghost use Rattle.hub_letters.specs.Marks.{LastIs};
 ghost use Rattle.hub_letters.specs.declared.want.Want.{Want};
 
 use crate::flags::Flags;
