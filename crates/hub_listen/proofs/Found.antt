@@ -23,8 +23,7 @@ use Rattle.regex_syntax.proofs.Written.{is_some-option_map}
 use Rattle.regex.proofs.Utf8Lemmas.{test_of_IsCharBoundary}
 use Rattle.hub_listen.specs.Hit.{finds}
 use Rattle.hub_listen.specs.Letters.{IsLetter, AreLetters, SameInLetters}
-use Rattle.hub_listen.specs.Searches.{finds_by, SearchesFor}
-use Rattle.hub_listen.specs.Alive.{Reaches, begins, reads, skips, AreAlive, HasMatch}
+use Rattle.hub_listen.specs.Alive.{finds_by, SearchesFor, Reaches, begins, reads, skips, AreAlive, HasMatch}
 use Rattle.hub_listen.proofs.Cutting.{ascii_of}
 use Rattle.hub_listen.proofs.Patterns.{bytes_of}
 use Rattle.hub_listen.proofs.Reached.{AreAlive-longer, HasMatch-prefix}

@@ -1,8 +1,6 @@
 pub mod Patterns
 pub mod Cutting
 pub mod Listed
-pub mod Growing
-pub mod Looks
 pub mod Reached
 pub mod Closed
 pub mod Found

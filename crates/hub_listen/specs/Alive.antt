@@ -1,13 +1,15 @@
 -- The states of an NFA in which the searches of a text are alive. A search begins at each place of the text: before the
 -- unanchored start of the NFA is a loop that reads any byte.
-use Rattle.std.specs.Prelude.{◌≡◌, ◌≢◌, ◌⊎◌, ◌↔◌, ℕ, ◌+◌, ◌<◌, List, Some, slice_get, slice_index}
+use Rattle.std.specs.Prelude.{◌≡◌, ◌≢◌, ◌⊎◌, ◌↔◌, ℕ, ◌+◌, ◌<◌, List, Some, slice_get, slice_index, Bool, length, is_some}
 use Rattle.regex_nfa.specs.States.{next_on}
-use Rattle.regex_nfa.specs.Run.{state_of}
+use Rattle.regex_nfa.specs.Run.{state_of, run}
 use Rattle.regex_nfa.specs.Paths.{EmptyEdge}
 use Rattle.regex_nfa.specs.declared.state.State.TheVariants.{Match}
 use Rattle.regex_nfa.specs.declared.nfa.Nfa.{Nfa}
 use Rattle.regex_dfa.specs.Moves.{Has}
 use Rattle.hub_listen.specs.declared.alive.Alive.{Alive as Found}
+use Rattle.hub_listen.specs.Hit.{finds}
+use Rattle.hub_listen.specs.Letters.{AreLetters}
 
 -- some search is in the state q at place i of the text
 pub data Reaches (nfa : Nfa) (text : List ℕ) : ℕ → ℕ → Type 0 where
@@ -61,3 +63,13 @@ AreRead nfa byte reached states =
 -- there is room for this many states
 abbrev pub HasRoom : Found → ℕ → Type 0
 HasRoom alive count = (alive.states.count ≡ count) × (alive.reached.count ≡ count) × (alive.kept.count ≡ count)
+
+-- ---- how an NFA is related to a pattern
+
+-- the NFA finds a match in the text
+abbrev pub finds_by : Nfa → List ℕ → Bool
+finds_by nfa text = is_some (run nfa text (length text) nfa.unanchored 0)
+
+-- the NFA finds a match in each text of letters in which the pattern does, and in no other
+abbrev pub SearchesFor : Nfa → List ℕ → Type 0
+SearchesFor nfa pattern = (text : List ℕ) → AreLetters text → finds pattern text ≡ finds_by nfa text

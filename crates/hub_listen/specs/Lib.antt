@@ -1,8 +1,6 @@
 pub mod Hit
 pub mod Letters
 pub mod States
-pub mod Listed
-pub mod Searches
 pub mod Size
 pub mod Alive
 pub mod Listening

@@ -1,7 +1,7 @@
 -- How much a listener keeps for its pattern.
 use Rattle.std.specs.Prelude.{ℕ, ◌≤◌, ◌*◌, ◌+◌, List, length, vec_len, vec_capacity}
 use Rattle.regex_nfa.specs.declared.nfa.Nfa.{Nfa}
-use Rattle.hub_listen.specs.Searches.{SearchesFor}
+use Rattle.hub_listen.specs.Alive.{SearchesFor}
 use Rattle.hub_listen.specs.declared.size.TheConstants.{MOST_BYTES}
 
 -- The bytes of the NFA's tables, by the room that each has: 12 a state, 8 a transition, 4 a rank. Each of three lists of

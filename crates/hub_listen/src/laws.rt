@@ -2,17 +2,20 @@
 ghost use Rattle.hub_listen.specs.Pieces.{CutsAnywhere, AnswersEach, AnswersOnce, SinglyIsAtOnce, PrefixesShowHits, FullPrefixesShowNone, LengthIsHit, NoLengthIsNoHit};
 
 /// If a piece was quiet, the next is heard as if both had been one.
+#[tactic(auto, using(crate::proofs::Cuts::cuts_anywhere))]
 pub fn cuts_anywhere()
     ensures { CutsAnywhere }
 {}
 
 /// Unless memory runs out, the listener and the piece determine the answer, and what the listener is afterwards.
+#[tactic(auto, using(crate::proofs::Lengths::answers, crate::proofs::Cuts::answers_once))]
 pub fn answers_once()
     ensures some { AnswersEach }
     ensures one { AnswersOnce }
 {}
 
 /// Letters that are fed one at a time are heard as one piece.
+#[tactic(auto, using(crate::proofs::Singly::singly_is_at_once))]
 pub fn singly_is_at_once()
     ensures { SinglyIsAtOnce }
 {}

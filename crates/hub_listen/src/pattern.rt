@@ -2,7 +2,7 @@
 ghost use Rattle.std.specs.Prelude.{◌≡◌, ◌≤◌, ◌+◌, string_bytes, length, IfOk, OnOk};
 ghost use Rattle.hub_listen.specs.Hit.{IsPattern};
 ghost use Rattle.hub_listen.specs.Size.{bytes_for, IsSmall};
-ghost use Rattle.hub_listen.specs.Searches.{SearchesFor};
+ghost use Rattle.hub_listen.specs.Alive.{SearchesFor};
 ghost use Rattle.hub_listen.specs.declared.size.TheConstants.{MOST_BYTES};
 
 use crate::cut::cut;

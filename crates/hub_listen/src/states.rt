@@ -21,7 +21,7 @@ impl Model for States {
 
     ghost Value = { StateList };
 
-    ghost use Rattle.hub_listen.specs.Listed.{list_of, IsListed};
+    ghost use Rattle.hub_listen.specs.States.{list_of, IsListed};
 
     ghost view = { list_of };
 

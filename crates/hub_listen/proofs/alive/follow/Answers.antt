@@ -2,7 +2,7 @@ use Rattle.std.proofs.Common.{sym, subst, ⊎_elim, ◌∙◌}
 use Rattle.regex_nfa.specs.Paths.{EmptyEdge, by_first, by_second, by_save, by_look}
 use Rattle.regex_dfa.specs.Moves.{Has}
 use Rattle.regex_dfa.proofs.BackLemmas.{Grows-refl, Grows-trans, Grows-keeps}
-use Rattle.hub_listen.proofs.Growing.{Grows-weaken, edges_of_split}
+use Rattle.hub_listen.proofs.Listed.{Grows-weaken, edges_of_split}
 use Rattle.hub_listen.proofs.alive.follow.Goals as goal
 
 pub returns-in-Split-clause-grows : goal.returns-in-Split-clause-grows

@@ -6,7 +6,7 @@ use Rattle.regex_dfa.proofs.BackLemmas.{Grows-keeps}
 use Rattle.regex_dfa.specs.Moves.{Has}
 use Rattle.regex_dfa.proofs.HasLemmas.{Has-nil, index_of_Has}
 use Rattle.hub_listen.specs.States.{StateList}
-use Rattle.hub_listen.proofs.Growing.{read_more, read_only}
+use Rattle.hub_listen.proofs.Listed.{read_more, read_only}
 use Rattle.hub_listen.proofs.alive.read.Goals.{in-Some, in_default}
 use Rattle.hub_listen.proofs.alive.read.Goals as goal
 

@@ -1,5 +1,5 @@
 use Rattle.std.proofs.Common.{◌≤◌, ◌+◌, List, ℕ, length, sym, subst}
-use Rattle.hub_listen.specs.Searches.{SearchesFor}
+use Rattle.hub_listen.specs.Alive.{SearchesFor}
 use Rattle.hub_listen.specs.Size.{bytes_for}
 use Rattle.hub_listen.specs.declared.size.TheConstants.{MOST_BYTES}
 use Rattle.hub_listen.proofs.pattern.Pattern.new.Goals as goal

@@ -2,7 +2,7 @@ use Rattle.std.proofs.Common.{◌<◌, ◌≤◌, length, ◌∙◌, ap, subst, 
 use Rattle.regex_dfa.specs.Moves.{Has}
 use Rattle.regex_dfa.proofs.HasLemmas.{Has-nil}
 use Rattle.hub_listen.specs.States.{StateList}
-use Rattle.hub_listen.proofs.Growing.{added_more, added_only, added_all}
+use Rattle.hub_listen.proofs.Listed.{added_more, added_only, added_all}
 use Rattle.hub_listen.proofs.states.States.copy.Goals as goal
 
 pub loop-k-init : goal.loop-k-init
