@@ -11,9 +11,11 @@ mod look;
 mod names;
 mod news;
 mod peer;
+mod rows;
 mod stop;
 mod subscribing;
 mod table;
+mod taking;
 
 pub use following::Following;
 pub use news::follow;

@@ -1,5 +1,5 @@
 //! The beginning of a follow: a handle for each fifodir.
-ghost use Rattle.std.specs.Prelude.{◌≡◌, IfOk, IfErr, IfSome};
+ghost use Rattle.std.specs.Prelude.{◌≡◌, ◌++◌, ◌∷◌, [], map, IfOk, IfErr, IfSome, OnOk};
 ghost use Rattle.hub_look.specs.Follows.{name_of};
 ghost use Rattle.hub_look.specs.Stops.{IsOwnStop};
 
@@ -11,7 +11,7 @@ use hub_ask::{AskError, Outcome, Replies, Requests};
 use hub_io::Sink;
 use hub_protocol::BorrowedReply;
 use hub_requests::Request;
-use std::alloc::Global;
+use std::alloc::{AllocError, Global};
 use std::sync::Wait;
 
 /// How often it tries to subscribe between two events, so that it knows the number of the next one.
@@ -118,8 +118,8 @@ fn subscribe_by<H: Wait, SR: Replies, SW: Requests, F: Sink>(
     })
 }
 
-/// Subscribes to the fifodir as it is to be followed.
-pub(crate) fn subscribe<H: Wait, SR: Replies, SW: Requests, F: Sink>(
+// Subscribes to the fifodir as it is to be followed.
+fn subscribe<H: Wait, SR: Replies, SW: Requests, F: Sink>(
     rt: &H,
     alloc: Global,
     following: &Following<'_>,
@@ -139,4 +139,34 @@ pub(crate) fn subscribe<H: Wait, SR: Replies, SW: Requests, F: Sink>(
         None if following.is_plain => { subscribe_by(rt, alloc, &["sub", name], name, peer, notes) }
         None => subscribe_numbered(rt, alloc, name, peer, notes),
     }
+}
+
+// Puts one more behind these.
+fn put(all: &mut Vec<Followed>, followed: Followed) -> Result<(), AllocError>
+    ensures { OnOk result (all.new.items ≡ all.old.items ++ followed ∷ []) }
+{
+    all.push(followed)?;
+    Ok(())
+}
+
+/// Subscribes to each fifodir.
+pub(crate) fn subscribe_to_all<H: Wait, SR: Replies, SW: Requests, F: Sink>(
+    rt: &H,
+    alloc: Global,
+    following: &Following<'_>,
+    peer: &mut Peer<SR, SW>,
+    notes: &mut F,
+) -> Result<Vec<Followed>, Stop>
+    ensures begun { peer.new.begun ≡ peer.old.begun }
+    ensures names { IfOk result (λ all. map name_of all.items
+        ≡ map (λ name. name.now) following.now.names.items) }
+    ensures err { IfErr result IsOwnStop }
+{
+    let mut all = Vec::new(alloc);
+    let names = following.names.as_slice();
+    'names: for name in names {
+        let followed = subscribe(rt, alloc, following, name, peer, notes)?;
+        put(&mut all, followed)?;
+    }
+    Ok(all)
 }

@@ -1,5 +1,5 @@
 use Rattle.hub_look.proofs.Takes.{refuses_await}
-use Rattle.hub_look.proofs.news.comes.Goals as goal
+use Rattle.hub_look.proofs.taking.comes.Goals as goal
 
 pub returns-in-No-clause-err : goal.returns-in-No-clause-err
 returns-in-No-clause-err g c =

@@ -1,7 +1,7 @@
 use Rattle.std.proofs.Common.{refl, is_some}
 use Rattle.hub_requests.specs.declared.reply.Reply.TheVariants as reply
 use Rattle.hub_look.proofs.Takes.{ends_there, goes_on, took_eviction, took_hit, took_letters, took_refusal}
-use Rattle.hub_look.proofs.news.take_and_write.Goals as goal
+use Rattle.hub_look.proofs.taking.take_and_write.Goals as goal
 
 pub returns-in-Got-clause-ok : goal.returns-in-Got-clause-ok
 returns-in-Got-clause-ok g c =

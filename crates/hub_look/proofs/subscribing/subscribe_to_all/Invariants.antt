@@ -1,6 +1,6 @@
 use Rattle.std.proofs.Common.{◌≡◌, map, take}
 use Rattle.hub_look.specs.Follows.{name_of}
-use Rattle.hub_look.proofs.news.subscribe_to_all.Given as goal
+use Rattle.hub_look.proofs.subscribing.subscribe_to_all.Given as goal
 
 -- the names so far are followed, and the peer began at the same sender
 abbrev pub invariant-names : goal.invariant-names

@@ -1,6 +1,6 @@
 use Rattle.std.proofs.Common.{◌≡◌, ◌++◌, replicate}
 use Rattle.hub_look.specs.Tables.{in_column}
-use Rattle.hub_look.proofs.table.put_column.Given as goal
+use Rattle.hub_look.proofs.rows.put_column.Given as goal
 
 -- with the spaces that are missing, the column is full
 abbrev pub invariant-spaces : goal.invariant-spaces
