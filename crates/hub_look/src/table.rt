@@ -152,7 +152,7 @@ fn show_all<H: Wait, SR: Replies, SW: Requests, W: Sink, F: Sink>(
           faults = F.faults notes.new;
         })
         (W.contents output.old) (W.contents output.new)) }
-    ensures err { IfErr result (λ stop. IsRefusal stop (W.contents output.new ≡ W.contents output.old)
+    ensures err { IfErr result (λ it. IsRefusal it (W.contents output.new ≡ W.contents output.old)
         ⊎ IsFaultOf (FailsToShowAll
         (record {
           sent = SW.contents peer.new.client.sender;
@@ -160,7 +160,7 @@ fn show_all<H: Wait, SR: Replies, SW: Requests, W: Sink, F: Sink>(
           noted = F.contents notes.new;
           faults = F.faults notes.new;
         })
-        (W.contents output.old) (W.contents output.new)) stop) }
+        (W.contents output.old) (W.contents output.new)) it) }
 {
     let listed = all_names(rt, alloc, peer, notes)?;
     let names = words_of(alloc, &listed)?;
