@@ -33,6 +33,7 @@ pub(crate) struct Buffer {
 }
 
 // Whether there is an LF among the bytes.
+#[tactic(auto, using(crate::proofs::Pieces::some_is))]
 fn has_line(bytes: &[u8]) -> bool
     ensures { result ≡ has_lf bytes.now }
 {
@@ -40,6 +41,7 @@ fn has_line(bytes: &[u8]) -> bool
 }
 
 // How many bytes there are up to the first LF and including it, or in all, and whether there is an LF.
+#[tactic(auto, using(crate::proofs::Pieces::line_within, crate::proofs::Pieces::line_piece))]
 fn first_piece(bytes: &[u8]) -> (usize, bool)
     ensures piece { MatchBool result.1 (IsLine (take result.0 bytes.now))
         ((has_lf bytes.now ≡ false) × (result.0 ≡ length bytes.now)) }
