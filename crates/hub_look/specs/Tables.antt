@@ -73,7 +73,7 @@ outcome_of_all (Err refusal ∷ verdicts) = Refused
 abbrev pub in_column : (width : ℕ) (word : List ℕ) → List ℕ
 in_column width word = word ++ replicate (width - length word) 32
 
--- the same, and two spaces before what stands right of it
+-- the same, and two spaces before what is right of it
 abbrev pub beside : (width : ℕ) (word right : List ℕ) → List ℕ
 beside width word right = in_column width word ++ (32 ∷ 32 ∷ right)
 
@@ -89,7 +89,7 @@ running flags = if flags.up then codes "up" else codes "down"
 abbrev pub readiness : Flags → List ℕ
 readiness flags = if flags.settled then (if flags.up then codes "ready" else codes "settled") else codes "settling"
 
--- what stands behind the name
+-- what is behind the name
 abbrev pub columns_of : Status → List ℕ
 columns_of status =
     beside 5 (running status.flags) (beside 8 (readiness status.flags) (beside 10 (yes_or_no status.flags.supervised)
