@@ -6,12 +6,10 @@ use crate::asking::{
     Wish, ask_command, ask_plan, follow_command, follow_plan, status_command, status_plan,
     wait_command, wait_plan,
 };
-use crate::help::{
-    ABOUT, CALL_ABOUT, CALL_LINES, EXIT, LONG_ABOUT, SCRIPT_ABOUT, SCRIPT_LINES, SERVE_ABOUT,
-    SERVE_LINES,
-};
+use crate::help::{ABOUT, EXIT, LONG_ABOUT};
+use crate::serving::{call_command, call_plan, script_command, serve_command, serve_plan};
 use clap::error::ErrorKind;
-use clap::{Arg, ArgAction, Command, Error, value_parser};
+use clap::{Command, Error};
 use hub_io::FrontError;
 use std::alloc::{AllocError, AllocGlobal, Global};
 use std::env::VarError;
@@ -23,21 +21,6 @@ const NAME: &str = "ftrighub";
 
 /// The program's version, which `--version` prints after its name.
 const VERSION: &str = "0.4.0-dev";
-
-const SOCKET: &str = "socket";
-
-const SESSIONS: &str = "sessions";
-
-const FOREVER: &str = "forever";
-
-const READY: &str = "ready-fd";
-
-const MODE: &str = "mode";
-
-const IDLE: &str = "idle";
-
-/// The modes that a socket may be given: those who may connect need the right to write.
-static MODES: [&str; 5] = ["0600", "0620", "0622", "0660", "0666"];
 
 /// What the program is to do.
 #[derive(Drop, Debug, PartialEq, Eq)]
@@ -89,88 +72,6 @@ pub enum Plan<'a> {
     },
 }
 
-fn socket<'a>(alloc: Global) -> Arg<'a> {
-    Arg::new(alloc, SOCKET)
-        .value_name("SOCKET")
-        .help("Path of the socket")
-        .required(true)
-}
-
-// With `--forever` there may be more sessions.
-fn sessions<'a>(alloc: Global, forever: bool) -> Arg<'a> {
-    let argument = Arg::new(alloc, SESSIONS).long("sessions").value_name("N");
-    if forever {
-        argument
-            .help("How many clients at the same time, from 1 to 1024")
-            .value_parser(value_parser!(u64).range(1..1025))
-            .default_value("64")
-    } else {
-        argument
-            .help("How many connections, from 1 to 64")
-            .value_parser(value_parser!(u64).range(1..65))
-            .default_value("1")
-    }
-}
-
-fn forever<'a>(alloc: Global) -> Arg<'a> {
-    Arg::new(alloc, FOREVER)
-        .long(FOREVER)
-        .action(ArgAction::SetTrue)
-        .help("Run until stopped; N is then 1 to 1024, or else 64")
-}
-
-fn ready<'a>(alloc: Global) -> Result<Arg<'a>, AllocError> {
-    Arg::new(alloc, READY)
-        .long(READY)
-        .value_name("D")
-        .help("With --forever: write a newline to D once it listens")
-        .value_parser(value_parser!(u64).range(0..65536))
-        .requires_arg(FOREVER)
-}
-
-fn mode<'a>(alloc: Global) -> Result<Arg<'a>, AllocError> {
-    Arg::new(alloc, MODE)
-        .long(MODE)
-        .value_name("MODE")
-        .help("With --forever: mode of the socket file")
-        .value_parser(MODES.as_slice())
-        .requires_arg(FOREVER)
-}
-
-fn idle<'a>(alloc: Global) -> Result<Arg<'a>, AllocError> {
-    Arg::new(alloc, IDLE)
-        .long(IDLE)
-        .value_name("SECONDS")
-        .help("With --forever: end sessions idle for SECONDS")
-        .value_parser(value_parser!(u64).range(1..1000001))
-        .requires_arg(FOREVER)
-}
-
-fn script_command<'a>(alloc: Global) -> Command<'a> {
-    Command::new(alloc, "script")
-        .about(SCRIPT_ABOUT)
-        .after_help(SCRIPT_LINES)
-}
-
-fn serve_command<'a>(alloc: Global, is_forever: bool) -> Result<Command<'a>, AllocError> {
-    Command::new(alloc, "serve")
-        .about(SERVE_ABOUT)
-        .after_help(SERVE_LINES)
-        .arg(socket(alloc))?
-        .arg(sessions(alloc, is_forever))?
-        .arg(forever(alloc))?
-        .arg(ready(alloc)?)?
-        .arg(mode(alloc)?)?
-        .arg(idle(alloc)?)
-}
-
-fn call_command<'a>(alloc: Global) -> Result<Command<'a>, AllocError> {
-    Command::new(alloc, "call")
-        .about(CALL_ABOUT)
-        .after_help(CALL_LINES)
-        .arg(socket(alloc))
-}
-
 fn program<'a>(alloc: Global) -> Command<'a> {
     Command::new(alloc, NAME)
         .version(VERSION)
@@ -207,22 +108,8 @@ pub fn read_words<'a>(
     let is_forever = words.iter().any(|word| word.as_str() == "--forever");
     let matches = command(alloc, is_forever, known)?.try_get_matches_from(words)?;
     Ok(match matches.subcommand() {
-        Some(("serve", found)) if found.get_flag(FOREVER) => Plan::ServeForever {
-            socket: found.get_str(SOCKET).unwrap_or(""),
-            sessions: found.get_one::<u64>(SESSIONS).unwrap_or(64),
-            mode: found
-                .get_str(MODE)
-                .and_then(|it| u32::from_str_radix(it, 8).ok()),
-            ready: found.get_one::<u64>(READY),
-            idle: found.get_one::<u64>(IDLE),
-        },
-        Some(("serve", found)) => Plan::Serve {
-            socket: found.get_str(SOCKET).unwrap_or(""),
-            sessions: found.get_one::<u64>(SESSIONS).unwrap_or(1),
-        },
-        Some(("call", found)) => Plan::Call {
-            socket: found.get_str(SOCKET).unwrap_or(""),
-        },
+        Some(("serve", found)) => serve_plan(found),
+        Some(("call", found)) => call_plan(found),
         Some(("ask", found)) => ask_plan(alloc, found)?,
         Some(("wait", found)) => wait_plan(alloc, found)?,
         Some(("status", found)) => status_plan(alloc, found)?,

@@ -9,6 +9,7 @@ mod asking;
 mod asking_help;
 mod command_line;
 mod help;
+mod serving;
 
 pub use asking::Wish;
 pub use command_line::{

@@ -1,0 +1,137 @@
+//! The subcommands that serve sessions, and `call`, which reaches them.
+
+use crate::command_line::Plan;
+use crate::help::{CALL_ABOUT, CALL_LINES, SCRIPT_ABOUT, SCRIPT_LINES, SERVE_ABOUT, SERVE_LINES};
+use clap::{Arg, ArgAction, ArgMatches, Command, value_parser};
+use std::alloc::{AllocError, Global};
+
+const SOCKET: &str = "socket";
+
+const SESSIONS: &str = "sessions";
+
+const FOREVER: &str = "forever";
+
+const READY: &str = "ready-fd";
+
+const MODE: &str = "mode";
+
+const IDLE: &str = "idle";
+
+/// The modes that a socket may be given: those who may connect need the right to write.
+static MODES: [&str; 5] = ["0600", "0620", "0622", "0660", "0666"];
+
+fn socket<'a>(alloc: Global) -> Arg<'a> {
+    Arg::new(alloc, SOCKET)
+        .value_name("SOCKET")
+        .help("Path of the socket")
+        .required(true)
+}
+
+// With `--forever` there may be more sessions.
+fn sessions<'a>(alloc: Global, forever: bool) -> Arg<'a> {
+    let argument = Arg::new(alloc, SESSIONS).long("sessions").value_name("N");
+    if forever {
+        argument
+            .help("How many clients at the same time, from 1 to 1024")
+            .value_parser(value_parser!(u64).range(1..1025))
+            .default_value("64")
+    } else {
+        argument
+            .help("How many connections, from 1 to 64")
+            .value_parser(value_parser!(u64).range(1..65))
+            .default_value("1")
+    }
+}
+
+fn forever<'a>(alloc: Global) -> Arg<'a> {
+    Arg::new(alloc, FOREVER)
+        .long(FOREVER)
+        .action(ArgAction::SetTrue)
+        .help("Run until stopped; N is then 1 to 1024, or else 64")
+}
+
+fn ready<'a>(alloc: Global) -> Result<Arg<'a>, AllocError> {
+    Arg::new(alloc, READY)
+        .long(READY)
+        .value_name("D")
+        .help("With --forever: write a newline to D once it listens")
+        .value_parser(value_parser!(u64).range(0..65536))
+        .requires_arg(FOREVER)
+}
+
+fn mode<'a>(alloc: Global) -> Result<Arg<'a>, AllocError> {
+    Arg::new(alloc, MODE)
+        .long(MODE)
+        .value_name("MODE")
+        .help("With --forever: mode of the socket file")
+        .value_parser(MODES.as_slice())
+        .requires_arg(FOREVER)
+}
+
+fn idle<'a>(alloc: Global) -> Result<Arg<'a>, AllocError> {
+    Arg::new(alloc, IDLE)
+        .long(IDLE)
+        .value_name("SECONDS")
+        .help("With --forever: end sessions idle for SECONDS")
+        .value_parser(value_parser!(u64).range(1..1000001))
+        .requires_arg(FOREVER)
+}
+
+pub(crate) fn script_command<'a>(alloc: Global) -> Command<'a> {
+    Command::new(alloc, "script")
+        .about(SCRIPT_ABOUT)
+        .after_help(SCRIPT_LINES)
+}
+
+pub(crate) fn serve_command<'a>(
+    alloc: Global,
+    is_forever: bool,
+) -> Result<Command<'a>, AllocError> {
+    Command::new(alloc, "serve")
+        .about(SERVE_ABOUT)
+        .after_help(SERVE_LINES)
+        .arg(socket(alloc))?
+        .arg(sessions(alloc, is_forever))?
+        .arg(forever(alloc))?
+        .arg(ready(alloc)?)?
+        .arg(mode(alloc)?)?
+        .arg(idle(alloc)?)
+}
+
+pub(crate) fn call_command<'a>(alloc: Global) -> Result<Command<'a>, AllocError> {
+    Command::new(alloc, "call")
+        .about(CALL_ABOUT)
+        .after_help(CALL_LINES)
+        .arg(socket(alloc))
+}
+
+// The socket that the words name.
+fn socket_in<'a>(found: &ArgMatches<'a>) -> &'a str {
+    found.get_str(SOCKET).unwrap_or("")
+}
+
+/// What the words of a `serve` ask for.
+pub(crate) fn serve_plan<'a>(found: &ArgMatches<'a>) -> Plan<'a> {
+    if !found.get_flag(FOREVER) {
+        return Plan::Serve {
+            socket: socket_in(found),
+            sessions: found.get_one::<u64>(SESSIONS).unwrap_or(1),
+        };
+    }
+    Plan::ServeForever {
+        socket: socket_in(found),
+        sessions: found.get_one::<u64>(SESSIONS).unwrap_or(64),
+        mode: found
+            .get_str(MODE)
+            .and_then(|it| u32::from_str_radix(it, 8).ok()),
+        ready: found.get_one::<u64>(READY),
+        idle: found.get_one::<u64>(IDLE),
+    }
+}
+
+/// What the words of a `call` ask for.
+pub(crate) fn call_plan<'a>(found: &ArgMatches<'a>) -> Plan<'a> {
+    Plan::Call {
+        socket: socket_in(found),
+    }
+}
