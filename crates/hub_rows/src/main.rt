@@ -1,9 +1,9 @@
 //! Runs the rows of examples in `data/` through the desks: the desk of one thread, with the whole input at once and
 //! with one byte a read, and the desk of a session that is alone over a hub.
 //!
-//! A row is an input, `ROW.in`, and the output that is expected for it, `ROW.out`. The program stops at the first row whose
-//! output isn't byte for byte the same each time: it says which desk gave it, and in which line it differs. It also stops if
-//! there is no row.
+//! A row is a file `NAME.row`, with the lines of an input and the reply that is expected for each. The program stops at the
+//! first row whose output isn't byte for byte the same each time: it says which desk gave it, and in which line it differs. It
+//! also stops if there is no row.
 #![tactic(auto)]
 
 mod sharing;
@@ -34,8 +34,9 @@ fn run(
     let mut any = false;
     for entry in fs::read_dir(rt, ".")? {
         let entry = entry?;
-        if let Some(name) = entry.file_name().strip_suffix(".in") {
-            let row = Row::read(rt, name)?;
+        if let Some(name) = entry.file_name().strip_suffix(".row") {
+            let text = fs::read(rt, entry.file_name())?;
+            let row = Row::read(alloc, text.as_slice())?;
             row.holds(rt, alloc, name)?;
             any = true;
         }
@@ -55,9 +56,19 @@ struct Row {
 }
 
 impl Row {
-    fn read(rt: &(impl Runtime + AllocGlobal), name: &str) -> Result<Row> {
-        let input = fs::read(rt, format!(in rt.alloc(); "{name}.in")?)?;
-        let output = fs::read(rt, format!(in rt.alloc(); "{name}.out")?)?;
+    /// Reads a row. What is behind `> ` is a line of the input, what is behind `>- ` is one without an LF, and each other line
+    /// is one of the output.
+    fn read(alloc: Global, text: &[u8]) -> Result<Row> {
+        let (mut input, mut output) = (Vec::new(alloc), Vec::new(alloc));
+        for line in text.split_inclusive(|byte| *byte == b'\n') {
+            if let Some(given) = line.strip_prefix(b"> ") {
+                input.extend_from_slice(given)?;
+            } else if let Some(given) = line.strip_prefix(b">- ") {
+                input.extend_from_slice(given.strip_suffix(b"\n").unwrap_or(given))?;
+            } else {
+                output.extend_from_slice(line)?;
+            }
+        }
         Ok(Row { input, output })
     }
 
