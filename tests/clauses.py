@@ -55,7 +55,7 @@ def function_of(text, edit):
 
 
 def clause_of(text):
-    """Returns the clause whose goal failed, as edits.txt and the tables of must-fail/ name it."""
+    """Returns the clause whose goal failed, as edits.txt and the files of must-fail/ name it."""
     goal = re.search(r"(?:\(|error: )`([^`]*)", text)
     goal = goal[1] if goal else ""
     name = re.search(r"clause-(\w+)", goal)

@@ -208,9 +208,13 @@ def crates():
 
 
 def read_single(crate, name):
-    """Returns an edit of must-fail/, whose lines are in the form of `rt must-fail`. Its README.md says the rest."""
-    edit, path, old = Edit(crate, name), "", ""
-    for line in (crate / "must-fail" / f"{name}.edit").read_text(encoding="utf-8").split("\n"):
+    """Returns an edit of must-fail/. The first two lines, which `rt must-fail` doesn't read, say what is wrong and which clause refuses it."""
+    lines = (crate / "must-fail" / f"{name}.edit").read_text(encoding="utf-8").split("\n")
+    head = re.fullmatch(r"# (.*\.)\n# clause: (.*)", "\n".join(lines[:2]))
+    if not head:
+        raise Unread("it has to begin with a line '# SENTENCE.' and a line '# clause: FUNCTION, CLAUSE'")
+    edit, path, old = Edit(crate, name, head[1], kind=CLAUSE, refused_by=refused_by(CLAUSE, head[2])), "", ""
+    for line in lines[2:]:
         if line.startswith("file: "):
             path = line[len("file: ") :].strip()
         elif line.startswith("old: "):
