@@ -25,11 +25,7 @@ fn is_look(request: &Request) -> bool
         | Request::Take { .. }
         | Request::Poll { .. }
         | Request::Cancel { .. } => true,
-        Request::Dir { .. }
-        | Request::Svc { .. }
-        | Request::Pub { .. }
-        | Request::Close { .. }
-        | Request::Wait { .. } => false,
+        _ => false,
     }
 }
 
