@@ -8,7 +8,7 @@ use Rattle.hub_local.specs.DeskAnswers.{own_refusal, request_answer, answer_by, 
 use Rattle.hub_local.specs.declared.local_desk.LocalFifodir.{LocalFifodir}
 use Rattle.hub_local.specs.declared.local_desk.Holding.{Holding}
 use Rattle.hub_requests.specs.declared.request.Request.{Request}
-use Rattle.hub_requests.specs.declared.request.Request.TheVariants.{Dir, Svc, Sub, Take, Listen, Poll, Wait, Names}
+use Rattle.hub_requests.specs.declared.request.Request.TheVariants.{Pub, Cancel, Close, Status, Await}
 use Rattle.hub_requests.specs.declared.reply.Reply.{Reply}
 use Rattle.hub_requests.specs.declared.reply.Reply.TheVariants.{No}
 use Rattle.hub_requests.specs.declared.reply.Refusal.{Refusal}
@@ -71,17 +71,14 @@ pub record CarriesOut (old : Local) (grows : Bool) (own : Desk → Option Refusa
   pub grew : reply ≡ No Memory → grows ≡ true
   pub lacking : reply ≡ No Memory → (desk : Desk) → RepresentsDesk old desk → IsLacking new (own desk) (left desk)
 
--- the requests that need memory
+-- whether a request needs memory: all do but these
 abbrev pub grows : Request → Bool
-grows (Dir name waiting total evict) = true
-grows (Svc name waiting total notifies evict) = true
-grows (Sub name) = true
-grows (Take id max) = true
-grows (Listen name mode pattern) = true
-grows (Poll id) = true
-grows (Wait span want turns names) = true
-grows (Names from) = true
-grows request = false
+grows (Pub name letters) = false
+grows (Cancel id) = false
+grows (Close name) = false
+grows (Status name) = false
+grows (Await id turns) = false
+grows request = true
 
 -- nothing has changed
 abbrev pub Unchanged : Desk → Desk → Type 0
