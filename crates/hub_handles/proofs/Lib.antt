@@ -1,3 +1,4 @@
 pub mod Numbering
 pub mod Looks
 pub mod Hearings
+pub mod Keeping

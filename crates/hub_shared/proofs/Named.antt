@@ -1,14 +1,12 @@
 -- A session's handles stay at the fifodirs of their names, whatever it is asked.
-use Rattle.std.proofs.Common.{◌≡◌, ℕ, List, Bool, true, false, Option, None, Some, nat_eq, refl, sym, ap, subst, ◌∙◌, inl, inr}
-use Rattle.std.specs.Prelude.{if◌then◌else◌}
+use Rattle.std.proofs.Common.{◌≡◌, ℕ, List, true, false, Option, None, Some, nat_eq, refl, sym, ap, subst, ◌∙◌, inl, inr}
 use Rattle.std.proofs.lemmas.Bool.{cases_Bool, eqb-true}
 use Rattle.std.proofs.lemmas.Slice.Eq.{bytes_eq-Decides}
 use Rattle.std.specs.Arc.{arc_value}
 use Rattle.std.specs.Map.{lookup}
-use Rattle.std.specs.Option.{is_some}
 use Rattle.std.specs.Str.{bytes_eq}
 use Rattle.hub_requests.specs.declared.request.Request.{Request}
-use Rattle.hub_requests.specs.declared.request.Request.TheVariants.{Dir, Svc, Sub, Pub, Take, Cancel, Close, Status, Listen, Poll, Await, Wait, Names}
+use Rattle.hub_requests.specs.declared.request.Request.TheVariants.{Dir, Svc, Sub, Pub, Close, Status, Listen, Wait, Names}
 use Rattle.hub_requests.specs.declared.reply.Reply.{Reply}
 use Rattle.hub_requests.specs.declared.reply.Reply.TheVariants as answer
 use Rattle.hub_letters.specs.declared.mode.Mode.{Mode}
@@ -23,10 +21,10 @@ use Rattle.hub_names.specs.Speaking.{AsksAsPublisher, fifodir_of}
 use Rattle.hub_handles.specs.declared.handles.Handles.{Handles}
 use Rattle.hub_handles.specs.declared.session_listener.SessionListener.{SessionListener}
 use Rattle.hub_handles.specs.declared.subscription.Subscription.{Subscription}
-use Rattle.hub_handles.specs.Awaiting.{AwaitsAt}
-use Rattle.hub_handles.specs.Handles.{Cancels, HoldsNone, IsStill, PollsAt, SubscriptionSteps, TakesAt, left_by, listener_of, subscription_of}
-use Rattle.hub_handles.specs.Hearings.{Polls, ends_by}
-use Rattle.hub_handles.specs.Taking.{IsSameTicket, Takes, name_of}
+use Rattle.hub_handles.specs.Handles.{HoldsNone, IsStill, listener_of, subscription_of}
+use Rattle.hub_handles.specs.Requests.{KeepsTickets}
+use Rattle.hub_handles.specs.Taking.{IsSameTicket, name_of}
+use Rattle.hub_handles.proofs.Keeping.{keeps_tickets}
 use Rattle.hub_shared.specs.Desks.{CarriesOut, ListensTo, SubscribesTo}
 use Rattle.hub_shared.specs.Named.{AreNamed, IsNamed, StaysNamed}
 
@@ -170,60 +168,13 @@ listened_named hub fs hs ks name mode pattern reply (inr (unfound, same)) n = su
 same_named : (fs : Fifodirs) (a b : Subscription) → IsSameTicket a b → IsNamed fs a → IsNamed fs b
 same_named fs a b same n = record { joined = n.joined; kept_is = ap (joined_at fs) same.named ∙ n.kept_is; dir = ap arc_value same.dir ∙ n.dir }
 
--- whatever a take does, the ticket is the same
-still_that : (max : ℕ) (old new : Subscription) (reply : Reply) → Takes max old reply new → IsSameTicket old new
-still_that max old new reply (inl takes) = takes.same
-still_that max old new reply (inr lacks) = lacks.looked.same
-
--- the subscription under a number takes a step, by the same ticket
-stepped_named : (hub : Hub) (fs : Fifodirs) (hs ks : Handles) (id : ℕ) (Step : Subscription → Subscription → Type 0) → ((old new : Subscription) → Step old new → IsSameTicket old new)
-    → SubscriptionSteps Step hs id ks → AreNamed hub fs hs → AreNamed hub fs ks
-stepped_named hub fs hs ks id Step same t n =
-    let u = t.under in
-    subscription_changed hub fs hs ks id u.after (same_named fs u.before u.after (same u.before u.after u.step) (n.subscriptions id u.before u.held)) u.kept u.others t.listeners n
-
-taken_named : (hub : Hub) (fs : Fifodirs) (hs ks : Handles) (id max : ℕ) (reply : Reply) → TakesAt hs id max reply ks → AreNamed hub fs hs → AreNamed hub fs ks
-taken_named hub fs hs ks id max reply (inl t) n = stepped_named hub fs hs ks id _ (λ old new takes. still_that max old new reply takes) t n
-taken_named hub fs hs ks id max reply (inr t) n = handles_still hub fs hs ks t.still n
-
-polls_named : (fs : Fifodirs) (before after : SessionListener) (reply : Reply) → Polls before reply after → IsNamed fs before.subscription → IsNamed fs after.subscription
-polls_named fs before after (answer.Hit hit) (fed, hears, is, unheld) n = same_named fs before.subscription after.subscription hears.comes.ticket n
-polls_named fs before after answer.Nothing (few, (fed, hears), why) n = same_named fs before.subscription after.subscription hears.comes.ticket n
-polls_named fs before after answer.End (few, (fed, hears), why) n = same_named fs before.subscription after.subscription hears.comes.ticket n
-polls_named fs before after answer.Evicted (few, (fed, hears), why) n = same_named fs before.subscription after.subscription hears.comes.ticket n
-polls_named fs before after (answer.No refusal) (inl (e, full, same)) n = subst (λ (h : SessionListener). IsNamed fs h.subscription) (sym same) n
-polls_named fs before after (answer.No refusal) (inr (e, few, (fed, hears), more)) n = same_named fs before.subscription after.subscription hears.comes.ticket n
-polls_named fs before after reply p n = absurd p
-
-left_is : {A : Type 0} (ends : Bool) (after a : A) → (if ends then None else Some after) ≡ Some a → after ≡ a
-left_is true after a e = cc
-left_is false after a e = cc
-
-polled_named : (hub : Hub) (fs : Fifodirs) (hs ks : Handles) (id : ℕ) (reply : Reply) → PollsAt hs id reply ks → AreNamed hub fs hs → AreNamed hub fs ks
-polled_named hub fs hs ks id reply (inl p) n =
-    let u = p.under in
-    let named = polls_named fs u.before u.after reply u.step (n.listeners id u.before u.held) in
-    listener_changed hub fs hs ks id (left_by reply u.after) (λ h is. subst (λ (h : SessionListener). IsNamed fs h.subscription) (left_is (ends_by u.after.mode reply) u.after h is) named) u.kept u.others p.subscriptions n
-polled_named hub fs hs ks id reply (inr p) n = handles_still hub fs hs ks p.still n
-
-awaited_named : (hub : Hub) (fs : Fifodirs) (hs ks : Handles) (id : ℕ) (reply : Reply) → AwaitsAt hs id reply ks → AreNamed hub fs hs → AreNamed hub fs ks
-awaited_named hub fs hs ks id reply (inl a) n = stepped_named hub fs hs ks id _ (λ old new step. step.0.same) a n
-awaited_named hub fs hs ks id reply (inr (inl a)) n =
-    let u = a.under in
-    let named = same_named fs u.before.subscription u.after.subscription u.step.0.looked.same (n.listeners id u.before u.held) in
-    listener_changed hub fs hs ks id (Some u.after) (listener_left fs u.after named) u.kept u.others a.subscriptions n
-awaited_named hub fs hs ks id reply (inr (inr a)) n = handles_still hub fs hs ks a.still n
-
-cancelled_named : (hub : Hub) (fs : Fifodirs) (hs ks : Handles) (id : ℕ) (reply : Reply) → Cancels hs id reply ks → AreNamed hub fs hs → AreNamed hub fs ks
-cancelled_named hub fs hs ks id reply c n = record {
+-- each handle that there still is has its ticket
+kept_named : (hub : Hub) (fs : Fifodirs) (hs ks : Handles) → KeepsTickets hs ks → AreNamed hub fs hs → AreNamed hub fs ks
+kept_named hub fs hs ks keeps n = record {
   found = n.found;
-  subscriptions = at_number (IsNamed fs) (subscription_of hs) (subscription_of ks) id None c.gone (λ s is. absurd (not_both s None is refl)) (λ other e. (c.others other e).0) n.subscriptions;
-  listeners = heard (subscription_of hs id) refl;
+  subscriptions = λ id s at. let had = keeps.subscriptions id s at in same_named fs had.before s had.same (n.subscriptions id had.before had.had);
+  listeners = λ id h at. let had = keeps.listeners id h at in same_named fs had.before.subscription h.subscription had.same (n.listeners id had.before had.had);
 }
-  where
-    heard : (o : Option Subscription) → subscription_of hs id ≡ o → (other : ℕ) (h : SessionListener) → listener_of ks other ≡ Some h → IsNamed fs h.subscription
-    heard None was = at_number (λ h. IsNamed fs h.subscription) (listener_of hs) (listener_of ks) id None (c.unheard was) (λ h is. absurd (not_both h None is refl)) (λ other e. (c.others other e).1) n.listeners
-    heard (Some s) was = λ other h held. n.listeners other h (sym (ap (lookup (nat_eq other)) (c.heard (ap is_some was))) ∙ held)
 
 -- ---- whatever is asked
 
@@ -235,16 +186,13 @@ asked_named hub fs gs hs ks (Dir name waiting total evict) reply n (made, e, f) 
 asked_named hub fs gs hs ks (Svc name waiting total notifies evict) reply n (made, e, f) = same_both hub fs gs hs ks e f n
 asked_named hub fs gs hs ks (Sub name) reply n (keeps, a) = subscribed_named hub gs hs ks name reply a (all_still hub fs gs hs keeps n)
 asked_named hub fs gs hs ks (Pub name letters) reply n (a, f) = subst (AreNamed hub gs) (sym f) (spoken_named hub _ fs gs hs name reply a n)
-asked_named hub fs gs hs ks (Take id max) reply n (e, a) = subst (λ (z : Fifodirs). AreNamed hub z ks) (sym e) (taken_named hub fs hs ks id max reply a n)
-asked_named hub fs gs hs ks (Cancel id) reply n (e, a) = subst (λ (z : Fifodirs). AreNamed hub z ks) (sym e) (cancelled_named hub fs hs ks id reply a n)
 asked_named hub fs gs hs ks (Close name) reply n (a, f) = subst (AreNamed hub gs) (sym f) (spoken_named hub _ fs gs hs name reply a n)
 asked_named hub fs gs hs ks (Status name) reply n (a, f) = subst (AreNamed hub gs) (sym f) (spoken_named hub _ fs gs hs name reply a n)
 asked_named hub fs gs hs ks (Listen name mode pattern) reply n (keeps, a) = listened_named hub gs hs ks name _ _ reply a (all_still hub fs gs hs keeps n)
-asked_named hub fs gs hs ks (Poll id) reply n (e, a) = subst (λ (z : Fifodirs). AreNamed hub z ks) (sym e) (polled_named hub fs hs ks id reply a n)
-asked_named hub fs gs hs ks (Await id turns) reply n (e, a) = subst (λ (z : Fifodirs). AreNamed hub z ks) (sym e) (awaited_named hub fs hs ks id reply a n)
 asked_named hub fs gs hs ks (Wait span want turns names) reply n (keeps, why, f) = subst (AreNamed hub gs) (sym f) (all_still hub fs gs hs keeps n)
 asked_named hub fs gs hs ks (Names from) reply n (a, f) =
     subst (AreNamed hub gs) (sym f) (named_as_before hub fs gs hs (λ key. ap (λ (z : Fifodirs). lookup (bytes_eq key) z.by_name.entries) a.kept) n)
+asked_named hub fs gs hs ks request reply n a = subst (λ (z : Fifodirs). AreNamed hub z ks) (sym a.0) (kept_named hub fs hs ks (keeps_tickets hs ks request reply a.1) n)
 
 new_named : (hub : Hub) (fs : Fifodirs) (hs : Handles) → KeepsNone fs → HoldsNone hs → AreNamed hub fs hs
 new_named hub fs hs none holds = record {

@@ -6,7 +6,7 @@ use Rattle.hub_requests.specs.declared.reply.Refusal.TheVariants as no
 use Rattle.hub_requests.specs.declared.reply.Reply.{Reply}
 use Rattle.hub_requests.specs.declared.reply.Reply.TheVariants.{Done, No}
 use Rattle.hub_requests.specs.declared.request.Request.{Request}
-use Rattle.hub_requests.specs.declared.request.Request.TheVariants.{Dir, Svc, Sub, Pub, Take, Cancel, Close, Status, Listen, Poll, Await, Wait, Names}
+use Rattle.hub_requests.specs.declared.request.Request.TheVariants.{Dir, Svc, Sub, Pub, Close, Status, Listen, Wait, Names}
 use Rattle.hub_names.specs.declared.hub.Hub.{Hub}
 use Rattle.hub_names.specs.declared.fifodirs.Fifodirs.{Fifodirs}
 use Rattle.hub_letters.specs.declared.mode.Mode.{Mode}
@@ -17,8 +17,8 @@ use Rattle.hub_names.specs.Speaking.{fifodir_of}
 use Rattle.hub_names.specs.Says.{says_published, says_closed, says_status}
 use Rattle.hub_names.specs.Fifodirs.{joined_at, AsksByName, IsMissing, KeepsAll, KeepsNone}
 use Rattle.hub_names.specs.Looks.{AsksNames}
-use Rattle.hub_handles.specs.Awaiting.{AwaitsAt}
-use Rattle.hub_handles.specs.Handles.{Subscribes, Listens, TakesAt, PollsAt, Cancels, HoldsNone, given_of}
+use Rattle.hub_handles.specs.Handles.{Subscribes, Listens, HoldsNone, given_of}
+use Rattle.hub_handles.specs.Requests.{AsksHandle}
 use Rattle.hub_shared.specs.Waits.{WaitsFor, IsWaitRefusal}
 
 -- a fifodir was made, or why not
@@ -46,15 +46,12 @@ CarriesOut hub fs hs (Dir name waiting total evict) reply gs ks = IsMadeReply re
 CarriesOut hub fs hs (Svc name waiting total notifies evict) reply gs ks = IsMadeReply reply × (gs ≡ fs) × (ks ≡ hs)
 CarriesOut hub fs hs (Sub name) reply gs ks = KeepsAll hub fs gs × SubscribesTo gs name hs reply ks
 CarriesOut hub fs hs (Pub name letters) reply gs ks = AsksByName hub (says_published letters) fs name reply gs × (ks ≡ hs)
-CarriesOut hub fs hs (Take id max) reply gs ks = (gs ≡ fs) × TakesAt hs id max reply ks
-CarriesOut hub fs hs (Cancel id) reply gs ks = (gs ≡ fs) × Cancels hs id reply ks
 CarriesOut hub fs hs (Close name) reply gs ks = AsksByName hub says_closed fs name reply gs × (ks ≡ hs)
 CarriesOut hub fs hs (Status name) reply gs ks = AsksByName hub says_status fs name reply gs × (ks ≡ hs)
 CarriesOut hub fs hs (Listen name mode pattern) reply gs ks = KeepsAll hub fs gs × ListensTo gs name mode pattern hs reply ks
-CarriesOut hub fs hs (Poll id) reply gs ks = (gs ≡ fs) × PollsAt hs id reply ks
-CarriesOut hub fs hs (Await id turns) reply gs ks = (gs ≡ fs) × AwaitsAt hs id reply ks
 CarriesOut hub fs hs (Wait span want turns names) reply gs ks = KeepsAll hub fs gs × (WaitsFor gs span want names reply ⊎ IsWaitRefusal gs names reply) × (ks ≡ hs)
 CarriesOut hub fs hs (Names from) reply gs ks = AsksNames hub fs from reply gs × (ks ≡ hs)
+CarriesOut hub fs hs request reply gs ks = (gs ≡ fs) × AsksHandle hs request reply ks
 
 -- all is given back: no handle and no publisher is kept, and no number is given again
 pub record Ends (old : Handles) (fs : Fifodirs) (hs : Handles) : Type 0 where
