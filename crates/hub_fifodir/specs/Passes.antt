@@ -182,13 +182,21 @@ is_evicted_by rules s next = evicts rules.limits.policy && is_slow rules.limits.
 abbrev pub is_evicted_at : Ticket → ℕ → Bool
 is_evicted_at t next = is_evicted_by (ticket_rules t) (ticket_sight t) next
 
+-- what waits from this number on, for this many places, by what the ticket has seen
+abbrev pub Finds : Ticket → ℕ → ℕ → Taken → Type 0
+Finds t next most (Got n) = (next < length (ticket_seen t)) × (n ≡ min most (length (ticket_seen t) - next)) × (is_evicted_at t next ≡ false)
+Finds t next most Nothing = (next ≡ length (ticket_seen t)) × (ticket_closed t ≡ 0)
+Finds t next most End = (next ≡ length (ticket_seen t)) × (ticket_closed t ≢ 0)
+Finds t next most Evicted = is_evicted_at t next ≡ true
+
+-- a ticket goes on behind what it found
+abbrev pub GoesOn : Ticket → Taken → Ticket → Type 0
+GoesOn old (Got n) new = (ticket_next new ≡ ticket_next old + n) × (got new ≡ got old ++ slice (ticket_next old) (ticket_next old + n) (ticket_seen new))
+GoesOn old _ new = (ticket_next new ≡ ticket_next old) × (got new ≡ got old)
+
 -- what a take into this many places reports, by what the ticket has then seen
 abbrev pub HasTaken : Ticket → ℕ → Taken → Ticket → Type 0
-HasTaken old most (Got n) new = (ticket_next old < length (ticket_seen new)) × (n ≡ min most (length (ticket_seen new) - ticket_next old)) × (ticket_next new ≡ ticket_next old + n)
-    × (got new ≡ got old ++ slice (ticket_next old) (ticket_next old + n) (ticket_seen new)) × (is_evicted_at new (ticket_next old) ≡ false)
-HasTaken old most Nothing new = (ticket_next old ≡ length (ticket_seen new)) × (ticket_closed new ≡ 0) × (ticket_next new ≡ ticket_next old) × (got new ≡ got old)
-HasTaken old most End new = (ticket_next old ≡ length (ticket_seen new)) × (ticket_closed new ≢ 0) × (ticket_next new ≡ ticket_next old) × (got new ≡ got old)
-HasTaken old most Evicted new = (is_evicted_at new (ticket_next old) ≡ true) × (ticket_next new ≡ ticket_next old) × (got new ≡ got old)
+HasTaken old most taken new = Finds new (ticket_next old) most taken × GoesOn old taken new
 
 -- a take has something to report: an event is pending, or the record is closed. An evicted ticket always has events pending.
 abbrev pub HasMore : Ticket → Type 0

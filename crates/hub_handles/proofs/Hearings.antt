@@ -63,14 +63,14 @@ gives_taken old new (Ok letter) was is mode takes =
         ticket = takes.same;
         mode = mode;
         taken = letter ∷ [];
-        took = ap letters shows.1.3 ∙ letters-append (got old.subscription.ticket) _ ∙ ap (λ (l : List ℕ). letters (got old.subscription.ticket) ++ l) (sym shows.2);
+        took = ap letters shows.1.1.1 ∙ letters-append (got old.subscription.ticket) _ ∙ ap (λ (l : List ℕ). letters (got old.subscription.ticket) ++ l) (sym shows.2);
         once = ap (λ (o : Option ℕ). held_letters o ++ letter ∷ []) was ∙ sym (ap (λ (o : Option ℕ). letter ∷ held_letters o) is);
       },
       is,
     )
-gives_taken old new (Err answer.Nothing) was is mode takes = (comes_nothing old new takes.same mode takes.shows.3 (is ∙ sym was), (is, (takes.shows.2 ∙ takes.shows.0, takes.shows.1)))
-gives_taken old new (Err answer.End) was is mode takes = (comes_nothing old new takes.same mode takes.shows.3 (is ∙ sym was), (is, (takes.shows.2 ∙ takes.shows.0, takes.shows.1)))
-gives_taken old new (Err answer.Evicted) was is mode takes = (comes_nothing old new takes.same mode takes.shows.2 (is ∙ sym was), (is, ap (is_evicted_at new.subscription.ticket) takes.shows.1 ∙ takes.shows.0))
+gives_taken old new (Err answer.Nothing) was is mode takes = (comes_nothing old new takes.same mode takes.shows.1.1 (is ∙ sym was), (is, (takes.shows.1.0 ∙ takes.shows.0.0, takes.shows.0.1)))
+gives_taken old new (Err answer.End) was is mode takes = (comes_nothing old new takes.same mode takes.shows.1.1 (is ∙ sym was), (is, (takes.shows.1.0 ∙ takes.shows.0.0, takes.shows.0.1)))
+gives_taken old new (Err answer.Evicted) was is mode takes = (comes_nothing old new takes.same mode takes.shows.1.1 (is ∙ sym was), (is, ap (is_evicted_at new.subscription.ticket) takes.shows.1.0 ∙ takes.shows.0))
 gives_taken old new (Err reply) was is mode takes = absurd takes
 
 -- ---- and are heard

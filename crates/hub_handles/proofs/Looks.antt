@@ -7,7 +7,7 @@ use Rattle.hub_record.specs.declared.Taken.TheVariants.{Got, Nothing, End, Evict
 use Rattle.hub_record.specs.World.{letters}
 use Rattle.hub_fifodir.specs.declared.ticket.Ticket.{Ticket}
 use Rattle.hub_fifodir.specs.Events.{slice}
-use Rattle.hub_fifodir.specs.Passes.{HasTaken, OnlyLooks, got, is_evicted_at, ticket_next, ticket_seen, ticket_sight, ticket_view}
+use Rattle.hub_fifodir.specs.Passes.{Finds, HasTaken, OnlyLooks, got, ticket_next, ticket_seen, ticket_sight, ticket_view}
 use Rattle.hub_fifodir.specs.Steps.{Grows, got_of}
 use Rattle.hub_fifodir.proofs.Meeting.{grows_self, grows_through}
 use Rattle.hub_handles.specs.declared.subscription.Subscription.{Subscription}
@@ -49,15 +49,12 @@ looked old new named dir looks seen = record {
 -- what a ticket took after a look it took
 took_after_look : (old looked new : Ticket) (max : ℕ) (taken : Taken) → ticket_next looked ≡ ticket_next old → got looked ≡ got old → HasTaken looked max taken new → HasTaken old max taken new
 took_after_look old looked new max (Got n) next same took = (
-  subst (λ k. k < length (ticket_seen new)) next took.0,
-  took.1 ∙ ap (λ k. min max (length (ticket_seen new) - k)) next,
-  took.2 ∙ ap (λ k. k + n) next,
-  took.3 ∙ (λ i. same i ++ slice (next i) (next i + n) (ticket_seen new)),
-  ap (is_evicted_at new) (sym next) ∙ took.4,
+  subst (λ k. Finds new k max (Got n)) next took.0,
+  (took.1.0 ∙ ap (λ k. k + n) next, took.1.1 ∙ (λ i. same i ++ slice (next i) (next i + n) (ticket_seen new))),
 )
-took_after_look old looked new max Nothing next same took = (sym next ∙ took.0, took.1, took.2 ∙ next, took.3 ∙ same)
-took_after_look old looked new max End next same took = (sym next ∙ took.0, took.1, took.2 ∙ next, took.3 ∙ same)
-took_after_look old looked new max Evicted next same took = (ap (is_evicted_at new) (sym next) ∙ took.0, took.1 ∙ next, took.2 ∙ same)
+took_after_look old looked new max Nothing next same took = (subst (λ k. Finds new k max Nothing) next took.0, (took.1.0 ∙ next, took.1.1 ∙ same))
+took_after_look old looked new max End next same took = (subst (λ k. Finds new k max End) next took.0, (took.1.0 ∙ next, took.1.1 ∙ same))
+took_after_look old looked new max Evicted next same took = (subst (λ k. Finds new k max Evicted) next took.0, (took.1.0 ∙ next, took.1.1 ∙ same))
 
 shows_after_look : (old looked new : Ticket) (max : ℕ) (reply : Reply) → ticket_next looked ≡ ticket_next old → got looked ≡ got old → Shows max looked reply new → Shows max old reply new
 shows_after_look old looked new max (answer.Got l) next same (n, took, are) =

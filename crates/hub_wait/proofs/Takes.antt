@@ -93,16 +93,16 @@ front_of_filled seen out a n h =
 Reads-stepped_there : (old new : Ticket) (w : Watching) (most n : ℕ) (out : List Event) → Reads old w → Grows (ticket_sight old) (ticket_sight new) → ticket_mark new ≡ ticket_mark old
     → ticket_rules new ≡ ticket_rules old → HasTaken old most (Got n) new → Reads new (watching_after_step w (ticket_next old) (letters (take n (slice_after_take old (Got n) new out))))
 Reads-stepped_there old new w most n out r grows mark rules took =
-    let within : ticket_next old + n ≤ length (ticket_seen new) = omega (arith, took.0, took.1) in
+    let within : ticket_next old + n ≤ length (ticket_seen new) = omega (arith, took.0.0, took.0.1) in
     let news = letters (take n (slice_after_take old (Got n) new out)) in
     let are : news ≡ letters (take n (drop (ticket_next old) (ticket_seen new))) = ap letters (front_of_filled (ticket_seen new) out (ticket_next old) n within) in
     let part : IsSlice (letters (ticket_seen new)) (ticket_next old) news = subst (IsSlice (letters (ticket_seen new)) (ticket_next old)) (sym are) (IsSlice-slice (ticket_seen new) (ticket_next old) n within) in
     let follows = Follows-append w (ticket_seen old) (ticket_seen new) grows.0 r.follows in
     let falls = Falls-append w (ticket_seen old) (ticket_seen new) grows.0 r.follows.within r.falls in
     let none = MissesNoFall-append w (ticket_seen old) (ticket_seen new) grows.0 r.follows.within
-    (r.misses_no_fall (never_evicted old new grows rules (ticket_next old) took.4)) in
+    (r.misses_no_fall (never_evicted old new grows rules (ticket_next old) took.0.2)) in
     let many : length news ≡ n = ap length are ∙ length-slice (ticket_seen new) (ticket_next old) n within in
-    let moved : ticket_next new ≡ ticket_next old + n = took.2 in
+    let moved : ticket_next new ≡ ticket_next old + n = took.1.0 in
     let marked = r.marked in
     let inside : w.at ≤ length (ticket_seen old) = subst (λ k. w.at ≤ k) (length-map (ticket_seen old) _) r.follows.within in
     record {
@@ -185,5 +185,5 @@ pub Reads-evicted : (old evicted new : Ticket) (w : Watching) (status : Status) 
     → IsStatusOf status (ticket_sight new) → Reads new (renewed_by w status)
 Reads-evicted old evicted new w status r grows mark rules took further looks is =
     let place = ap (λ (p : Option (ℕ × ℕ)). unwrap_or p (0, 0)) looks.place in
-    let kept = Reads-kept old evicted w r grows mark took.1 rules in
-    Reads-renewed evicted new w status kept further (ap (λ p. p.0) place) (ap (λ p. p.1) place) looks.rules (ap (is_evicted_at evicted) took.1 ∙ took.0) is
+    let kept = Reads-kept old evicted w r grows mark took.1.0 rules in
+    Reads-renewed evicted new w status kept further (ap (λ p. p.0) place) (ap (λ p. p.1) place) looks.rules (ap (is_evicted_at evicted) took.1.0 ∙ took.0) is

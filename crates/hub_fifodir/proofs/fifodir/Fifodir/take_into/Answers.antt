@@ -43,11 +43,12 @@ returns-in-Got-clause-took g c = let me = c.args.me.now in let t = c.lock-held i
     let is = on_got me.seat.me t.new.seat.me me.id me.mark me.next t.result.locked me.is_taker h (length c.args.out.now) c.in-Got.count c.take_into.result (e.reply w h.behind.for) (c.unwrap-taken.ensures ∙ ap (λ (x : Taken). Ok x) c.in-Got.is) in
     let same = sight_moved me.seat.me t.new.seat.me me.id me.mark me.next t.result.locked me.is_taker h c.take_into.new.self (length c.args.out.now) (e.world w h.behind.for) e.others c.in-Got.count is.1 c.rest_moved.new.seat.me c.rest_moved.ensures.view in
     let rules = rules_moved me.seat.me t.new.seat.me me.id me.mark me.next t.result.locked me.is_taker h c.take_into.new.self (length c.args.out.now) (e.world w h.behind.for) e.others c.in-Got.count is.1 c.rest_moved.new.seat.me c.rest_moved.ensures.view in (
-      subst (λ (s : Sight). me.next < length s.seen) (sym same) is.0,
-      is.1 ∙ count_active me.seat.me t.new.seat.me me.id me.mark me.next t.result.locked me.is_taker h (length c.args.out.now) is.2 ∙ ap (λ (s : Sight). min (length c.args.out.now) (length s.seen - me.next)) (sym same),
-      refl,
-      got_moved me.seat.me t.new.seat.me me.id me.mark me.next t.result.locked me.is_taker h c.take_into.new.self (length c.args.out.now) (e.world w h.behind.for) e.others c.in-Got.count is.1 c.rest_moved.new.seat.me c.rest_moved.ensures.view,
-      (λ i. is_evicted_by (rules i) (same i) me.next) ∙ is.2,
+      (
+        subst (λ (s : Sight). me.next < length s.seen) (sym same) is.0,
+        is.1 ∙ count_active me.seat.me t.new.seat.me me.id me.mark me.next t.result.locked me.is_taker h (length c.args.out.now) is.2 ∙ ap (λ (s : Sight). min (length c.args.out.now) (length s.seen - me.next)) (sym same),
+        (λ i. is_evicted_by (rules i) (same i) me.next) ∙ is.2,
+      ),
+      (refl, got_moved me.seat.me t.new.seat.me me.id me.mark me.next t.result.locked me.is_taker h c.take_into.new.self (length c.args.out.now) (e.world w h.behind.for) e.others c.in-Got.count is.1 c.rest_moved.new.seat.me c.rest_moved.ensures.view),
     )
 
 pub returns-in-Got-clause-filled : goal.returns-in-Got-clause-filled
@@ -61,20 +62,16 @@ pub returns-in-Nothing-clause-took : goal.returns-in-Nothing-clause-took
 returns-in-Nothing-clause-took g c = let me = c.args.me.now in let t = c.lock-held in let h = t.ensures.holding.1 in let e = c.take_into.ensures in let w = h.behind.world in
     let is = on_nothing me.seat.me t.new.seat.me me.id me.mark me.next t.result.locked me.is_taker h (length c.args.out.now) c.take_into.result (e.reply w h.behind.for) (c.unwrap-taken.ensures ∙ ap (λ (x : Taken). Ok x) c.in-Nothing.is) in
     let view = c.rest.ensures.view in (
-      is.0 ∙ sym (ap (λ (m : M). length m.0.sight.seen) view),
-      ap (λ (m : M). m.0.sight.closed) view ∙ is.1,
-      refl,
-      got_still me.seat.me t.new.seat.me me.id me.mark me.next t.result.locked me.is_taker h c.rest.new.seat.me view,
+      (is.0 ∙ sym (ap (λ (m : M). length m.0.sight.seen) view), ap (λ (m : M). m.0.sight.closed) view ∙ is.1),
+      (refl, got_still me.seat.me t.new.seat.me me.id me.mark me.next t.result.locked me.is_taker h c.rest.new.seat.me view),
     )
 
 pub returns-in-End-clause-took : goal.returns-in-End-clause-took
 returns-in-End-clause-took g c = let me = c.args.me.now in let t = c.lock-held in let h = t.ensures.holding.1 in let e = c.take_into.ensures in let w = h.behind.world in
     let is = on_end me.seat.me t.new.seat.me me.id me.mark me.next t.result.locked me.is_taker h (length c.args.out.now) c.take_into.result (e.reply w h.behind.for) (c.unwrap-taken.ensures ∙ ap (λ (x : Taken). Ok x) c.in-End.is) in
     let view = c.rest-in-End.ensures.view in (
-      is.0 ∙ sym (ap (λ (m : M). length m.0.sight.seen) view),
-      (λ z. is.1 (sym (ap (λ (m : M). m.0.sight.closed) view) ∙ z)),
-      refl,
-      got_still me.seat.me t.new.seat.me me.id me.mark me.next t.result.locked me.is_taker h c.rest-in-End.new.seat.me view,
+      (is.0 ∙ sym (ap (λ (m : M). length m.0.sight.seen) view), (λ z. is.1 (sym (ap (λ (m : M). m.0.sight.closed) view) ∙ z))),
+      (refl, got_still me.seat.me t.new.seat.me me.id me.mark me.next t.result.locked me.is_taker h c.rest-in-End.new.seat.me view),
     )
 
 pub returns-in-Evicted-clause-took : goal.returns-in-Evicted-clause-took
@@ -82,6 +79,5 @@ returns-in-Evicted-clause-took g c = let me = c.args.me.now in let t = c.lock-he
     let is = on_evicted me.seat.me t.new.seat.me me.id me.mark me.next t.result.locked me.is_taker h (length c.args.out.now) c.take_into.result (e.reply w h.behind.for) (c.unwrap-taken.ensures ∙ ap (λ (x : Taken). Ok x) c.in-Evicted.is) in
     let view = c.rest-in-Evicted.ensures.view in (
       (λ i. is_evicted_by (rules_still me.seat.me t.new.seat.me me.id me.mark me.next t.result.locked me.is_taker h c.rest-in-Evicted.new.seat.me view i) (ap (λ (m : M). m.0.sight) view i) me.next) ∙ is.0,
-      refl,
-      got_still me.seat.me t.new.seat.me me.id me.mark me.next t.result.locked me.is_taker h c.rest-in-Evicted.new.seat.me view,
+      (refl, got_still me.seat.me t.new.seat.me me.id me.mark me.next t.result.locked me.is_taker h c.rest-in-Evicted.new.seat.me view),
     )
