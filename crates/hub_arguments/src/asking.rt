@@ -5,10 +5,9 @@ use crate::asking_help::{
     WAIT_LINES,
 };
 use crate::command_line::Plan;
-use clap::{Arg, ArgAction, ArgMatches, Command};
+use crate::options::{SOCKET, flag, socket_in, valued};
+use clap::{Arg, ArgMatches, Command};
 use std::alloc::{AllocError, Global};
-
-const PATH: &str = "socket";
 
 const WORDS: &str = "words";
 
@@ -50,40 +49,50 @@ pub struct Wish<'a> {
     pub names: Vec<&'a str>,
 }
 
+/// A command, unless memory runs out.
+type Made<'a> = Result<Command<'a>, AllocError>;
+
 /// The option for the path of the socket. It isn't needed if the environment has a path.
 fn path<'a>(alloc: Global, known: Option<&'a str>) -> Arg<'a> {
-    let argument = Arg::new(alloc, PATH)
-        .long(PATH)
-        .value_name("PATH")
-        .help("Socket of the hub (or else FTRIGHUB_SOCKET has it)");
+    let argument = valued(alloc, SOCKET, "PATH").help(
+        "Socket of the hub (or else FTRIGHUB_SOCKET has it)",
+    );
     match known {
         Some(socket) => argument.default_value(socket).hide_default_value(true),
         None => argument.required(true),
     }
 }
 
-pub(crate) fn ask_command<'a>(
+/// A subcommand that asks the hub of a socket, with its text and the lines behind its options.
+fn asking<'a>(
     alloc: Global,
     known: Option<&'a str>,
-) -> Result<Command<'a>, AllocError> {
-    Command::new(alloc, "ask")
-        .about(ASK_ABOUT)
-        .after_help(ASK_LINES)
-        .arg(path(alloc, known))?
-        .arg(
-            Arg::new(alloc, WORDS)
-                .value_name("WORD")
-                .help("The words of the request")
-                .required(true)
-                .num_args(1..)
-                .trailing_var_arg(true),
-        )
+    word: &'a str,
+    texts: (&'a str, &'a str),
+) -> Made<'a> {
+    let (about, lines) = texts;
+    Command::new(alloc, word)
+        .about(about)
+        .after_help(lines)
+        .arg(path(alloc, known))
 }
 
-pub(crate) fn wait_command<'a>(
-    alloc: Global,
-    known: Option<&'a str>,
-) -> Result<Command<'a>, AllocError> {
+/// One or more values behind the options.
+fn operands<'a>(alloc: Global, id: &'a str, value: &'a str) -> Arg<'a> {
+    Arg::new(alloc, id)
+        .value_name(value)
+        .required(true)
+        .num_args(1..)
+}
+
+pub(crate) fn ask_command<'a>(alloc: Global, known: Option<&'a str>) -> Made<'a> {
+    let words = operands(alloc, WORDS, "WORD")
+        .help("The words of the request")
+        .trailing_var_arg(true);
+    asking(alloc, known, "ask", (ASK_ABOUT, ASK_LINES))?.arg(words)
+}
+
+pub(crate) fn wait_command<'a>(alloc: Global, known: Option<&'a str>) -> Made<'a> {
     let span = Arg::new(alloc, SPAN)
         .value_name("SPAN")
         .help("Wait for all of the services, or for any one of them")
@@ -94,71 +103,41 @@ pub(crate) fn wait_command<'a>(
         .help("State to wait for")
         .value_parser(WANTS.as_slice())
         .required(true);
-    let patience = Arg::new(alloc, PATIENCE)
-        .long(PATIENCE)
-        .value_name("DURATION")
+    let patience = valued(alloc, PATIENCE, "DURATION")
         .help("Time limit, such as 500ms, 5s or 2m")
         .required(true);
-    let names = Arg::new(alloc, NAMES)
-        .value_name("NAME")
-        .help("Names of services")
-        .required(true)
-        .num_args(1..);
-    Command::new(alloc, "wait")
-        .about(WAIT_ABOUT)
-        .after_help(WAIT_LINES)
-        .arg(path(alloc, known))?
+    let names = operands(alloc, NAMES, "NAME").help("Names of services");
+    asking(alloc, known, "wait", (WAIT_ABOUT, WAIT_LINES))?
         .arg(patience)?
         .arg(span)?
         .arg(want)?
         .arg(names)
 }
 
-pub(crate) fn status_command<'a>(
-    alloc: Global,
-    known: Option<&'a str>,
-) -> Result<Command<'a>, AllocError> {
+pub(crate) fn status_command<'a>(alloc: Global, known: Option<&'a str>) -> Made<'a> {
     let names = Arg::new(alloc, NAMES)
         .value_name("NAME")
         .help("Names of fifodirs; without one, all of the hub")
         .num_args(0..);
-    Command::new(alloc, "status")
-        .about(STATUS_ABOUT)
-        .after_help(STATUS_LINES)
-        .arg(path(alloc, known))?
-        .arg(names)
+    asking(alloc, known, "status", (STATUS_ABOUT, STATUS_LINES))?.arg(names)
 }
 
-pub(crate) fn follow_command<'a>(
-    alloc: Global,
-    known: Option<&'a str>,
-) -> Result<Command<'a>, AllocError> {
-    let pattern = Arg::new(alloc, PATTERN)
-        .long(PATTERN)
-        .value_name("P")
-        .help("Write the hits of this pattern, and not each letter");
-    let plain = Arg::new(alloc, PLAIN)
-        .long(PLAIN)
-        .action(ArgAction::SetTrue)
-        .help("Write the letters alone");
-    let once = Arg::new(alloc, ONCE)
-        .long(ONCE)
-        .action(ArgAction::SetTrue)
-        .help("End with the first letter, or the first hit");
-    let names = Arg::new(alloc, NAMES)
-        .value_name("NAME")
-        .help("Names of fifodirs")
-        .required(true)
-        .num_args(1..);
-    Command::new(alloc, "follow")
-        .about(FOLLOW_ABOUT)
-        .after_help(FOLLOW_LINES)
-        .arg(path(alloc, known))?
+pub(crate) fn follow_command<'a>(alloc: Global, known: Option<&'a str>) -> Made<'a> {
+    let pattern = valued(alloc, PATTERN, "P").help(
+        "Write the hits of this pattern, and not each letter",
+    );
+    let plain = flag(alloc, PLAIN).help("Write the letters alone");
+    let once = flag(alloc, ONCE).help("End with the first letter, or the first hit");
+    let names = operands(alloc, NAMES, "NAME").help("Names of fifodirs");
+    asking(alloc, known, "follow", (FOLLOW_ABOUT, FOLLOW_LINES))?
         .arg(pattern)?
         .arg(plain)?
         .arg(once)?
         .arg(names)
 }
+
+/// What the words ask for, unless memory runs out.
+type Read<'a> = Result<Plan<'a>, AllocError>;
 
 /// The values of an argument.
 fn values<'a>(alloc: Global, found: &ArgMatches<'a>, id: &str) -> Result<Vec<&'a str>, AllocError> {
@@ -167,14 +146,14 @@ fn values<'a>(alloc: Global, found: &ArgMatches<'a>, id: &str) -> Result<Vec<&'a
     Ok(values)
 }
 
-pub(crate) fn ask_plan<'a>(alloc: Global, found: &ArgMatches<'a>) -> Result<Plan<'a>, AllocError> {
+pub(crate) fn ask_plan<'a>(alloc: Global, found: &ArgMatches<'a>) -> Read<'a> {
     Ok(Plan::Ask {
-        socket: found.get_str(PATH).unwrap_or(""),
+        socket: socket_in(found),
         words: values(alloc, found, WORDS)?,
     })
 }
 
-pub(crate) fn wait_plan<'a>(alloc: Global, found: &ArgMatches<'a>) -> Result<Plan<'a>, AllocError> {
+pub(crate) fn wait_plan<'a>(alloc: Global, found: &ArgMatches<'a>) -> Read<'a> {
     let wish = Wish {
         span: found.get_str(SPAN).unwrap_or(""),
         want: found.get_str(WANT).unwrap_or(""),
@@ -182,27 +161,21 @@ pub(crate) fn wait_plan<'a>(alloc: Global, found: &ArgMatches<'a>) -> Result<Pla
         names: values(alloc, found, NAMES)?,
     };
     Ok(Plan::Wait {
-        socket: found.get_str(PATH).unwrap_or(""),
+        socket: socket_in(found),
         wish,
     })
 }
 
-pub(crate) fn status_plan<'a>(
-    alloc: Global,
-    found: &ArgMatches<'a>,
-) -> Result<Plan<'a>, AllocError> {
+pub(crate) fn status_plan<'a>(alloc: Global, found: &ArgMatches<'a>) -> Read<'a> {
     Ok(Plan::Status {
-        socket: found.get_str(PATH).unwrap_or(""),
+        socket: socket_in(found),
         names: values(alloc, found, NAMES)?,
     })
 }
 
-pub(crate) fn follow_plan<'a>(
-    alloc: Global,
-    found: &ArgMatches<'a>,
-) -> Result<Plan<'a>, AllocError> {
+pub(crate) fn follow_plan<'a>(alloc: Global, found: &ArgMatches<'a>) -> Read<'a> {
     Ok(Plan::Follow {
-        socket: found.get_str(PATH).unwrap_or(""),
+        socket: socket_in(found),
         names: values(alloc, found, NAMES)?,
         pattern: found.get_str(PATTERN),
         is_plain: found.get_flag(PLAIN),

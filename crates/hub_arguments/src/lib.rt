@@ -9,6 +9,7 @@ mod asking;
 mod asking_help;
 mod command_line;
 mod help;
+mod options;
 mod serving;
 
 pub use asking::Wish;

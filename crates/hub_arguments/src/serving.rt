@@ -2,10 +2,9 @@
 
 use crate::command_line::Plan;
 use crate::help::{CALL_ABOUT, CALL_LINES, SCRIPT_ABOUT, SCRIPT_LINES, SERVE_ABOUT, SERVE_LINES};
-use clap::{Arg, ArgAction, ArgMatches, Command, value_parser};
+use crate::options::{SOCKET, flag, socket_in, valued};
+use clap::{Arg, ArgMatches, Command, value_parser};
 use std::alloc::{AllocError, Global};
-
-const SOCKET: &str = "socket";
 
 const SESSIONS: &str = "sessions";
 
@@ -29,7 +28,7 @@ fn socket<'a>(alloc: Global) -> Arg<'a> {
 
 // With `--forever` there may be more sessions.
 fn sessions<'a>(alloc: Global, forever: bool) -> Arg<'a> {
-    let argument = Arg::new(alloc, SESSIONS).long("sessions").value_name("N");
+    let argument = valued(alloc, SESSIONS, "N");
     if forever {
         argument
             .help("How many clients at the same time, from 1 to 1024")
@@ -44,34 +43,25 @@ fn sessions<'a>(alloc: Global, forever: bool) -> Arg<'a> {
 }
 
 fn forever<'a>(alloc: Global) -> Arg<'a> {
-    Arg::new(alloc, FOREVER)
-        .long(FOREVER)
-        .action(ArgAction::SetTrue)
-        .help("Run until stopped; N is then 1 to 1024, or else 64")
+    flag(alloc, FOREVER).help("Run until stopped; N is then 1 to 1024, or else 64")
 }
 
 fn ready<'a>(alloc: Global) -> Result<Arg<'a>, AllocError> {
-    Arg::new(alloc, READY)
-        .long(READY)
-        .value_name("D")
+    valued(alloc, READY, "D")
         .help("With --forever: write a newline to D once it listens")
         .value_parser(value_parser!(u64).range(0..65536))
         .requires_arg(FOREVER)
 }
 
 fn mode<'a>(alloc: Global) -> Result<Arg<'a>, AllocError> {
-    Arg::new(alloc, MODE)
-        .long(MODE)
-        .value_name("MODE")
+    valued(alloc, MODE, "MODE")
         .help("With --forever: mode of the socket file")
         .value_parser(MODES.as_slice())
         .requires_arg(FOREVER)
 }
 
 fn idle<'a>(alloc: Global) -> Result<Arg<'a>, AllocError> {
-    Arg::new(alloc, IDLE)
-        .long(IDLE)
-        .value_name("SECONDS")
+    valued(alloc, IDLE, "SECONDS")
         .help("With --forever: end sessions idle for SECONDS")
         .value_parser(value_parser!(u64).range(1..1000001))
         .requires_arg(FOREVER)
@@ -103,11 +93,6 @@ pub(crate) fn call_command<'a>(alloc: Global) -> Result<Command<'a>, AllocError>
         .about(CALL_ABOUT)
         .after_help(CALL_LINES)
         .arg(socket(alloc))
-}
-
-// The socket that the words name.
-fn socket_in<'a>(found: &ArgMatches<'a>) -> &'a str {
-    found.get_str(SOCKET).unwrap_or("")
 }
 
 /// What the words of a `serve` ask for.

@@ -1,6 +1,6 @@
 //! Awaits, line by line of a session. Where the reply is `late`, nobody publishes meanwhile.
 use crate::tests::desks::{new_local, run_anew, run_each};
-use crate::tests::rows::Step::{End, Handles, Letters, Rows};
+use crate::tests::rows::Step::{AllHandles, End, Letters, Rows};
 use crate::tests::rows::run;
 
 /// It takes nothing: what is pending stays so, however often it is asked.
@@ -150,16 +150,7 @@ static MANY: &str = "
 
 #[test]
 fn each_handle_is_awaited(rt: HostRuntime) {
-    run_anew(
-        &rt,
-        &[
-            Rows(WEB),
-            Handles("listen web repeat b", 1, 1),
-            Handles("sub web", 2, 256),
-            Letters(4096),
-            Rows(MANY),
-        ],
-    );
+    run_anew(&rt, &[Rows(WEB), AllHandles(1), Letters(4096), Rows(MANY)]);
 }
 
 /// A desk of one thread answers at once, however many turns there are.

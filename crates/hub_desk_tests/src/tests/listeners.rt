@@ -1,6 +1,6 @@
 //! Listeners, line by line of a session.
 use crate::tests::desks::{run_anew, run_each};
-use crate::tests::rows::Step::{End, Handles, Letters, Rows};
+use crate::tests::rows::Step::{AllHandles, End, Letters, Rows};
 
 /// A hit over letters of several messages. What was heard before it is gone.
 static AGAIN: &str = "
@@ -151,15 +151,7 @@ static ALL_ACTIVE: &str = "
 
 #[test]
 fn current_handles_are_limited(rt: HostRuntime) {
-    run_anew(
-        &rt,
-        &[
-            Rows(WEB),
-            Handles("listen web repeat a", 1, 128),
-            Handles("sub web", 129, 256),
-            Rows(ALL_ACTIVE),
-        ],
-    );
+    run_anew(&rt, &[Rows(WEB), AllHandles(128), Rows(ALL_ACTIVE)]);
 }
 
 static HEARS_B: &str = "

@@ -1,6 +1,6 @@
 //! The names of fifodirs, in the order in which they were made.
 use crate::tests::desks::{new_hub, new_local, run_anew, run_each, session};
-use crate::tests::rows::Step::{End, Handles, Rows};
+use crate::tests::rows::Step::{AllHandles, End, Rows};
 use crate::tests::rows::run;
 use hub_requests::{Desk, Enter};
 use std::alloc::{AllocError, AllocGlobal, Global};
@@ -75,7 +75,7 @@ fn names_take_no_handle(rt: HostRuntime) {
         &rt,
         &[
             Rows(WEB),
-            Handles("sub web", 1, 256),
+            AllHandles(0),
             Rows(NEEDS_NO_HANDLE),
             End,
             Rows(AFTER_THE_END),

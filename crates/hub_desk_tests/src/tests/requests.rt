@@ -1,6 +1,6 @@
 //! What requests are answered, line by line of a session, and the limits of one.
 use crate::tests::desks::{new_hub, new_local, run_anew, run_each, session};
-use crate::tests::rows::Step::{End, Handles, Rows};
+use crate::tests::rows::Step::{AllHandles, End, Rows};
 use crate::tests::rows::{answer_to, expect_number, request, run};
 use hub_local::LocalDesk;
 use hub_requests::{Desk, Enter, Request};
@@ -160,10 +160,7 @@ static ALL_ACTIVE: &str = "
 
 #[test]
 fn current_handles_are_limited(rt: HostRuntime) {
-    run_anew(
-        &rt,
-        &[Rows(WEB), Handles("sub web", 1, 256), Rows(ALL_ACTIVE)],
-    );
+    run_anew(&rt, &[Rows(WEB), AllHandles(0), Rows(ALL_ACTIVE)]);
 }
 
 fn cancel<H: Wait + Enter>(rt: &H, desk: &mut LocalDesk, id: u64) {

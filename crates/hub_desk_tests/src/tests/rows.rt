@@ -15,8 +15,8 @@ use std::sync::Wait;
 pub enum Step {
     /// The rows of this text are asked in turn.
     Rows(&'static str),
-    /// The line is asked for handles, which have the numbers from the first to the last.
-    Handles(&'static str, u64, u64),
+    /// All 256 handles are made, at `web`: so many listeners for `b`, and then subscriptions.
+    AllHandles(u64),
     /// `web` gets its first message, of so many `a`.
     Letters(usize),
     /// The session ends.
@@ -97,16 +97,16 @@ pub fn expect_number<H: Abort + Wait + Enter, D: Desk>(
     assert!(rt; matches!(reply, Reply::Number(given) if given == number));
 }
 
-fn expect_numbers<H: AllocGlobal + Abort + Wait + Enter, D: Desk>(
+fn make_handles<H: AllocGlobal + Abort + Wait + Enter, D: Desk>(
     rt: &H,
     desk: &mut D,
-    line: &str,
-    first: u64,
-    last: u64,
+    listeners: u64,
 ) {
-    let request = request(rt, rt.alloc(), line);
-    for number in first..=last {
-        expect_number(rt, desk, &request, number);
+    let listen = request(rt, rt.alloc(), "listen web repeat b");
+    let sub = request(rt, rt.alloc(), "sub web");
+    for number in 1..=256u64 {
+        let request = if number <= listeners { &listen } else { &sub };
+        expect_number(rt, desk, request, number);
     }
 }
 
@@ -115,7 +115,7 @@ pub fn go<H: AllocGlobal + Abort + Wait + Enter, D: Desk>(rt: &H, desk: &mut D, 
     for step in steps {
         match step {
             Step::Rows(rows) => run(rt, desk, rows),
-            Step::Handles(line, first, last) => expect_numbers(rt, desk, line, *first, *last),
+            Step::AllHandles(listeners) => make_handles(rt, desk, *listeners),
             Step::Letters(count) => {
                 expect(rt, desk, &many_letters(rt, rt.alloc(), *count), "ok 0");
             }

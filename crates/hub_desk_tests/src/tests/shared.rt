@@ -58,26 +58,6 @@ fn next_number<H: AllocGlobal + Abort + Wait + Enter>(
     Ok(Some(number))
 }
 
-/// A session makes one publisher under a name, whatever it asks of it.
-static SPEAKS: &str = "
-    dir web 64 100 -> ok
-    status web -> ok 0 0 open
-    pub web a -> ok 0
-    pub web b -> ok 1
-    close web -> ok
-";
-
-#[test]
-fn a_session_keeps_its_publisher(rt: HostRuntime) -> Result<(), Fail> {
-    let hub = new_hub(&rt);
-    let mut desk = session(&rt, &hub);
-    run(&rt, &mut desk, SPEAKS);
-    let number = next_number(&rt, &hub);
-    desk.release(&rt);
-    assert_eq!(rt; number?, Some(2));
-    Ok(())
-}
-
 /// The id that the next subscription to a fifodir gets. None if it is refused.
 pub fn next_id<H: Wait + Enter>(rt: &H, found: &Found) -> Option<u64> {
     let Ok(ticket) = found.dir.subscribe(rt) else {
@@ -98,6 +78,34 @@ fn next_of_each<H: AllocGlobal + Abort + Wait + Enter>(
     Ok((next_id(rt, &found), next_number(rt, hub)?))
 }
 
+/// The same, while a session is there that has asked these rows.
+fn next_beside<H: AllocGlobal + Abort + Wait + Enter>(
+    rt: &H,
+    rows: &str,
+) -> Result<(Option<u64>, Option<u64>), Fail> {
+    let hub = new_hub(rt);
+    let mut desk = session(rt, &hub);
+    run(rt, &mut desk, rows);
+    let next = next_of_each(rt, &hub);
+    desk.release(rt);
+    next
+}
+
+/// A session makes one publisher under a name, whatever it asks of it. The fifodir is closed at the end.
+static SPEAKS: &str = "
+    dir web 64 100 -> ok
+    status web -> ok 0 0 open
+    pub web a -> ok 0
+    pub web b -> ok 1
+    close web -> ok
+";
+
+#[test]
+fn a_session_keeps_its_publisher(rt: HostRuntime) -> Result<(), Fail> {
+    assert_eq!(rt; next_beside(&rt, SPEAKS)?, (None, Some(2)));
+    Ok(())
+}
+
 /// A session subscribes, listens, awaits both sorts of handles, and lists the names.
 static LOOKS: &str = "
     dir web 64 100 -> ok
@@ -110,12 +118,7 @@ static LOOKS: &str = "
 
 #[test]
 fn an_await_and_a_list_make_no_pass(rt: HostRuntime) -> Result<(), Fail> {
-    let hub = new_hub(&rt);
-    let mut desk = session(&rt, &hub);
-    run(&rt, &mut desk, LOOKS);
-    let next = next_of_each(&rt, &hub);
-    desk.release(&rt);
-    assert_eq!(rt; next?, (Some(3), Some(1)));
+    assert_eq!(rt; next_beside(&rt, LOOKS)?, (Some(3), Some(1)));
     Ok(())
 }
 

@@ -15,28 +15,21 @@ static BEGUN: &str = "
     listen web repeat b -> ok 2
 ";
 
+fn answer<H: AllocGlobal + Abort + Wait + Enter, D: Desk>(
+    rt: &H,
+    desk: &mut D,
+    line: &str,
+) -> Reply {
+    answer_to(rt, desk, &request(rt, rt.alloc(), line))
+}
+
 fn takes<H: AllocGlobal + Abort + Wait + Enter, D: Desk>(
     rt: &H,
     desk: &mut D,
     count: usize,
 ) -> bool {
-    let take = request(rt, rt.alloc(), "take 1 256");
-    match answer_to(rt, desk, &take) {
-        Reply::Got(letters) => letters.items().len() == count,
-        _ => false,
-    }
-}
-
-fn hears<H: AllocGlobal + Abort + Wait + Enter, D: Desk>(
-    rt: &H,
-    desk: &mut D,
-    count: usize,
-) -> bool {
-    let poll = request(rt, rt.alloc(), "poll 2");
-    match answer_to(rt, desk, &poll) {
-        Reply::Hit(letters) => letters.items().len() == count,
-        _ => false,
-    }
+    let taken = answer(rt, desk, "take 1 256");
+    matches!(taken, Reply::Got(letters) if letters.items().len() == count)
 }
 
 /// Whether a message of so many letters is taken, and a listener hears it with a letter more, at which it hits.
@@ -46,14 +39,15 @@ fn carries<H: AllocGlobal + Abort + Wait + Enter, D: Desk>(
     count: usize,
 ) -> bool {
     let message = many_letters(rt, rt.alloc(), count);
-    let last = request(rt, rt.alloc(), "pub web b");
     let sent = answer_to(rt, desk, &message);
     let was_taken = takes(rt, desk, count);
-    let hit = answer_to(rt, desk, &last);
-    matches!((sent, hit), (Reply::Number(_), Reply::Number(_)))
+    let last = answer(rt, desk, "pub web b");
+    let last_was_taken = takes(rt, desk, 1);
+    let heard = answer(rt, desk, "poll 2");
+    matches!((sent, last), (Reply::Number(_), Reply::Number(_)))
         && was_taken
-        && takes(rt, desk, 1)
-        && hears(rt, desk, count.saturating_add(1))
+        && last_was_taken
+        && matches!(heard, Reply::Hit(letters) if letters.items().len() == count.saturating_add(1))
 }
 
 /// How many letters the first message has that isn't carried so.

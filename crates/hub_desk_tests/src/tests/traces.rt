@@ -1,12 +1,12 @@
 //! What a request leaves at the fifodirs of its hub, as others see them: nothing but what it asks for, and nothing elsewhere.
-use crate::tests::desks::{new_hub, session};
+use crate::tests::desks::{Session, new_hub, session};
 use crate::tests::rows::{name_of, run};
 use crate::tests::shared::next_id;
 use hub_requests::{Desk, Enter};
 use hub_shared::Hub;
-use std::alloc::AllocGlobal;
+use std::alloc::{AllocGlobal, Global};
 use std::process::Abort;
-use std::sync::Wait;
+use std::sync::{Arc, Wait};
 use std::test::Fail;
 
 /// What others see of a fifodir: its number of events, the id that the next ticket gets, and the number that the next publisher
@@ -108,6 +108,13 @@ fn seen_of_both<H: AllocGlobal + Abort + Wait + Enter>(
     Ok((seen(rt, hub, "web")?, seen(rt, hub, "db")?))
 }
 
+/// The session that has begun.
+fn begun<H: AllocGlobal + Abort + Wait + Enter>(rt: &H, hub: &Arc<Hub, Global>) -> Session {
+    let mut desk = session(rt, hub);
+    run(rt, &mut desk, BEGUN);
+    desk
+}
+
 /// Asks in a hub of its own, and wants others to see this.
 fn leaves<H: AllocGlobal + Abort + Wait + Enter>(
     rt: &H,
@@ -116,8 +123,7 @@ fn leaves<H: AllocGlobal + Abort + Wait + Enter>(
     names: &str,
 ) -> Result<(), Fail> {
     let hub = new_hub(rt);
-    let mut desk = session(rt, &hub);
-    run(rt, &mut desk, BEGUN);
+    let mut desk = begun(rt, &hub);
     run(rt, &mut desk, rows);
     let found = seen_of_both(rt, &hub);
     desk.release(rt);
@@ -139,8 +145,7 @@ fn a_request_leaves_nothing_else(rt: HostRuntime) -> Result<(), Fail> {
 #[test]
 fn an_end_leaves_the_fifodirs_alone(rt: HostRuntime) -> Result<(), Fail> {
     let hub = new_hub(&rt);
-    let mut desk = session(&rt, &hub);
-    run(&rt, &mut desk, BEGUN);
+    let mut desk = begun(&rt, &hub);
     desk.end(&rt);
     let found = seen_of_both(&rt, &hub);
     desk.release(&rt);
@@ -151,8 +156,7 @@ fn an_end_leaves_the_fifodirs_alone(rt: HostRuntime) -> Result<(), Fail> {
 #[test]
 fn a_release_leaves_the_fifodirs_alone(rt: HostRuntime) -> Result<(), Fail> {
     let hub = new_hub(&rt);
-    let mut desk = session(&rt, &hub);
-    run(&rt, &mut desk, BEGUN);
+    let desk = begun(&rt, &hub);
     desk.release(&rt);
     assert_eq!(rt; seen_of_both(&rt, &hub)?, (WEB, DB));
     Ok(())

@@ -1,6 +1,6 @@
 //! Waits, line by line of a session, with what other requests show of them afterwards.
 use crate::tests::desks::{run_anew, run_each};
-use crate::tests::rows::Step::{Handles, Rows};
+use crate::tests::rows::Step::{AllHandles, Rows};
 
 /// Without a turn, and for a name that is given twice.
 static ZERO_TURNS: &str = "
@@ -158,8 +158,5 @@ static ALL_ACTIVE: &str = "
 
 #[test]
 fn a_wait_works_beside_all_handles(rt: HostRuntime) {
-    run_anew(
-        &rt,
-        &[Rows(WEB), Handles("sub web", 1, 256), Rows(ALL_ACTIVE)],
-    );
+    run_anew(&rt, &[Rows(WEB), AllHandles(0), Rows(ALL_ACTIVE)]);
 }
