@@ -106,12 +106,11 @@ pub(crate) fn wait_command<'a>(alloc: Global, known: Option<&'a str>) -> Made<'a
     let patience = valued(alloc, PATIENCE, "DURATION")
         .help("Time limit, such as 500ms, 5s or 2m")
         .required(true);
-    let names = operands(alloc, NAMES, "NAME").help("Names of services");
     asking(alloc, known, "wait", (WAIT_ABOUT, WAIT_LINES))?
         .arg(patience)?
         .arg(span)?
         .arg(want)?
-        .arg(names)
+        .arg(operands(alloc, NAMES, "NAME").help("Names of services"))
 }
 
 pub(crate) fn status_command<'a>(alloc: Global, known: Option<&'a str>) -> Made<'a> {
@@ -128,12 +127,11 @@ pub(crate) fn follow_command<'a>(alloc: Global, known: Option<&'a str>) -> Made<
     );
     let plain = flag(alloc, PLAIN).help("Write the letters alone");
     let once = flag(alloc, ONCE).help("End with the first letter, or the first hit");
-    let names = operands(alloc, NAMES, "NAME").help("Names of fifodirs");
     asking(alloc, known, "follow", (FOLLOW_ABOUT, FOLLOW_LINES))?
         .arg(pattern)?
         .arg(plain)?
         .arg(once)?
-        .arg(names)
+        .arg(operands(alloc, NAMES, "NAME").help("Names of fifodirs"))
 }
 
 /// What the words ask for, unless memory runs out.
