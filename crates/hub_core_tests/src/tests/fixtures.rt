@@ -39,6 +39,23 @@ pub(crate) fn size_at(place: usize) -> usize {
 /// What a place has that no take wrote to.
 pub(crate) const BLANK: (u64, u8) = (0, b'!');
 
+/// What three places have then.
+pub(crate) const BLANKS: [(u64, u8); 3] = [BLANK, BLANK, BLANK];
+
+/// A row of a table: its name, its kind with its limits, and the calls.
+macro_rules! row {
+    ($name:literal, $kind:ident $limits:tt: $($step:ident $(($($value:expr),*))?),*) => {
+        Row {
+            name: $name,
+            kind: Kind::$kind,
+            limits: $limits,
+            steps: &[$(Step::$step $(($($value),*))?),*],
+        }
+    };
+}
+
+pub(crate) use row;
+
 /// Whether the events are these publishers' numbers and letters.
 pub(crate) fn are_events(events: &[Event], wanted: &[(u64, u8)]) -> bool {
     for (event, (who, byte)) in events.iter().zip(wanted.iter()) {

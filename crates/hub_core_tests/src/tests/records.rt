@@ -1,5 +1,5 @@
 //! Records, by rows of calls.
-use crate::tests::fixtures::{BLANK, are_events, none_is_unlike, word};
+use crate::tests::fixtures::{BLANK, BLANKS, are_events, none_is_unlike, row, word};
 use hub_letters::Stage;
 use hub_record::{Closed, Event, Kind, Limits, NoId, Policy, PubError, Record, SubError, Taken};
 use std::alloc::Global;
@@ -33,183 +33,61 @@ struct Row {
 }
 
 static ROWS: [Row; 7] = [
-    Row {
-        name: "ids are never given again",
-        kind: Kind::Plain,
-        limits: (2, 5, 1),
-        steps: &[
-            Step::Subscribe(Ok((1, 0))),
-            Step::Cancel(1, Ok(())),
-            Step::Subscribe(Err(SubError::Spent)),
-            Step::Close(Ok(())),
-            Step::Subscribe(Err(SubError::Closed)),
-            Step::Publish(1, "", Err(PubError::Closed)),
-            Step::Close(Err(Closed)),
-            Step::Cancel(1, Err(NoId)),
-        ],
-    },
-    Row {
-        name: "full is exact",
-        kind: Kind::Plain,
-        limits: (2, 100, 10),
-        steps: &[
-            Step::Subscribe(Ok((1, 0))),
-            Step::Publish(1, "ab", Ok(0)),
-            Step::Publish(1, "", Ok(2)),
-            Step::Publish(1, "c", Err(PubError::Full)),
-            Step::Counts(2, 0, Some(2)),
-        ],
-    },
-    Row {
-        name: "nobody is too slow where nobody subscribed",
-        kind: Kind::Plain,
-        limits: (2, 100, 10),
-        steps: &[
-            Step::Publish(1, "abcde", Ok(0)),
-            Step::Counts(5, 5, None),
-            Step::Shows(Stage::Off, 0, false),
-        ],
-    },
-    Row {
-        name: "the slowest holds the base",
-        kind: Kind::Plain,
-        limits: (4, 100, 10),
-        steps: &[
-            Step::Subscribe(Ok((1, 0))),
-            Step::Publish(7, "ab", Ok(0)),
-            Step::Subscribe(Ok((2, 2))),
-            Step::Take(2, Ok(Taken::Nothing), [BLANK, BLANK, BLANK]),
-            Step::Publish(9, "cd", Ok(2)),
-            Step::Take(2, Ok(Taken::Got(2)), [(9, b'c'), (9, b'd'), BLANK]),
-            Step::Counts(4, 0, Some(4)),
-            Step::Take(1, Ok(Taken::Got(3)), [(7, b'a'), (7, b'b'), (9, b'c')]),
-            Step::Counts(4, 3, Some(1)),
-            Step::Cancel(1, Ok(())),
-            Step::Counts(4, 4, None),
-            Step::Close(Ok(())),
-            Step::Take(2, Ok(Taken::End), [BLANK, BLANK, BLANK]),
-            Step::Take(1, Err(NoId), [BLANK, BLANK, BLANK]),
-        ],
-    },
-    Row {
-        name: "an unlawful letter stops the whole message",
-        kind: Kind::Service,
-        limits: (8, 100, 10),
-        steps: &[
-            Step::Subscribe(Ok((1, 0))),
-            Step::Publish(1, "su", Ok(0)),
-            Step::Publish(1, "UdU", Err(PubError::Unlawful(2))),
-            Step::Counts(2, 0, Some(2)),
-            Step::Shows(Stage::Starting, 5, false),
-            Step::Publish(1, "UdD", Ok(2)),
-            Step::Counts(5, 0, Some(5)),
-            Step::Shows(Stage::Idle, 6, false),
-        ],
-    },
-    Row {
-        name: "a thousand and twenty-four subscriptions at once",
-        kind: Kind::Plain,
-        limits: (2, 100, 2000),
-        steps: &[
-            Step::SubscribeUpTo(1024),
-            Step::Subscribe(Err(SubError::Many)),
-            Step::Cancel(512, Ok(())),
-            Step::Subscribe(Ok((1025, 0))),
-            Step::Subscribe(Err(SubError::Many)),
-        ],
-    },
-    Row {
-        name: "a million letters pass a ring of two",
-        kind: Kind::Plain,
-        limits: (2, 1_000_000, 10),
-        steps: &[
-            Step::Subscribe(Ok((1, 0))),
-            Step::Pass(1_000_000),
-            Step::Counts(1_000_000, 1_000_000, Some(0)),
-            Step::Publish(1, "a", Err(PubError::Spent)),
-            Step::Publish(1, "", Ok(1_000_000)),
-        ],
-    },
+    row!("ids are never given again", Plain (2, 5, 1):
+        Subscribe(Ok((1, 0))), Cancel(1, Ok(())), Subscribe(Err(SubError::Spent)), Close(Ok(())),
+        Subscribe(Err(SubError::Closed)), Publish(1, "", Err(PubError::Closed)), Close(Err(Closed)),
+        Cancel(1, Err(NoId))),
+    row!("full is exact", Plain (2, 100, 10):
+        Subscribe(Ok((1, 0))), Publish(1, "ab", Ok(0)), Publish(1, "", Ok(2)),
+        Publish(1, "c", Err(PubError::Full)), Counts(2, 0, Some(2))),
+    row!("nobody is too slow where nobody subscribed", Plain (2, 100, 10):
+        Publish(1, "abcde", Ok(0)), Counts(5, 5, None), Shows(Stage::Off, 0, false)),
+    row!("the slowest holds the base", Plain (4, 100, 10):
+        Subscribe(Ok((1, 0))), Publish(7, "ab", Ok(0)), Subscribe(Ok((2, 2))),
+        Take(2, Ok(Taken::Nothing), BLANKS), Publish(9, "cd", Ok(2)),
+        Take(2, Ok(Taken::Got(2)), [(9, b'c'), (9, b'd'), BLANK]), Counts(4, 0, Some(4)),
+        Take(1, Ok(Taken::Got(3)), [(7, b'a'), (7, b'b'), (9, b'c')]), Counts(4, 3, Some(1)),
+        Cancel(1, Ok(())), Counts(4, 4, None), Close(Ok(())), Take(2, Ok(Taken::End), BLANKS),
+        Take(1, Err(NoId), BLANKS)),
+    row!("an unlawful letter stops the whole message", Service (8, 100, 10):
+        Subscribe(Ok((1, 0))), Publish(1, "su", Ok(0)),
+        Publish(1, "UdU", Err(PubError::Unlawful(2))), Counts(2, 0, Some(2)),
+        Shows(Stage::Starting, 5, false), Publish(1, "UdD", Ok(2)), Counts(5, 0, Some(5)),
+        Shows(Stage::Idle, 6, false)),
+    row!("a thousand and twenty-four subscriptions at once", Plain (2, 100, 2000):
+        SubscribeUpTo(1024), Subscribe(Err(SubError::Many)), Cancel(512, Ok(())),
+        Subscribe(Ok((1025, 0))), Subscribe(Err(SubError::Many))),
+    row!("a million letters pass a ring of two", Plain (2, 1_000_000, 10):
+        Subscribe(Ok((1, 0))), Pass(1_000_000), Counts(1_000_000, 1_000_000, Some(0)),
+        Publish(1, "a", Err(PubError::Spent)), Publish(1, "", Ok(1_000_000))),
 ];
 
 /// Rows of records that evict.
 static EVICTING: [Row; 4] = [
-    Row {
-        name: "the slowest is evicted, and no other",
-        kind: Kind::Plain,
-        limits: (4, 100, 10),
-        steps: &[
-            Step::Subscribe(Ok((1, 0))),
-            Step::Subscribe(Ok((2, 0))),
-            Step::Publish(1, "abcd", Ok(0)),
-            Step::Take(1, Ok(Taken::Got(3)), [(1, b'a'), (1, b'b'), (1, b'c')]),
-            Step::Publish(1, "ef", Ok(4)),
-            Step::Counts(6, 3, Some(3)),
-            Step::Take(2, Ok(Taken::Evicted), [BLANK, BLANK, BLANK]),
-            Step::Take(1, Ok(Taken::Got(3)), [(1, b'd'), (1, b'e'), (1, b'f')]),
-            Step::Take(1, Ok(Taken::Nothing), [BLANK, BLANK, BLANK]),
-            Step::Take(2, Ok(Taken::Evicted), [BLANK, BLANK, BLANK]),
-            Step::Cancel(2, Ok(())),
-            Step::Take(2, Err(NoId), [BLANK, BLANK, BLANK]),
-            Step::Publish(1, "ghijk", Err(PubError::Full)),
-            Step::Cancel(1, Ok(())),
-            Step::Publish(1, "ghijk", Ok(6)),
-            Step::Counts(11, 11, None),
-        ],
-    },
-    Row {
-        name: "an evicted one stays so until it is cancelled",
-        kind: Kind::Plain,
-        limits: (2, 100, 10),
-        steps: &[
-            Step::Subscribe(Ok((1, 0))),
-            Step::Publish(1, "ab", Ok(0)),
-            Step::Counts(2, 0, Some(2)),
-            Step::Publish(1, "c", Ok(2)),
-            Step::Counts(3, 3, None),
-            Step::Take(1, Ok(Taken::Evicted), [BLANK, BLANK, BLANK]),
-            Step::Subscribe(Ok((2, 3))),
-            Step::Publish(1, "de", Ok(3)),
-            Step::Take(1, Ok(Taken::Evicted), [BLANK, BLANK, BLANK]),
-            Step::Take(2, Ok(Taken::Got(2)), [(1, b'd'), (1, b'e'), BLANK]),
-            Step::Close(Ok(())),
-            Step::Take(2, Ok(Taken::End), [BLANK, BLANK, BLANK]),
-            Step::Take(1, Ok(Taken::Evicted), [BLANK, BLANK, BLANK]),
-            Step::Cancel(1, Ok(())),
-            Step::Cancel(1, Err(NoId)),
-        ],
-    },
-    Row {
-        name: "the total and an empty message",
-        kind: Kind::Plain,
-        limits: (3, 5, 10),
-        steps: &[
-            Step::Subscribe(Ok((1, 0))),
-            Step::Publish(1, "abc", Ok(0)),
-            Step::Publish(1, "", Ok(3)),
-            Step::Counts(3, 0, Some(3)),
-            Step::Publish(1, "def", Err(PubError::Spent)),
-            Step::Publish(1, "de", Ok(3)),
-            Step::Counts(5, 5, None),
-            Step::Publish(1, "f", Err(PubError::Spent)),
-        ],
-    },
-    Row {
-        name: "evicted ones are among the thousand and twenty-four",
-        kind: Kind::Plain,
-        limits: (1, 100, 2000),
-        steps: &[
-            Step::SubscribeUpTo(1024),
-            Step::Publish(1, "a", Ok(0)),
-            Step::Publish(1, "b", Ok(1)),
-            Step::Take(1024, Ok(Taken::Evicted), [BLANK, BLANK, BLANK]),
-            Step::Subscribe(Err(SubError::Many)),
-            Step::Cancel(7, Ok(())),
-            Step::Subscribe(Ok((1025, 2))),
-            Step::Publish(1, "c", Ok(2)),
-            Step::Take(1025, Ok(Taken::Got(1)), [(1, b'c'), BLANK, BLANK]),
-        ],
-    },
+    row!("the slowest is evicted, and no other", Plain (4, 100, 10):
+        Subscribe(Ok((1, 0))), Subscribe(Ok((2, 0))), Publish(1, "abcd", Ok(0)),
+        Take(1, Ok(Taken::Got(3)), [(1, b'a'), (1, b'b'), (1, b'c')]), Publish(1, "ef", Ok(4)),
+        Counts(6, 3, Some(3)), Take(2, Ok(Taken::Evicted), BLANKS),
+        Take(1, Ok(Taken::Got(3)), [(1, b'd'), (1, b'e'), (1, b'f')]),
+        Take(1, Ok(Taken::Nothing), BLANKS), Take(2, Ok(Taken::Evicted), BLANKS), Cancel(2, Ok(())),
+        Take(2, Err(NoId), BLANKS), Publish(1, "ghijk", Err(PubError::Full)), Cancel(1, Ok(())),
+        Publish(1, "ghijk", Ok(6)), Counts(11, 11, None)),
+    row!("an evicted one stays so until it is cancelled", Plain (2, 100, 10):
+        Subscribe(Ok((1, 0))), Publish(1, "ab", Ok(0)), Counts(2, 0, Some(2)),
+        Publish(1, "c", Ok(2)), Counts(3, 3, None), Take(1, Ok(Taken::Evicted), BLANKS),
+        Subscribe(Ok((2, 3))), Publish(1, "de", Ok(3)), Take(1, Ok(Taken::Evicted), BLANKS),
+        Take(2, Ok(Taken::Got(2)), [(1, b'd'), (1, b'e'), BLANK]), Close(Ok(())),
+        Take(2, Ok(Taken::End), BLANKS), Take(1, Ok(Taken::Evicted), BLANKS), Cancel(1, Ok(())),
+        Cancel(1, Err(NoId))),
+    row!("the total and an empty message", Plain (3, 5, 10):
+        Subscribe(Ok((1, 0))), Publish(1, "abc", Ok(0)), Publish(1, "", Ok(3)),
+        Counts(3, 0, Some(3)), Publish(1, "def", Err(PubError::Spent)), Publish(1, "de", Ok(3)),
+        Counts(5, 5, None), Publish(1, "f", Err(PubError::Spent))),
+    row!("evicted ones are among the thousand and twenty-four", Plain (1, 100, 2000):
+        SubscribeUpTo(1024), Publish(1, "a", Ok(0)), Publish(1, "b", Ok(1)),
+        Take(1024, Ok(Taken::Evicted), BLANKS), Subscribe(Err(SubError::Many)), Cancel(7, Ok(())),
+        Subscribe(Ok((1025, 2))), Publish(1, "c", Ok(2)),
+        Take(1025, Ok(Taken::Got(1)), [(1, b'c'), BLANK, BLANK])),
 ];
 
 fn takes(
