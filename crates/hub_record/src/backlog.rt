@@ -1,17 +1,15 @@
 //! The pending events, and the cursors into them.
-ghost use Rattle.std.specs.Prelude.{◌≡◌, ◌≤◌, ◌<◌, ◌↔◌, ◌+◌, ◌-◌, ◌++◌, ◌⊎◌, length, replicate, min, IfOk, IfSome, OnErr, IsTrue, drop, nat_eq};
+ghost use Rattle.std.specs.Prelude.{◌≡◌, ◌≤◌, ◌<◌, ◌↔◌, ◌+◌, ◌⊎◌, length, IfOk, IfSome, OnErr, IsTrue, nat_eq};
 ghost use Rattle.std.specs.Map.{set_value};
-ghost use Rattle.circular_buffer.specs.Buffer.{buffer};
 ghost use Rattle.hub_record.specs.declared.limits.TheConstants.{MOST_EVENTS, MOST_IDS, MOST_PASSES};
 ghost use Rattle.hub_record.specs.World.{as_events};
-ghost use Rattle.hub_record.specs.Backlog.{Held, nothing_held, lowest, pending, first_place};
+ghost use Rattle.hub_record.specs.Backlog.{Held, nothing_held, lowest, pending};
 ghost use Rattle.hub_record.specs.Backlog.{with_new_id, with_events, with_cursors, next_of, IsStill, HasRoomFor, ArePending, ShowsBy, RemovesBy};
 
-use crate::counts::{
-    Counts, add_place, cut_places, first_place, has_first, keep_last, lengthen, one_less, one_more,
-};
+use crate::counts::{Counts, has_first, keep_last, one_less, one_more};
 use crate::cursor_list::CursorList;
-use crate::ring::{add, copy_out, cut, push_in};
+use crate::ends::{append, release};
+use crate::ring::{copy_out, cut};
 use crate::{Event, NoId, Policy};
 use circular_buffer::HeapCircularBuffer;
 use hub_letters::Letter;
@@ -244,63 +242,9 @@ impl Backlog {
     }
 }
 
-/// Releases the first events, with their counts, and adds the letters as events, at which there is no cursor.
-#[inline(always)]
-fn append(
-    ring: &mut HeapCircularBuffer<Event>,
-    counts: &mut Counts,
-    over: usize,
-    who: u64,
-    letters: &[Letter],
-)
-    requires over { (over ≤ length ring.old.items) × (over < length counts.old.items) }
-    requires events { length ring.old.items - over + length letters.now ≤ ring.old.capacity }
-    requires counts { length counts.old.items - over + length letters.now ≤ counts.old.capacity }
-    ensures events { ring.new ≡ buffer
-        (drop over ring.old.items ++ as_events who letters.now) ring.old.capacity }
-    ensures counts { counts.new ≡ buffer
-        (drop over counts.old.items ++ replicate (length letters.now) 0) counts.old.capacity }
-{
-    // Many messages have one letter that fits.
-    if over == 0 && letters.len() == 1 {
-        let event = Event {
-            who,
-            letter: letters[0],
-        };
-        add(ring, event);
-        add_place(counts);
-        return;
-    }
-    cut(ring, over);
-    cut_places(counts, over);
-    push_in(ring, who, letters);
-    lengthen(counts, letters.len());
-}
-
 /// Whether a cursor is still at the base, after one left a place where so many are left.
 fn one_stays(place: usize, left: u64) -> bool
     ensures { IsTrue result → (0 < place) ⊎ (0 < left) }
 {
     place > 0 || left > 0
-}
-
-/// Releases the events before the first cursor, with their counts. Returns how many there were. The place of the first cursor
-/// may be known; else it is looked for.
-#[cold]
-#[inline(never)]
-fn release(ring: &mut HeapCircularBuffer<Event>, counts: &mut Counts, known: Option<usize>) -> usize
-    requires places { length ring.old.items < length counts.old.items }
-    requires known { IfSome known (λ first. first ≡ first_place counts.old.items) }
-    ensures count { result ≡ min (first_place counts.old.items) (length ring.old.items) }
-    ensures events { ring.new ≡ buffer (drop result ring.old.items) ring.old.capacity }
-    ensures counts { counts.new ≡ buffer (drop result counts.old.items) counts.old.capacity }
-{
-    let first = match known {
-        Some(first) => first,
-        None => first_place(counts),
-    };
-    let count = first.min(ring.len());
-    cut(ring, count);
-    cut_places(counts, count);
-    count
 }

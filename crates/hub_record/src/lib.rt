@@ -25,6 +25,7 @@
 mod backlog;
 mod counts;
 mod cursor_list;
+mod ends;
 mod enter;
 pub mod laws;
 mod letters;

@@ -1,5 +1,5 @@
 use Rattle.hub_record.proofs.Copies.{appended_one}
-use Rattle.hub_record.proofs.backlog.append.Goals as goal
+use Rattle.hub_record.proofs.ends.append.Goals as goal
 
 pub returns-then-letters-eq1-clause-events : goal.returns-then-letters-eq1-clause-events
 returns-then-letters-eq1-clause-events c =
