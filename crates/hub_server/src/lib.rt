@@ -7,6 +7,7 @@
 //! Reader and writer are dropped on the session's own thread, so a connection ends with its session.
 #![tactic(auto)]
 
+mod bell;
 mod connection;
 mod desks;
 mod door;

@@ -1,6 +1,7 @@
 //! Threads that serve sessions, and the one that puts others in the place of those that have left.
 ghost use Rattle.std.specs.Prelude.{◌≡◌, IfOk, vec_len};
 
+use crate::bell::Bell;
 use crate::connection::Connection;
 use crate::desks::Desks;
 use crate::door::SharedDoor;
@@ -12,42 +13,8 @@ use hub_front::Enter;
 use std::alloc::{AllocError, Global};
 use std::rt::Clock;
 use std::sync::atomic::{AtomicBool, Ordering};
-use std::sync::{Arc, Condvar, Mutex, OnceLock, Wait};
+use std::sync::{Arc, Mutex, OnceLock, Wait};
 use std::thread::{Builder, JoinHandle, Threads};
-
-/// Tells that workers have left.
-#[derive(Drop)]
-struct Bell {
-    /// Whether a worker has left since this was looked at.
-    rang: Mutex<bool>,
-    came: Condvar,
-}
-
-impl Bell {
-    fn new() -> Bell {
-        Bell {
-            rang: Mutex::new(false),
-            came: Condvar::new(),
-        }
-    }
-
-    fn ring<H: Wait>(&self, rt: &H) {
-        *self.rang.lock(rt) = true;
-        self.came.notify_one();
-    }
-
-    // Waits until a worker has left.
-    fn hear<H: Wait>(&self, rt: &H) {
-        let mut rang = self.rang.lock(rt);
-        'silent: for _ in rt.forever() {
-            if *rang {
-                break;
-            }
-            rang = self.came.wait(rt, rang);
-        }
-        *rang = false;
-    }
-}
 
 /// What each worker has a share of.
 #[derive(Drop)]
