@@ -50,8 +50,6 @@ fn names_are_listed_in_order(rt: HostRuntime) {
     run_each(&rt, &[IN_ORDER, KEPT]);
 }
 
-static WEB: &str = "dir web 64 1000 -> ok";
-
 /// All handles are held, and names need none.
 static NEEDS_NO_HANDLE: &str = "
     sub web -> no many
@@ -74,7 +72,7 @@ fn names_take_no_handle(rt: HostRuntime) {
     run_anew(
         &rt,
         &[
-            Rows(WEB),
+            Rows("dir web 64 1000 -> ok"),
             AllHandles(0),
             Rows(NEEDS_NO_HANDLE),
             End,

@@ -76,11 +76,18 @@ fn expect<H: AllocGlobal + Abort + Wait + Enter, D: Desk>(
     assert_eq!(rt; line.as_slice(), want.as_bytes(), "{want}");
 }
 
-/// Asks each row in turn: a line, an arrow and the line of its reply.
+/// Asks a line, and wants the one behind the arrow for the reply.
+fn ask_row<H: AllocGlobal + Abort + Wait + Enter, D: Desk>(rt: &H, desk: &mut D, row: &str) {
+    let (line, want) = row.split_once(" -> ").expect(rt, "an arrow");
+    expect(rt, desk, &request(rt, rt.alloc(), line.trim()), want);
+}
+
+/// Asks each row in turn: a line, an arrow and the line of its reply. A semicolon is between rows that share a line.
 pub fn run<H: AllocGlobal + Abort + Wait + Enter, D: Desk>(rt: &H, desk: &mut D, rows: &str) {
-    for row in rows.trim().lines() {
-        let (line, want) = row.split_once(" -> ").expect(rt, "an arrow");
-        expect(rt, desk, &request(rt, rt.alloc(), line.trim()), want);
+    for line in rows.trim().lines() {
+        for row in line.split(';') {
+            ask_row(rt, desk, row);
+        }
     }
 }
 
