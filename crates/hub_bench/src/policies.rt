@@ -21,6 +21,9 @@ const BURST: usize = 256;
 /// How many messages are published.
 const BURSTS: u32 = 20_000;
 
+/// How many letters they have in all.
+const SENT: u64 = BURST as u64 * BURSTS as u64;
+
 /// How many subscriptions are evicted beside the one that takes.
 const EVICTED: u64 = 1_000;
 
@@ -49,11 +52,10 @@ fn records(rt: &impl Runtime, alloc: Global, listeners: u64) -> Result<()> {
         load.policy = Policy::Evict;
         evicting = evicting.min(through_record(rt, alloc, load)?);
     }
-    let sent = BURST as u64 * BURSTS as u64;
+    let (held, evicted) = (rate(SENT, holding), rate(SENT, evicting));
     println!(rt;
-        "{listeners} listeners, bursts of {BURST}: {} letters a second held, {} where slow ones are evicted",
-        rate(sent, holding),
-        rate(sent, evicting)
+        "{listeners} listeners, bursts of {BURST}: {held} letters a second held, \
+         {evicted} where slow ones are evicted"
     )?;
     Ok(())
 }
@@ -66,11 +68,10 @@ fn fifodirs<R: Runtime + Wait + Enter>(rt: &R, alloc: Global) -> Result<()> {
         alone = alone.min(through_fifodir(rt, alloc, 0)?);
         beside = beside.min(through_fifodir(rt, alloc, EVICTED)?);
     }
-    let sent = BURST as u64 * BURSTS as u64;
+    let (alone, beside) = (rate(SENT, alone), rate(SENT, beside));
     println!(rt;
-        "1 listener of a fifodir: {} letters a second, {} beside {EVICTED} evicted subscriptions",
-        rate(sent, alone),
-        rate(sent, beside)
+        "1 listener of a fifodir: {alone} letters a second, \
+         {beside} beside {EVICTED} evicted subscriptions"
     )?;
     Ok(())
 }
