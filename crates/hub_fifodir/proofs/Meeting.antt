@@ -41,14 +41,7 @@ pub looks_self : (p : PassView) → OnlyLooks p p
 looks_self p = record { table = refl; rules = refl; number = refl; place = refl; role = refl; own = λ n a b c. refl }
 
 pub looks_through : (a b c : PassView) → OnlyLooks a b → OnlyLooks b c → OnlyLooks a c
-looks_through a b c p q = record {
-  table = q.table ∙ p.table;
-  rules = q.rules ∙ p.rules;
-  number = q.number ∙ p.number;
-  place = q.place ∙ p.place;
-  role = q.role ∙ p.role;
-  own = own_through a.role b.role a.sight b.sight c.sight p.role p.own q.own;
-}
+looks_through a b c p q = record { table = q.table ∙ p.table; rules = q.rules ∙ p.rules; number = q.number ∙ p.number; place = q.place ∙ p.place; role = q.role ∙ p.role; own = own_through a.role b.role a.sight b.sight c.sight p.role p.own q.own }
 
 pub looks_still : (old mid new : PassView) → OnlyLooks old mid → new ≡ mid → OnlyLooks old new
 looks_still old mid new p e = subst (λ (x : PassView). OnlyLooks old x) (sym e) p

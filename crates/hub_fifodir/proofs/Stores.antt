@@ -41,6 +41,17 @@ module _ {B : Type 0} (book_of : B → Book) (represents : Rules → List Event 
   holding : (s : St) (r : R s) (id : ℕ) (v : View) (k : Book) → get_elem? s.views id ≡ maybe.some v → IsLive v.role → v.held ≡ Some k → (r.a.lock ≡ held_by id) × (k ≡ r.a.book) × (v.sight ≡ sight r.a.log r.a.mark)
   holding s r id v k at live is = let seat = its_seat book_of represents sound rules s r id v at live in subst (Holds rules r.a id v.sight) is seat.holds
 
+  -- what a publisher knows that has the lock of a fifodir which isn't closed
+  at_work : (s : St) (r : R s) (id : ℕ) (v : View) (p : Writing) (k : Book) → get_elem? s.views id ≡ maybe.some v → v.role ≡ Publisher p → v.held ≡ Some k → v.sight.closed ≡ 0
+      → IsLive v.role × IsSeat rules r.a id v × ((r.a.lock ≡ held_by id) × (k ≡ r.a.book) × (v.sight ≡ sight r.a.log r.a.mark))
+      × InRole r.a.book r.a.log r.a.ticket_at r.a.writer_at id v.sight.seen (Publisher p) × (v.sight.seen ≡ r.a.log) × (r.a.mark ≡ 0)
+  at_work s r id v p k at role held unclosed =
+      let live = numbered_live p.number v.role (subst (IsNumbered p.number) (sym role) refl) in
+      let seat = its_seat book_of represents sound rules s r id v at live in
+      let h = holding s r id v k at live held in
+      let mine = subst (InRole r.a.book r.a.log r.a.ticket_at r.a.writer_at id v.sight.seen) role seat.in_role in
+      (live, seat, h, mine, ap (λ (t : Sight). t.seen) h.2, sym (ap (λ (t : Sight). t.closed) h.2) ∙ unclosed)
+
   home_taken : (a : Account B) (id : ℕ) (views : List View) → a.lock ≡ held_by id → IsHome book_of represents sound rules a a.lock views → At views id (HasHeld a.book)
   home_taken a id views is h = subst (λ (t : LockState B). IsHome book_of represents sound rules a t views) is h
 
@@ -49,12 +60,7 @@ module _ {B : Type 0} (book_of : B → Book) (represents : Rules → List Event 
       → Allows R slots id me 0 (λ _. new) (λ _ m. (m.0 ≡ view_with_letters me.0 p message) × (m.1 ≡ me.1))
   publishes slots id me p message k new role held unclosed is ok s r _ at _ =
       let a = r.a in let v = me.0 in let x = as_events p.number message in let w = view_with_letters v p message in
-      let live = numbered_live p.number v.role (subst (IsNumbered p.number) (sym role) refl) in
-      let seat = its_seat book_of represents sound rules s r id v at live in
-      let h = holding s r id v k at live held in
-      let mine = subst (InRole a.book a.log a.ticket_at a.writer_at id v.sight.seen) role seat.in_role in
-      let seen : v.sight.seen ≡ a.log = ap (λ (t : Sight). t.seen) h.2 in
-      let unmarked : a.mark ≡ 0 = sym (ap (λ (t : Sight). t.closed) h.2) ∙ unclosed in
+      let (live, seat, h, mine, seen, unmarked) = at_work s r id v p k at role held unclosed in
       let log : List Event = a.log ++ x in
       let a' : Account B = record { log = log; mark = 0; book = a.book; lock = a.lock; ticket_at = a.ticket_at; writer_at = a.writer_at } in
       let same : w.sight ≡ sight log 0 = λ i. sight (seen i ++ x) (unclosed i) in
@@ -66,8 +72,7 @@ module _ {B : Type 0} (book_of : B → Book) (represents : Rules → List Event 
         holds = subst (Holds rules a' id w.sight) (sym held) (h.0, h.1, same);
         in_role = record { its_seat = mine.its_seat; given = mine.given; all = grew; known = ap (λ (l : List Event). by p.number (l ++ x)) seen ∙ grew; active = mine.active };
       } in
-      let word : new ≡ front_word log 0 = is ∙ ap (λ (l : List Event). front_word (l ++ x) 0) seen in
-      let taken_home = home_taken a id s.views h.0 r.locked in (
+      let word : new ≡ front_word log 0 = is ∙ ap (λ (l : List Event). front_word (l ++ x) 0) seen in (
         w,
         keeps,
         tt,
@@ -77,7 +82,7 @@ module _ {B : Type 0} (book_of : B → Book) (represents : Rules → List Event 
           homes_are = r.homes_are;
           is_sound = subst (λ (x : Rules). sound x log) seat.ruled (subst (λ (l : List Event). sound v.rules (l ++ x)) seen ok);
           bounded = r.bounded;
-          locked = subst (λ (t : LockState B). IsHome book_of represents sound rules a' t (set s.views id w)) (sym h.0) (at_kept (HasHeld a.book) s.views id v w id at (λ e. (tt, e.1)) taken_home);
+          locked = subst (λ (t : LockState B). IsHome book_of represents sound rules a' t (set s.views id w)) (sym h.0) (at_kept (HasHeld a.book) s.views id v w id at (λ e. (tt, e.1)) (home_taken a id s.views h.0 r.locked));
           each = all_set (Fits rules a') s.views id w (seated rules a' id w w.role seat')
               (λ j u n q. fits_map rules a a' j u u.role (λ f. record {
                 ruled = f.ruled;
@@ -103,12 +108,7 @@ module _ {B : Type 0} (book_of : B → Book) (represents : Rules → List Event 
       → Allows R slots id me 0 (λ _. new) (λ _ m. (m.0 ≡ closing me.0 p) × (m.1 ≡ me.1))
   closes slots id me p k new role held unclosed is s r _ at _ =
       let a = r.a in let v = me.0 in let w = closing v p in
-      let live = numbered_live p.number v.role (subst (IsNumbered p.number) (sym role) refl) in
-      let seat = its_seat book_of represents sound rules s r id v at live in
-      let h = holding s r id v k at live held in
-      let mine = subst (InRole a.book a.log a.ticket_at a.writer_at id v.sight.seen) role seat.in_role in
-      let seen : v.sight.seen ≡ a.log = ap (λ (t : Sight). t.seen) h.2 in
-      let unmarked : a.mark ≡ 0 = sym (ap (λ (t : Sight). t.closed) h.2) ∙ unclosed in
+      let (live, seat, h, mine, seen, unmarked) = at_work s r id v p k at role held unclosed in
       let a' : Account B = record { log = a.log; mark = p.number; book = a.book; lock = a.lock; ticket_at = a.ticket_at; writer_at = a.writer_at } in
       let same : w.sight ≡ sight a.log p.number = ap (λ (l : List Event). sight l p.number) seen in
       let seat' : IsSeat rules a' id w = record {
@@ -118,18 +118,18 @@ module _ {B : Type 0} (book_of : B → Book) (represents : Rules → List Event 
         holds = subst (Holds rules a' id w.sight) (sym held) (h.0, h.1, same);
         in_role = seat.in_role;
       } in
-      let word : new ≡ front_word a.log p.number = is ∙ ap (λ (l : List Event). front_word l p.number) seen in
-      let taken_home = home_taken a id s.views h.0 r.locked in (
+      let word : new ≡ front_word a.log p.number = is ∙ ap (λ (l : List Event). front_word l p.number) seen in (
         w,
         keeps,
         tt,
         record {
           a = a';
-          words_are = ap (λ (l : List ℕ). set l 0 new) r.words_are ∙ ap (λ (n : ℕ). n ∷ lock_word a.lock ∷ []) word;
           homes_are = r.homes_are;
           is_sound = r.is_sound;
           bounded = r.bounded;
-          locked = subst (λ (t : LockState B). IsHome book_of represents sound rules a' t (set s.views id w)) (sym h.0) (at_kept (HasHeld a.book) s.views id v w id at (λ e. e) taken_home);
+          authors = r.authors;
+          words_are = ap (λ (l : List ℕ). set l 0 new) r.words_are ∙ ap (λ (n : ℕ). n ∷ lock_word a.lock ∷ []) word;
+          locked = subst (λ (t : LockState B). IsHome book_of represents sound rules a' t (set s.views id w)) (sym h.0) (at_kept (HasHeld a.book) s.views id v w id at (λ e. e) (home_taken a id s.views h.0 r.locked));
           each = all_set (Fits rules a') s.views id w (seated rules a' id w w.role seat')
               (λ j u n q. fits_map rules a a' j u u.role (λ f. record {
                 ruled = f.ruled;
@@ -141,7 +141,6 @@ module _ {B : Type 0} (book_of : B → Book) (represents : Rules → List Event 
           reached = here (HasSeen (sight a.log p.number)) s.views id v w at (live, inl same);
           closer = λ n. subst (λ (i : ℕ). At (set s.views id w) i (HasClosed p.number a.log)) (sym mine.its_seat)
               (at_own (HasClosed p.number a.log) s.views id v w at (subst (IsNumbered p.number) (sym role) refl, same));
-          authors = r.authors;
           tickets = λ i g. at_kept (λ u. HasId i u.role) s.views id v w (a.ticket_at i) at (λ t. t) (r.tickets i g);
           writers = λ n g. at_kept (λ u. IsNumbered n u.role) s.views id v w (a.writer_at n) at (λ t. t) (r.writers n g);
         },
