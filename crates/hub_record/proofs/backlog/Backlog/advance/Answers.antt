@@ -1,7 +1,8 @@
-use Rattle.std.proofs.Common.{ℕ, ◌≡◌, ◌+◌, ◌-◌, length, drop, get_or, nat_eq, refl, sym, ap, subst, ◌∙◌, arith}
+use Rattle.std.proofs.Common.{ℕ, ◌≡◌, ◌+◌, ◌-◌, ◌<◌, ◌≤◌, Some, length, drop, get_or, nat_eq, refl, sym, ap, subst, ◌∙◌, arith}
 use Rattle.std.proofs.lemmas.Bool.{eqb-true}
 use Rattle.std.proofs.lemmas.Option.{slice_get_within}
 use Rattle.std.proofs.lemmas.List.{length-set}
+use Rattle.std.specs.Map.{lookup}
 use Rattle.std.specs.Option.{IfSome}
 use Rattle.circular_buffer.specs.Buffer.{Buffer, buffer}
 use Rattle.hub_record.specs.declared.Event.{Event}
@@ -11,30 +12,36 @@ use Rattle.hub_record.proofs.Keeps.{few_at_place, one_stays, first_known, IfSome
 use Rattle.hub_record.proofs.Moves.{kept_set_value, kept_stays, end_after_cut, cut_held, still_held, pending_at, advances}
 use Rattle.hub_record.proofs.Rising.{moved_to}
 use Rattle.hub_record.proofs.backlog.Backlog.advance.Goals as goal
+use Rattle.hub_record.proofs.backlog.Backlog.advance.Goals.{In-Some}
+
+-- the cursor, and what is pending behind it
+here : (c : In-Some) → (lookup (nat_eq c.args.id) c.self.inside.cursors ≡ Some c.in-Some.from) × (c.self.inside.base ≤ c.in-Some.from)
+    × (c.in-Some.from < c.self.inside.base + length c.self.inside.ring.items) × (c.in-Some.from + c.args.count ≤ c.self.inside.base + length c.self.inside.ring.items)
+here c =
+    let found = sym c.in-Some.ensures.next in
+    let (above, waited, within) = pending_at _ _ c.args.id c.args.count _ _ _ _ c.self.view_is c.self.invariant c.requires found in
+    (found, above, waited, within)
 
 pub overflow_sub-place : goal.overflow_sub-place
-overflow_sub-place c = (pending_at _ _ c.args.id c.args.count _ _ _ _ c.self.view_is c.self.invariant c.requires (sym c.in-Some.ensures.next)).0
+overflow_sub-place c = (here (goal.at.overflow_sub-place c).In-Some).1
 
 pub set-requires : goal.set-requires
 set-requires c = slice_get_within c.self.inside.cursors c.in-Some.listed (c.args.id, c.in-Some.from) c.in-Some.ensures.place
 
 pub one_less-left-requires-clause-place : goal.one_less-left-requires-clause-place
 one_less-left-requires-clause-place c =
-    let found = sym c.in-Some.ensures.next in
-    let (above, waited, within) = pending_at _ _ c.args.id c.args.count _ _ _ _ c.self.view_is c.self.invariant c.requires found in
+    let (found, above, waited, within) = here (goal.at.one_less-left-requires-clause-place c).In-Some in
     let to = c.self.invariant.to_end in
     omega arith
 
 pub one_less-left-requires-clause-some : goal.one_less-left-requires-clause-some
 one_less-left-requires-clause-some c =
-    let found = sym c.in-Some.ensures.next in
-    let (above, waited, within) = pending_at _ _ c.args.id c.args.count _ _ _ _ c.self.view_is c.self.invariant c.requires found in
+    let (found, above, waited, within) = here (goal.at.one_less-left-requires-clause-some c).In-Some in
     some_at_place c.self.inside.base c.in-Some.from (c.in-Some.from - c.self.inside.base) (nat_eq c.args.id) _ _ c.self.invariant.counted found (omega arith)
 
 pub one_more-there-requires-clause-place : goal.one_more-there-requires-clause-place
 one_more-there-requires-clause-place c =
-    let found = sym c.in-Some.ensures.next in
-    let (above, waited, within) = pending_at _ _ c.args.id c.args.count _ _ _ _ c.self.view_is c.self.invariant c.requires found in
+    let (found, above, waited, within) = here (goal.at.one_more-there-requires-clause-place c).In-Some in
     let place = c.in-Some.from - c.self.inside.base in
     let to = c.self.invariant.to_end in
     let less = ap (λ (b : Buffer ℕ). length b.items) c.one_less-left.ensures.counts in
@@ -43,14 +50,12 @@ one_more-there-requires-clause-place c =
 
 pub one_more-there-requires-clause-few : goal.one_more-there-requires-clause-few
 one_more-there-requires-clause-few c =
-    let found = sym c.in-Some.ensures.next in
-    let (above, waited, within) = pending_at _ _ c.args.id c.args.count _ _ _ _ c.self.view_is c.self.invariant c.requires found in
+    let (found, above, waited, within) = here (goal.at.one_more-there-requires-clause-few c).In-Some in
     few_at_place _ _ _ _ c.in-Some.from _ _ (nat_eq c.args.id) _ _ _ c.self.invariant found (omega arith) c.one_less-left.ensures.counts
 
 pub invariant_of-self : goal.invariant_of-self
 invariant_of-self c =
-    let found = sym c.in-Some.ensures.next in
-    let (above, waited, within) = pending_at _ _ c.args.id c.args.count _ _ _ _ c.self.view_is c.self.invariant c.requires found in
+    let (found, above, waited, within) = here (goal.at.invariant_of-self c).In-Some in
     let place = c.in-Some.from - c.self.inside.base in
     let to = c.self.invariant.to_end in
     let less = ap (λ (b : Buffer ℕ). length b.items) c.one_less-left.ensures.counts in
@@ -70,8 +75,7 @@ returns-then-one_stays c =
 
 pub invariant_of-self-then-to-len : goal.invariant_of-self-then-to-len
 invariant_of-self-then-to-len c =
-    let found = sym c.in-Some.ensures.next in
-    let (above, waited, within) = pending_at _ _ c.args.id c.args.count _ _ _ _ c.self.view_is c.self.invariant c.requires found in
+    let (found, above, waited, within) = here (goal.at.invariant_of-self-then-to-len c).In-Some in
     let place = c.in-Some.from - c.self.inside.base in
     let to = c.self.invariant.to_end in
     let moved = moved_to _ _ c.in-Some.listed c.args.id c.in-Some.from _ c.in-Some.ensures.place c.set.ensures in
@@ -93,8 +97,7 @@ invariant_of-self-then-to-len c =
 
 pub returns-then-to-len : goal.returns-then-to-len
 returns-then-to-len c =
-    let found = sym c.in-Some.ensures.next in
-    let (above, waited, within) = pending_at _ _ c.args.id c.args.count _ _ _ _ c.self.view_is c.self.invariant c.requires found in
+    let (found, above, waited, within) = here (goal.at.returns-then-to-len c).In-Some in
     let at_end = c.if-to-len.true in
     let kept = c.len-then-all.ensures.len in
     let is = moved_to _ _ c.in-Some.listed c.args.id c.in-Some.from _ c.in-Some.ensures.place c.set.ensures in
@@ -113,8 +116,7 @@ release-requires-clause-places c =
 
 pub release-requires-clause-known : goal.release-requires-clause-known
 release-requires-clause-known c =
-    let found = sym c.in-Some.ensures.next in
-    let (above, waited, within) = pending_at _ _ c.args.id c.args.count _ _ _ _ c.self.view_is c.self.invariant c.requires found in
+    let (found, above, waited, within) = here (goal.at.release-requires-clause-known c).In-Some in
     let place = c.in-Some.from - c.self.inside.base in
     let to = c.self.invariant.to_end in
     let moved = moved_to _ _ c.in-Some.listed c.args.id c.in-Some.from _ c.in-Some.ensures.place c.set.ensures in
@@ -124,8 +126,7 @@ release-requires-clause-known c =
 
 pub invariant_of-self-2 : goal.invariant_of-self-2
 invariant_of-self-2 c =
-    let found = sym c.in-Some.ensures.next in
-    let (above, waited, within) = pending_at _ _ c.args.id c.args.count _ _ _ _ c.self.view_is c.self.invariant c.requires found in
+    let (found, above, waited, within) = here (goal.at.invariant_of-self-2 c).In-Some in
     let told = c.release.ensures.count in
     let place = c.in-Some.from - c.self.inside.base in
     let moved = moved_to _ _ c.in-Some.listed c.args.id c.in-Some.from _ c.in-Some.ensures.place c.set.ensures in
@@ -136,8 +137,7 @@ invariant_of-self-2 c =
 
 pub returns : goal.returns
 returns c =
-    let found = sym c.in-Some.ensures.next in
-    let (above, waited, within) = pending_at _ _ c.args.id c.args.count _ _ _ _ c.self.view_is c.self.invariant c.requires found in
+    let (found, above, waited, within) = here (goal.at.returns c).In-Some in
     let told = c.release.ensures.count in
     let is = moved_to _ _ c.in-Some.listed c.args.id c.in-Some.from _ c.in-Some.ensures.place c.set.ensures in
     advances _ _ _ c.args.id c.args.count _ c.self.view_is found
