@@ -1,4 +1,5 @@
 pub mod Watching
+pub mod Inside
 pub mod Histories
 pub mod Verdicts
 pub mod Reading

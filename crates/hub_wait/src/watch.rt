@@ -23,25 +23,11 @@ impl Model for Watch {
 
     ghost Value = { Watching };
 
-    ghost view = { λ w. record {
-      want = w.want;
-      notifies = w.notifies;
-      since = w.since;
-      at = w.at;
-      flags = w.flags;
-      fell = w.fell;
-      ended = w.ended;
-    } };
+    ghost use Rattle.hub_wait.specs.Inside.{watching_of, inside_of};
 
-    ghost inverse = { λ v. record {
-      want = v.want;
-      notifies = v.notifies;
-      since = v.since;
-      at = v.at;
-      flags = v.flags;
-      fell = v.fell;
-      ended = v.ended;
-    } };
+    ghost view = { watching_of };
+
+    ghost inverse = { inside_of };
 }
 
 impl Watch {
