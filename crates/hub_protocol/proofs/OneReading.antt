@@ -1,7 +1,8 @@
 -- A line spells one form, and is read in one way.
-use Rattle.std.proofs.Common.{◌≡◌, ◌≢◌, ℕ, ◌<◌, ◌≤◌, List, [], ◌∷◌, ◌++◌, length, map, Result, Ok, Err, refl, sym, ap, ◌∙◌, subst, arith}
+use Rattle.std.proofs.Common.{◌≡◌, ◌≢◌, ℕ, ◌<◌, ◌≤◌, List, [], ◌∷◌, ◌++◌, length, map, true, false, Result, Ok, Err, refl, sym, ap, ◌∙◌, subst, arith}
 use Rattle.std.specs.Prelude.{Any}
-use Rattle.std.specs.List.{AllZip}
+use Rattle.std.specs.List.{AllZip, join_with_byte}
+use Rattle.std.proofs.lemmas.List.Splits.{join_with_byte-slice_split}
 use Rattle.hub_requests.specs.declared.request.Request.{Request}
 use Rattle.hub_requests.specs.declared.reply.Refusal.{Refusal}
 use Rattle.hub_requests.specs.declared.reply.Refusal.TheVariants.{Long, Text, Word, Range, Memory}
@@ -14,8 +15,7 @@ use Rattle.hub_protocol.specs.Table.{IsWord, kinds_of, ending_of}
 use Rattle.hub_protocol.specs.Spelling.{Form, Field, Name, Number, Letters, Mode, Span, Want, Last, Nothing, Names, Pattern, Evict, IsOf, EndsAs, IsWithin, form_of, says, text_of_field, pieces_of_last, fields_in}
 use Rattle.hub_protocol.specs.Reading.{first_word, IsTextByte, IsText, HasForm, Spells, IsReading}
 use Rattle.hub_protocol.proofs.Numerals.{same_number}
-use Rattle.hub_protocol.proofs.Splits.{same_text}
-use Rattle.hub_protocol.proofs.SameWords.{same_mode, same_span, same_want, same_evict}
+use Rattle.hub_protocol.proofs.SameWords.{same_mode, same_span, same_want}
 use Rattle.hub_protocol.proofs.FormLines.{first_word-form, fields_of-has_form}
 use Rattle.hub_protocol.proofs.FormRequests.{same_request}
 
@@ -58,19 +58,24 @@ same_fields (k ∷ ks) (a ∷ as') (b ∷ bs) xs ys h i e =
     let (rest, left) = same_fields ks as' bs xs ys h.1 i.1 behind in
     (cc, left)
 
+-- the end that pieces say, if a line that ends so has them
+abbrev last_said : Ending → List (List ℕ) → Last
+last_said ending.Nothing pieces = Nothing
+last_said ending.Names pieces = Names pieces
+last_said ending.Pattern pieces = Pattern (join_with_byte 32 pieces)
+last_said ending.Evict [] = Evict false
+last_said ending.Evict (word ∷ rest) = Evict true
+
+said_back : (end : Ending) (last : Last) → EndsAs end last → last_said end (pieces_of_last last) ≡ last
+said_back ending.Nothing Nothing h = refl
+said_back ending.Names (Names names) h = refl
+said_back ending.Pattern (Pattern pattern) h = ap Pattern (join_with_byte-slice_split 32 pattern)
+said_back ending.Evict (Evict false) h = refl
+said_back ending.Evict (Evict true) h = refl
+said_back end last h = absurd h
+
 same_last : (end : Ending) (a b : Last) → EndsAs end a → EndsAs end b → pieces_of_last a ≡ pieces_of_last b → a ≡ b
-same_last ending.Nothing Nothing Nothing h i e = refl
-same_last ending.Nothing Nothing b h i e = absurd i
-same_last ending.Nothing a b h i e = absurd h
-same_last ending.Names (Names a) (Names b) h i e = ap Names e
-same_last ending.Names (Names a) b h i e = absurd i
-same_last ending.Names a b h i e = absurd h
-same_last ending.Pattern (Pattern a) (Pattern b) h i e = ap Pattern (same_text a b e)
-same_last ending.Pattern (Pattern a) b h i e = absurd i
-same_last ending.Pattern a b h i e = absurd h
-same_last ending.Evict (Evict a) (Evict b) h i e = ap Evict (same_evict a b e)
-same_last ending.Evict (Evict a) b h i e = absurd i
-same_last ending.Evict a b h i e = absurd h
+same_last end a b h i e = sym (said_back end a h) ∙ ap (last_said end) e ∙ said_back end b i
 
 pub one_form : (line : List ℕ) (a b : Form) → HasForm line a → HasForm line b → a ≡ b
 one_form line a b h k =

@@ -1,8 +1,10 @@
 -- What the pieces of a line show about its reply.
-use Rattle.std.proofs.Common.{◌≡◌, ◌≢◌, ℕ, ◌≤◌, List, [], ◌∷◌, ◌++◌, length, map, codes, Bool, Option, None, Some, refl, sym, ap, ◌∙◌, subst}
+use Rattle.std.proofs.Common.{◌≡◌, ◌≢◌, ℕ, ◌≤◌, List, [], ◌∷◌, ◌++◌, length, map, codes, Bool, true, ◌||◌, Option, None, Some, refl, sym, ap, ◌∙◌, subst}
 use Rattle.std.specs.Prelude.{All, MatchOption}
 use Rattle.std.specs.Fmt.{decimal}
+use Rattle.std.specs.Str.{bytes_eq}
 use Rattle.std.specs.List.{join_with_byte}
+use Rattle.std.proofs.lemmas.Bool.{false≢true}
 use Rattle.std.proofs.lemmas.List.{append_cancel_right, length-map}
 use Rattle.std.proofs.lemmas.List.Splits.{join_with_byte-slice_split}
 use Rattle.hub_letters.specs.Flags.{code_of}
@@ -14,6 +16,7 @@ use Rattle.hub_requests.specs.declared.reply.Reply.TheVariants.{Done, Number, St
 use Rattle.hub_requests.specs.declared.reply.Refusal.{Refusal}
 use Rattle.hub_requests.specs.declared.reply.Refusal.TheVariants.{Unlawful}
 use Rattle.hub_protocol.specs.declared.replies.BorrowedReply.{BorrowedReply}
+use Rattle.hub_protocol.specs.declared.replies.BorrowedReply.TheVariants as shown
 use Rattle.hub_protocol.specs.declared.reply_pieces.Head as heads
 use Rattle.hub_protocol.specs.declared.reply_pieces.Head.TheVariants as head
 use Rattle.hub_protocol.specs.Spelling.{IsName, fields_of}
@@ -72,31 +75,45 @@ some_head (No refusal) = (head.No, refl)
 
 -- ---- a reply that is one word
 
-pub alone_said : (reply : Reply) (read : BorrowedReply) (pieces : List (List ℕ)) (found : Option BorrowedReply) → IsSoundReply reply → Shows read reply → behind_of reply ≡ []
-    → ((other : Reply) → head_of other ≡ head_of reply → other ≡ reply) → MatchOption found (pieces ≢ []) (λ it. (it ≡ read) × (pieces ≡ [])) → IsBehind (head_of reply) pieces found
-alone_said reply read pieces None sound shows empty only none = λ other h w e. none (e ∙ ap behind_of (only other w) ∙ empty)
-alone_said reply read pieces (Some it) sound shows empty only is =
-    record { reply = reply; sound = sound; head = refl; behind = is.1 ∙ sym empty; shows = subst (λ s. Shows s reply) (sym is.0) shows }
+-- the words that are a reply alone
+abbrev pub is_alone : List ℕ → Bool
+is_alone word = bytes_eq word (codes "none") || bytes_eq word (codes "end") || bytes_eq word (codes "evicted") || bytes_eq word (codes "never") || bytes_eq word (codes "late")
 
-pub only_nothing : (other : Reply) → head_of other ≡ codes "none" → other ≡ Nothing
-only_nothing Nothing e = refl
-only_nothing other e = absurd (apart (head_of other) (codes "none") refl e)
+alone_behind : (reply : Reply) → is_alone (head_of reply) ≡ true → behind_of reply ≡ []
+alone_behind Nothing h = refl
+alone_behind End h = refl
+alone_behind Evicted h = refl
+alone_behind Never h = refl
+alone_behind Late h = refl
+alone_behind reply h = absurd (false≢true h)
 
-pub only_end : (other : Reply) → head_of other ≡ codes "end" → other ≡ End
-only_end End e = refl
-only_end other e = absurd (apart (head_of other) (codes "end") refl e)
+alone_said : (reply : Reply) (read : BorrowedReply) (pieces : List (List ℕ)) (found : Option BorrowedReply) → IsSoundReply reply → Shows read reply → is_alone (head_of reply) ≡ true
+    → MatchOption found (pieces ≢ []) (λ it. (it ≡ read) × (pieces ≡ [])) → IsBehind (head_of reply) pieces found
+alone_said reply read pieces None sound shows alone none = λ other h w e. none (e ∙ alone_behind other (ap is_alone w ∙ alone))
+alone_said reply read pieces (Some it) sound shows alone is =
+    record { reply = reply; sound = sound; head = refl; behind = is.1 ∙ sym (alone_behind reply alone); shows = subst (λ s. Shows s reply) (sym is.0) shows }
 
-pub only_evicted : (other : Reply) → head_of other ≡ codes "evicted" → other ≡ Evicted
-only_evicted Evicted e = refl
-only_evicted other e = absurd (apart (head_of other) (codes "evicted") refl e)
+-- what each of them shows
+abbrev pub ShowsAlone : heads.Head → BorrowedReply → Type 0
+ShowsAlone head.Nothing shown.Nothing = Unit {0}
+ShowsAlone head.End shown.End = Unit {0}
+ShowsAlone head.Evicted shown.Evicted = Unit {0}
+ShowsAlone head.Never shown.Never = Unit {0}
+ShowsAlone head.Late shown.Late = Unit {0}
+ShowsAlone head read = ⊥
 
-pub only_never : (other : Reply) → head_of other ≡ codes "never" → other ≡ Never
-only_never Never e = refl
-only_never other e = absurd (apart (head_of other) (codes "never") refl e)
+said_alone : (one : heads.Head) (read : BorrowedReply) (pieces : List (List ℕ)) (found : Option BorrowedReply) → ShowsAlone one read
+    → MatchOption found (pieces ≢ []) (λ it. (it ≡ read) × (pieces ≡ [])) → IsBehind (text_of_head one) pieces found
+said_alone head.Nothing shown.Nothing pieces found h is = alone_said Nothing shown.Nothing pieces found tt tt refl is
+said_alone head.End shown.End pieces found h is = alone_said End shown.End pieces found tt tt refl is
+said_alone head.Evicted shown.Evicted pieces found h is = alone_said Evicted shown.Evicted pieces found tt tt refl is
+said_alone head.Never shown.Never pieces found h is = alone_said Never shown.Never pieces found tt tt refl is
+said_alone head.Late shown.Late pieces found h is = alone_said Late shown.Late pieces found tt tt refl is
+said_alone one read pieces found h is = absurd h
 
-pub only_late : (other : Reply) → head_of other ≡ codes "late" → other ≡ Late
-only_late Late e = refl
-only_late other e = absurd (apart (head_of other) (codes "late") refl e)
+pub alone_head : (head one : heads.Head) (read : BorrowedReply) (pieces : List (List ℕ)) (found : Option BorrowedReply) → head ≡ one → ShowsAlone one read
+    → MatchOption found (pieces ≢ []) (λ it. (it ≡ read) × (pieces ≡ [])) → IsBehind (text_of_head head) pieces found
+alone_head head one read pieces found is h said = subst (λ h. IsBehind (text_of_head h) pieces found) (sym is) (said_alone one read pieces found h said)
 
 -- ---- a reply with more behind its word
 

@@ -1,5 +1,5 @@
 -- Modes, spans, wants and policies with the same spelling are one.
-use Rattle.std.proofs.Common.{◌≡◌, ◌≢◌, ℕ, List, Bool, true, false, refl, sym, ◌∙◌}
+use Rattle.std.proofs.Common.{◌≡◌, ◌≢◌, ℕ, List, false, refl, sym, ◌∙◌}
 use Rattle.std.specs.Str.{bytes_eq}
 use Rattle.std.proofs.lemmas.Slice.Eq.{bytes_eq-Decides}
 use Rattle.std.proofs.lemmas.Bool.{false≢true}
@@ -9,17 +9,11 @@ use Rattle.hub_letters.specs.declared.mode.Mode.{Mode}
 use Rattle.hub_letters.specs.declared.mode.Mode.TheVariants.{Once, Repeat}
 use Rattle.hub_letters.specs.declared.span.Span.{Span}
 use Rattle.hub_letters.specs.declared.span.Span.TheVariants.{All, Any}
-use Rattle.hub_protocol.specs.Spelling.{text_of_mode, text_of_span, text_of_want, fields_of_evict}
+use Rattle.hub_protocol.specs.Spelling.{text_of_mode, text_of_span, text_of_want}
 
 -- texts that a test tells apart
 pub apart : (a b : List ℕ) → bytes_eq a b ≡ false → a ≢ b
 apart a b other e = false≢true (sym other ∙ (bytes_eq-Decides a b).1 e)
-
-pub same_evict : (a b : Bool) → fields_of_evict a ≡ fields_of_evict b → a ≡ b
-same_evict false false e = refl
-same_evict true true e = refl
-same_evict false true e = cc
-same_evict true false e = cc
 
 pub same_mode : (a b : Mode) → text_of_mode a ≡ text_of_mode b → a ≡ b
 same_mode Once Once e = refl
