@@ -68,31 +68,13 @@ breaks_at_once {asks} {old} {new} {line} {held} {holds} reply answered part = re
 -- lines served, and then a fault among the next
 pub breaks_then : {D : Type 0} {asks : Asking D} {old mid new : D} {l1 l2 : List (List ℕ)} {held between holds : Option (List ℕ)}
     → Served asks old l1 held between mid → BreaksOff asks mid l2 between holds new → BreaksOff asks old (l1 ++ l2) held holds new
-breaks_then {l1 = l1} p b = record {
+breaks_then {l1 = l1} p b = record b {
   front = l1 ++ b.front;
-  line = b.line;
-  after = b.after;
   among = ap (λ l. l1 ++ l) b.among ∙ sym (append_assoc l1 b.front (b.line ∷ b.after));
-  mid = b.mid;
-  between = b.between;
   served = served_then p b.served;
-  reply = b.reply;
-  answered = b.answered;
-  written = b.written;
 }
 
 -- a fault among the lines is one among more of them
 pub breaks_within : {D : Type 0} {asks : Asking D} {old new : D} {l1 : List (List ℕ)} (l2 : List (List ℕ)) {held holds : Option (List ℕ)}
     → BreaksOff asks old l1 held holds new → BreaksOff asks old (l1 ++ l2) held holds new
-breaks_within l2 b = record {
-  front = b.front;
-  line = b.line;
-  after = b.after ++ l2;
-  among = ap (λ l. l ++ l2) b.among ∙ append_assoc b.front (b.line ∷ b.after) l2;
-  mid = b.mid;
-  between = b.between;
-  served = b.served;
-  reply = b.reply;
-  answered = b.answered;
-  written = b.written;
-}
+breaks_within l2 b = record b { after = b.after ++ l2; among = ap (λ l. l ++ l2) b.among ∙ append_assoc b.front (b.line ∷ b.after) l2 }
