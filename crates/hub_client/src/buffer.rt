@@ -10,6 +10,9 @@ ghost use Rattle.hub_client.specs.Passing.{Moves, slack_at, slack_when, EndsWhen
 use hub_io::{CHUNK, FrontError, Sink, Source, first_line, new_chunk, write_whole};
 use std::alloc::{AllocError, Global};
 
+/// What comes of a step between a reader and a writer.
+pub(crate) type Fallible<T> = Result<T, FrontError>;
+
 // What a read gave.
 #[derive(Clone, Copy, Debug, PartialEq, Eq)]
 enum Came {
@@ -54,11 +57,7 @@ fn first_piece(bytes: &[u8]) -> (usize, bool)
 }
 
 // Reads once, unless no read is left.
-fn read_once<R: Source>(
-    bytes: &mut [u8],
-    reader: &mut R,
-    left: &mut u64,
-) -> Result<usize, FrontError>
+fn read_once<R: Source>(bytes: &mut [u8], reader: &mut R, left: &mut u64) -> Fallible<usize>
     requires some { 1 ≤ length bytes.old }
     requires few { length bytes.old ≤ CHUNK }
     ensures ok { IfOk result (λ n. (n ≤ length bytes.new) × (left.new < left.old)
@@ -97,11 +96,7 @@ impl Buffer {
     }
 
     /// Reads on until an LF is pending or the buffer is full. Returns whether that came before the stream's end.
-    pub(crate) fn gather<R: Source>(
-        &mut self,
-        reader: &mut R,
-        left: &mut u64,
-    ) -> Result<bool, FrontError>
+    pub(crate) fn gather<R: Source>(&mut self, reader: &mut R, left: &mut u64) -> Fallible<bool>
         ensures ok { IfOk result (λ ready. MatchBool ready
             (Moves (R.remaining reader.old) (R.remaining reader.new)
             (R.reads reader.old) (R.reads reader.new) (pending self.old) (pending self.new)
@@ -142,7 +137,7 @@ impl Buffer {
     }
 
     // Reads once, and puts the bytes after those that are pending.
-    fn read_on<R: Source>(&mut self, reader: &mut R, left: &mut u64) -> Result<Came, FrontError>
+    fn read_on<R: Source>(&mut self, reader: &mut R, left: &mut u64) -> Fallible<Came>
         requires room { self.old.end < CHUNK }
         ensures ok { IfOk result (λ came.
             (moved : Moves (R.remaining reader.old) (R.remaining reader.new)
@@ -166,11 +161,7 @@ impl Buffer {
 
     /// Reads once if nothing is pending. Returns whether there is a byte to pass on: there is none if the stream has
     /// ended.
-    pub(crate) fn fill<R: Source>(
-        &mut self,
-        reader: &mut R,
-        left: &mut u64,
-    ) -> Result<bool, FrontError>
+    pub(crate) fn fill<R: Source>(&mut self, reader: &mut R, left: &mut u64) -> Fallible<bool>
         ensures ok { IfOk result (λ ready. MatchBool ready
             (Moves (R.remaining reader.old) (R.remaining reader.new)
             (R.reads reader.old) (R.reads reader.new) (pending self.old) (pending self.new)
@@ -196,7 +187,7 @@ impl Buffer {
     }
 
     /// Passes the pending bytes on, up to the first LF and including it. Returns whether there was one.
-    pub(crate) fn pass_piece<W: Sink>(&mut self, writer: &mut W) -> Result<bool, FrontError>
+    pub(crate) fn pass_piece<W: Sink>(&mut self, writer: &mut W) -> Fallible<bool>
         ensures ok { IfOk result (λ whole. (piece : List ℕ)
             × (pending self.old ≡ piece ++ pending self.new)
             × MatchBool whole (IsLine piece) ((has_lf piece ≡ false) × (pending self.new ≡ []))

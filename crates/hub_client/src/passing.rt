@@ -7,8 +7,8 @@ ghost use Rattle.hub_io.specs.Faults.{read_faults, write_faults};
 ghost use Rattle.hub_client.specs.Passing.{Moves, slack_of, slack_at, EndsAs, FailsAs, FailsInPieces};
 ghost use Rattle.hub_client.specs.Relaying.{writable};
 
-use crate::buffer::Buffer;
-use hub_io::{FrontError, Sink, Source};
+use crate::buffer::{Buffer, Fallible};
+use hub_io::{Sink, Source};
 
 /// How much of a line passed.
 #[derive(Clone, Copy, Debug, PartialEq, Eq)]
@@ -31,7 +31,7 @@ impl Buffer {
         reader: &mut R,
         writer: &mut W,
         left: &mut u64,
-    ) -> Result<Passed, FrontError>
+    ) -> Fallible<Passed>
         ensures ok { IfOk result (λ end. (passed : List ℕ)
             × Moves (R.remaining reader.old) (R.remaining reader.new)
             (R.reads reader.old) (R.reads reader.new) (pending self.old) (pending self.new)
@@ -68,7 +68,7 @@ impl Buffer {
         reader: &mut R,
         writer: &mut W,
         left: &mut u64,
-    ) -> Result<bool, FrontError>
+    ) -> Fallible<bool>
         ensures ok { IfOk result
             (λ whole. (passed : List ℕ) × Appends (W.contents writer.old) (W.contents writer.new)
             passed × MatchBool whole
