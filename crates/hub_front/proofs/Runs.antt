@@ -65,16 +65,28 @@ breaks_at_once {asks} {old} {new} {line} {held} {holds} reply answered part = re
   written = part;
 }
 
+-- a fault among lines is one among more of them: those that were served before, and those behind
+breaks_inside : {D : Type 0} {asks : Asking D} {old mid new : D} {l1 l2 : List (List ℕ)} (l3 : List (List ℕ)) {held between holds : Option (List ℕ)}
+    → Served asks old l1 held between mid → BreaksOff asks mid l2 between holds new → BreaksOff asks old (l1 ++ (l2 ++ l3)) held holds new
+breaks_inside {l1 = l1} l3 p b = record {
+  front = l1 ++ b.front;
+  line = b.line;
+  after = b.after ++ l3;
+  among = ap (λ l. l1 ++ (l ++ l3)) b.among ∙ ap (λ l. l1 ++ l) (append_assoc b.front (b.line ∷ b.after) l3) ∙ sym (append_assoc l1 b.front (b.line ∷ (b.after ++ l3)));
+  mid = b.mid;
+  between = b.between;
+  served = served_then p b.served;
+  reply = b.reply;
+  answered = b.answered;
+  written = b.written;
+}
+
 -- lines served, and then a fault among the next
 pub breaks_then : {D : Type 0} {asks : Asking D} {old mid new : D} {l1 l2 : List (List ℕ)} {held between holds : Option (List ℕ)}
     → Served asks old l1 held between mid → BreaksOff asks mid l2 between holds new → BreaksOff asks old (l1 ++ l2) held holds new
-breaks_then {l1 = l1} p b = record b {
-  front = l1 ++ b.front;
-  among = ap (λ l. l1 ++ l) b.among ∙ sym (append_assoc l1 b.front (b.line ∷ b.after));
-  served = served_then p b.served;
-}
+breaks_then {l1 = l1} {l2} p b = breaks_same (ap (λ l. l1 ++ l) (append-nil l2)) (breaks_inside [] p b)
 
 -- a fault among the lines is one among more of them
 pub breaks_within : {D : Type 0} {asks : Asking D} {old new : D} {l1 : List (List ℕ)} (l2 : List (List ℕ)) {held holds : Option (List ℕ)}
     → BreaksOff asks old l1 held holds new → BreaksOff asks old (l1 ++ l2) held holds new
-breaks_within l2 b = record b { after = b.after ++ l2; among = ap (λ l. l ++ l2) b.among ∙ append_assoc b.front (b.line ∷ b.after) l2 }
+breaks_within {asks = asks} {old} l2 {held} b = breaks_inside l2 (served_none asks old held) b
