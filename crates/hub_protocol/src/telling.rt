@@ -6,7 +6,7 @@ ghost use Rattle.hub_protocol.specs.Writing.{Appends, field_told, last_told, lin
 
 use crate::table::forms;
 use crate::words::Spelled;
-use crate::writing::{append_letters, append_name, append_names, append_number};
+use crate::writing::{Appended, append_letters, append_name, append_names, append_number};
 use hub_letters::{Mode, Span, Want};
 use hub_record::Letters;
 use hub_requests::{Name, Names, PatternText, Request};
@@ -49,7 +49,7 @@ pub fn write_request(request: &Request, out: &mut Vec<u8>) -> Result<(), AllocEr
     written
 }
 
-fn append_line(request: &Request, out: &mut Vec<u8>) -> Result<(), AllocError>
+fn append_line(request: &Request, out: &mut Vec<u8>) -> Appended
     ensures { Appends out.old out.new result (line_of_request request.now) }
 {
     append_request(request, out)?;
@@ -88,18 +88,13 @@ macro_rules! appended {
     };
 }
 
-fn append_request(request: &Request, out: &mut Vec<u8>) -> Result<(), AllocError>
+fn append_request(request: &Request, out: &mut Vec<u8>) -> Appended
     ensures { Appends out.old out.new result (spelling (form_of request.now)) }
 {
     forms!(appended(request, out))
 }
 
-fn append_form(
-    word: &[u8],
-    fields: &[Told<'_>],
-    end: End<'_>,
-    out: &mut Vec<u8>,
-) -> Result<(), AllocError>
+fn append_form(word: &[u8], fields: &[Told<'_>], end: End<'_>, out: &mut Vec<u8>) -> Appended
     ensures { Appends out.old out.new result
         (spelling (says word.now (map field_told fields.now) (last_told end.entry))) }
 {
@@ -107,12 +102,7 @@ fn append_form(
 }
 
 // Each piece behind the word has a space before it.
-fn append_pieces(
-    word: &[u8],
-    fields: &[Told<'_>],
-    end: End<'_>,
-    out: &mut Vec<u8>,
-) -> Result<(), AllocError>
+fn append_pieces(word: &[u8], fields: &[Told<'_>], end: End<'_>, out: &mut Vec<u8>) -> Appended
     ensures { Appends out.old out.new result
         (word.now ++ (names_text (map text_of_field (map field_told fields.now))
         ++ names_text (pieces_of_last (last_told end.entry)))) }
@@ -122,7 +112,7 @@ fn append_pieces(
     append_end(end, out)
 }
 
-fn append_fields(fields: &[Told<'_>], out: &mut Vec<u8>) -> Result<(), AllocError>
+fn append_fields(fields: &[Told<'_>], out: &mut Vec<u8>) -> Appended
     ensures { Appends out.old out.new result
         (names_text (map text_of_field (map field_told fields.now))) }
 {
@@ -132,7 +122,7 @@ fn append_fields(fields: &[Told<'_>], out: &mut Vec<u8>) -> Result<(), AllocErro
     Ok(())
 }
 
-fn append_field(field: Told<'_>, out: &mut Vec<u8>) -> Result<(), AllocError>
+fn append_field(field: Told<'_>, out: &mut Vec<u8>) -> Appended
     ensures { Appends out.old out.new result (32 ∷ text_of_field (field_told field.entry)) }
 {
     match field {
@@ -145,14 +135,14 @@ fn append_field(field: Told<'_>, out: &mut Vec<u8>) -> Result<(), AllocError>
     }
 }
 
-fn append_word<T: Spelled>(word: T, out: &mut Vec<u8>) -> Result<(), AllocError>
+fn append_word<T: Spelled>(word: T, out: &mut Vec<u8>) -> Appended
     ensures { Appends out.old out.new result (32 ∷ T.word word) }
 {
     out.push(b' ')?;
     out.extend_from_slice(word.text())
 }
 
-fn append_end(end: End<'_>, out: &mut Vec<u8>) -> Result<(), AllocError>
+fn append_end(end: End<'_>, out: &mut Vec<u8>) -> Appended
     ensures { Appends out.old out.new result (names_text (pieces_of_last (last_told end.entry))) }
 {
     match end {
@@ -163,7 +153,7 @@ fn append_end(end: End<'_>, out: &mut Vec<u8>) -> Result<(), AllocError>
     }
 }
 
-fn append_pattern(pattern: &PatternText, out: &mut Vec<u8>) -> Result<(), AllocError>
+fn append_pattern(pattern: &PatternText, out: &mut Vec<u8>) -> Appended
     ensures { Appends out.old out.new result (32 ∷ pattern.now) }
 {
     out.push(b' ')?;

@@ -12,6 +12,9 @@ use hub_requests::{Name, Refusal, Reply};
 use itoa::Buffer;
 use std::alloc::AllocError;
 
+/// What comes of appending. An error says that memory ran out.
+pub(crate) type Appended = Result<(), AllocError>;
+
 /// Appends the text of the reply, with its LF. An error says that memory ran out; `out` then has the same bytes as
 /// before.
 pub fn write_reply(reply: &Reply, out: &mut Vec<u8>) -> Result<(), AllocError>
@@ -29,7 +32,7 @@ pub fn write_reply(reply: &Reply, out: &mut Vec<u8>) -> Result<(), AllocError>
     written
 }
 
-fn append_text(reply: &Reply, out: &mut Vec<u8>) -> Result<(), AllocError>
+fn append_text(reply: &Reply, out: &mut Vec<u8>) -> Appended
     ensures { Appends out.old out.new result (text_of reply.now) }
 {
     append_line(reply, out)?;
@@ -37,7 +40,7 @@ fn append_text(reply: &Reply, out: &mut Vec<u8>) -> Result<(), AllocError>
     Ok(())
 }
 
-fn append_line(reply: &Reply, out: &mut Vec<u8>) -> Result<(), AllocError>
+fn append_line(reply: &Reply, out: &mut Vec<u8>) -> Appended
     ensures { Appends out.old out.new result (line_of reply.now) }
 {
     match reply {
@@ -57,7 +60,7 @@ fn append_line(reply: &Reply, out: &mut Vec<u8>) -> Result<(), AllocError>
     }
 }
 
-pub(crate) fn append_number(before: &[u8], number: u64, out: &mut Vec<u8>) -> Result<(), AllocError>
+pub(crate) fn append_number(before: &[u8], number: u64, out: &mut Vec<u8>) -> Appended
     ensures { Appends out.old out.new result (before.now ++ decimal number) }
 {
     let mut digits = Buffer::new();
@@ -65,7 +68,7 @@ pub(crate) fn append_number(before: &[u8], number: u64, out: &mut Vec<u8>) -> Re
     out.extend_from_slice(digits.format(number).as_bytes())
 }
 
-fn append_status(status: &Status, out: &mut Vec<u8>) -> Result<(), AllocError>
+fn append_status(status: &Status, out: &mut Vec<u8>) -> Appended
     ensures { Appends out.old out.new result (line_of (Reply.State status.now)) }
 {
     append_number(b"ok ", status.number, out)?;
@@ -73,11 +76,7 @@ fn append_status(status: &Status, out: &mut Vec<u8>) -> Result<(), AllocError>
     out.extend_from_slice(if status.closed { b" closed" } else { b" open" })
 }
 
-pub(crate) fn append_letters(
-    before: &[u8],
-    letters: &[Letter],
-    out: &mut Vec<u8>,
-) -> Result<(), AllocError>
+pub(crate) fn append_letters(before: &[u8], letters: &[Letter], out: &mut Vec<u8>) -> Appended
     ensures { Appends out.old out.new result (before.now ++ letters.now) }
 {
     out.extend_from_slice(before)?;
@@ -87,14 +86,14 @@ pub(crate) fn append_letters(
     Ok(())
 }
 
-fn append_yes(numbers: &[Option<u64>], out: &mut Vec<u8>) -> Result<(), AllocError>
+fn append_yes(numbers: &[Option<u64>], out: &mut Vec<u8>) -> Appended
     ensures { Appends out.old out.new result (codes "yes" ++ numbers_text numbers.now) }
 {
     out.extend_from_slice(b"yes")?;
     append_numbers(numbers, out)
 }
 
-fn append_numbers(numbers: &[Option<u64>], out: &mut Vec<u8>) -> Result<(), AllocError>
+fn append_numbers(numbers: &[Option<u64>], out: &mut Vec<u8>) -> Appended
     ensures { Appends out.old out.new result (numbers_text numbers.now) }
 {
     for number in numbers {
@@ -103,7 +102,7 @@ fn append_numbers(numbers: &[Option<u64>], out: &mut Vec<u8>) -> Result<(), Allo
     Ok(())
 }
 
-fn append_number_or_dash(number: Option<u64>, out: &mut Vec<u8>) -> Result<(), AllocError>
+fn append_number_or_dash(number: Option<u64>, out: &mut Vec<u8>) -> Appended
     ensures { Appends out.old out.new result (32 ∷ number_or_dash number) }
 {
     match number {
@@ -112,14 +111,14 @@ fn append_number_or_dash(number: Option<u64>, out: &mut Vec<u8>) -> Result<(), A
     }
 }
 
-fn append_listed(names: &[Name], out: &mut Vec<u8>) -> Result<(), AllocError>
+fn append_listed(names: &[Name], out: &mut Vec<u8>) -> Appended
     ensures { Appends out.old out.new result (codes "names" ++ names_text names.now) }
 {
     out.extend_from_slice(b"names")?;
     append_names(names, out)
 }
 
-pub(crate) fn append_names(names: &[Name], out: &mut Vec<u8>) -> Result<(), AllocError>
+pub(crate) fn append_names(names: &[Name], out: &mut Vec<u8>) -> Appended
     ensures { Appends out.old out.new result (names_text names.now) }
 {
     for name in names {
@@ -128,14 +127,14 @@ pub(crate) fn append_names(names: &[Name], out: &mut Vec<u8>) -> Result<(), Allo
     Ok(())
 }
 
-pub(crate) fn append_name(name: &Name, out: &mut Vec<u8>) -> Result<(), AllocError>
+pub(crate) fn append_name(name: &Name, out: &mut Vec<u8>) -> Appended
     ensures { Appends out.old out.new result (32 ∷ name.now) }
 {
     out.push(b' ')?;
     out.extend_from_slice(name.bytes())
 }
 
-fn append_refusal(refusal: Refusal, out: &mut Vec<u8>) -> Result<(), AllocError>
+fn append_refusal(refusal: Refusal, out: &mut Vec<u8>) -> Appended
     ensures { Appends out.old out.new result (line_of (Reply.No refusal)) }
 {
     match refusal {
