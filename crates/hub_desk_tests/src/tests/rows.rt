@@ -104,16 +104,17 @@ pub fn expect_number<H: Abort + Wait + Enter, D: Desk>(
     assert!(rt; matches!(reply, Reply::Number(given) if given == number));
 }
 
-fn make_handles<H: AllocGlobal + Abort + Wait + Enter, D: Desk>(
+/// Asks the line for handles, which have the numbers from the first to the last.
+fn expect_numbers<H: AllocGlobal + Abort + Wait + Enter, D: Desk>(
     rt: &H,
     desk: &mut D,
-    listeners: u64,
+    line: &str,
+    first: u64,
+    last: u64,
 ) {
-    let listen = request(rt, rt.alloc(), "listen web repeat b");
-    let sub = request(rt, rt.alloc(), "sub web");
-    for number in 1..=256u64 {
-        let request = if number <= listeners { &listen } else { &sub };
-        expect_number(rt, desk, request, number);
+    let request = request(rt, rt.alloc(), line);
+    for number in first..=last {
+        expect_number(rt, desk, &request, number);
     }
 }
 
@@ -122,7 +123,10 @@ pub fn go<H: AllocGlobal + Abort + Wait + Enter, D: Desk>(rt: &H, desk: &mut D, 
     for step in steps {
         match step {
             Step::Rows(rows) => run(rt, desk, rows),
-            Step::AllHandles(listeners) => make_handles(rt, desk, *listeners),
+            Step::AllHandles(listeners) => {
+                expect_numbers(rt, desk, "listen web repeat b", 1, *listeners);
+                expect_numbers(rt, desk, "sub web", listeners.saturating_add(1), 256);
+            }
             Step::Letters(count) => {
                 expect(rt, desk, &many_letters(rt, rt.alloc(), *count), "ok 0");
             }

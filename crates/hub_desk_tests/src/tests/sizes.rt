@@ -28,8 +28,10 @@ fn takes<H: AllocGlobal + Abort + Wait + Enter, D: Desk>(
     desk: &mut D,
     count: usize,
 ) -> bool {
-    let taken = answer(rt, desk, "take 1 256");
-    matches!(taken, Reply::Got(letters) if letters.items().len() == count)
+    match answer(rt, desk, "take 1 256") {
+        Reply::Got(letters) => letters.items().len() == count,
+        _ => false,
+    }
 }
 
 /// Whether a message of so many letters is taken, and a listener hears it with a letter more, at which it hits.
@@ -43,11 +45,14 @@ fn carries<H: AllocGlobal + Abort + Wait + Enter, D: Desk>(
     let was_taken = takes(rt, desk, count);
     let last = answer(rt, desk, "pub web b");
     let last_was_taken = takes(rt, desk, 1);
-    let heard = answer(rt, desk, "poll 2");
+    let is_heard = match answer(rt, desk, "poll 2") {
+        Reply::Hit(letters) => letters.items().len() == count.saturating_add(1),
+        _ => false,
+    };
     matches!((sent, last), (Reply::Number(_), Reply::Number(_)))
         && was_taken
         && last_was_taken
-        && matches!(heard, Reply::Hit(letters) if letters.items().len() == count.saturating_add(1))
+        && is_heard
 }
 
 /// How many letters the first message has that isn't carried so.
