@@ -1,5 +1,5 @@
 -- What a reply makes of a fifodir that is followed.
-use Rattle.std.proofs.Common.{◌≡◌, ◌≢◌, ℕ, List, Bool, IsErrAnd, true, false, if◌then◌else◌, Option, None, Some, Result, Ok, Err, OnOk, IfErr, length, refl, sym, ap, ◌∙◌, subst, codes, Bor}
+use Rattle.std.proofs.Common.{◌≡◌, ◌≢◌, ℕ, List, Bool, IsErrAnd, true, false, if◌then◌else◌, Option, None, Some, MatchOption, Result, Ok, Err, OnOk, IfErr, length, refl, sym, ap, ◌∙◌, subst, codes, Bor}
 use Rattle.std.specs.Io.KnownBytes.{Appends}
 use Rattle.hub_requests.specs.Texts.{text_of}
 use Rattle.hub_requests.specs.declared.request.Request.{Request}
@@ -16,10 +16,11 @@ use Rattle.hub_ask.specs.Asking.{IsAnswered}
 use Rattle.hub_ask.specs.declared.fault.AskError.{AskError}
 use Rattle.hub_ask.specs.declared.fault.AskError.TheVariants.{Relay}
 use Rattle.hub_look.specs.Stops.{IsOwnFault}
+use Rattle.hub_ask.specs.declared.outcome.Outcome.{Outcome}
 use Rattle.hub_ask.specs.declared.outcome.Outcome.TheVariants as outcome
 use Rattle.hub_look.specs.EventLines.{IsTextOf, number_after}
-use Rattle.hub_look.specs.Follows.{Manner, IsTaken, EndsTake, FailsToWrite, RefusesAwait, ends_by, name_of, taking}
-use Rattle.hub_look.specs.Streams.{IsReplied, IsToldTo, Streams}
+use Rattle.hub_look.specs.Follows.{Manner, IsTaken, IsWrittenFor, EndsTake, FailsToWrite, RefusesAwait, ends_by, followed_after, name_of, taking, told_of}
+use Rattle.hub_look.specs.Streams.{IsNoted, IsReplied, IsToldTo, Streams}
 use Rattle.hub_look.specs.Tables.{note_of, reason_of}
 use Rattle.hub_look.specs.declared.stop.Stop.{Stop}
 use Rattle.hub_look.specs.declared.stop.Stop.TheVariants as stops
@@ -73,69 +74,70 @@ taken_by : (manner : Manner) (sent sends had has noted : Option (List ℕ)) (fau
 taken_by manner sent sends had has noted faults followed asked text read it h same is answered =
     replied_by sent sends had has noted faults (taking manner.is_hit manner.is_once followed.handle) text read it h same (subst (λ r. IsAnswered sent sends had has (spelling (form_of r)) text) is answered)
 
+-- There is no note of the reply.
+took : (manner : Manner) (sent sends had has noted held holds : Option (List ℕ)) (faults : Option ℕ) (followed later : Followed) (asked : Request) (text : List ℕ) (read : BorrowedReply) (it : Reply) (h : IsShown text read)
+    → h.reply ≡ it → asked ≡ taking manner.is_hit manner.is_once followed.handle → IsAnswered sent sends had has (spelling (form_of asked)) text
+    → told_of it ≡ None → IsWrittenFor manner followed it held holds → later ≡ followed_after followed it
+    → IsTaken manner followed later (record { sent = sent; had = had; noted = noted; faults = faults }) (record { sent = sends; had = has; noted = noted; faults = faults }) held holds it
+took manner sent sends had has noted held holds faults followed later asked text read it h same is answered untold written moved =
+    let after : Streams = record { sent = sends; had = has; noted = noted; faults = faults } in
+    record {
+      between = after;
+      replied = taken_by manner sent sends had has noted faults followed asked text read it h same is answered;
+      told = subst (λ told. MatchOption told (after ≡ after) (λ reason. IsNoted after after (note_of (name_of followed) reason))) (sym untold) refl;
+      written = written;
+      moved = moved;
+    }
+
 pub took_nothing : (manner : Manner) (sent sends had has noted held : Option (List ℕ)) (faults : Option ℕ) (followed : Followed) (asked : Request) (text : List ℕ)
     → asked ≡ taking manner.is_hit manner.is_once followed.handle → IsAnswered sent sends had has (spelling (form_of asked)) text → IsShown text shown.Nothing
     → (it : Reply) × IsTaken manner followed followed (record { sent = sent; had = had; noted = noted; faults = faults }) (record { sent = sends; had = has; noted = noted; faults = faults }) held held it
     × (ends_by manner.is_once it ≡ None)
-took_nothing manner sent sends had has noted held faults followed asked text is answered h = (
-  reply.Nothing,
-  record {
-    between = record { sent = sends; had = has; noted = noted; faults = faults };
-    replied = taken_by manner sent sends had has noted faults followed asked text shown.Nothing reply.Nothing h (none_shown h.reply h.shows) is answered;
-    told = refl;
-    written = refl;
-    moved = refl;
-  },
-  refl,
-)
+took_nothing manner sent sends had has noted held faults followed asked text is answered h =
+    (reply.Nothing, took manner sent sends had has noted held held faults followed followed asked text shown.Nothing reply.Nothing h (none_shown h.reply h.shows) is answered refl refl refl, refl)
 
 pub took_end : (manner : Manner) (sent sends had has noted held : Option (List ℕ)) (faults : Option ℕ) (followed : Followed) (asked : Request) (text : List ℕ)
     → asked ≡ taking manner.is_hit manner.is_once followed.handle → IsAnswered sent sends had has (spelling (form_of asked)) text → IsShown text shown.End
     → (it : Reply) × IsTaken manner followed (record followed { is_over = true }) (record { sent = sent; had = had; noted = noted; faults = faults }) (record { sent = sends; had = has; noted = noted; faults = faults }) held held it
     × (ends_by manner.is_once it ≡ None)
-took_end manner sent sends had has noted held faults followed asked text is answered h = (
-  reply.End,
-  record {
-    between = record { sent = sends; had = has; noted = noted; faults = faults };
-    replied = taken_by manner sent sends had has noted faults followed asked text shown.End reply.End h (end_shown h.reply h.shows) is answered;
-    told = refl;
-    written = refl;
-    moved = refl;
-  },
-  refl,
-)
+took_end manner sent sends had has noted held faults followed asked text is answered h =
+    (reply.End, took manner sent sends had has noted held held faults followed (record followed { is_over = true }) asked text shown.End reply.End h (end_shown h.reply h.shows) is answered refl refl refl, refl)
+
+-- There is a note of it, and it ends the follow.
+took_noted : (manner : Manner) (sent sends had has noted notes held : Option (List ℕ)) (faults failed : Option ℕ) (followed : Followed) (asked : Request) (text name reason : List ℕ) (read : BorrowedReply) (it : Reply) (went : Outcome) (h : IsShown text read)
+    → h.reply ≡ it → name ≡ name_of followed → asked ≡ taking manner.is_hit manner.is_once followed.handle → IsAnswered sent sends had has (spelling (form_of asked)) text
+    → IsToldTo noted notes faults failed (note_of name reason)
+    → told_of it ≡ Some reason → IsWrittenFor manner followed it held held → followed ≡ followed_after followed it → ends_by manner.is_once it ≡ Some went
+    → EndsTake manner followed followed (record { sent = sent; had = had; noted = noted; faults = faults }) (record { sent = sends; had = has; noted = notes; faults = failed }) held held (stops.Reply went)
+took_noted manner sent sends had has noted notes held faults failed followed asked text name reason read it went h same is_name is answered told tells written moved ends =
+    let between : Streams = record { sent = sends; had = has; noted = noted; faults = faults } in
+    let after : Streams = record { sent = sends; had = has; noted = notes; faults = failed } in
+    let note : IsNoted between after (note_of (name_of followed) reason) =
+    record { sent = refl; had = refl; noted = subst (λ n. IsToldTo noted notes faults failed (note_of n reason)) is_name told } in (
+      it,
+      record {
+        between = between;
+        replied = taken_by manner sent sends had has noted faults followed asked text read it h same is answered;
+        told = subst (λ reason. MatchOption reason (after ≡ between) (λ reason. IsNoted between after (note_of (name_of followed) reason))) (sym tells) note;
+        written = written;
+        moved = moved;
+      },
+      ends,
+    )
 
 pub took_eviction : (manner : Manner) (sent sends had has noted notes held : Option (List ℕ)) (faults failed : Option ℕ) (followed : Followed) (asked : Request) (text name : List ℕ)
     → name ≡ name_of followed → asked ≡ taking manner.is_hit manner.is_once followed.handle → IsAnswered sent sends had has (spelling (form_of asked)) text → IsShown text shown.Evicted
     → IsToldTo noted notes faults failed (note_of name (codes "evicted"))
     → EndsTake manner followed followed (record { sent = sent; had = had; noted = noted; faults = faults }) (record { sent = sends; had = has; noted = notes; faults = failed }) held held (stops.Reply outcome.Nothing)
-took_eviction manner sent sends had has noted notes held faults failed followed asked text name is_name is answered h told = (
-  reply.Evicted,
-  record {
-    between = record { sent = sends; had = has; noted = noted; faults = faults };
-    replied = taken_by manner sent sends had has noted faults followed asked text shown.Evicted reply.Evicted h (evicted_shown h.reply h.shows) is answered;
-    told = record { sent = refl; had = refl; noted = subst (λ n. IsToldTo noted notes faults failed (note_of n (codes "evicted"))) is_name told };
-    written = refl;
-    moved = refl;
-  },
-  refl,
-)
+took_eviction manner sent sends had has noted notes held faults failed followed asked text name is_name is answered h told =
+    took_noted manner sent sends had has noted notes held faults failed followed asked text name (codes "evicted") shown.Evicted reply.Evicted outcome.Nothing h (evicted_shown h.reply h.shows) is_name is answered told refl refl refl refl
 
 pub took_refusal : (manner : Manner) (sent sends had has noted notes held : Option (List ℕ)) (faults failed : Option ℕ) (followed : Followed) (asked : Request) (text name : List ℕ) (refusal : Refusal)
     → name ≡ name_of followed → asked ≡ taking manner.is_hit manner.is_once followed.handle → IsAnswered sent sends had has (spelling (form_of asked)) text → IsShown text (shown.No refusal)
     → IsToldTo noted notes faults failed (note_of name (reason_of refusal))
     → EndsTake manner followed followed (record { sent = sent; had = had; noted = noted; faults = faults }) (record { sent = sends; had = has; noted = notes; faults = failed }) held held (stops.Reply outcome.Refused)
-took_refusal manner sent sends had has noted notes held faults failed followed asked text name refusal is_name is answered h told = (
-  reply.No refusal,
-  record {
-    between = record { sent = sends; had = has; noted = noted; faults = faults };
-    replied = taken_by manner sent sends had has noted faults followed asked text (shown.No refusal) (reply.No refusal) h (no_shown refusal h.reply h.shows) is answered;
-    told = record { sent = refl; had = refl; noted = subst (λ n. IsToldTo noted notes faults failed (note_of n (reason_of refusal))) is_name told };
-    written = refl;
-    moved = refl;
-  },
-  refl,
-)
+took_refusal manner sent sends had has noted notes held faults failed followed asked text name refusal is_name is answered h told =
+    took_noted manner sent sends had has noted notes held faults failed followed asked text name (reason_of refusal) (shown.No refusal) (reply.No refusal) outcome.Refused h (no_shown refusal h.reply h.shows) is_name is answered told refl refl refl refl
 
 got_shown : (letters : Bor (List ℕ)) (it : Reply) → Shows (shown.Got letters) it → it ≡ reply.Got letters.now
 got_shown letters (reply.Got other) h = ap reply.Got (sym h)
@@ -150,26 +152,16 @@ pub took_letters : (manner : Manner) (sent sends had has noted held holds : Opti
     → (lines : List ℕ) × IsTextOf manner.is_hit manner.is_plain (name_of followed) followed.next letters.now lines × Appends held holds lines
     → later ≡ record followed { next = number_after followed.next (length letters.now) }
     → IsTaken manner followed later (record { sent = sent; had = had; noted = noted; faults = faults }) (record { sent = sends; had = has; noted = noted; faults = faults }) held holds (reply.Got letters.now)
-took_letters manner sent sends had has noted held holds faults followed later asked text letters is answered h written moved = record {
-  between = record { sent = sends; had = has; noted = noted; faults = faults };
-  replied = taken_by manner sent sends had has noted faults followed asked text (shown.Got letters) (reply.Got letters.now) h (got_shown letters h.reply h.shows) is answered;
-  told = refl;
-  written = written;
-  moved = moved;
-}
+took_letters manner sent sends had has noted held holds faults followed later asked text letters is answered h written moved =
+    took manner sent sends had has noted held holds faults followed later asked text (shown.Got letters) (reply.Got letters.now) h (got_shown letters h.reply h.shows) is answered refl written moved
 
 pub took_hit : (manner : Manner) (sent sends had has noted held holds : Option (List ℕ)) (faults : Option ℕ) (followed later : Followed) (asked : Request) (text : List ℕ) (letters : Bor (List ℕ))
     → asked ≡ taking manner.is_hit manner.is_once followed.handle → IsAnswered sent sends had has (spelling (form_of asked)) text → IsShown text (shown.Hit letters)
     → (lines : List ℕ) × IsTextOf manner.is_hit manner.is_plain (name_of followed) followed.next letters.now lines × Appends held holds lines
     → later ≡ record followed { next = number_after followed.next (length letters.now) }
     → IsTaken manner followed later (record { sent = sent; had = had; noted = noted; faults = faults }) (record { sent = sends; had = has; noted = noted; faults = faults }) held holds (reply.Hit letters.now)
-took_hit manner sent sends had has noted held holds faults followed later asked text letters is answered h written moved = record {
-  between = record { sent = sends; had = has; noted = noted; faults = faults };
-  replied = taken_by manner sent sends had has noted faults followed asked text (shown.Hit letters) (reply.Hit letters.now) h (hit_shown letters h.reply h.shows) is answered;
-  told = refl;
-  written = written;
-  moved = moved;
-}
+took_hit manner sent sends had has noted held holds faults followed later asked text letters is answered h written moved =
+    took manner sent sends had has noted held holds faults followed later asked text (shown.Hit letters) (reply.Hit letters.now) h (hit_shown letters h.reply h.shows) is answered refl written moved
 
 -- after letters it goes on, unless the first ones were enough
 pub goes_on : (manner : Manner) (followed later : Followed) (before after : Streams) (held holds : Option (List ℕ)) (is_once : Bool) (result : Result Bool Stop) (it : Reply)

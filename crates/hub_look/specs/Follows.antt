@@ -1,5 +1,5 @@
 -- What a follow asks of a fifodir, and what it writes for each reply.
-use Rattle.std.specs.Prelude.{◌≡◌, ◌≢◌, ◌⊎◌, ℕ, zero, suc, List, ◌∷◌, ◌++◌, length, map, codes, Bool, true, false, if◌then◌else◌, Option, None, Some, MatchOption}
+use Rattle.std.specs.Prelude.{◌≡◌, ◌≢◌, ◌⊎◌, ℕ, zero, suc, List, ◌∷◌, ◌++◌, length, map, codes, Bool, true, false, if◌then◌else◌, Option, None, Some, MatchOption, is_some}
 use Rattle.std.specs.Io.KnownBytes.{Appends}
 use Rattle.std.specs.List.{list_all}
 use Rattle.hub_io.specs.Faults.{AppendsPart}
@@ -17,6 +17,7 @@ use Rattle.hub_look.specs.EventLines.{IsTextOf, number_after}
 use Rattle.hub_look.specs.Stops.{IsOwnStop}
 use Rattle.hub_look.specs.Streams.{Streams, IsReplied, IsNoted}
 use Rattle.hub_look.specs.Tables.{note_of, reason_of}
+use Rattle.hub_look.specs.declared.following.Following.{Following}
 use Rattle.hub_look.specs.declared.subscribing.Followed.{Followed}
 use Rattle.hub_look.specs.declared.stop.Stop.{Stop}
 use Rattle.hub_look.specs.declared.stop.Stop.TheVariants as stops
@@ -26,6 +27,13 @@ pub record Manner : Type 0 where
   pub is_hit : Bool
   pub is_plain : Bool
   pub is_once : Bool
+
+abbrev pub manner_of : Following → Manner
+manner_of following = record { is_hit = is_some following.pattern; is_plain = following.is_plain; is_once = following.is_once }
+
+-- the names of the fifodirs that are followed
+abbrev pub names_of : Following → List (List ℕ)
+names_of following = map (λ name. name.now) following.names.items
 
 -- the request for what is pending for a handle
 abbrev pub taking : (is_hit is_once : Bool) (id : ℕ) → Request
@@ -120,6 +128,9 @@ pub record Scene : Type 0 where
   pub streams : Streams
   pub held : Option (List ℕ)
 
+abbrev pub scene : List Followed → Streams → (held : Option (List ℕ)) → Scene
+scene all streams held = record { all = all; streams = streams; held = held }
+
 -- The hub was asked once about one of the fifodirs: whether something comes, or for what is pending. The others are as they were.
 pub record IsAskedOne (manner : Manner) (before after : Scene) : Type 0 where
   pub left : List Followed
@@ -137,6 +148,10 @@ pub record IsAskedOne (manner : Manner) (before after : Scene) : Type 0 where
 abbrev pub AreAsked : Manner → (count : ℕ) → (before after : Scene) → Type 0
 AreAsked manner zero before after = after ≡ before
 AreAsked manner (suc count) before after = (between : Scene) × AreAsked manner count before between × IsAskedOne manner between after
+
+-- It was asked some times so.
+abbrev pub LooksOn : Manner → (before after : Scene) → Type 0
+LooksOn manner before after = (count : ℕ) × AreAsked manner count before after
 
 -- One more reply, about one of the fifodirs, or a fault ends the follow.
 pub record EndsLook (manner : Manner) (before : Scene) (after : Streams) (holds : Option (List ℕ)) (stop : Stop) : Type 0 where

@@ -9,6 +9,7 @@ use Rattle.hub_requests.specs.declared.reply.Reply.{Reply}
 use Rattle.hub_protocol.specs.Replies.{IsOfHub}
 use Rattle.hub_protocol.specs.Spelling.{form_of, spelling}
 use Rattle.hub_ask.specs.Asking.{IsAnswered}
+use Rattle.hub_ask.specs.declared.client.Client.{Client}
 
 -- what was sent to the hub, what is left of its replies, the notes, and how many writes of notes failed
 pub record Streams : Type 0 where
@@ -16,6 +17,12 @@ pub record Streams : Type 0 where
   pub had : Option (List ℕ)
   pub noted : Option (List ℕ)
   pub faults : Option ℕ
+
+-- those of a client, and of what the notes are written to; the first four say how these are seen
+abbrev pub streams : {SR SW F : Type 0} → (sent : SW → Option (List ℕ)) → (had : SR → Option (List ℕ)) → (noted : F → Option (List ℕ))
+    → (faults : F → Option ℕ) → Client SR SW → F → Streams
+streams sent had noted faults client notes =
+    record { sent = sent client.sender; had = had client.receiver; noted = noted notes; faults = faults notes }
 
 -- The request was sent once, as its one line, and the first line that came then is that of the reply, which is one of a hub. There is no
 -- note of it.

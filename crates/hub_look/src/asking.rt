@@ -4,6 +4,7 @@ ghost use Rattle.hub_protocol.specs.Spelling.{form_of, spelling};
 ghost use Rattle.hub_ask.specs.Asking.{IsAnswered};
 ghost use Rattle.hub_ask.specs.Hearing.{line_of};
 ghost use Rattle.hub_look.specs.Stops.{IsOwnFault, IsOwnStop};
+ghost use Rattle.hub_look.specs.Streams.{streams};
 ghost use Rattle.hub_look.specs.Tables.{IsJudged};
 ghost use Rattle.hub_look.specs.Looking.{IsLook};
 
@@ -94,18 +95,8 @@ pub(crate) fn state_of<H: Wait, SR: Replies, SW: Requests, F: Sink>(
 ) -> Result<Result<Status, Refusal>, Stop>
     ensures begun { peer.new.begun ≡ peer.old.begun }
     ensures ok { IfOk result (IsJudged
-        (record {
-          sent = SW.contents peer.old.client.sender;
-          had = SR.remaining peer.old.client.receiver;
-          noted = F.contents notes.old;
-          faults = F.faults notes.old;
-        })
-        (record {
-          sent = SW.contents peer.new.client.sender;
-          had = SR.remaining peer.new.client.receiver;
-          noted = F.contents notes.new;
-          faults = F.faults notes.new;
-        })
+        (streams SW.contents SR.remaining F.contents F.faults peer.old.client notes.old)
+        (streams SW.contents SR.remaining F.contents F.faults peer.new.client notes.new)
         name.now) }
     ensures err { IfErr result IsOwnFault }
 {

@@ -1,8 +1,9 @@
 //! The letters of fifodirs as they come.
-ghost use Rattle.std.specs.Prelude.{◌≡◌, ◌<◌, ℕ, map, length, IfOk, IfErr, OnOk, is_some};
+ghost use Rattle.std.specs.Prelude.{◌≡◌, ◌<◌, length, IfOk, IfErr, OnOk};
 ghost use Rattle.std.specs.List.{list_all};
 ghost use Rattle.hub_ask.specs.declared.outcome.Outcome.TheVariants as outcome;
-ghost use Rattle.hub_look.specs.Follows.{AreAsked, EndsFollow, EndsLooks, FollowsTo, IsFollowed};
+ghost use Rattle.hub_look.specs.Follows.{EndsFollow, EndsLooks, FollowsTo, IsFollowed, LooksOn, manner_of, names_of, scene};
+ghost use Rattle.hub_look.specs.Streams.{streams};
 ghost use Rattle.hub_look.specs.declared.stop.Stop.TheVariants as stops;
 
 use crate::following::Following;
@@ -37,55 +38,15 @@ fn look_at<H: Wait + Clock, SR: Replies, SW: Requests, W: Sink, F: Sink>(
     requires { at < length all.now }
     ensures begun { peer.new.begun ≡ peer.old.begun }
     ensures length { length all.new ≡ length all.old }
-    ensures ok { OnOk result ((count : ℕ) × AreAsked
-        (record {
-          is_hit = is_some following.now.pattern;
-          is_plain = following.now.is_plain;
-          is_once = following.now.is_once;
-        })
-        count
-        (record {
-          all = all.old;
-          streams = (record {
-            sent = SW.contents peer.old.client.sender;
-            had = SR.remaining peer.old.client.receiver;
-            noted = F.contents notes.old;
-            faults = F.faults notes.old;
-          });
-          held = W.contents output.old;
-        })
-        (record {
-          all = all.new;
-          streams = (record {
-            sent = SW.contents peer.new.client.sender;
-            had = SR.remaining peer.new.client.receiver;
-            noted = F.contents notes.new;
-            faults = F.faults notes.new;
-          });
-          held = W.contents output.new;
-        })) }
-    ensures err { IfErr result (EndsLooks
-        (record {
-          is_hit = is_some following.now.pattern;
-          is_plain = following.now.is_plain;
-          is_once = following.now.is_once;
-        })
-        (record {
-          all = all.old;
-          streams = (record {
-            sent = SW.contents peer.old.client.sender;
-            had = SR.remaining peer.old.client.receiver;
-            noted = F.contents notes.old;
-            faults = F.faults notes.old;
-          });
-          held = W.contents output.old;
-        })
-        (record {
-          sent = SW.contents peer.new.client.sender;
-          had = SR.remaining peer.new.client.receiver;
-          noted = F.contents notes.new;
-          faults = F.faults notes.new;
-        })
+    ensures ok { OnOk result (LooksOn (manner_of following.now)
+        (scene all.old (streams SW.contents SR.remaining F.contents F.faults
+        peer.old.client notes.old) (W.contents output.old))
+        (scene all.new (streams SW.contents SR.remaining F.contents F.faults
+        peer.new.client notes.new) (W.contents output.new))) }
+    ensures err { IfErr result (EndsLooks (manner_of following.now)
+        (scene all.old (streams SW.contents SR.remaining F.contents F.faults
+        peer.old.client notes.old) (W.contents output.old))
+        (streams SW.contents SR.remaining F.contents F.faults peer.new.client notes.new)
         (W.contents output.new)) }
 {
     let followed = &mut all[at];
@@ -113,55 +74,15 @@ fn look_at_each<H: Wait + Clock, SR: Replies, SW: Requests, W: Sink, F: Sink>(
 ) -> Result<bool, Stop>
     ensures begun { peer.new.begun ≡ peer.old.begun }
     ensures length { length all.new ≡ length all.old }
-    ensures ok { OnOk result ((count : ℕ) × AreAsked
-        (record {
-          is_hit = is_some following.now.pattern;
-          is_plain = following.now.is_plain;
-          is_once = following.now.is_once;
-        })
-        count
-        (record {
-          all = all.old;
-          streams = (record {
-            sent = SW.contents peer.old.client.sender;
-            had = SR.remaining peer.old.client.receiver;
-            noted = F.contents notes.old;
-            faults = F.faults notes.old;
-          });
-          held = W.contents output.old;
-        })
-        (record {
-          all = all.new;
-          streams = (record {
-            sent = SW.contents peer.new.client.sender;
-            had = SR.remaining peer.new.client.receiver;
-            noted = F.contents notes.new;
-            faults = F.faults notes.new;
-          });
-          held = W.contents output.new;
-        })) }
-    ensures err { IfErr result (EndsLooks
-        (record {
-          is_hit = is_some following.now.pattern;
-          is_plain = following.now.is_plain;
-          is_once = following.now.is_once;
-        })
-        (record {
-          all = all.old;
-          streams = (record {
-            sent = SW.contents peer.old.client.sender;
-            had = SR.remaining peer.old.client.receiver;
-            noted = F.contents notes.old;
-            faults = F.faults notes.old;
-          });
-          held = W.contents output.old;
-        })
-        (record {
-          sent = SW.contents peer.new.client.sender;
-          had = SR.remaining peer.new.client.receiver;
-          noted = F.contents notes.new;
-          faults = F.faults notes.new;
-        })
+    ensures ok { OnOk result (LooksOn (manner_of following.now)
+        (scene all.old (streams SW.contents SR.remaining F.contents F.faults
+        peer.old.client notes.old) (W.contents output.old))
+        (scene all.new (streams SW.contents SR.remaining F.contents F.faults
+        peer.new.client notes.new) (W.contents output.new))) }
+    ensures err { IfErr result (EndsLooks (manner_of following.now)
+        (scene all.old (streams SW.contents SR.remaining F.contents F.faults
+        peer.old.client notes.old) (W.contents output.old))
+        (streams SW.contents SR.remaining F.contents F.faults peer.new.client notes.new)
         (W.contents output.new)) }
 {
     let mut came = false;
@@ -204,32 +125,11 @@ fn follow_on<H: Wait + Clock, SR: Replies, SW: Requests, W: Sink, F: Sink>(
 ) -> Result<Outcome, Stop>
     ensures begun { peer.new.begun ≡ peer.old.begun }
     ensures ok { IfOk result (λ went. (went ≡ outcome.Nothing) × IsFollowed
-        (record {
-          is_hit = is_some following.now.pattern;
-          is_plain = following.now.is_plain;
-          is_once = following.now.is_once;
-        })
-        (map (λ name. name.now) following.now.names.items)
-        (record {
-          sent = SW.contents peer.new.client.sender;
-          had = SR.remaining peer.new.client.receiver;
-          noted = F.contents notes.new;
-          faults = F.faults notes.new;
-        })
+        (manner_of following.now) (names_of following.now)
+        (streams SW.contents SR.remaining F.contents F.faults peer.new.client notes.new)
         (W.contents output.old) (W.contents output.new)) }
-    ensures err { IfErr result (EndsFollow
-        (record {
-          is_hit = is_some following.now.pattern;
-          is_plain = following.now.is_plain;
-          is_once = following.now.is_once;
-        })
-        (map (λ name. name.now) following.now.names.items)
-        (record {
-          sent = SW.contents peer.new.client.sender;
-          had = SR.remaining peer.new.client.receiver;
-          noted = F.contents notes.new;
-          faults = F.faults notes.new;
-        })
+    ensures err { IfErr result (EndsFollow (manner_of following.now) (names_of following.now)
+        (streams SW.contents SR.remaining F.contents F.faults peer.new.client notes.new)
         (W.contents output.old) (W.contents output.new)) }
 {
     let mut all = subscribe_to_all(rt, alloc, following, peer, notes)?;
@@ -258,35 +158,13 @@ pub fn follow<H: Wait + Clock, SR: Replies, SW: Requests, W: Sink, F: Sink>(
     // What it sends are looks (`Peer`).
     ensures begun { peer.new.begun ≡ peer.old.begun }
     // The letters of each reply were written once, in order, under the name of their fifodir. The last reply tells the outcome.
-    ensures ok { IfOk result (FollowsTo
-        (record {
-          is_hit = is_some following.now.pattern;
-          is_plain = following.now.is_plain;
-          is_once = following.now.is_once;
-        })
-        (map (λ name. name.now) following.now.names.items)
-        (record {
-          sent = SW.contents peer.new.client.sender;
-          had = SR.remaining peer.new.client.receiver;
-          noted = F.contents notes.new;
-          faults = F.faults notes.new;
-        })
+    ensures ok { IfOk result (FollowsTo (manner_of following.now) (names_of following.now)
+        (streams SW.contents SR.remaining F.contents F.faults peer.new.client notes.new)
         (W.contents output.old) (W.contents output.new)) }
     ensures err { IfErr result (λ error. EndsFollow
-        (record {
-          is_hit = is_some following.now.pattern;
-          is_plain = following.now.is_plain;
-          is_once = following.now.is_once;
-        })
-        (map (λ name. name.now) following.now.names.items)
-        (record {
-          sent = SW.contents peer.new.client.sender;
-          had = SR.remaining peer.new.client.receiver;
-          noted = F.contents notes.new;
-          faults = F.faults notes.new;
-        })
-        (W.contents output.old) (W.contents output.new)
-        (stops.Fault error)) }
+        (manner_of following.now) (names_of following.now)
+        (streams SW.contents SR.remaining F.contents F.faults peer.new.client notes.new)
+        (W.contents output.old) (W.contents output.new) (stops.Fault error)) }
 {
     match follow_on(rt, alloc, following, peer, output, notes) {
         Ok(outcome) => Ok(outcome),

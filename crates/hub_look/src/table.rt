@@ -1,6 +1,7 @@
 //! A table of how fifodirs are.
 ghost use Rattle.std.specs.Prelude.{◌≡◌, ◌⊎◌, map, IfOk, IfErr};
 ghost use Rattle.hub_look.specs.Stops.{IsFaultOf, IsOwnFault, IsRefusal};
+ghost use Rattle.hub_look.specs.Streams.{streams};
 ghost use Rattle.hub_look.specs.Tables.{FailsToShow, FailsToShowAll, FailsToShowStates, IsTable, ShowsAll, ShowsStates, ShowsTable, outcome_after, width_of};
 
 use crate::asking::state_of;
@@ -52,18 +53,8 @@ fn table_of<H: Wait, SR: Replies, SW: Requests, F: Sink>(
 ) -> Result<(String, Outcome), Stop>
     ensures begun { peer.new.begun ≡ peer.old.begun }
     ensures ok { IfOk result (λ it. IsTable (λ name. name.now)
-        (record {
-          sent = SW.contents peer.old.client.sender;
-          had = SR.remaining peer.old.client.receiver;
-          noted = F.contents notes.old;
-          faults = F.faults notes.old;
-        })
-        (record {
-          sent = SW.contents peer.new.client.sender;
-          had = SR.remaining peer.new.client.receiver;
-          noted = F.contents notes.new;
-          faults = F.faults notes.new;
-        })
+        (streams SW.contents SR.remaining F.contents F.faults peer.old.client notes.old)
+        (streams SW.contents SR.remaining F.contents F.faults peer.new.client notes.new)
         names.now it.0.bytes.items it.1) }
     ensures err { IfErr result IsOwnFault }
 {
@@ -102,32 +93,12 @@ fn show_each<H: Wait, SR: Replies, SW: Requests, W: Sink, F: Sink>(
 ) -> Result<Outcome, Stop>
     ensures begun { peer.new.begun ≡ peer.old.begun }
     ensures ok { IfOk result (ShowsTable (λ name. name.now)
-        (record {
-          sent = SW.contents peer.old.client.sender;
-          had = SR.remaining peer.old.client.receiver;
-          noted = F.contents notes.old;
-          faults = F.faults notes.old;
-        })
-        (record {
-          sent = SW.contents peer.new.client.sender;
-          had = SR.remaining peer.new.client.receiver;
-          noted = F.contents notes.new;
-          faults = F.faults notes.new;
-        })
+        (streams SW.contents SR.remaining F.contents F.faults peer.old.client notes.old)
+        (streams SW.contents SR.remaining F.contents F.faults peer.new.client notes.new)
         (W.contents output.old) (W.contents output.new) names.now) }
     ensures err { IfErr result (IsFaultOf (FailsToShow (λ name. name.now)
-        (record {
-          sent = SW.contents peer.old.client.sender;
-          had = SR.remaining peer.old.client.receiver;
-          noted = F.contents notes.old;
-          faults = F.faults notes.old;
-        })
-        (record {
-          sent = SW.contents peer.new.client.sender;
-          had = SR.remaining peer.new.client.receiver;
-          noted = F.contents notes.new;
-          faults = F.faults notes.new;
-        })
+        (streams SW.contents SR.remaining F.contents F.faults peer.old.client notes.old)
+        (streams SW.contents SR.remaining F.contents F.faults peer.new.client notes.new)
         (W.contents output.old) (W.contents output.new) names.now)) }
 {
     let (table, outcome) = table_of(rt, alloc, names, peer, notes)?;
@@ -145,21 +116,11 @@ fn show_all<H: Wait, SR: Replies, SW: Requests, W: Sink, F: Sink>(
 ) -> Result<Outcome, Stop>
     ensures begun { peer.new.begun ≡ peer.old.begun }
     ensures ok { IfOk result (ShowsAll
-        (record {
-          sent = SW.contents peer.new.client.sender;
-          had = SR.remaining peer.new.client.receiver;
-          noted = F.contents notes.new;
-          faults = F.faults notes.new;
-        })
+        (streams SW.contents SR.remaining F.contents F.faults peer.new.client notes.new)
         (W.contents output.old) (W.contents output.new)) }
     ensures err { IfErr result (λ it. IsRefusal it (W.contents output.new ≡ W.contents output.old)
         ⊎ IsFaultOf (FailsToShowAll
-        (record {
-          sent = SW.contents peer.new.client.sender;
-          had = SR.remaining peer.new.client.receiver;
-          noted = F.contents notes.new;
-          faults = F.faults notes.new;
-        })
+        (streams SW.contents SR.remaining F.contents F.faults peer.new.client notes.new)
         (W.contents output.old) (W.contents output.new)) it) }
 {
     let listed = all_names(rt, alloc, peer, notes)?;
@@ -181,33 +142,13 @@ pub fn show_states<H: Wait, SR: Replies, SW: Requests, W: Sink, F: Sink>(
     ensures begun { peer.new.begun ≡ peer.old.begun }
     // The status of each name was asked for once, in order. The table has the rows of what was replied, and each refusal has a note.
     ensures ok { IfOk result (ShowsStates (λ name. name.now)
-        (record {
-          sent = SW.contents peer.old.client.sender;
-          had = SR.remaining peer.old.client.receiver;
-          noted = F.contents notes.old;
-          faults = F.faults notes.old;
-        })
-        (record {
-          sent = SW.contents peer.new.client.sender;
-          had = SR.remaining peer.new.client.receiver;
-          noted = F.contents notes.new;
-          faults = F.faults notes.new;
-        })
+        (streams SW.contents SR.remaining F.contents F.faults peer.old.client notes.old)
+        (streams SW.contents SR.remaining F.contents F.faults peer.new.client notes.new)
         (W.contents output.old) (W.contents output.new) names.now) }
     // Unless writing the table failed, nothing of it is written.
     ensures err { IfErr result (FailsToShowStates (λ name. name.now)
-        (record {
-          sent = SW.contents peer.old.client.sender;
-          had = SR.remaining peer.old.client.receiver;
-          noted = F.contents notes.old;
-          faults = F.faults notes.old;
-        })
-        (record {
-          sent = SW.contents peer.new.client.sender;
-          had = SR.remaining peer.new.client.receiver;
-          noted = F.contents notes.new;
-          faults = F.faults notes.new;
-        })
+        (streams SW.contents SR.remaining F.contents F.faults peer.old.client notes.old)
+        (streams SW.contents SR.remaining F.contents F.faults peer.new.client notes.new)
         (W.contents output.old) (W.contents output.new) names.now) }
 {
     let shown = if names.is_empty() {

@@ -5,9 +5,9 @@ ghost use Rattle.hub_requests.specs.declared.reply.Reply.{Reply as replies};
 ghost use Rattle.hub_requests.specs.declared.request.Request.TheVariants as request;
 ghost use Rattle.hub_ask.specs.declared.outcome.Outcome.TheVariants as outcome;
 ghost use Rattle.hub_look.specs.EventLines.{IsTextOf, number_after};
-ghost use Rattle.hub_look.specs.Follows.{EndsAwait, EndsTake, FailsToWrite, IsTaken, comes_by, ends_by, name_of, taking};
+ghost use Rattle.hub_look.specs.Follows.{EndsAwait, EndsTake, FailsToWrite, IsTaken, comes_by, ends_by, manner_of, name_of, taking};
 ghost use Rattle.hub_look.specs.Looking.{IsLook};
-ghost use Rattle.hub_look.specs.Streams.{IsReplied};
+ghost use Rattle.hub_look.specs.Streams.{IsReplied, streams};
 ghost use Rattle.hub_look.specs.declared.stop.Stop.TheVariants as stops;
 
 use crate::asking::ask_once;
@@ -39,13 +39,8 @@ fn write_letters<C: Clock, W: Sink>(
         × Appends (W.contents output.old) (W.contents output.new) text) }
     ensures moved { OnOk result (followed.new ≡ record followed.old
         { next = number_after followed.old.next (length letters.now) }) }
-    ensures err { IfErr result (λ stop. FailsToWrite
-        (record {
-          is_hit = is_some following.now.pattern;
-          is_plain = following.now.is_plain;
-          is_once = following.now.is_once;
-        })
-        followed.old (W.contents output.old) (W.contents output.new) stop) }
+    ensures err { IfErr result (FailsToWrite (manner_of following.now) followed.old
+        (W.contents output.old) (W.contents output.new)) }
 {
     let lines = following.lines(clock, alloc, followed.name.as_str(), followed.next, letters)?;
     write_text(output, &lines)?;
@@ -64,32 +59,12 @@ pub(crate) fn comes<H: Wait, SR: Replies, SW: Requests, F: Sink>(
 ) -> Result<bool, Stop>
     ensures begun { peer.new.begun ≡ peer.old.begun }
     ensures ok { IfOk result (λ it. IsReplied
-        (record {
-          sent = SW.contents peer.old.client.sender;
-          had = SR.remaining peer.old.client.receiver;
-          noted = F.contents notes.old;
-          faults = F.faults notes.old;
-        })
-        (record {
-          sent = SW.contents peer.new.client.sender;
-          had = SR.remaining peer.new.client.receiver;
-          noted = F.contents notes.new;
-          faults = F.faults notes.new;
-        })
+        (streams SW.contents SR.remaining F.contents F.faults peer.old.client notes.old)
+        (streams SW.contents SR.remaining F.contents F.faults peer.new.client notes.new)
         (request.Await followed.now.handle turns) (comes_by it)) }
     ensures err { IfErr result (EndsAwait followed.now
-        (record {
-          sent = SW.contents peer.old.client.sender;
-          had = SR.remaining peer.old.client.receiver;
-          noted = F.contents notes.old;
-          faults = F.faults notes.old;
-        })
-        (record {
-          sent = SW.contents peer.new.client.sender;
-          had = SR.remaining peer.new.client.receiver;
-          noted = F.contents notes.new;
-          faults = F.faults notes.new;
-        }) turns) }
+        (streams SW.contents SR.remaining F.contents F.faults peer.old.client notes.old)
+        (streams SW.contents SR.remaining F.contents F.faults peer.new.client notes.new) turns) }
 {
     let id = followed.handle;
     let heard = ask_once(rt, alloc, Request::Await { id, turns }, peer)?;
@@ -143,45 +118,15 @@ pub(crate) fn take_and_write<H: Wait + Clock, SR: Replies, SW: Requests, W: Sink
 ) -> Result<bool, Stop>
     ensures begun { peer.new.begun ≡ peer.old.begun }
     ensures ok { OnOk result ((reply : replies) × IsTaken
-        (record {
-          is_hit = is_some following.now.pattern;
-          is_plain = following.now.is_plain;
-          is_once = following.now.is_once;
-        })
-        followed.old followed.new
-        (record {
-          sent = SW.contents peer.old.client.sender;
-          had = SR.remaining peer.old.client.receiver;
-          noted = F.contents notes.old;
-          faults = F.faults notes.old;
-        })
-        (record {
-          sent = SW.contents peer.new.client.sender;
-          had = SR.remaining peer.new.client.receiver;
-          noted = F.contents notes.new;
-          faults = F.faults notes.new;
-        })
+        (manner_of following.now) followed.old followed.new
+        (streams SW.contents SR.remaining F.contents F.faults peer.old.client notes.old)
+        (streams SW.contents SR.remaining F.contents F.faults peer.new.client notes.new)
         (W.contents output.old) (W.contents output.new) reply
         × (ends_by following.now.is_once reply ≡ None)) }
     ensures err { IfErr result (EndsTake
-        (record {
-          is_hit = is_some following.now.pattern;
-          is_plain = following.now.is_plain;
-          is_once = following.now.is_once;
-        })
-        followed.old followed.new
-        (record {
-          sent = SW.contents peer.old.client.sender;
-          had = SR.remaining peer.old.client.receiver;
-          noted = F.contents notes.old;
-          faults = F.faults notes.old;
-        })
-        (record {
-          sent = SW.contents peer.new.client.sender;
-          had = SR.remaining peer.new.client.receiver;
-          noted = F.contents notes.new;
-          faults = F.faults notes.new;
-        })
+        (manner_of following.now) followed.old followed.new
+        (streams SW.contents SR.remaining F.contents F.faults peer.old.client notes.old)
+        (streams SW.contents SR.remaining F.contents F.faults peer.new.client notes.new)
         (W.contents output.old) (W.contents output.new)) }
 {
     let request = taking(following, followed.handle);

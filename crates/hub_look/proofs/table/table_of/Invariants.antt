@@ -1,4 +1,5 @@
 use Rattle.std.proofs.Common.{◌≡◌, take}
+use Rattle.hub_look.specs.Streams.{streams}
 use Rattle.hub_look.proofs.Judged.{IsSoFar}
 use Rattle.hub_look.proofs.table.table_of.Given as goal
 
@@ -7,7 +8,7 @@ abbrev pub invariant-names : goal.invariant-names
 invariant-names g l = record {
   begun : l.peer.begun ≡ l.fn.peer.begun;
   so_far : IsSoFar (λ name. name.now)
-      (record { sent = g.SW.Write.contents l.fn.peer.client.sender; had = g.SR.Read.remaining l.fn.peer.client.receiver; noted = g.F.Write.contents l.fn.notes; faults = g.F.Sink.faults l.fn.notes })
-      (record { sent = g.SW.Write.contents l.peer.client.sender; had = g.SR.Read.remaining l.peer.client.receiver; noted = g.F.Write.contents l.notes; faults = g.F.Sink.faults l.notes })
+      (streams g.SW.Write.contents g.SR.Read.remaining g.F.Write.contents g.F.Sink.faults l.fn.peer.client l.fn.notes)
+      (streams g.SW.Write.contents g.SR.Read.remaining g.F.Write.contents g.F.Sink.faults l.peer.client l.notes)
       (take l.name-index l.names) l.width l.table.bytes.items l.outcome;
 }
