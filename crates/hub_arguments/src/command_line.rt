@@ -7,7 +7,9 @@ use crate::asking::{
     wait_command, wait_plan,
 };
 use crate::help::{ABOUT, EXIT, LONG_ABOUT};
-use crate::serving::{call_command, call_plan, script_command, serve_command, serve_plan};
+use crate::serving::{
+    HubOptions, call_command, call_plan, script_command, serve_command, serve_plan,
+};
 use clap::error::ErrorKind;
 use clap::{Command, Error};
 use hub_io::FrontError;
@@ -32,16 +34,8 @@ pub enum Plan<'a> {
         socket: &'a str,
         sessions: u64,
     },
-    /// Serves sessions at the socket for as long as the program runs, at most so many at the same time (1 to 1024). Gives the
-    /// socket's file these permission bits, writes a newline to this descriptor once it listens, and ends a session that was idle
-    /// for so many seconds.
-    ServeForever {
-        socket: &'a str,
-        sessions: u64,
-        mode: Option<u32>,
-        ready: Option<u64>,
-        idle: Option<u64>,
-    },
+    /// Serves sessions at a socket for as long as the program runs.
+    ServeForever(HubOptions<'a>),
     /// Sends standard input to the server at the socket, and writes its replies to standard output.
     Call {
         socket: &'a str,

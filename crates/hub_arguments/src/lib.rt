@@ -16,3 +16,4 @@ pub use asking::Wish;
 pub use command_line::{
     Plan, Start, begin, early_status, own_socket, own_words, read_words, status_of,
 };
+pub use serving::HubOptions;

@@ -19,6 +19,22 @@ const IDLE: &str = "idle";
 /// The modes that a socket may be given: those who may connect need the right to write.
 static MODES: [&str; 5] = ["0600", "0620", "0622", "0660", "0666"];
 
+/// How a hub is served without end.
+#[derive(Clone, Copy, Debug, PartialEq, Eq)]
+pub struct HubOptions<'a> {
+    /// The path of the socket.
+    pub socket: &'a str,
+    /// How many sessions there may be at the same time.
+    pub sessions: u64,
+    /// The permission bits of the socket's file. None: those that the process's umask leaves.
+    pub mode: Option<u32>,
+    /// The descriptor that gets a newline once the hub listens, as the `notification-fd` of s6 does. None: there is none.
+    pub ready: Option<u64>,
+    /// How many seconds a session may be idle: its client sends no whole line, or takes no whole reply, while the session waits for
+    /// it. None: without end.
+    pub idle: Option<u64>,
+}
+
 fn socket<'a>(alloc: Global) -> Arg<'a> {
     Arg::new(alloc, SOCKET)
         .value_name("SOCKET")
@@ -103,7 +119,7 @@ pub(crate) fn serve_plan<'a>(found: &ArgMatches<'a>) -> Plan<'a> {
             sessions: found.get_one::<u64>(SESSIONS).unwrap_or(1),
         };
     }
-    Plan::ServeForever {
+    Plan::ServeForever(HubOptions {
         socket: socket_in(found),
         sessions: found.get_one::<u64>(SESSIONS).unwrap_or(64),
         mode: found
@@ -111,7 +127,7 @@ pub(crate) fn serve_plan<'a>(found: &ArgMatches<'a>) -> Plan<'a> {
             .and_then(|it| u32::from_str_radix(it, 8).ok()),
         ready: found.get_one::<u64>(READY),
         idle: found.get_one::<u64>(IDLE),
-    }
+    })
 }
 
 /// What the words of a `call` ask for.

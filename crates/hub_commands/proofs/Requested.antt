@@ -17,6 +17,13 @@ use Rattle.hub_commands.specs.declared.ending.Ending.{Ending}
 use Rattle.hub_commands.specs.declared.ending.Ending.TheVariants.{Failed}
 use Rattle.hub_commands.specs.declared.fault.Fault.TheVariants.{Ask}
 
+-- what went over the connection that was made
+over_one : {D SR SW : Type 0} (d : Dialing D SR SW) (old new : D) (socket : List ℕ) (millis : ℕ) (went : Going) (receive receives : SR) (send sends : SW)
+    → d.reaches old socket millis (Ok (receive, send)) new → went (d.contents send) (d.contents sends) (d.remaining receive) (d.remaining receives)
+    → OverOne d old new socket millis went
+over_one d old new socket millis went receive receives send sends reached over =
+    record { receive = receive; receives = receives; send = send; sends = sends; reached = reached; over = over }
+
 -- an error over the connection ends the command
 pub ends_with_error : {D SR SW : Type 0} (d : Dialing D SR SW) (old new : D) (socket : List ℕ) (millis : ℕ) (line : List ℕ)
     (refuses : BadWords → Type 0) (untouched : Type 0) (goes : Outcome → Going) (fails : AskError → Going)
@@ -37,14 +44,7 @@ asks_in_vain d old new socket line words turns untouched held holds result error
     subst (λ it. Asks d old new socket it untouched held holds result) same (
       turns,
       few,
-      ends_with_error d old new socket (turns + ANSWER) line _ untouched _ (λ error sent sends had has. HasNoReply Tells sent sends had has held holds line error) result error is cut (record {
-        receive = receive;
-        receives = receives;
-        send = send;
-        sends = sends;
-        reached = reached;
-        over = over;
-      }),
+      ends_with_error d old new socket (turns + ANSWER) line _ untouched _ (λ error sent sends had has. HasNoReply Tells sent sends had has held holds line error) result error is cut (over_one d old new socket (turns + ANSWER) _ receive receives send sends reached over),
     )
 
 -- an error of `wait`
@@ -56,14 +56,7 @@ pub waits_in_vain : {D SR SW Name : Type 0} (text : Name → List ℕ) (d : Dial
     → HasNoReply TellsOfWait (d.contents send) (d.contents sends) (d.remaining receive) (d.remaining receives) held holds line error
     → (n : ℕ) × (n ≤ MOST_TURNS) × Waits d old new socket (wait_words span want n (joined text all)) (AsksAbout want text all) n untouched held holds result
 waits_in_vain text d old new socket line span want turns names all untouched held holds result error receive receives send sends same is_line cut few is reached over =
-    let vain : Waits d old new socket line (AsksAbout want text names) turns untouched held holds result = ends_with_error d old new socket (turns + GRACE) line _ untouched _ (λ error sent sends had has. HasNoReply TellsOfWait sent sends had has held holds line error) result error is cut (record {
-      receive = receive;
-      receives = receives;
-      send = send;
-      sends = sends;
-      reached = reached;
-      over = over;
-    }) in
+    let vain : Waits d old new socket line (AsksAbout want text names) turns untouched held holds result = ends_with_error d old new socket (turns + GRACE) line _ untouched _ (λ error sent sends had has. HasNoReply TellsOfWait sent sends had has held holds line error) result error is cut (over_one d old new socket (turns + GRACE) _ receive receives send sends reached over) in
     let so = subst (λ it. Waits d old new socket it (AsksAbout want text names) turns untouched held holds result) is_line vain in
     (turns, few, subst (λ it. Waits d old new socket (wait_words span want turns (joined text it)) (AsksAbout want text it) turns untouched held holds result) same so)
 
@@ -80,14 +73,7 @@ waits_so text d old new socket line span want turns names all untouched held hol
       cut,
       outcome,
       is,
-      record {
-        receive = receive;
-        receives = receives;
-        send = send;
-        sends = sends;
-        reached = reached;
-        over = over;
-      },
+      over_one d old new socket (turns + GRACE) _ receive receives send sends reached over,
     ) in
     let so = subst (λ it. Waits d old new socket it (AsksAbout want text names) turns untouched held holds (Ok status)) is_line well in
     (turns, few, subst (λ it. Waits d old new socket (wait_words span want turns (joined text it)) (AsksAbout want text it) turns untouched held holds (Ok status)) same so)

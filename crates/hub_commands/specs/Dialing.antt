@@ -13,6 +13,9 @@ pub record Dialing (D SR SW : Type 0) : Type 1 where
   pub remaining : SR → Option (List ℕ)
   pub contents : SW → Option (List ℕ)
 
+abbrev pub dialing : {D SR SW : Type 0} → Reaching D SR SW → (remaining : SR → Option (List ℕ)) → (contents : SW → Option (List ℕ)) → Dialing D SR SW
+dialing reaches remaining contents = record { reaches = reaches; remaining = remaining; contents = contents }
+
 -- One connection was made, to this socket and for so many milliseconds, and this went over it: what had been sent before and
 -- after, and what was left of the peer's bytes before and after.
 pub record OverOne {D SR SW : Type 0} (d : Dialing D SR SW) (old new : D) (socket : List ℕ) (millis : ℕ)

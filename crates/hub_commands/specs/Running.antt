@@ -70,7 +70,7 @@ abbrev pub CarriesOut : {D SR SW R W F : Type 0} → Dialing D SR SW → Reading
 CarriesOut d r w old new plan.Script result =
     Scripts r w old.input new.input old.output new.output result × (new.dialer ≡ old.dialer) × (new.notes ≡ old.notes)
 CarriesOut d r w old new (plan.Serve socket sessions) result = JudgesOrFails result × (new ≡ old)
-CarriesOut d r w old new (plan.ServeForever socket sessions mode ready idle) result =
+CarriesOut d r w old new (plan.ServeForever options) result =
     ((result ≡ Ok 0) ⊎ ((fault : Fault) × (result ≡ Err (Failed fault))))
     × (new.dialer ≡ old.dialer) × (new.input ≡ old.input) × (new.output ≡ old.output)
 CarriesOut d r w old new (plan.Call socket) result =

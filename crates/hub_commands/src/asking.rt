@@ -2,17 +2,18 @@
 ghost use Rattle.std.specs.Prelude.{◌≡◌};
 ghost use Rattle.hub_ask.specs.Lines.{joined};
 ghost use Rattle.hub_commands.specs.Asking.{Asks};
+ghost use Rattle.hub_commands.specs.Dialing.{dialing};
 
 use crate::dialing::Dial;
 use crate::ending::{BadWords, Ending};
-use hub_ask::{ANSWER, Client, Line, Replies, Requests, ask, turns_asked};
+use hub_ask::{ANSWER, Client, Line, ask, turns_asked};
 use hub_io::Sink;
 use std::alloc::Global;
 use std::sync::Wait;
 
 /// Sends the words as one request to the hub at the socket, writes its reply, and returns the exit status for it. Words with a line
 /// feed are refused, since they would be several requests.
-pub fn ask_words<H, SR, SW, D, W>(
+pub fn ask_words<H: Wait, D: Dial, W: Sink>(
     rt: &H,
     alloc: Global,
     dialer: &mut D,
@@ -20,16 +21,10 @@ pub fn ask_words<H, SR, SW, D, W>(
     words: &[&str],
     output: &mut W,
 ) -> Result<u8, Ending>
-where
-    H: Wait,
-    SR: Replies + Drop,
-    SW: Requests + Drop,
-    D: Dial<SR, SW>,
-    W: Sink,
     // If a word has an LF, it is refused: no connection is made, and nothing is written. Else one connection is made, over which
     // the words go as one line. Its reply is written, and has the status.
     ensures { Asks
-        (record { reaches = D.reaches; remaining = SR.remaining; contents = SW.contents })
+        (dialing D.reaches D.Receiver.remaining D.Sender.contents)
         dialer.old dialer.new socket.now (joined (λ word. word.now) words.now)
         (output.new ≡ output.old) (W.contents output.old) (W.contents output.new) result }
 {

@@ -11,14 +11,20 @@ use std::net::Net;
 use std::rt::Clock;
 
 /// The means to reach hubs. A function that has no other can't connect without it.
-pub trait Dial<SR: Replies, SW: Requests> {
+pub trait Dial {
+    /// The half of a connection for a hub's replies.
+    type Receiver: Replies + Drop;
+
+    /// The half for requests.
+    type Sender: Requests + Drop;
+
     /// `reaches old socket millis both new`: a dialer in the state `old` may give this for the socket and the time, and is then in
     /// the state `new`.
-    ghost reaches: { Self → List ℕ → ℕ → Result (SR × SW) fault_of → Self → Type 0 };
+    ghost reaches: { Self → List ℕ → ℕ → Result (Self.Receiver × Self.Sender) fault_of → Self → Type 0 };
 
-    /// Connects to the hub at the socket, and returns the two halves of the connection: for its replies and for requests. They
-    /// end so many milliseconds after the call began.
-    fn dial(&mut self, socket: &str, millis: u64) -> Result<(SR, SW), Fault>
+    /// Connects to the hub at the socket, and returns the two halves of the connection. They end so many milliseconds after the
+    /// call began.
+    fn dial(&mut self, socket: &str, millis: u64) -> Result<(Self::Receiver, Self::Sender), Fault>
         ensures { reaches self.old socket.now millis result self.new };
 }
 
@@ -35,7 +41,11 @@ impl<H: Net + Clock + Copy> Dialer<H> {
     }
 }
 
-impl<H: Net + Clock + Copy> Dial<Bounded<Timed<H>>, Timed<H>> for Dialer<H> {
+impl<H: Net + Clock + Copy> Dial for Dialer<H> {
+    type Receiver = Bounded<Timed<H>>;
+
+    type Sender = Timed<H>;
+
     ghost reaches = { λ old _ _ both new. (new ≡ old)
         × IfErr both (λ it. (it ≡ fault.Connect) ⊎ (it ≡ fault.Ask ask.NoAnswer)) };
 

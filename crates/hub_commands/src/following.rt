@@ -1,12 +1,13 @@
 //! The subcommand `follow`: the letters of fifodirs as they come.
 ghost use Rattle.std.specs.Prelude.{◌≡◌};
 ghost use Rattle.hub_commands.specs.Breaking.{follow_breaks};
+ghost use Rattle.hub_commands.specs.Dialing.{dialing};
 ghost use Rattle.hub_commands.specs.Looking.{LooksWith};
 
 use crate::breaking::{any_breaks, breaks};
 use crate::dialing::Dial;
 use crate::ending::{BadWords, Ending};
-use hub_ask::{ANSWER, Replies, Requests};
+use hub_ask::ANSWER;
 use hub_io::Sink;
 use hub_look::{Following, Peer, follow};
 use std::alloc::Global;
@@ -27,7 +28,7 @@ fn following_breaks(following: &Following<'_>) -> bool
 
 /// Writes the letters of these fifodirs of the hub at the socket as they come, and returns the exit status. `notes` gets a line on
 /// what the hub refuses. A pattern or names with a line feed are refused.
-pub fn follow_as_told<H, SR, SW, D, W, F>(
+pub fn follow_as_told<H: Wait + Clock, D: Dial, W: Sink, F: Sink>(
     rt: &H,
     alloc: Global,
     dialer: &mut D,
@@ -36,17 +37,10 @@ pub fn follow_as_told<H, SR, SW, D, W, F>(
     output: &mut W,
     notes: &mut F,
 ) -> Result<u8, Ending>
-where
-    H: Wait + Clock,
-    SR: Replies + Drop,
-    SW: Requests + Drop,
-    D: Dial<SR, SW>,
-    W: Sink,
-    F: Sink,
     // If a word has an LF, it is refused: no connection is made, and nothing is written. Else one connection is made, over which
     // only looks go.
     ensures { LooksWith
-        (record { reaches = D.reaches; remaining = SR.remaining; contents = SW.contents })
+        (dialing D.reaches D.Receiver.remaining D.Sender.contents)
         dialer.old dialer.new socket.now
         (follow_breaks (λ word. word.now) following.now.pattern following.now.names.items)
         BadWords.Word ((output.new ≡ output.old) × (notes.new ≡ notes.old)) result }

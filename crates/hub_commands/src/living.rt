@@ -9,6 +9,7 @@ use crate::fault::Fault;
 use crate::notice::Notice;
 use crate::place::{Place, take_place};
 use crate::watching::{Pending, Watcher};
+use hub_arguments::HubOptions;
 use hub_front::{Enter, Stay};
 use hub_server::{SharedDoor, start_workers};
 use hub_shared::Hub;
@@ -22,22 +23,6 @@ use std::sync::{Arc, Wait};
 use std::thread::Threads;
 use std::time::Duration;
 use std::{io, thread};
-
-/// How a hub is served without end.
-#[derive(Clone, Copy, Debug)]
-pub struct HubOptions<'a> {
-    /// The path of the socket.
-    pub socket: &'a str,
-    /// How many sessions there may be at the same time.
-    pub sessions: u64,
-    /// The permission bits of the socket's file. None: those that the process's umask leaves.
-    pub mode: Option<u32>,
-    /// The descriptor that gets a newline once the hub listens, as the `notification-fd` of s6 does. None: there is none.
-    pub ready: Option<u64>,
-    /// How many seconds a session may be idle: its client sends no whole line, or takes no whole reply, while the session waits for
-    /// it. None: without end.
-    pub idle: Option<u64>,
-}
 
 /// Serves sessions at the socket for as long as the program runs, over one hub. So many threads each accept a connection, serve
 /// its session, and accept the next one. The faults of sessions are told as they come, a few lines a second and the number of

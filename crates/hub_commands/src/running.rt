@@ -1,4 +1,5 @@
 //! What the program does with the words of its command line.
+ghost use Rattle.hub_commands.specs.Dialing.{dialing};
 ghost use Rattle.hub_commands.specs.Running.{CarriesOut, Judges, Runs};
 
 use crate::asking::ask_words;
@@ -7,12 +8,11 @@ use crate::dialing::Dial;
 use crate::ending::{BadWords, Ending};
 use crate::fault::Fault;
 use crate::following::follow_as_told;
-use crate::living::{HubOptions, serve_forever};
+use crate::living::serve_forever;
 use crate::serving::serve;
 use crate::showing::show_status;
 use crate::waiting::wait_as_told;
 use hub_arguments::{Plan, Start, begin, own_socket, own_words};
-use hub_ask::{Replies, Requests};
 use hub_io::{Sink, Source};
 use hub_look::Following;
 use hub_requests::Enter;
@@ -22,7 +22,7 @@ use std::alloc::{AllocGlobal, Global};
 use std::fs::{File, Files};
 use std::io::ErrorKind;
 use std::net::Net;
-use std::rt::Runtime;
+use std::rt::{Clock, Runtime};
 use std::sync::Wait;
 use std::thread::Threads;
 
@@ -38,7 +38,7 @@ fn judge(report: Report) -> Result<u8, Ending>
 }
 
 // Does what the plan says, and returns the exit status.
-fn carry_out<H, SR, SW, D, R, W, F>(
+fn carry_out<H, D, R, W, F>(
     rt: &H,
     alloc: Global,
     dialer: &mut D,
@@ -48,25 +48,14 @@ fn carry_out<H, SR, SW, D, R, W, F>(
     notes: &mut F,
 ) -> Result<u8, Ending>
 where
-    H: Runtime
-        + Files<File = File>
-        + AllocGlobal
-        + Net
-        + Threads
-        + Wait
-        + Enter
-        + Copy
-        + Send
-        + 'static,
-    SR: Replies + Drop,
-    SW: Requests + Drop,
-    D: Dial<SR, SW>,
+    H: Files<File = File> + Net + Clock + Threads + Wait + Enter + Copy + Send + 'static,
+    D: Dial,
     R: Source,
     W: Sink,
     F: Sink,
     // What the subcommand of the plan ensures, and what the plan doesn't need is as it was.
     ensures { CarriesOut
-        (record { reaches = D.reaches; remaining = SR.remaining; contents = SW.contents })
+        (dialing D.reaches D.Receiver.remaining D.Sender.contents)
         (record { remaining = R.remaining; reads = R.reads; faults = R.faults })
         (record { contents = W.contents; faults = W.faults })
         (record { dialer = dialer.old; input = input.old; output = output.old; notes = notes.old })
@@ -79,20 +68,7 @@ where
             Ok(0)
         }
         Plan::Serve { socket, sessions } => judge(serve(rt, alloc, socket, sessions)?),
-        Plan::ServeForever {
-            socket,
-            sessions,
-            mode,
-            ready,
-            idle,
-        } => {
-            let options = HubOptions {
-                socket,
-                sessions,
-                mode,
-                ready,
-                idle,
-            };
+        Plan::ServeForever(options) => {
             serve_forever(rt, alloc, options, notes)?;
             Ok(0)
         }
@@ -126,7 +102,7 @@ where
 }
 
 /// Does what the words of the command line say, and returns the exit status.
-pub fn run<H, SR, SW, D, R, W, F>(
+pub fn run<H, D, R, W, F>(
     rt: &H,
     alloc: Global,
     dialer: &mut D,
@@ -145,15 +121,13 @@ where
         + Copy
         + Send
         + 'static,
-    SR: Replies + Drop,
-    SW: Requests + Drop,
-    D: Dial<SR, SW>,
+    D: Dial,
     R: Source,
     W: Sink,
     F: Sink,
     // One plan is carried out. Or there is none, and everything is as it was.
     ensures { Runs
-        (record { reaches = D.reaches; remaining = SR.remaining; contents = SW.contents })
+        (dialing D.reaches D.Receiver.remaining D.Sender.contents)
         (record { remaining = R.remaining; reads = R.reads; faults = R.faults })
         (record { contents = W.contents; faults = W.faults })
         (record { dialer = dialer.old; input = input.old; output = output.old; notes = notes.old })

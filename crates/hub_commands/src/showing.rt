@@ -1,12 +1,13 @@
 //! The subcommand `status`: how fifodirs are.
 ghost use Rattle.std.specs.Prelude.{◌≡◌};
 ghost use Rattle.hub_commands.specs.Breaking.{any_breaks};
+ghost use Rattle.hub_commands.specs.Dialing.{dialing};
 ghost use Rattle.hub_commands.specs.Looking.{LooksWith};
 
 use crate::breaking::any_breaks;
 use crate::dialing::Dial;
 use crate::ending::{BadWords, Ending};
-use hub_ask::{ANSWER, Replies, Requests};
+use hub_ask::ANSWER;
 use hub_io::Sink;
 use hub_look::{Peer, show_states};
 use std::alloc::Global;
@@ -14,7 +15,7 @@ use std::sync::Wait;
 
 /// Writes how these fifodirs of the hub at the socket are, or all of the hub if none is named, and returns the exit status. `notes`
 /// gets a line for each name that the hub refuses. Names with a line feed are refused.
-pub fn show_status<H, SR, SW, D, W, F>(
+pub fn show_status<H: Wait, D: Dial, W: Sink, F: Sink>(
     rt: &H,
     alloc: Global,
     dialer: &mut D,
@@ -23,17 +24,10 @@ pub fn show_status<H, SR, SW, D, W, F>(
     output: &mut W,
     notes: &mut F,
 ) -> Result<u8, Ending>
-where
-    H: Wait,
-    SR: Replies + Drop,
-    SW: Requests + Drop,
-    D: Dial<SR, SW>,
-    W: Sink,
-    F: Sink,
     // If a name has an LF, it is refused: no connection is made, and nothing is written. Else one connection is made, over which
     // only looks go.
     ensures { LooksWith
-        (record { reaches = D.reaches; remaining = SR.remaining; contents = SW.contents })
+        (dialing D.reaches D.Receiver.remaining D.Sender.contents)
         dialer.old dialer.new socket.now (any_breaks (λ name. name.now) names.now)
         BadWords.Name ((output.new ≡ output.old) × (notes.new ≡ notes.old)) result }
 {

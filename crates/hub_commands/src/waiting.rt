@@ -4,11 +4,12 @@ ghost use Rattle.hub_ask.specs.Lines.{joined};
 ghost use Rattle.hub_ask.specs.Waiting.{AsksAbout, wait_words};
 ghost use Rattle.hub_ask.specs.declared.duration.TheConstants.{MOST_TURNS};
 ghost use Rattle.hub_commands.specs.Asking.{Waits};
+ghost use Rattle.hub_commands.specs.Dialing.{dialing};
 
 use crate::dialing::Dial;
 use crate::ending::{BadWords, Ending};
 use hub_arguments::Wish;
-use hub_ask::{Client, GRACE, Replies, Requests, turns_of, wait_for, wait_line};
+use hub_ask::{Client, GRACE, turns_of, wait_for, wait_line};
 use hub_io::Sink;
 use std::alloc::Global;
 use std::io::Write;
@@ -16,7 +17,7 @@ use std::sync::Wait;
 
 /// Waits as the wish says at the hub at the socket, writes the reply, and returns the exit status for it. `notes` gets a line for
 /// each service that isn't as wanted. A duration that a wait can't have is refused, and so are names with a line feed.
-pub fn wait_as_told<H, SR, SW, D, W, F>(
+pub fn wait_as_told<H: Wait, D: Dial, W: Sink, F: Write>(
     rt: &H,
     alloc: Global,
     dialer: &mut D,
@@ -25,17 +26,10 @@ pub fn wait_as_told<H, SR, SW, D, W, F>(
     output: &mut W,
     notes: &mut F,
 ) -> Result<u8, Ending>
-where
-    H: Wait,
-    SR: Replies + Drop,
-    SW: Requests + Drop,
-    D: Dial<SR, SW>,
-    W: Sink,
-    F: Write,
     // If the words are refused, no connection is made, and nothing is written. Else one connection is made, over which the line of
     // the wait goes, and then at most the questions about its services. The reply is written, and has the status.
     ensures { (turns : ℕ) × (turns ≤ MOST_TURNS) × Waits
-        (record { reaches = D.reaches; remaining = SR.remaining; contents = SW.contents })
+        (dialing D.reaches D.Receiver.remaining D.Sender.contents)
         dialer.old dialer.new socket.now
         (wait_words wish.now.span.now wish.now.want.now turns
         (joined (λ name. name.now) wish.now.names.items))

@@ -1,5 +1,5 @@
 // crates.txt: YOURS: hub_arguments
-use hub_arguments::{Plan, read_words, status_of};
+use hub_arguments::{HubOptions, Plan, read_words, status_of};
 use std::alloc::Global;
 
 /// The socket that the words name, or `known` if they may do without one. None if they need none. The first word is the program's
@@ -12,7 +12,7 @@ pub fn socket_of<'a>(
     match read_words(alloc, words, known) {
         Ok(
             Plan::Serve { socket, .. }
-            | Plan::ServeForever { socket, .. }
+            | Plan::ServeForever(HubOptions { socket, .. })
             | Plan::Call { socket }
             | Plan::Ask { socket, .. }
             | Plan::Wait { socket, .. }

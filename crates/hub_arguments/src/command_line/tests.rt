@@ -140,12 +140,12 @@ static PLANS: [(&str, Option<&str>, &str); 18] = [
     (
         "ftrighub serve --forever hub",
         None,
-        "ServeForever { socket: \"hub\", sessions: 64, mode: None, ready: None, idle: None }",
+        "ServeForever(HubOptions { socket: \"hub\", sessions: 64, mode: None, ready: None, idle: None })",
     ),
     (
         "ftrighub serve hub --ready-fd 3 --mode 0660 --idle 1000000 --sessions 1024 --forever",
         None,
-        "ServeForever { socket: \"hub\", sessions: 1024, mode: Some(432), ready: Some(3), idle: Some(1000000) }",
+        "ServeForever(HubOptions { socket: \"hub\", sessions: 1024, mode: Some(432), ready: Some(3), idle: Some(1000000) })",
     ),
     ("ftrighub call hub", Some("t"), "Call { socket: \"hub\" }"),
     (
