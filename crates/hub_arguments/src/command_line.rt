@@ -1,5 +1,6 @@
 //! Reads the words of the command line.
-ghost use Rattle.std.specs.Prelude.{◌≡◌, ◌⊎◌, ℕ, IfOk, IfSome};
+ghost use Rattle.std.specs.Prelude.{◌≡◌, ◌⊎◌, ℕ, codes, IfOk, IfSome};
+ghost use Rattle.hub_arguments.specs.Words.{BeginsWith};
 ghost use Rattle.hub_arguments.specs.declared.command_line.Start.TheVariants.{End};
 
 use crate::asking::{
@@ -152,12 +153,15 @@ pub fn early_status(
     }
 }
 
-/// The words of the command line, with the program's name first. An error is `InvalidData` if a word is not UTF-8, or
-/// `OutOfMemory`.
-pub fn own_words<H: Runtime + AllocGlobal>(rt: &H, alloc: Global) -> io::Result<Vec<String>> {
+/// The words of the command line, with the program's name first, by whatever name it was started. An error is `InvalidData` if a
+/// word is not UTF-8, or `OutOfMemory`.
+pub fn own_words<H: Runtime + AllocGlobal>(rt: &H, alloc: Global) -> io::Result<Vec<String>>
+    ensures { IfOk result (λ words. BeginsWith
+        (λ word. word.bytes.items) (codes "ftrighub") words.items) }
+{
     let mut words = Vec::new(alloc);
     words.push(String::from_str(alloc, NAME)?)?;
-    for word in env::args(rt)?.skip(1) {
+    'words: for word in env::args(rt)?.skip(1) {
         words.push(word)?;
     }
     Ok(words)
