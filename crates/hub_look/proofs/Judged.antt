@@ -11,7 +11,7 @@ use Rattle.hub_look.specs.Stops.{IsFaultOf, IsOwnFault, IsOwnStop, IsRefusal}
 use Rattle.hub_look.specs.Streams.{Streams}
 use Rattle.hub_look.specs.declared.stop.Stop.{Stop}
 use Rattle.hub_look.specs.declared.stop.Stop.TheVariants.{Fault}
-use Rattle.hub_look.specs.Tables.{FailsToShow, FailsToShowAll, ShowsAll, ShowsTable, Verdict, AreJudged, IsJudged, IsTable, head_of, outcome_after, outcome_of_all, row_by, rows_of, width_of}
+use Rattle.hub_look.specs.Tables.{FailsToShow, FailsToShowAll, ListsNames, ShowsAll, ShowsTable, Verdict, AreJudged, IsJudged, IsTable, head_of, outcome_after, outcome_of_all, row_by, rows_of, width_of}
 
 pub judged_more : {Word : Type 0} (text : Word → List ℕ) (before between after : Streams) (names : List Word) (verdicts : List Verdict) (name : Word) (verdict : Verdict)
     → AreJudged text before between names verdicts → IsJudged between after (text name) verdict
@@ -120,12 +120,6 @@ pub not_shown : {Word : Type 0} (text : Word → List ℕ) (before after : Strea
 not_shown text before after held holds names (Relay relay.Output) other same = absurd (other refl)
 not_shown text before after held holds names error other same = same
 
-pub not_shown_map : {Word : Type 0} (text : Word → List ℕ) (before after : Streams) (held holds : Option (List ℕ)) (names : List Word) (error : AskError)
-    → FailsToShow text before after held holds names error → FailsToShow (λ name. name) before after held holds (map text names) error
-not_shown_map text before after held holds names (Relay relay.Output) h =
-    record { table = h.table; outcome = h.outcome; written = h.written; is = table_map text before after names h.table h.outcome h.is }
-not_shown_map text before after held holds names error h = h
-
 -- ---- the width of the names so far
 
 pub width_step : {Word : Type 0} (text : Word → List ℕ) (names : List Word) (at : ℕ) (name : Word) (width wider : ℕ)
@@ -148,29 +142,51 @@ pub own_memory : {T : Type 0} (result : Result T Stop) → IsErrAnd result (λ i
 own_memory (Ok it) is = tt
 own_memory (Err stop) is = subst IsOwnFault (sym is) memory_is_own
 
-own_stop : (after : Streams) (held : Option (List ℕ)) (stop : Stop) → IsOwnStop stop → IsRefusal stop (held ≡ held) ⊎ IsFaultOf (FailsToShowAll after held held) stop
-own_stop after held stop own = elim own [
-  | inl fault ↦ inr (fault.0, fault.1, ([], after, not_shown (λ name. name) after after held held [] fault.0 fault.2 refl))
+all_not_shown : (before after : Streams) (held : Option (List ℕ)) (error : AskError) → error ≢ Relay relay.Output → FailsToShowAll before after held held error
+all_not_shown before after held (Relay relay.Output) other = absurd (other refl)
+all_not_shown before after held error other = refl
+
+own_stop : (before after : Streams) (held : Option (List ℕ)) (stop : Stop) → IsOwnStop stop → IsRefusal stop (held ≡ held) ⊎ IsFaultOf (FailsToShowAll before after held held) stop
+own_stop before after held stop own = elim own [
+  | inl fault ↦ inr (fault.0, fault.1, all_not_shown before after held fault.0 fault.2)
   | inr refused ↦ inl (refused, refl)
 ]
 
-pub nothing_shown : {T : Type 0} (after : Streams) (held : Option (List ℕ)) (result : Result T Stop) (stop : Stop) → IsErrAnd result (λ it. it ≡ stop) → IsOwnStop stop
-    → IfErr result (λ it. IsRefusal it (held ≡ held) ⊎ IsFaultOf (FailsToShowAll after held held) it)
-nothing_shown after held (Ok it) stop is own = tt
-nothing_shown after held (Err other) stop is own = own_stop after held other (subst IsOwnStop (sym is) own)
+pub nothing_shown : {T : Type 0} (before after : Streams) (held : Option (List ℕ)) (result : Result T Stop) (stop : Stop) → IsErrAnd result (λ it. it ≡ stop) → IsOwnStop stop
+    → IfErr result (λ it. IsRefusal it (held ≡ held) ⊎ IsFaultOf (FailsToShowAll before after held held) it)
+nothing_shown before after held (Ok it) stop is own = tt
+nothing_shown before after held (Err other) stop is own = own_stop before after held other (subst IsOwnStop (sym is) own)
 
-pub shows_all : {Word : Type 0} (text : Word → List ℕ) (between after : Streams) (held holds : Option (List ℕ)) (words : List Word) (result : Result Outcome Stop)
-    → IfOk result (ShowsTable text between after held holds words) → IfOk result (ShowsAll after held holds)
-shows_all text between after held holds words (Ok outcome) h =
-    inl (map text words, between, record { table = h.table; written = h.written; is = table_map text between after words h.table outcome h.is })
-shows_all text between after held holds words (Err stop) h = tt
+-- the words are the names that were listed
+listed_words : (before after : Streams) (words names : List (List ℕ)) → words ≡ names → ListsNames before after names → ListsNames before after words
+listed_words before after words names same listed = subst (ListsNames before after) (sym same) listed
 
-pub fails_to_show_all : {Word : Type 0} (text : Word → List ℕ) (between after : Streams) (held holds : Option (List ℕ)) (words : List Word) (result : Result Outcome Stop)
-    → IfErr result (IsFaultOf (FailsToShow text between after held holds words))
-    → IfErr result (λ stop. IsRefusal stop (holds ≡ held) ⊎ IsFaultOf (FailsToShowAll after held holds) stop)
-fails_to_show_all text between after held holds words (Ok outcome) h = tt
-fails_to_show_all text between after held holds words (Err stop) h =
-    inr (h.0, h.1, (map text words, between, not_shown_map text between after held holds words h.0 h.2))
+pub shows_all : {Word : Type 0} (text : Word → List ℕ) (before between after : Streams) (held holds : Option (List ℕ)) (words : List Word) (names : List (List ℕ)) (result : Result Outcome Stop)
+    → map text words ≡ names → ListsNames before between names → IfOk result (ShowsTable text between after held holds words) → IfOk result (ShowsAll before after held holds)
+shows_all text before between after held holds words names (Ok outcome) same listed h = inl (
+  map text words,
+  between,
+  listed_words before between (map text words) names same listed,
+  record { table = h.table; written = h.written; is = table_map text between after words h.table outcome h.is },
+)
+shows_all text before between after held holds words names (Err stop) same listed h = tt
+
+not_all_shown : {Word : Type 0} (text : Word → List ℕ) (before between after : Streams) (held holds : Option (List ℕ)) (words : List Word) (error : AskError)
+    → ListsNames before between (map text words) → FailsToShow text between after held holds words error → FailsToShowAll before after held holds error
+not_all_shown text before between after held holds words (Relay relay.Output) listed h = (
+  map text words,
+  between,
+  listed,
+  record { table = h.table; outcome = h.outcome; written = h.written; is = table_map text between after words h.table h.outcome h.is },
+)
+not_all_shown text before between after held holds words error listed h = h
+
+pub fails_to_show_all : {Word : Type 0} (text : Word → List ℕ) (before between after : Streams) (held holds : Option (List ℕ)) (words : List Word) (names : List (List ℕ)) (result : Result Outcome Stop)
+    → map text words ≡ names → ListsNames before between names → IfErr result (IsFaultOf (FailsToShow text between after held holds words))
+    → IfErr result (λ stop. IsRefusal stop (holds ≡ held) ⊎ IsFaultOf (FailsToShowAll before after held holds) stop)
+fails_to_show_all text before between after held holds words names (Ok outcome) same listed h = tt
+fails_to_show_all text before between after held holds words names (Err stop) same listed h =
+    inr (h.0, h.1, not_all_shown text before between after held holds words h.0 (listed_words before between (map text words) names same listed) h.2)
 
 pub memory_stops : {T : Type 0} (result : Result T Stop) → IsErrAnd result (λ it. it ≡ Fault (Relay relay.Memory)) → IfErr result IsOwnStop
 memory_stops (Ok it) is = tt

@@ -1,6 +1,7 @@
 pub mod Asked
 pub mod Asks
 pub mod Judged
+pub mod Listed
 pub mod LinesSoFar
 pub mod Refusals
 pub mod Takes

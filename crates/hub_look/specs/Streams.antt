@@ -32,6 +32,12 @@ pub record IsReplied (before after : Streams) (request : Request) (reply : Reply
   pub noted : after.noted ≡ before.noted
   pub faults : after.faults ≡ before.faults
 
+-- The request was sent once, as its one line, and then this line came first. There is no note of it.
+pub record IsHeard (before after : Streams) (request : Request) (line : List ℕ) : Type 0 where
+  pub answered : IsAnswered before.sent after.sent before.had after.had (spelling (form_of request)) line
+  pub noted : after.noted ≡ before.noted
+  pub faults : after.faults ≡ before.faults
+
 -- The note was written whole, or a write failed and a part of it was written.
 abbrev pub IsToldTo : (noted notes : Option (List ℕ)) (faults failed : Option ℕ) (note : List ℕ) → Type 0
 IsToldTo noted notes faults failed note =

@@ -1,5 +1,5 @@
 -- How fifodirs are, and the table of it.
-use Rattle.std.specs.Prelude.{◌≡◌, ◌⊎◌, ℕ, ◌-◌, max, List, [], ◌∷◌, ◌++◌, length, replicate, codes, Bool, true, false, if◌then◌else◌, Option, Result, Ok, Err}
+use Rattle.std.specs.Prelude.{◌≡◌, ◌⊎◌, ℕ, ◌+◌, ◌-◌, max, List, [], ◌∷◌, ◌++◌, length, replicate, codes, Bool, true, false, if◌then◌else◌, Option, Result, Ok, Err}
 use Rattle.std.specs.Fmt.{decimal}
 use Rattle.hub_letters.specs.declared.flags.Flags.{Flags}
 use Rattle.std.specs.Io.KnownBytes.{Appends}
@@ -7,6 +7,7 @@ use Rattle.hub_io.specs.Faults.{AppendsPart}
 use Rattle.hub_client.specs.declared.fault.RelayError.TheVariants as relay
 use Rattle.hub_ask.specs.declared.fault.AskError.{AskError}
 use Rattle.hub_ask.specs.declared.fault.AskError.TheVariants.{Relay}
+use Rattle.hub_requests.specs.Listings.{joined}
 use Rattle.hub_requests.specs.Texts.{openness, word_of}
 use Rattle.hub_requests.specs.declared.request.Request.TheVariants as request
 use Rattle.hub_requests.specs.declared.reply.Reply.TheVariants as reply
@@ -66,6 +67,19 @@ abbrev pub outcome_of_all : List Verdict → Outcome
 outcome_of_all [] = Done
 outcome_of_all (Ok status ∷ verdicts) = outcome_of_all verdicts
 outcome_of_all (Err refusal ∷ verdicts) = Refused
+
+-- The hub was asked for its names from this place on, by one request after another, until it listed none. These are the names of each
+-- reply.
+abbrev pub AreListed : (before after : Streams) → (from : ℕ) → (pages : List (List (List ℕ))) → Type 0
+AreListed before after from [] = IsReplied before after (request.Names from) reply.Nothing
+AreListed before after from (page ∷ pages) =
+    (between : Streams) × IsReplied before between (request.Names from) (reply.Listed page) × AreListed between after (from + length page) pages
+
+-- The hub was asked for its names so, and these are all that it listed, in order.
+pub record ListsNames (before after : Streams) (names : List (List ℕ)) : Type 0 where
+  pub pages : List (List (List ℕ))
+  pub listed : AreListed before after 0 pages
+  pub all : names ≡ joined pages
 
 -- ---- the table
 
@@ -135,15 +149,15 @@ pub record ShowsTable {Word : Type 0} (text : Word → List ℕ) (before after :
   pub written : Appends held holds table
   pub is : IsTable text before after names table outcome
 
--- The hub listed names first, and their table was written. Or it refused that, and nothing was written.
-abbrev pub ShowsAll : (after : Streams) (held holds : Option (List ℕ)) → Outcome → Type 0
-ShowsAll after held holds outcome =
-    ((names : List (List ℕ)) × (between : Streams) × ShowsTable (λ name. name) between after held holds names outcome)
+-- The hub listed its names, and then their table was written. Or it refused that, and nothing was written.
+abbrev pub ShowsAll : (before after : Streams) (held holds : Option (List ℕ)) → Outcome → Type 0
+ShowsAll before after held holds outcome =
+    ((names : List (List ℕ)) × (between : Streams) × ListsNames before between names × ShowsTable (λ name. name) between after held holds names outcome)
     ⊎ ((outcome ≡ Refused) × (holds ≡ held))
 
 -- What is shown of these names; of all names of the hub if there is none.
 abbrev pub ShowsStates : {Word : Type 0} → (text : Word → List ℕ) → (before after : Streams) → (held holds : Option (List ℕ)) → List Word → Outcome → Type 0
-ShowsStates text before after held holds [] outcome = ShowsAll after held holds outcome
+ShowsStates text before after held holds [] outcome = ShowsAll before after held holds outcome
 ShowsStates text before after held holds names outcome = ShowsTable text before after held holds names outcome
 
 -- Only a part of a table was written.
@@ -158,12 +172,13 @@ abbrev pub FailsToShow : {Word : Type 0} → (text : Word → List ℕ) → (bef
 FailsToShow text before after held holds names (Relay relay.Output) = CutsTable text before after held holds names
 FailsToShow text before after held holds names error = holds ≡ held
 
--- The same, if all of the hub are to be shown, and it may list any names before.
-abbrev pub FailsToShowAll : (after : Streams) → (held holds : Option (List ℕ)) → AskError → Type 0
-FailsToShowAll after held holds error =
-    (names : List (List ℕ)) × (between : Streams) × FailsToShow (λ name. name) between after held holds names error
+-- How the table of all names of the hub isn't shown.
+abbrev pub FailsToShowAll : (before after : Streams) → (held holds : Option (List ℕ)) → AskError → Type 0
+FailsToShowAll before after held holds (Relay relay.Output) =
+    (names : List (List ℕ)) × (between : Streams) × ListsNames before between names × CutsTable (λ name. name) between after held holds names
+FailsToShowAll before after held holds error = holds ≡ held
 
 -- How these names aren't shown.
 abbrev pub FailsToShowStates : {Word : Type 0} → (text : Word → List ℕ) → (before after : Streams) → (held holds : Option (List ℕ)) → List Word → AskError → Type 0
-FailsToShowStates text before after held holds [] error = FailsToShowAll after held holds error
+FailsToShowStates text before after held holds [] error = FailsToShowAll before after held holds error
 FailsToShowStates text before after held holds names error = FailsToShow text before after held holds names error

@@ -4,7 +4,7 @@ ghost use Rattle.hub_protocol.specs.Spelling.{form_of, spelling};
 ghost use Rattle.hub_ask.specs.Asking.{IsAnswered};
 ghost use Rattle.hub_ask.specs.Hearing.{line_of};
 ghost use Rattle.hub_look.specs.Stops.{IsOwnFault, IsOwnStop};
-ghost use Rattle.hub_look.specs.Streams.{streams};
+ghost use Rattle.hub_look.specs.Streams.{IsHeard, streams};
 ghost use Rattle.hub_look.specs.Tables.{IsJudged};
 ghost use Rattle.hub_look.specs.Looking.{IsLook};
 
@@ -48,6 +48,10 @@ pub(crate) fn ask_about<H: Wait, SR: Replies, SW: Requests, F: Sink>(
 ) -> Result<Heard, Stop>
     requires { IsLook request.now }
     ensures begun { peer.new.begun ≡ peer.old.begun }
+    ensures ok { IfOk result (λ heard. IsHeard
+        (streams SW.contents SR.remaining F.contents F.faults peer.old.client notes.old)
+        (streams SW.contents SR.remaining F.contents F.faults peer.new.client notes.new)
+        request.now (line_of heard)) }
     ensures err { IfErr result IsOwnStop }
 {
     let heard = peer.ask(rt, alloc, request)?;

@@ -1,6 +1,9 @@
 //! The names of a hub.
-ghost use Rattle.std.specs.Prelude.{◌≡◌, IfErr};
+ghost use Rattle.std.specs.Prelude.{◌≡◌, ◌≢◌, ◌++◌, [], map, IfOk, IfErr, OnOk};
+ghost use Rattle.hub_protocol.specs.Spelling.{fields_of};
 ghost use Rattle.hub_look.specs.Stops.{IsOwnStop};
+ghost use Rattle.hub_look.specs.Streams.{streams};
+ghost use Rattle.hub_look.specs.Tables.{ListsNames};
 
 use crate::asking::ask_about;
 use crate::peer::Peer;
@@ -14,19 +17,32 @@ use std::str;
 use std::sync::Wait;
 
 // Puts copies of the words behind these names.
-fn put_words(alloc: Global, words: &str, names: &mut Vec<String>) -> Result<(), AllocError> {
-    'words: for word in words.split(' ') {
+fn put_words(alloc: Global, words: &[&str], names: &mut Vec<String>) -> Result<(), AllocError>
+    ensures { OnOk result (map (λ name. name.bytes.items) names.new.items
+        ≡ map (λ name. name.bytes.items) names.old.items ++ map (λ word. word.now) words.now) }
+{
+    'words: for word in words {
         names.push(word.to_string(alloc)?)?;
     }
     Ok(())
 }
 
+// The words between the spaces of a text.
+fn words_of(alloc: Global, text: &str) -> Result<Vec<&str>, AllocError>
+    ensures { IfOk result (λ words. map (λ word. word.now) words.items ≡ fields_of text.now) }
+{
+    text.split(' ').collect(alloc)
+}
+
 // Puts the names that a reply lists behind these. It lists one at least.
 fn put_names(alloc: Global, listed: &[u8], names: &mut Vec<String>) -> Result<(), Stop>
-    ensures { IfErr result IsOwnStop }
+    ensures some { OnOk result (listed.now ≢ []) }
+    ensures ok { OnOk result (map (λ name. name.bytes.items) names.new.items
+        ≡ map (λ name. name.bytes.items) names.old.items ++ fields_of listed.now) }
+    ensures err { IfErr result IsOwnStop }
 {
     match str::from_utf8(listed) {
-        Ok(words) if !words.is_empty() => Ok(put_words(alloc, words, names)?),
+        Ok(text) if !text.is_empty() => Ok(put_words(alloc, &words_of(alloc, text)?, names)?),
         _ => Err(Stop::Fault(AskError::Unknown)),
     }
 }
@@ -39,6 +55,10 @@ pub(crate) fn all_names<H: Wait, SR: Replies, SW: Requests, F: Sink>(
     notes: &mut F,
 ) -> Result<Vec<String>, Stop>
     ensures begun { peer.new.begun ≡ peer.old.begun }
+    ensures ok { IfOk result (λ names. ListsNames
+        (streams SW.contents SR.remaining F.contents F.faults peer.old.client notes.old)
+        (streams SW.contents SR.remaining F.contents F.faults peer.new.client notes.new)
+        (map (λ name. name.bytes.items) names.items)) }
     ensures err { IfErr result IsOwnStop }
 {
     let mut names = Vec::new(alloc);

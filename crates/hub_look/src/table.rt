@@ -116,10 +116,12 @@ fn show_all<H: Wait, SR: Replies, SW: Requests, W: Sink, F: Sink>(
 ) -> Result<Outcome, Stop>
     ensures begun { peer.new.begun ≡ peer.old.begun }
     ensures ok { IfOk result (ShowsAll
+        (streams SW.contents SR.remaining F.contents F.faults peer.old.client notes.old)
         (streams SW.contents SR.remaining F.contents F.faults peer.new.client notes.new)
         (W.contents output.old) (W.contents output.new)) }
     ensures err { IfErr result (λ it. IsRefusal it (W.contents output.new ≡ W.contents output.old)
         ⊎ IsFaultOf (FailsToShowAll
+        (streams SW.contents SR.remaining F.contents F.faults peer.old.client notes.old)
         (streams SW.contents SR.remaining F.contents F.faults peer.new.client notes.new)
         (W.contents output.old) (W.contents output.new)) it) }
 {
@@ -140,7 +142,7 @@ pub fn show_states<H: Wait, SR: Replies, SW: Requests, W: Sink, F: Sink>(
 ) -> Result<Outcome, AskError>
     // What it sends are looks (`Peer`).
     ensures begun { peer.new.begun ≡ peer.old.begun }
-    // The status of each name was asked for once, in order. The table has the rows of what was replied, and each refusal has a note.
+    // The hub listed the names, if none is given. The status of each was asked for once, in order. The table has the rows of what was replied, and each refusal has a note.
     ensures ok { IfOk result (ShowsStates (λ name. name.now)
         (streams SW.contents SR.remaining F.contents F.faults peer.old.client notes.old)
         (streams SW.contents SR.remaining F.contents F.faults peer.new.client notes.new)
