@@ -1,13 +1,13 @@
 -- One more question about a fifodir that is followed.
-use Rattle.std.proofs.Common.{◌≡◌, ℕ, suc, zero, ◌<◌, List, ◌∷◌, ◌++◌, length, take, drop, get_or, set, Bool, Option, None, map, Result, Ok, Err, OnOk, IfOk, IfErr, MatchResult, IsErrAnd, refl, sym, ap, ◌∙◌, subst, inl, inr, arith, take_all, take-append-drop, drop-cons}
-use Rattle.std.proofs.lemmas.List.{set_split, take-append-le}
+use Rattle.std.proofs.Common.{◌≡◌, ℕ, suc, zero, ◌<◌, List, ◌∷◌, ◌++◌, length, take, drop, get_or, set, Bool, true, false, Option, None, map, Result, Ok, Err, OnOk, IfOk, IfErr, MatchResult, IsErrAnd, refl, sym, ap, ◌∙◌, subst, inl, inr, arith, take_all, take-append-drop, drop-cons}
+use Rattle.std.proofs.lemmas.List.{set-get_or, set_split, take-append-le}
 use Rattle.hub_requests.specs.declared.request.Request.TheVariants as request
 use Rattle.hub_requests.specs.declared.reply.Reply.{Reply}
 use Rattle.hub_ask.specs.declared.fault.AskError.{AskError}
 use Rattle.hub_ask.specs.declared.outcome.Outcome.{Outcome}
 use Rattle.hub_look.specs.Stops.{IsOwnStop}
 use Rattle.hub_look.specs.Streams.{Streams, IsReplied}
-use Rattle.hub_look.specs.Follows.{Manner, Scene, EndsFollow, FollowsTo, IsUnderWay, name_of, AreAsked, IsAskedOne, IsTaken, EndsAwait, EndsLooks, EndsTake, comes_by, ends_by}
+use Rattle.hub_look.specs.Follows.{Manner, Scene, EndsFollow, EndsLookAt, FollowsTo, IsAwaited, IsSeenTo, IsUnderWay, LooksOn, name_of, AreAsked, IsTaken, EndsAwait, EndsLooks, EndsTake, comes_by, ends_by, scene}
 use Rattle.hub_look.specs.declared.stop.Stop.{Stop}
 use Rattle.hub_look.specs.declared.stop.Stop.TheVariants as stops
 use Rattle.hub_look.specs.declared.subscribing.Followed.{Followed}
@@ -17,123 +17,99 @@ split_at : (all : List Followed) (at : ℕ) (d followed : Followed) → at < len
 split_at all at d followed within is =
     sym (take-append-drop at all) ∙ ap (λ l. take at all ++ l) (drop-cons all at d within ∙ ap (λ f. f ∷ drop (suc at) all) (sym is))
 
--- it was asked whether something comes
-await_one : (manner : Manner) (all : List Followed) (at : ℕ) (d followed : Followed) (before after : Streams) (held : Option (List ℕ)) (turns : ℕ) (comes : Bool)
-    → at < length all → followed ≡ get_or all at d → IsReplied before after (request.Await followed.handle turns) (comes_by comes)
-    → IsAskedOne manner (record { all = all; streams = before; held = held }) (record { all = all; streams = after; held = held })
-await_one manner all at d followed before after held turns comes within is replied = record {
-  left = take at all;
-  followed = followed;
-  later = followed;
-  right = drop (suc at) all;
-  among = split_at all at d followed within is;
-  others = split_at all at d followed within is;
-  asked = inl (turns, comes, replied, refl, refl);
-}
+-- ---- one look
 
-pub awaited : (manner : Manner) (all grown : List Followed) (at : ℕ) (d followed : Followed) (before after : Streams) (held : Option (List ℕ)) (turns : ℕ) (comes : Bool)
-    → at < length all → followed ≡ get_or all at d → grown ≡ all → IsReplied before after (request.Await followed.handle turns) (comes_by comes)
-    → (count : ℕ) × AreAsked manner count (record { all = all; streams = before; held = held }) (record { all = grown; streams = after; held = held })
-awaited manner all grown at d followed before after held turns comes within is same replied =
-    subst (λ it. (count : ℕ) × AreAsked manner count (record { all = all; streams = before; held = held }) (record { all = it; streams = after; held = held })) (sym same)
-    (1, (record { all = all; streams = before; held = held }, refl, await_one manner all at d followed before after held turns comes within is replied))
+-- it isn't over, and was asked about
+awaited : (followed : Followed) (before after : Streams) (turns : ℕ) (comes : Bool) → followed.is_over ≡ false → IsReplied before after (request.Await followed.handle turns) (comes_by comes) → IsAwaited followed before after comes
+awaited followed before after turns comes lasts replied = record { lasts = lasts; turns = turns; replied = replied }
 
--- it was asked for what is pending as well
-pub taken : (manner : Manner) (all grown : List Followed) (at : ℕ) (d followed later : Followed) (before between after : Streams) (held holds : Option (List ℕ)) (turns : ℕ) (comes : Bool) (reply : Reply)
-    → at < length all → followed ≡ get_or all at d → grown ≡ set all at later
+-- nothing comes
+pub looked_late : (manner : Manner) (followed : Followed) (before after : Streams) (held : Option (List ℕ)) (turns : ℕ) (comes : Bool) → followed.is_over ≡ false → comes ≡ false
+    → IsReplied before after (request.Await followed.handle turns) (comes_by comes) → IsSeenTo manner followed followed before after held held
+looked_late manner followed before after held turns comes lasts late replied =
+    inr (inl (subst (IsAwaited followed before after) late (awaited followed before after turns comes lasts replied), refl, refl))
+
+-- something comes, and it was asked for what is pending
+pub looked_ok : {T : Type 0} (manner : Manner) (followed later : Followed) (before between after : Streams) (held holds : Option (List ℕ)) (turns : ℕ) (comes : Bool) (result : Result T Stop) → followed.is_over ≡ false → comes ≡ true
     → IsReplied before between (request.Await followed.handle turns) (comes_by comes)
-    → IsTaken manner followed later between after held holds reply → ends_by manner.is_once reply ≡ None
-    → (count : ℕ) × AreAsked manner count (record { all = all; streams = before; held = held }) (record { all = grown; streams = after; held = holds })
-taken manner all grown at d followed later before between after held holds turns comes reply within is set_to replied take_h goes_on = (
-  2,
-  (
-    record { all = all; streams = between; held = held },
-    (record { all = all; streams = before; held = held }, refl, await_one manner all at d followed before between held turns comes within is replied),
-    record {
-      left = take at all;
-      followed = followed;
-      later = later;
-      right = drop (suc at) all;
-      among = split_at all at d followed within is;
-      others = set_to ∙ set_split all at later within;
-      asked = inr (reply, take_h, goes_on);
-    },
-  ),
-)
+    → OnOk result ((reply : Reply) × IsTaken manner followed later between after held holds reply × (ends_by manner.is_once reply ≡ None))
+    → OnOk result (IsSeenTo manner followed later before after held holds)
+looked_ok manner followed later before between after held holds turns comes (Ok it) lasts some replied h =
+    inr (inr (between, subst (IsAwaited followed before between) some (awaited followed before between turns comes lasts replied), h))
+looked_ok manner followed later before between after held holds turns comes (Err stop) lasts some replied h = tt
 
--- nothing was asked
-pub not_asked : (manner : Manner) (all grown : List Followed) (streams : Streams) (held : Option (List ℕ)) → grown ≡ all
-    → (count : ℕ) × AreAsked manner count (record { all = all; streams = streams; held = held }) (record { all = grown; streams = streams; held = held })
-not_asked manner all grown streams held same = (0, ap (λ it. record { all = it; streams = streams; held = held }) same)
+pub looked_err : {T : Type 0} (manner : Manner) (followed later : Followed) (before between after : Streams) (held holds : Option (List ℕ)) (turns : ℕ) (comes : Bool) (result : Result T Stop) → followed.is_over ≡ false → comes ≡ true
+    → IsReplied before between (request.Await followed.handle turns) (comes_by comes)
+    → IfErr result (EndsTake manner followed later between after held holds) → IfErr result (EndsLookAt manner followed later before after held holds)
+looked_err manner followed later before between after held holds turns comes (Ok it) lasts some replied h = tt
+looked_err manner followed later before between after held holds turns comes (Err stop) lasts some replied h =
+    inr (between, subst (IsAwaited followed before between) some (awaited followed before between turns comes lasts replied), h)
 
 -- the question whether something comes ended it
-pub ends_awaiting : (manner : Manner) (all : List Followed) (at : ℕ) (d followed : Followed) (before after : Streams) (held : Option (List ℕ)) (turns : ℕ) (stop : Stop)
-    → at < length all → followed ≡ get_or all at d → EndsAwait followed before after turns stop
-    → EndsLooks manner (record { all = all; streams = before; held = held }) after held stop
-ends_awaiting manner all at d followed before after held turns stop within is ends = record {
-  count = 0;
-  between = record { all = all; streams = before; held = held };
-  looks = refl;
-  ends = record {
-    left = take at all;
-    followed = followed;
-    later = followed;
-    right = drop (suc at) all;
-    among = split_at all at d followed within is;
-    asked = inl (turns, ends, refl);
-  };
-}
+pub ends_awaiting : {T : Type 0} (manner : Manner) (followed : Followed) (before after : Streams) (held : Option (List ℕ)) (turns : ℕ) (result : Result T Stop) (stop : Stop)
+    → followed.is_over ≡ false → IsErrAnd result (λ it. it ≡ stop) → EndsAwait followed before after turns stop
+    → IfErr result (EndsLookAt manner followed followed before after held held)
+ends_awaiting manner followed before after held turns (Ok it) stop lasts is ends = tt
+ends_awaiting manner followed before after held turns (Err other) stop lasts is ends = inl (lasts, (turns, subst (EndsAwait followed before after turns) (sym is) ends), refl)
 
--- what was pending ended it
-pub ends_taking : (manner : Manner) (all : List Followed) (at : ℕ) (d followed later : Followed) (before between after : Streams) (held holds : Option (List ℕ)) (turns : ℕ) (comes : Bool) (stop : Stop)
-    → at < length all → followed ≡ get_or all at d → IsReplied before between (request.Await followed.handle turns) (comes_by comes)
-    → EndsTake manner followed later between after held holds stop
-    → EndsLooks manner (record { all = all; streams = before; held = held }) after holds stop
-ends_taking manner all at d followed later before between after held holds turns comes stop within is replied ends = record {
-  count = 1;
-  between = record { all = all; streams = between; held = held };
-  looks = (record { all = all; streams = before; held = held }, refl, await_one manner all at d followed before between held turns comes within is replied);
+-- ---- a look at one of them
+
+-- nothing was asked
+pub not_asked : (manner : Manner) (all grown : List Followed) (before after : Streams) (held holds : Option (List ℕ)) → grown ≡ all → after ≡ before → holds ≡ held
+    → LooksOn manner (scene all before held) (scene grown after holds)
+not_asked manner all grown before after held holds same_all same same_held = (
+  0,
+  ap (λ it. scene it after holds) same_all ∙ ap (λ it. scene all it holds) same ∙ ap (λ it. scene all before it) same_held,
+)
+
+pub seen_to : (manner : Manner) (all : List Followed) (at : ℕ) (d followed later : Followed) (before after : Streams) (held holds : Option (List ℕ))
+    → at < length all → followed ≡ get_or all at d → IsSeenTo manner followed later before after held holds → LooksOn manner (scene all before held) (scene (set all at later) after holds)
+seen_to manner all at d followed later before after held holds within is seen = elim seen [
+  | inl same ↦ not_asked manner all (set all at later) before after held holds (ap (λ it. set all at it) (same.0 ∙ is) ∙ set-get_or all at d) same.1 same.2
+  | inr looked ↦ (
+    1,
+    (
+      scene all before held,
+      refl,
+      record {
+        left = take at all;
+        followed = followed;
+        later = later;
+        right = drop (suc at) all;
+        among = split_at all at d followed within is;
+        others = set_split all at later within;
+        asked = looked;
+      },
+    ),
+  )
+]
+
+pub ends_looking : (manner : Manner) (all : List Followed) (at : ℕ) (d followed later : Followed) (before after : Streams) (held holds : Option (List ℕ)) (stop : Stop)
+    → at < length all → followed ≡ get_or all at d → EndsLookAt manner followed later before after held holds stop → EndsLooks manner (scene all before held) after holds stop
+ends_looking manner all at d followed later before after held holds stop within is ends = record {
+  count = 0;
+  between = scene all before held;
+  looks = refl;
   ends = record {
     left = take at all;
     followed = followed;
     later = later;
     right = drop (suc at) all;
     among = split_at all at d followed within is;
-    asked = inr ends;
+    asked = ends;
   };
 }
 
--- the results of the calls that ask
-pub awaiting_err : {T : Type 0} (manner : Manner) (all : List Followed) (at : ℕ) (d followed : Followed) (before after : Streams) (held : Option (List ℕ)) (turns : ℕ) (result : Result T Stop) (stop : Stop)
-    → at < length all → followed ≡ get_or all at d → IsErrAnd result (λ it. it ≡ stop) → EndsAwait followed before after turns stop
-    → IfErr result (EndsLooks manner (record { all = all; streams = before; held = held }) after held)
-awaiting_err manner all at d followed before after held turns (Ok it) stop within is err ends = tt
-awaiting_err manner all at d followed before after held turns (Err other) stop within is err ends =
-    ends_awaiting manner all at d followed before after held turns other within is (subst (EndsAwait followed before after turns) (sym err) ends)
-
-pub taken_ok : {T : Type 0} (manner : Manner) (all : List Followed) (at : ℕ) (d followed later : Followed) (before between after : Streams) (held holds : Option (List ℕ)) (turns : ℕ) (comes : Bool) (result : Result T Stop)
-    → at < length all → followed ≡ get_or all at d → IsReplied before between (request.Await followed.handle turns) (comes_by comes)
-    → OnOk result ((reply : Reply) × IsTaken manner followed later between after held holds reply × (ends_by manner.is_once reply ≡ None))
-    → OnOk result ((count : ℕ) × AreAsked manner count (record { all = all; streams = before; held = held }) (record { all = set all at later; streams = after; held = holds }))
-taken_ok manner all at d followed later before between after held holds turns comes (Ok it) within is replied h =
-    taken manner all (set all at later) at d followed later before between after held holds turns comes h.0 within is refl replied h.1 h.2
-taken_ok manner all at d followed later before between after held holds turns comes (Err stop) within is replied h = tt
-
-pub taken_err : {T : Type 0} (manner : Manner) (all : List Followed) (at : ℕ) (d followed later : Followed) (before between after : Streams) (held holds : Option (List ℕ)) (turns : ℕ) (comes : Bool) (result : Result T Stop)
-    → at < length all → followed ≡ get_or all at d → IsReplied before between (request.Await followed.handle turns) (comes_by comes)
-    → IfErr result (EndsTake manner followed later between after held holds)
-    → IfErr result (EndsLooks manner (record { all = all; streams = before; held = held }) after holds)
-taken_err manner all at d followed later before between after held holds turns comes (Ok it) within is replied h = tt
-taken_err manner all at d followed later before between after held holds turns comes (Err stop) within is replied h =
-    ends_taking manner all at d followed later before between after held holds turns comes stop within is replied h
-
 -- ---- one after another
 
-pub asked_on : (manner : Manner) (n m : ℕ) (before between after : Scene) → AreAsked manner n before between → AreAsked manner m between after → (count : ℕ) × AreAsked manner count before after
+asked_on : (manner : Manner) (n m : ℕ) (before between after : Scene) → AreAsked manner n before between → AreAsked manner m between after → (count : ℕ) × AreAsked manner count before after
 asked_on manner n zero before between after first rest = (n, subst (AreAsked manner n before) (sym rest) first)
 asked_on manner n (suc m) before between after first rest =
     let more = asked_on manner n m before between rest.0 first rest.1 in
     (suc more.0, (rest.0, more.1, rest.2))
+
+pub looks_on : (manner : Manner) (before between after : Scene) → LooksOn manner before between → LooksOn manner between after → LooksOn manner before after
+looks_on manner before between after first rest = asked_on manner first.0 rest.0 before between after first.1 rest.1
 
 pub ends_on : (manner : Manner) (n : ℕ) (before between : Scene) (after : Streams) (holds : Option (List ℕ)) (stop : Stop)
     → AreAsked manner n before between → EndsLooks manner between after holds stop → EndsLooks manner before after holds stop

@@ -120,6 +120,32 @@ abbrev pub comes_by : (comes : Bool) → Reply
 comes_by true = reply.Done
 comes_by false = reply.Late
 
+-- ---- one look at a fifodir
+
+-- The fifodir isn't over, and the hub was asked once whether something comes for its handle.
+pub record IsAwaited (followed : Followed) (before after : Streams) (comes : Bool) : Type 0 where
+  pub lasts : followed.is_over ≡ false
+  pub turns : ℕ
+  pub replied : IsReplied before after (request.Await followed.handle turns) (comes_by comes)
+
+-- Nothing comes. Or something does, and the hub was asked once for what is pending.
+abbrev pub IsLookedAt : Manner → (followed later : Followed) → (before after : Streams) → (held holds : Option (List ℕ)) → Type 0
+IsLookedAt manner followed later before after held holds =
+    (IsAwaited followed before after false × (later ≡ followed) × (holds ≡ held))
+    ⊎ ((between : Streams) × IsAwaited followed before between true
+    × ((reply : Reply) × IsTaken manner followed later between after held holds reply × (ends_by manner.is_once reply ≡ None)))
+
+-- It is looked at, unless it is over.
+abbrev pub IsSeenTo : Manner → (followed later : Followed) → (before after : Streams) → (held holds : Option (List ℕ)) → Type 0
+IsSeenTo manner followed later before after held holds =
+    ((later ≡ followed) × (after ≡ before) × (holds ≡ held)) ⊎ IsLookedAt manner followed later before after held holds
+
+-- How a look ends a follow: at the question whether something comes, or at what is pending.
+abbrev pub EndsLookAt : Manner → (followed later : Followed) → (before after : Streams) → (held holds : Option (List ℕ)) → Stop → Type 0
+EndsLookAt manner followed later before after held holds stop =
+    ((followed.is_over ≡ false) × ((turns : ℕ) × EndsAwait followed before after turns stop) × (holds ≡ held))
+    ⊎ ((between : Streams) × IsAwaited followed before between true × EndsTake manner followed later between after held holds stop)
+
 -- ---- the whole follow
 
 -- the fifodirs that are followed, the streams, and the output
@@ -131,7 +157,7 @@ pub record Scene : Type 0 where
 abbrev pub scene : List Followed → Streams → (held : Option (List ℕ)) → Scene
 scene all streams held = record { all = all; streams = streams; held = held }
 
--- The hub was asked once about one of the fifodirs: whether something comes, or for what is pending. The others are as they were.
+-- One of the fifodirs was looked at. The others are as they were.
 pub record IsAskedOne (manner : Manner) (before after : Scene) : Type 0 where
   pub left : List Followed
   pub followed : Followed
@@ -139,38 +165,34 @@ pub record IsAskedOne (manner : Manner) (before after : Scene) : Type 0 where
   pub right : List Followed
   pub among : before.all ≡ left ++ followed ∷ right
   pub others : after.all ≡ left ++ later ∷ right
-  pub asked : ((turns : ℕ) × (comes : Bool) × IsReplied before.streams after.streams (request.Await followed.handle turns) (comes_by comes)
-      × (later ≡ followed) × (after.held ≡ before.held))
-      ⊎ ((reply : Reply) × IsTaken manner followed later before.streams after.streams before.held after.held reply
-      × (ends_by manner.is_once reply ≡ None))
+  pub asked : IsLookedAt manner followed later before.streams after.streams before.held after.held
 
--- It was asked so many times so, one after another.
+-- So many looks, one after another.
 abbrev pub AreAsked : Manner → (count : ℕ) → (before after : Scene) → Type 0
 AreAsked manner zero before after = after ≡ before
 AreAsked manner (suc count) before after = (between : Scene) × AreAsked manner count before between × IsAskedOne manner between after
 
--- It was asked some times so.
+-- Some looks, one after another.
 abbrev pub LooksOn : Manner → (before after : Scene) → Type 0
 LooksOn manner before after = (count : ℕ) × AreAsked manner count before after
 
--- One more reply, about one of the fifodirs, or a fault ends the follow.
+-- One more look, at one of the fifodirs, ends the follow.
 pub record EndsLook (manner : Manner) (before : Scene) (after : Streams) (holds : Option (List ℕ)) (stop : Stop) : Type 0 where
   pub left : List Followed
   pub followed : Followed
   pub later : Followed
   pub right : List Followed
   pub among : before.all ≡ left ++ followed ∷ right
-  pub asked : ((turns : ℕ) × EndsAwait followed before.streams after turns stop × (holds ≡ before.held))
-      ⊎ EndsTake manner followed later before.streams after before.held holds stop
+  pub asked : EndsLookAt manner followed later before.streams after before.held holds stop
 
--- It was asked some times so, and then the follow ended.
+-- Some looks, and the one that ended the follow.
 pub record EndsLooks (manner : Manner) (before : Scene) (after : Streams) (holds : Option (List ℕ)) (stop : Stop) : Type 0 where
   pub count : ℕ
   pub between : Scene
   pub looks : AreAsked manner count before between
   pub ends : EndsLook manner between after holds stop
 
--- Each fifodir is followed by its name, and the hub was asked some times about one of them. between is how the streams were when all
+-- Each fifodir is followed by its name, and some of them were looked at, one after another. between is how the streams were when all
 -- were subscribed to.
 pub record IsUnderWay (manner : Manner) (names : List (List ℕ)) (held : Option (List ℕ)) (now : Scene) : Type 0 where
   pub start : List Followed

@@ -1,8 +1,8 @@
 //! The letters of fifodirs as they come.
-ghost use Rattle.std.specs.Prelude.{◌≡◌, ◌<◌, length, IfOk, IfErr, OnOk};
+ghost use Rattle.std.specs.Prelude.{◌≡◌, length, IfOk, IfErr, OnOk};
 ghost use Rattle.std.specs.List.{list_all};
 ghost use Rattle.hub_ask.specs.declared.outcome.Outcome.TheVariants as outcome;
-ghost use Rattle.hub_look.specs.Follows.{EndsFollow, EndsLooks, FollowsTo, IsFollowed, LooksOn, manner_of, names_of, scene};
+ghost use Rattle.hub_look.specs.Follows.{EndsFollow, EndsLookAt, EndsLooks, FollowsTo, IsFollowed, IsSeenTo, LooksOn, manner_of, names_of, scene};
 ghost use Rattle.hub_look.specs.Streams.{streams};
 ghost use Rattle.hub_look.specs.declared.stop.Stop.TheVariants as stops;
 
@@ -29,27 +29,21 @@ fn look_at<H: Wait + Clock, SR: Replies, SW: Requests, W: Sink, F: Sink>(
     alloc: Global,
     following: &Following<'_>,
     turns: u64,
-    at: usize,
-    all: &mut [Followed],
+    followed: &mut Followed,
     peer: &mut Peer<SR, SW>,
     output: &mut W,
     notes: &mut F,
 ) -> Result<bool, Stop>
-    requires { at < length all.now }
     ensures begun { peer.new.begun ≡ peer.old.begun }
-    ensures length { length all.new ≡ length all.old }
-    ensures ok { OnOk result (LooksOn (manner_of following.now)
-        (scene all.old (streams SW.contents SR.remaining F.contents F.faults
-        peer.old.client notes.old) (W.contents output.old))
-        (scene all.new (streams SW.contents SR.remaining F.contents F.faults
-        peer.new.client notes.new) (W.contents output.new))) }
-    ensures err { IfErr result (EndsLooks (manner_of following.now)
-        (scene all.old (streams SW.contents SR.remaining F.contents F.faults
-        peer.old.client notes.old) (W.contents output.old))
+    ensures ok { OnOk result (IsSeenTo (manner_of following.now) followed.old followed.new
+        (streams SW.contents SR.remaining F.contents F.faults peer.old.client notes.old)
         (streams SW.contents SR.remaining F.contents F.faults peer.new.client notes.new)
-        (W.contents output.new)) }
+        (W.contents output.old) (W.contents output.new)) }
+    ensures err { IfErr result (EndsLookAt (manner_of following.now) followed.old followed.new
+        (streams SW.contents SR.remaining F.contents F.faults peer.old.client notes.old)
+        (streams SW.contents SR.remaining F.contents F.faults peer.new.client notes.new)
+        (W.contents output.old) (W.contents output.new)) }
 {
-    let followed = &mut all[at];
     if followed.is_over {
         return Ok(false);
     }
@@ -87,7 +81,8 @@ fn look_at_each<H: Wait + Clock, SR: Replies, SW: Requests, W: Sink, F: Sink>(
 {
     let mut came = false;
     'followed: for at in 0..all.len() {
-        came |= look_at(rt, alloc, following, turns, at, all, peer, output, notes)?;
+        let followed = &mut all[at];
+        came |= look_at(rt, alloc, following, turns, followed, peer, output, notes)?;
     }
     Ok(came)
 }
