@@ -142,6 +142,13 @@ def functions_in(crate):
                 yield str(file.relative_to(crate)), number, kind, trait, name
 
 
+def home_of(crate, file, kind, trait):
+    """Returns the file by which `rt` names the functions of an impl: its own, or that of the type if it has no trait."""
+    declared = re.compile(rf"^(?:pub(?:\([^)]*\))? )?(?:struct|enum) {kind}\b", re.M)
+    others = (it for it in sorted(crate.glob("src/**/*.rt")) if declared.search(it.read_text(encoding="utf-8")))
+    return next((str(it.relative_to(crate)) for it in others), file) if kind and not trait else file
+
+
 def path_of(edit):
     """Returns the path by which `rt` knows the function that has to refuse the edit: its name, or, if the crate has several of that name
     or a module of it, with its module and type. A function in a file that the edit changes comes first, and there the one nearest above
@@ -159,7 +166,8 @@ def path_of(edit):
 
     fits = [it for it in found if not owner or owner[-1] in (it[2], it[3], it[2] + it[3], Path(it[0]).stem)]
     for file, _, kind, trait, _ in sorted(fits, key=distance):
-        module = [it for it in file[len("src/") : -len(".rt")].split("/") if it != "lib"]
+        home = home_of(edit.crate, file, kind, trait)
+        module = [it for it in home[len("src/") : -len(".rt")].split("/") if it != "lib"]
         return "::".join([*module, *([kind + trait] if kind + trait else []), name])
     return edit.refused_by[0]
 

@@ -12,6 +12,10 @@ use Rattle.hub_fifodir.specs.Rule.{resting}
 abbrev pub IsSized : TableId → Type 0
 IsSized z = (z.words ≡ 2) × (z.slots ≡ 1)
 
+-- the same seat of the same table
+abbrev pub KeepsPlace : Seat (Option Locked) View → Seat (Option Locked) View → Type 0
+KeepsPlace old new = (new.table_id ≡ old.table_id) × (new.id ≡ old.id)
+
 abbrev pub note_sight : Seat (Option Locked) View → Sight
 note_sight n = n.me.0.sight
 

@@ -20,6 +20,7 @@ use Rattle.hub_fifodir.specs.declared.views.Role.{Role}
 use Rattle.hub_fifodir.specs.declared.fifodir.Fifodir.{Fifodir}
 use Rattle.hub_fifodir.specs.declared.publisher.Publisher.{Publisher}
 use Rattle.hub_fifodir.specs.declared.ticket.Ticket.{Ticket}
+use Rattle.hub_fifodir.specs.declared.bell.Waiter.{Waiter}
 use Rattle.hub_fifodir.specs.Events.{slice, is_closed}
 use Rattle.hub_fifodir.specs.Rule.{IsSound}
 use Rattle.hub_fifodir.specs.Steps.{Grows, KnowsOwnClose, mine_of, got_of}
@@ -37,6 +38,10 @@ kind_of f = f.rules.kind
 
 abbrev pub limits_of : Fifodir → Limits
 limits_of f = f.rules.limits
+
+-- the table of the fifodir that a waiter waits for
+abbrev pub table_of_waiter : Waiter → TableId
+table_of_waiter w = w.seat.table_id
 
 -- ---- passes
 
@@ -84,7 +89,7 @@ abbrev pub publisher_number : Publisher → ℕ
 publisher_number p = p.number
 
 abbrev pub publisher_view : Publisher → PassView
-publisher_view p = record { table = p.seat.table_id; rules = p.seat.me.0.rules; number = p.number; place = None; role = p.seat.me.0.role; sight = p.seat.me.0.sight }
+publisher_view p = record { table = p.seat.at.table_id; rules = p.seat.at.me.0.rules; number = p.number; place = None; role = p.seat.at.me.0.role; sight = p.seat.at.me.0.sight }
 
 abbrev pub IsPublisherOf : Fifodir → Publisher → Type 0
 IsPublisherOf f p = IsOf f (publisher_view p)
@@ -116,7 +121,7 @@ abbrev pub ticket_next : Ticket → ℕ
 ticket_next t = t.next
 
 abbrev pub ticket_view : Ticket → PassView
-ticket_view t = record { table = t.seat.table_id; rules = t.seat.me.0.rules; number = t.id; place = Some (t.mark, t.next); role = t.seat.me.0.role; sight = t.seat.me.0.sight }
+ticket_view t = record { table = t.seat.at.table_id; rules = t.seat.at.me.0.rules; number = t.id; place = Some (t.mark, t.next); role = t.seat.at.me.0.role; sight = t.seat.at.me.0.sight }
 
 abbrev pub IsTicketOf : Fifodir → Ticket → Type 0
 IsTicketOf f t = IsOf f (ticket_view t)

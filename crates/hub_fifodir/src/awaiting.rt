@@ -1,10 +1,11 @@
 //! Waits for the next change of a fifodir, by a ticket.
 ghost use Rattle.std.specs.Prelude.{◌≡◌, MatchBool};
-ghost use Rattle.hub_fifodir.specs.Passes.{IsTicketOf, OnlyLooks, Remains, HasMore, IsQuiet, ticket_view};
+ghost use Rattle.hub_fifodir.specs.Passes.{IsTicketOf, IsStatusOf, OnlyLooks, Remains, HasMore, IsQuiet, ticket_sight, ticket_view};
 
 use crate::fifodir::Fifodir;
 use crate::pause::{Go, Pause};
 use crate::ticket::Ticket;
+use hub_record::Status;
 use std::sync::Wait;
 
 impl Fifodir {
@@ -16,8 +17,7 @@ impl Fifodir {
         ensures looks { OnlyLooks (ticket_view me.old) (ticket_view me.new) }
         ensures more { MatchBool result (HasMore me.new) (IsQuiet me.new) }
     {
-        let status = self.status(me);
-        status.closed || status.number != me.next()
+        is_news(self.status(me), me)
     }
 
     /// Waits until a take has something to report. It gives up after so many turns, or if the pause has expired. Each look is
@@ -36,9 +36,9 @@ impl Fifodir {
     {
         let waiter = self.admit();
         for turn in 0..turns {
-            let heard = self.bell().rings();
-            if self.has_more(me)
-                || pause.pause_at(rt, self.bell(), heard, turns - turn) == Go::Expired
+            let (status, looked) = self.look(me, self.hear(&waiter));
+            if is_news(status, me)
+                || pause.pause_at(rt, self.bell(), looked, turns - turn) == Go::Expired
             {
                 break;
             }
@@ -46,4 +46,12 @@ impl Fifodir {
         self.dismiss(waiter);
         self.has_more(me)
     }
+}
+
+// Whether this status, which the ticket has just seen, has something for it.
+fn is_news(status: Status, me: &Ticket) -> bool
+    requires { IsStatusOf status (ticket_sight me.now) }
+    ensures { MatchBool result (HasMore me.now) (IsQuiet me.now) }
+{
+    status.closed || status.number != me.next()
 }

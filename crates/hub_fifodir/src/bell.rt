@@ -1,5 +1,7 @@
 //! How a fifodir wakes those who wait for it.
+ghost use Rattle.std.specs.Prelude.{◌≡◌};
 
+use crate::rule::TableSeat;
 use std::alloc::Global;
 use std::sync::atomic::{AtomicU64, Ordering};
 use std::sync::{Arc, Wait};
@@ -11,8 +13,9 @@ const FIRST_WOKEN: u64 = 4;
 /// Wakes those who sleep until a fifodir changes. Several fifodirs may share one, so that a wait for several sleeps until
 /// one of them changes.
 ///
-/// A waiter reads [`Bell::rings`] first, then looks for what it waits for, and sleeps with the number that it read. If the bell
-/// rings between the look and the sleep, the number is another one, and the sleep ends at once.
+/// A waiter hears the bell first, then looks for what it waits for, and sleeps with the number that it heard. If the bell
+/// rings between the look and the sleep, the number is another one, and the sleep ends at once. The types leave no other
+/// order: a [`Waiter`] gives a [`Heard`], which a look takes for a [`Looked`], and a sleep asks for that.
 #[derive(Drop)]
 pub struct Bell {
     /// How often it rang so far.
@@ -35,16 +38,16 @@ impl Bell {
         self.rings.load(Ordering::SeqCst)
     }
 
-    /// Sleeps until it has rung once more than `heard` says, but for no longer than this. It may also return for no reason.
+    /// Sleeps until it has rung since the look, but for no longer than this. It may also return for no reason.
     ///
     /// Whoever hears a ring wakes the next sleeper. So the one who rings doesn't wake them all, and they wake on several
     /// processors at once.
-    pub fn sleep<R: Wait>(&self, rt: &R, heard: u64, most: Duration) {
+    pub fn sleep<R: Wait>(&self, rt: &R, looked: Looked, most: Duration) {
         self.sleepers.fetch_add(1, Ordering::SeqCst);
         self.rings
-            .park_timeout(rt, (heard & 0xffff_ffff) as u32, most);
+            .park_timeout(rt, (looked.rings & 0xffff_ffff) as u32, most);
         let others = self.sleepers.fetch_sub(1, Ordering::SeqCst);
-        if others > 1 && self.rings() != heard {
+        if others > 1 && self.rings() != looked.rings {
             self.rings.wake_one();
         }
     }
@@ -60,11 +63,38 @@ impl Bell {
     }
 }
 
+/// How often a bell had rung when a waiter heard it. Only a look takes it, so no look comes before it.
+#[derive(Drop, Debug)]
+pub struct Heard {
+    rings: u64,
+}
+
+impl Heard {
+    /// The same number, after a look.
+    pub(crate) fn after_look(self) -> Looked {
+        Looked { rings: self.rings }
+    }
+}
+
+/// How often a bell had rung before a look. A pause asks for it, so none comes without a look before it.
+#[derive(Clone, Copy, Debug, PartialEq, Eq, Hash)]
+pub struct Looked {
+    rings: u64,
+}
+
+impl Looked {
+    /// How often the bell had rung.
+    pub fn rings(self) -> u64 {
+        self.rings
+    }
+}
+
 /// Says that somebody waits for changes of a fifodir. While it is there, each change rings the fifodir's bell. If one were
-/// dropped, the bell would ring for nobody from then on. So it is neither `Copy` nor `Drop`, and only `Fifodir::dismiss`
-/// takes it.
+/// dropped, the bell would go on to ring for nobody. So it is neither `Copy` nor `Drop`, and only `Fifodir::dismiss` takes
+/// it, of its own fifodir.
 pub struct Waiter {
-    one: (),
+    /// A seat without a role. It says whose waiter this is.
+    seat: TableSeat,
 }
 
 /// How many wait for changes of one fifodir, and the bell that wakes them.
@@ -75,6 +105,8 @@ pub(crate) struct Waiters {
 }
 
 impl Waiters {
+    ghost use Rattle.hub_fifodir.specs.Passes.{table_of_waiter};
+
     /// None waits.
     pub(crate) fn new(bell: Arc<Bell, Global>) -> Waiters {
         Waiters {
@@ -87,13 +119,22 @@ impl Waiters {
         &self.bell
     }
 
-    pub(crate) fn admit(&self) -> Waiter {
+    /// One more waits. The seat is of its fifodir's table.
+    pub(crate) fn admit(&self, seat: TableSeat) -> Waiter
+        ensures { table_of_waiter result ≡ seat.table_id }
+    {
         self.count.fetch_add(1, Ordering::SeqCst);
-        Waiter { one: () }
+        Waiter { seat }
+    }
+
+    pub(crate) fn hear(&self, _waiter: &Waiter) -> Heard {
+        Heard {
+            rings: self.bell.rings(),
+        }
     }
 
     pub(crate) fn dismiss(&self, waiter: Waiter) {
-        let Waiter { one: () } = waiter;
+        let Waiter { seat: _ } = waiter;
         self.count.fetch_sub(1, Ordering::SeqCst);
     }
 

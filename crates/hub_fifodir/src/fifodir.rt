@@ -2,12 +2,12 @@
 ghost use Rattle.std.specs.Prelude.{◌≡◌, length, IfOk};
 ghost use Rattle.hub_fifodir.specs.Notes.{IsSized};
 
-use crate::bell::{Bell, Waiter, Waiters};
+use crate::bell::{Bell, Heard, Looked, Waiter, Waiters};
 use crate::locked::Locked;
 use crate::pass::{Pass, Seated};
 use crate::rule::{Board, OneHistory};
 use crate::views::{Rules, View};
-use crate::word;
+use crate::{steps, word};
 use atomic_table::{Refused, Table};
 use hub_record::{Kind, Limits, Status};
 use std::alloc::{AllocError, Global};
@@ -27,7 +27,7 @@ pub struct Fifodir {
 }
 
 impl Fifodir {
-    ghost use Rattle.hub_fifodir.specs.Passes.{IsOf, IsStatusOf, OnlyLooks, Remains, table_of, rules_of, kind_of, limits_of};
+    ghost use Rattle.hub_fifodir.specs.Passes.{IsOf, IsStatusOf, OnlyLooks, Remains, table_of, table_of_waiter, rules_of, kind_of, limits_of};
 
     /// An open fifodir without events and passes, with a bell of its own.
     pub fn new(alloc: Global, kind: Kind, limits: Limits) -> Result<Fifodir, AllocError>
@@ -90,12 +90,23 @@ impl Fifodir {
     }
 
     /// Somebody waits for changes from now on. It changes nothing that a pass could see.
-    pub fn admit(&self) -> Waiter {
-        self.waiters.admit()
+    pub fn admit(&self) -> Waiter
+        ensures { table_of_waiter result ≡ table_of self.now }
+    {
+        self.waiters.admit(steps::new_seat(self.board()))
     }
 
-    /// A waiter of this fifodir waits no more.
-    pub fn dismiss(&self, waiter: Waiter) {
+    /// One of its waiters hears the bell, before a look.
+    pub fn hear(&self, waiter: &Waiter) -> Heard
+        requires { table_of_waiter waiter.now ≡ table_of self.now }
+    {
+        self.waiters.hear(waiter)
+    }
+
+    /// One of its waiters waits no more.
+    pub fn dismiss(&self, waiter: Waiter)
+        requires { table_of_waiter waiter ≡ table_of self.now }
+    {
         self.waiters.dismiss(waiter);
     }
 
@@ -108,6 +119,16 @@ impl Fifodir {
         ensures status { IsStatusOf result (A.view me.new).sight }
     {
         word::unpack(me.look(self.board(), None))
+    }
+
+    /// The status, as a look of one who has heard the bell.
+    pub fn look<A: Pass>(&self, me: &mut A, heard: Heard) -> (Status, Looked)
+        requires { IsOf self.now (A.view me.old) }
+        ensures remains { Remains self.now (A.view me.old) (A.view me.new) }
+        ensures looks { OnlyLooks (A.view me.old) (A.view me.new) }
+        ensures status { IsStatusOf result.0 (A.view me.new).sight }
+    {
+        (self.status(me), heard.after_look())
     }
 
     /// The number of events. It is one load of the front word, and never waits for the lock.

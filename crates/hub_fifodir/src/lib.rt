@@ -12,8 +12,9 @@
 //!
 //! `status` and `front` read one word without the lock, so a reader of the status never waits for a publisher.
 //!
-//! Who waits for a change is counted as a [`Waiter`], and sleeps at the fifodir's [`Bell`], which rings after each change. If
-//! nobody waits, a publish asks the kernel for nothing. Of waking nothing is proved, so a waiter also looks by itself at times.
+//! Who waits for a change is counted as a [`Waiter`], and sleeps at the fifodir's [`Bell`], which rings after each change. It
+//! hears the bell, looks, and pauses, in this order: each asks for what the one before it gave. If nobody waits, a publish
+//! asks the kernel for nothing. Of waking nothing is proved, so a waiter also looks by itself at times.
 #![tactic(auto)]
 
 mod awaiting;
@@ -31,7 +32,7 @@ pub mod together;
 mod views;
 pub mod word;
 
-pub use bell::{Bell, Waiter};
+pub use bell::{Bell, Heard, Looked, Waiter};
 pub use fifodir::Fifodir;
 pub use hub_record::{Enter, Status};
 pub use locked::Locked;

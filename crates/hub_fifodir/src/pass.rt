@@ -5,7 +5,7 @@ ghost use Rattle.hub_fifodir.specs.Passes.{HasSoundSight, OnlyLooks};
 ghost use Rattle.hub_fifodir.specs.Steps.{Front, Grows};
 
 use crate::publisher::Publisher;
-use crate::rule::{Board, Seat};
+use crate::rule::{Board, TableSeat};
 use crate::steps;
 use crate::ticket::Ticket;
 
@@ -24,7 +24,7 @@ pub trait Seated {
     ghost view: { Self → PassView };
 
     /// Joins a note if there is one, and looks at the front word. Returns that word.
-    fn look(&mut self, board: &Board, note: Option<Seat>) -> u64
+    fn look(&mut self, board: &Board, note: Option<TableSeat>) -> u64
         requires board { ((view self.old).table ≡ board.now.table_id)
             × IsSized board.now.table_id }
         requires note { IfSome note (λ n. IsNote (view self.old).table (note_sight n) n) }
@@ -35,7 +35,7 @@ pub trait Seated {
         ensures word { Front result (view self.new).sight };
 
     /// Splits off a note of what it has seen, for another pass to join.
-    fn note(&mut self, board: &Board) -> Seat
+    fn note(&mut self, board: &Board) -> TableSeat
         requires { ((view self.old).table ≡ board.now.table_id) × IsSized board.now.table_id }
         ensures still { view self.new ≡ view self.old }
         ensures note { IsNote (view self.old).table (view self.old).sight result };
@@ -46,11 +46,11 @@ impl Seated for Publisher {
 
     ghost view = { publisher_view };
 
-    fn look(&mut self, board: &Board, note: Option<Seat>) -> u64 {
+    fn look(&mut self, board: &Board, note: Option<TableSeat>) -> u64 {
         steps::look(board, &mut self.seat, note)
     }
 
-    fn note(&mut self, board: &Board) -> Seat {
+    fn note(&mut self, board: &Board) -> TableSeat {
         steps::note(board, &mut self.seat)
     }
 }
@@ -60,11 +60,11 @@ impl Seated for Ticket {
 
     ghost view = { ticket_view };
 
-    fn look(&mut self, board: &Board, note: Option<Seat>) -> u64 {
+    fn look(&mut self, board: &Board, note: Option<TableSeat>) -> u64 {
         steps::look(board, &mut self.seat, note)
     }
 
-    fn note(&mut self, board: &Board) -> Seat {
+    fn note(&mut self, board: &Board) -> TableSeat {
         steps::note(board, &mut self.seat)
     }
 }

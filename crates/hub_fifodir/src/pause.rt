@@ -1,6 +1,6 @@
 //! What a wait does between two looks.
 
-use crate::bell::Bell;
+use crate::bell::{Bell, Looked};
 use std::sync::Wait;
 
 /// Whether a wait goes on after a pause.
@@ -17,10 +17,9 @@ pub trait Pause {
     /// Pauses, and says whether the wait goes on.
     fn pause<R: Wait>(&mut self, rt: &R) -> Go;
 
-    /// The same for a wait that has so many turns left, over fifodirs that ring this bell. `heard` is how often it had rung
-    /// before the last look. So the pause may end as soon as the bell rings. A pause that doesn't listen needs no more than
-    /// `pause`.
-    fn pause_at<R: Wait>(&mut self, rt: &R, _bell: &Bell, _heard: u64, _left: u64) -> Go {
+    /// The same for a wait that has so many turns left, over fifodirs that ring this bell, and has looked. The pause may end as
+    /// soon as the bell rings. A pause that doesn't listen needs no more than `pause`.
+    fn pause_at<R: Wait>(&mut self, rt: &R, _bell: &Bell, _looked: Looked, _left: u64) -> Go {
         self.pause(rt)
     }
 }

@@ -3,7 +3,7 @@ ghost use Rattle.std.specs.Prelude.{◌≡◌, ◌≢◌, ◌<◌, [], IfOk, IfE
 ghost use Rattle.hub_fifodir.specs.Steps.{IsWriter};
 
 use crate::fifodir::Fifodir;
-use crate::rule::{Board, Seat};
+use crate::steps::Seat;
 use crate::{PassError, steps, word};
 use hub_letters::Letter;
 use hub_record::{Closed, Enter, PubError};
@@ -14,7 +14,7 @@ use std::sync::Wait;
 pub struct Publisher {
     number: u64,
     pub(crate) seat: Seat,
-    pub ghost is_writer: { IsWriter seat.me number },
+    pub ghost is_writer: { IsWriter seat.at.me number },
     pub ghost positive: { 0 < number },
 }
 
@@ -47,7 +47,7 @@ impl Fifodir {
                 Ok(Publisher { number, seat })
             }
             Err(refusal) => {
-                steps::rest(board, &mut seat, held);
+                steps::rest_refused(board, seat, held);
                 Err(refusal)
             }
         }
@@ -118,6 +118,6 @@ impl Fifodir {
         let board = self.board();
         let mut held = self.lock(rt, &mut seat);
         held.locked.leave(number);
-        steps::rest_gone(board, &mut seat, held);
+        steps::rest_gone(board, seat, held);
     }
 }

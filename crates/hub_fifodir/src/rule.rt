@@ -20,8 +20,8 @@ impl TableRule<Option<Locked>, View, Rules> for OneHistory {
 /// The table on which the calls make their steps.
 pub type Board = Shared<Option<Locked>, View, Rules, OneHistory>;
 
-/// The seat of a pass, with which it makes its steps.
-pub type Seat = atomic_table::Seat<Option<Locked>, View>;
+/// A seat of the table as the table gives it: that of a note, or what is in the [`Seat`](crate::steps::Seat) of a pass.
+pub type TableSeat = atomic_table::Seat<Option<Locked>, View>;
 
 /// The first load of the front word, by a new seat.
 pub struct FirstLook;

@@ -3,8 +3,7 @@ ghost use Rattle.std.specs.Prelude.{◌≡◌, length, IfOk, IfErr};
 ghost use Rattle.hub_fifodir.specs.Steps.{IsTaker};
 
 use crate::fifodir::Fifodir;
-use crate::rule::{Board, Seat};
-use crate::steps;
+use crate::steps::{self, Seat};
 use hub_record::{Enter, Event, SubError, Taken};
 use std::sync::Wait;
 
@@ -17,7 +16,7 @@ pub struct Ticket {
     /// The number of the next event that it takes.
     next: u64,
     pub(crate) seat: Seat,
-    pub ghost is_taker: { IsTaker seat.me id mark next },
+    pub ghost is_taker: { IsTaker seat.at.me id mark next },
 }
 
 impl Ticket {
@@ -69,7 +68,7 @@ impl Fifodir {
                 })
             }
             Err(refusal) => {
-                steps::rest(board, &mut seat, held);
+                steps::rest_refused(board, seat, held);
                 Err(refusal)
             }
         }
@@ -120,6 +119,6 @@ impl Fifodir {
         let board = self.board();
         let mut held = self.lock(rt, &mut seat);
         held.locked.cancel(id).unwrap();
-        steps::rest_gone(board, &mut seat, held);
+        steps::rest_gone(board, seat, held);
     }
 }

@@ -1,7 +1,7 @@
 //! A pause by the clock.
 ghost use Rattle.std.specs.Prelude.{◌≡◌};
 
-use hub_fifodir::{Bell, Go, Pause};
+use hub_fifodir::{Bell, Go, Looked, Pause};
 use std::rt::Clock;
 use std::sync::Wait;
 use std::thread;
@@ -81,7 +81,7 @@ impl<C: Clock> Pause for Patience<C> {
         Go::Again
     }
 
-    fn pause_at<R: Wait>(&mut self, rt: &R, bell: &Bell, heard: u64, left: u64) -> Go
+    fn pause_at<R: Wait>(&mut self, rt: &R, bell: &Bell, looked: Looked, left: u64) -> Go
         ensures { self.new.clock ≡ self.old.clock }
     {
         let Some((elapsed, time)) = self.times(left) else {
@@ -91,7 +91,7 @@ impl<C: Clock> Pause for Patience<C> {
             return Go::Expired;
         };
         self.keep_pace(elapsed, left);
-        bell.sleep(rt, heard, rest.min(Duration::from_millis(LONGEST_SLEEP)));
+        bell.sleep(rt, looked, rest.min(Duration::from_millis(LONGEST_SLEEP)));
         Go::Again
     }
 }

@@ -2,17 +2,20 @@
 ghost use Rattle.std.specs.Prelude.{◌≡◌, ◌+◌, ◌≤◌, List, Some, length, IfErr, IfOk};
 ghost use Rattle.std.specs.Arc.{arc_value};
 ghost use Rattle.hub_record.specs.declared.limits.TheConstants.{MOST_EVENTS};
-ghost use Rattle.hub_fifodir.specs.Passes.{IsTicketOf, HasSoundSight, MayRefuseTicket, ticket_view};
+ghost use Rattle.hub_fifodir.specs.Passes.{IsTicketOf, HasSoundSight, MayRefuseTicket, table_of, table_of_waiter, ticket_view};
 ghost use Rattle.hub_record.specs.World.{letters};
 ghost use Rattle.hub_wait.specs.Reading.{Reads};
 ghost use Rattle.hub_wait.specs.Watching.{watching_after_step};
 
+mod undecided;
+
 use crate::Watch;
-use hub_fifodir::{Bell, Fifodir, Ticket, Waiter};
+use hub_fifodir::{Fifodir, Looked, Ticket, Waiter};
 use hub_letters::{Letter, Want};
 use hub_record::{Enter, Event, SubError, Taken};
 use std::alloc::Global;
 use std::sync::{Arc, Wait};
+pub(crate) use undecided::look;
 
 /// How many events a take may give.
 pub const SLICE: usize = 256;
@@ -28,9 +31,10 @@ pub struct Post {
     ticket: Ticket,
     watch: Watch,
     waiter: Waiter,
-    /// How often the fifodir's bell had rung before the last look.
-    heard: u64,
+    /// The last look.
+    looked: Looked,
     ghost of: { IsTicketOf (arc_value fifodir) ticket },
+    ghost waits: { table_of_waiter waiter ≡ table_of (arc_value fifodir) },
     ghost sound: { ∥ HasSoundSight (ticket_view ticket) ∥₁ },
     ghost reads: { Reads ticket watch },
 }
@@ -56,15 +60,14 @@ impl Post {
     {
         let mut ticket = fifodir.subscribe(rt)?;
         let waiter = fifodir.admit();
-        let heard = fifodir.bell().rings();
-        let status = fifodir.status(&mut ticket);
+        let (status, looked) = fifodir.look(&mut ticket, fifodir.hear(&waiter));
         let watch = Watch::new(want, notifies, status);
         Ok(Post {
             fifodir,
             ticket,
             watch,
             waiter,
-            heard,
+            looked,
         })
     }
 
@@ -82,16 +85,6 @@ impl Post {
         self.ticket.mark()
     }
 
-    /// The bell that rings after each change of the fifodir.
-    pub(crate) fn bell(&self) -> &Bell {
-        self.fifodir.bell()
-    }
-
-    /// How often that bell had rung before the last look.
-    pub(crate) fn heard(&self) -> u64 {
-        self.heard
-    }
-
     /// Takes what came meanwhile: slices of [`SLICE`] events, until one isn't whole or [`SLICES`] were taken. Each slice is put
     /// into `room`, and what it held before doesn't matter. If nothing came, it only looks at the front word, and takes no
     /// lock. If the subscription is evicted, the watch goes on from the status: what it missed lies between two of its numbers,
@@ -100,7 +93,6 @@ impl Post {
         ensures kept { IsKept self.old self.new }
         ensures caught_up { HasCaughtUp self.old self.new }
     {
-        self.heard = self.bell().rings();
         for _ in 0..SLICES {
             if !self.look() {
                 return;
@@ -116,7 +108,9 @@ impl Post {
         ensures kept { IsKept self.old self.new }
         ensures looked { HasLooked self.old result self.new }
     {
-        let status = self.fifodir.status(&mut self.ticket);
+        let heard = self.fifodir.hear(&self.waiter);
+        let (status, looked) = self.fifodir.look(&mut self.ticket, heard);
+        self.looked = looked;
         if status.number != self.ticket.next() {
             return true;
         }
@@ -156,7 +150,7 @@ impl Post {
             ticket,
             watch: _,
             waiter,
-            heard: _,
+            looked: _,
         } = self;
         fifodir.dismiss(waiter);
         fifodir.cancel(rt, ticket);

@@ -1,10 +1,10 @@
 //! Waits over several services.
 ghost use Rattle.std.specs.Prelude.{◌≡◌};
 ghost use Rattle.std.specs.Fn.{FnOnceReturnsAt};
-ghost use Rattle.hub_wait.specs.Verdicts.{verdict};
 ghost use Rattle.hub_wait.specs.Waits.{AreCaughtUp, AreKept, HaveCaughtUp, IsAnswer, watches_of};
 
-use crate::{Go, Pause, Post, SLICE, Span, Tally, Verdict};
+use crate::post::look;
+use crate::{Go, Pause, Post, SLICE, Span, Verdict};
 use hub_record::Event;
 use std::sync::Wait;
 
@@ -25,11 +25,13 @@ pub fn svwait<R: Wait, P: Pause>(
 {
     let mut room = [Event::FILLER; SLICE];
     for turn in 0..turns {
-        if let Some(verdict) = look(span, posts) {
-            return verdict;
-        }
-        if pause_at(rt, posts, turns - turn, pause) == Go::Expired {
-            return Verdict::Late;
+        match look(span, posts) {
+            Ok(verdict) => return verdict,
+            Err(undecided) => {
+                if undecided.pause(rt, turns - turn, pause) == Go::Expired {
+                    return Verdict::Late;
+                }
+            }
         }
         catch_up_all(rt, posts, &mut room);
     }
@@ -56,26 +58,6 @@ pub fn svlisten<R: Wait, P: Pause, T, F: FnOnce(&[Post]) -> T>(
     let acted = act(posts);
     let verdict = svwait(rt, posts, span, turns, pause);
     (acted, verdict)
-}
-
-/// The verdict of the posts as they are now.
-fn look(span: Span, posts: &[Post]) -> Option<Verdict>
-    ensures { result ≡ verdict span (watches_of posts.now) }
-{
-    let mut tally = Tally::new(span);
-    for post in posts {
-        tally.add(post.watch());
-    }
-    tally.answer()
-}
-
-/// Pauses until the bell rings, with so many turns left. The first post looked before the others, so it has heard the bell
-/// before any of them looked. The bell is that of its fifodir, which the others are expected to share.
-fn pause_at<R: Wait, P: Pause>(rt: &R, posts: &[Post], left: u64, pause: &mut P) -> Go {
-    match posts.first() {
-        Some(post) => pause.pause_at(rt, post.bell(), post.heard(), left),
-        None => pause.pause(rt),
-    }
 }
 
 fn catch_up_all<R: Wait>(rt: &R, posts: &mut [Post], room: &mut [Event; SLICE])

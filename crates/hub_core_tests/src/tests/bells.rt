@@ -2,7 +2,7 @@
 use crate::tests::fixtures::word;
 use crate::tests::passes::{Sender, Shared, new_reader, new_sender};
 use crate::tests::waits::open_post;
-use hub_fifodir::{Bell, Enter, Fifodir};
+use hub_fifodir::{Bell, Enter, Fifodir, Looked};
 use hub_letters::{Letter, Want};
 use hub_record::{Kind, Limits};
 use hub_wait::{Go, Patience, Pause, Span, svwait};
@@ -125,9 +125,9 @@ impl Pause for Hearing {
         Go::Again
     }
 
-    fn pause_at<R: Wait>(&mut self, rt: &R, bell: &Bell, heard: u64, left: u64) -> Go {
+    fn pause_at<R: Wait>(&mut self, rt: &R, bell: &Bell, looked: Looked, left: u64) -> Go {
         if let Some(told) = self.told.get_mut(self.calls) {
-            *told = (heard, bell.rings(), left);
+            *told = (looked.rings(), bell.rings(), left);
         }
         self.calls = self.calls.wrapping_add(1);
         let _ = self.sender.send(rt, &self.letters);

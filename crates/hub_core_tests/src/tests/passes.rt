@@ -4,7 +4,7 @@ ghost use Rattle.std.specs.Arc.{arc_value};
 ghost use Rattle.std.specs.Prelude.{◌≡◌, [], length};
 ghost use Rattle.hub_fifodir.specs.Passes.{HasTaken, IsPublisherOf, IsTicketOf, mine};
 
-use hub_fifodir::{Enter, Fifodir, PassError, Publisher, Ticket};
+use hub_fifodir::{Enter, Fifodir, Looked, PassError, Publisher, Ticket};
 use hub_letters::Letter;
 use hub_record::{Closed, Event, Kind, Limits, Policy, PubError, Status, SubError, Taken};
 use hub_wait::{Pause, receive};
@@ -87,6 +87,15 @@ impl Sender {
         self.fifodir.front(&mut self.me)
     }
 
+    /// Looks as a waiter does, and tells the number of events.
+    pub(crate) fn look(&mut self) -> (u64, Looked) {
+        let waiter = self.fifodir.admit();
+        let heard = self.fifodir.hear(&waiter);
+        let (status, looked) = self.fifodir.look(&mut self.me, heard);
+        self.fifodir.dismiss(waiter);
+        (status.number, looked)
+    }
+
     pub(crate) fn status(&mut self) -> Status {
         self.fifodir.status(&mut self.me)
     }
@@ -109,6 +118,17 @@ pub(crate) fn publisher<R: Abort + Wait + Enter>(rt: &R, fifodir: &Fifodir) -> P
 pub(crate) fn new_sender<R: Abort + Wait + Enter>(rt: &R, fifodir: &Shared) -> Sender {
     let fifodir = Arc::try_clone(fifodir).expect(rt, "the fifodir");
     Sender::of(rt, fifodir).expect(rt, "a publisher")
+}
+
+/// Looks, and then the bell rings.
+pub(crate) fn look_before_a_ring<R: Abort + Wait + Enter>(rt: &R, fifodir: &Shared) -> Looked {
+    let waiter = fifodir.admit();
+    let mut sender = new_sender(rt, fifodir);
+    let (_, looked) = sender.look();
+    let _ = sender.send(rt, &[Letter::LEAST]);
+    sender.leave(rt);
+    fifodir.dismiss(waiter);
+    looked
 }
 
 impl Held for Sender {

@@ -1,9 +1,9 @@
 //! The pause of a wait, over a clock whose time passes only while somebody sleeps.
-use crate::tests::passes::{Shared, new_sender, open};
-use hub_fifodir::{Bell, Enter};
-use hub_letters::Letter;
+use crate::tests::passes::{Shared, look_before_a_ring, new_sender, open};
+use hub_fifodir::Enter;
 use hub_record::Kind;
 use hub_wait::{Go, Patience, Pause};
+use std::alloc::Global;
 use std::io;
 use std::process::Abort;
 use std::rt::Clock;
@@ -53,6 +53,10 @@ impl Clock for Slept {
     }
 }
 
+fn open_plain(alloc: Global) -> Result<Shared, Fail> {
+    open(alloc, Kind::Plain, (64, 1000, 100))
+}
+
 /// So many looks of a wait with so many turns, while the bell rings before each; then how many milliseconds they took.
 static RINGING: [(u64, u64, u64); 12] = [
     (1, 1, 1),
@@ -71,13 +75,19 @@ static RINGING: [(u64, u64, u64); 12] = [
 
 /// How many milliseconds the first looks of a wait with so many turns take, while the bell rings before each. None if it
 /// expires.
-fn time_of_looks(rt: &impl Wait, turns: u64, looks: u64, broken: bool) -> Option<u64> {
+fn time_of_looks<R: Abort + Wait + Enter>(
+    rt: &R,
+    fifodir: &Shared,
+    turns: u64,
+    looks: u64,
+    broken: bool,
+) -> Option<u64> {
     let clock = Slept::new(broken);
-    let bell = Bell::new();
+    let looked = look_before_a_ring(rt, fifodir);
     let mut pause = Patience::new(&clock);
     for look in 0..looks {
         let left = turns.saturating_sub(look);
-        if pause.pause_at(rt, &bell, 1, left) != Go::Again {
+        if pause.pause_at(rt, fifodir.bell(), looked, left) != Go::Again {
             return None;
         }
     }
@@ -85,9 +95,12 @@ fn time_of_looks(rt: &impl Wait, turns: u64, looks: u64, broken: bool) -> Option
 }
 
 /// The first row that goes otherwise, with the time that it takes.
-fn row_unlike(rt: &impl Wait) -> Option<((u64, u64, u64), Option<u64>)> {
+fn row_unlike<R: Abort + Wait + Enter>(
+    rt: &R,
+    fifodir: &Shared,
+) -> Option<((u64, u64, u64), Option<u64>)> {
     for (turns, looks, milliseconds) in RINGING.iter() {
-        let took = time_of_looks(rt, *turns, *looks, false);
+        let took = time_of_looks(rt, fifodir, *turns, *looks, false);
         if took != Some(*milliseconds) {
             return Some(((*turns, *looks, *milliseconds), took));
         }
@@ -96,33 +109,47 @@ fn row_unlike(rt: &impl Wait) -> Option<((u64, u64, u64), Option<u64>)> {
 }
 
 /// Whether a wait of 50 turns goes on at its first look, then so many microseconds later, and then so many more.
-fn goes_on_at(rt: &impl Wait, first: u64, second: u64) -> (bool, bool, bool) {
+fn goes_on_at<R: Abort + Wait + Enter>(
+    rt: &R,
+    fifodir: &Shared,
+    first: u64,
+    second: u64,
+) -> (bool, bool, bool) {
     let clock = Slept::new(false);
-    let bell = Bell::new();
+    let (bell, looked) = (fifodir.bell(), look_before_a_ring(rt, fifodir));
     let mut pause = Patience::new(&clock);
-    let at_once = pause.pause_at(rt, &bell, 1, 50) == Go::Again;
+    let at_once = pause.pause_at(rt, bell, looked, 50) == Go::Again;
     clock.pass(first);
-    let later = pause.pause_at(rt, &bell, 1, 49) == Go::Again;
+    let later = pause.pause_at(rt, bell, looked, 49) == Go::Again;
     clock.pass(second);
-    let last = pause.pause_at(rt, &bell, 1, 48) == Go::Again;
+    let last = pause.pause_at(rt, bell, looked, 48) == Go::Again;
     (at_once, later, last)
 }
 
 #[test]
-fn looks_are_a_turn_apart_if_the_bell_rings_all_the_time(rt: HostRuntime) {
-    assert_eq!(rt; row_unlike(&rt), None);
+fn looks_are_a_turn_apart_if_the_bell_rings_all_the_time(rt: HostRuntime) -> Result<(), Fail> {
+    let fifodir = open_plain(rt.alloc())?;
+    assert_eq!(rt; row_unlike(&rt, &fifodir), None);
+    Ok(())
 }
 
 #[test]
-fn a_wait_has_a_millisecond_for_each_turn(rt: HostRuntime) {
-    assert_eq!(rt; goes_on_at(&rt, 49_999, 0), (true, true, true));
-    assert_eq!(rt; goes_on_at(&rt, 50_001, 0), (true, false, false));
-    assert_eq!(rt; goes_on_at(&rt, 49_000, 1_001), (true, true, false));
+fn a_wait_has_a_millisecond_for_each_turn(rt: HostRuntime) -> Result<(), Fail> {
+    let fifodir = open_plain(rt.alloc())?;
+    assert_eq!(rt; goes_on_at(&rt, &fifodir, 49_999, 0), (true, true, true));
+    assert_eq!(rt; goes_on_at(&rt, &fifodir, 50_001, 0), (true, false, false));
+    assert_eq!(rt;
+        goes_on_at(&rt, &fifodir, 49_000, 1_001),
+        (true, true, false)
+    );
+    Ok(())
 }
 
 #[test]
-fn a_pause_without_a_clock_sleeps_a_turn(rt: HostRuntime) {
-    assert_eq!(rt; time_of_looks(&rt, 5_000, 7, true), Some(7));
+fn a_pause_without_a_clock_sleeps_a_turn(rt: HostRuntime) -> Result<(), Fail> {
+    let fifodir = open_plain(rt.alloc())?;
+    assert_eq!(rt; time_of_looks(&rt, &fifodir, 5_000, 7, true), Some(7));
+    Ok(())
 }
 
 /// How long a pause is in a wait of 20 seconds, by a clock that passes by itself. The bell has rung before, and then it doesn't.
@@ -130,21 +157,19 @@ fn silent_pause<R: Abort + Wait + Enter + Clock + Copy>(
     rt: &R,
     fifodir: &Shared,
 ) -> io::Result<Duration> {
-    let waiter = fifodir.admit();
+    let _ = look_before_a_ring(rt, fifodir);
     let mut sender = new_sender(rt, fifodir);
-    let _ = sender.send(rt, &[Letter::LEAST]);
+    let (_, looked) = sender.look();
     sender.leave(rt);
-    fifodir.dismiss(waiter);
-    let bell = fifodir.bell();
     let begun = Instant::now(rt)?;
-    let _ = Patience::new(*rt).pause_at(rt, bell, bell.rings(), 20_000);
+    let _ = Patience::new(*rt).pause_at(rt, fifodir.bell(), looked, 20_000);
     Ok(Instant::now(rt)?.duration_since(begun))
 }
 
 // A pause is half a second. A busy machine may take some seconds more.
 #[test]
 fn a_pause_that_hears_no_bell_ends_by_itself(rt: HostRuntime) -> Result<(), Fail> {
-    let fifodir = open(rt.alloc(), Kind::Plain, (64, 1000, 10))?;
+    let fifodir = open_plain(rt.alloc())?;
     let took = silent_pause(&rt, &fifodir)?;
     assert!(rt;
         took > Duration::from_millis(400) && took < Duration::from_secs(10),

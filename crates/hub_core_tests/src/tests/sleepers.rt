@@ -1,7 +1,7 @@
 //! Sleepers at a bell. They sleep until it rings, however long that takes, so one that isn't woken never comes to its end.
 use crate::tests::busy::come_to_an_end;
 use crate::tests::fixtures::run_of;
-use crate::tests::passes::{Sender, Shared, new_sender, open};
+use crate::tests::passes::{Sender, Shared, look_before_a_ring, new_sender, open};
 use hub_letters::Letter;
 use hub_record::{Enter, Kind};
 use std::alloc::Global;
@@ -30,13 +30,13 @@ const FOR_EVER: u64 = 100_000;
 fn sleep_until<R: Wait>(rt: &R, me: &mut Sender, number: u64) {
     let waiter = me.fifodir.admit();
     for _ in rt.forever() {
-        let heard = me.fifodir.bell().rings();
-        if me.front() >= number {
+        let (found, looked) = me.look();
+        if found >= number {
             break;
         }
         me.fifodir
             .bell()
-            .sleep(rt, heard, Duration::from_secs(FOR_EVER));
+            .sleep(rt, looked, Duration::from_secs(FOR_EVER));
     }
     me.fifodir.dismiss(waiter);
 }
@@ -130,11 +130,11 @@ fn a_bell_rings_after_a_long_message_is_there(rt: HostRuntime) -> Result<(), Fai
 }
 
 /// Sleeps at a bell that has rung meanwhile, and counts in `awake` that it woke.
-fn sleep_too_late<R: Wait>(rt: &R, fifodir: &Shared, awake: &AtomicU64) {
-    let heard = fifodir.bell().rings().wrapping_sub(1);
+fn sleep_too_late<R: Abort + Wait + Enter>(rt: &R, fifodir: &Shared, awake: &AtomicU64) {
+    let looked = look_before_a_ring(rt, fifodir);
     fifodir
         .bell()
-        .sleep(rt, heard, Duration::from_secs(FOR_EVER));
+        .sleep(rt, looked, Duration::from_secs(FOR_EVER));
     awake.fetch_add(1, Ordering::SeqCst);
 }
 

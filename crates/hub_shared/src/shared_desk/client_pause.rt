@@ -1,6 +1,6 @@
 //! The pause of a wait that ends if its client is gone.
 
-use hub_fifodir::Bell;
+use hub_fifodir::{Bell, Looked};
 use hub_io::Client;
 use hub_wait::{Go, Pause};
 use std::sync::Wait;
@@ -27,10 +27,10 @@ impl<P: Pause> Pause for ClientPause<'_, P> {
         self.pause.pause(rt)
     }
 
-    fn pause_at<R: Wait>(&mut self, rt: &R, bell: &Bell, heard: u64, left: u64) -> Go {
+    fn pause_at<R: Wait>(&mut self, rt: &R, bell: &Bell, looked: Looked, left: u64) -> Go {
         if self.client.is_some_and(Client::is_gone) {
             return Go::Expired;
         }
-        self.pause.pause_at(rt, bell, heard, left)
+        self.pause.pause_at(rt, bell, looked, left)
     }
 }

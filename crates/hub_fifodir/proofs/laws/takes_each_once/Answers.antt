@@ -4,4 +4,4 @@ use Rattle.hub_fifodir.proofs.RuleLaws.{since_mark}
 use Rattle.hub_fifodir.proofs.laws.takes_each_once.Goals as goal
 
 pub returns : goal.returns
-returns c = let t = c.args._ticket.now in ap (λ (l : List Event). l ++ drop t.next t.seat.me.0.sight.seen) t.is_taker.got ∙ since_mark t.mark t.next t.seat.me.0.sight.seen t.is_taker.began
+returns c = let t = c.args._ticket.now in ap (λ (l : List Event). l ++ drop t.next t.seat.at.me.0.sight.seen) t.is_taker.got ∙ since_mark t.mark t.next t.seat.at.me.0.sight.seen t.is_taker.began

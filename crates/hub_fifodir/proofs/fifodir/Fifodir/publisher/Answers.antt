@@ -6,15 +6,18 @@ use Rattle.hub_fifodir.proofs.fifodir.Fifodir.publisher.Goals as goal
 
 pub rest_as_publisher-requires-clause-gives : goal.rest_as_publisher-requires-clause-gives
 rest_as_publisher-requires-clause-gives g c = let h = c.lock-held.ensures.holding.1 in let ok = c.in-Ok.ensures in
-    rests_as_publisher c.lock-held.new.seat.me c.lock-held.result.locked c.publisher.new.self c.in-Ok.number
+    rests_as_publisher c.lock-held.new.seat.at.me c.lock-held.result.locked c.publisher.new.self c.in-Ok.number
     (ap (λ (v : View). v.role) h.renews.is ∙ ap (λ (v : View). v.role) c.enter-seat.ensures.view) (ap (λ (v : View). v.held) h.renews.is)
     h.bounded h.fresh ok.reply.2 ok.after.0 ok.after.1 h.behind ok.record
 
-pub rest-requires-clause-gives : goal.rest-requires-clause-gives
-rest-requires-clause-gives g c = let b = c.lock-held.result.locked in let b' = c.publisher.new.self in
+pub rest_refused-requires-clause-gives : goal.rest_refused-requires-clause-gives
+rest_refused-requires-clause-gives g c = let b = c.lock-held.result.locked in let b' = c.publisher.new.self in
     let h = c.lock-held.ensures.holding.1 in let err = c.in-Err.ensures in let w = h.behind.world in
     let after = still_represents b b' w err.record h.behind.for in
     let role = ap (λ (v : View). v.role) h.renews.is ∙ ap (λ (v : View). v.role) c.enter-seat.ensures.view in
-    rests c.lock-held.new.seat.me b b' (subst IsLive (sym role) tt) (ap (λ (v : View). v.held) h.renews.is) h.bounded
+    rests c.lock-held.new.seat.at.me b b' (subst IsLive (sym role) tt) (ap (λ (v : View). v.held) h.renews.is) h.bounded
     (same_book b b' w w h.behind.for after refl err.after)
     record { world = w; for = after; events = h.behind.events; closed = h.behind.closed; kind = h.behind.kind; limits = h.behind.limits }
+
+pub rest_refused-requires-clause-visitor : goal.rest_refused-requires-clause-visitor
+rest_refused-requires-clause-visitor g c = ap (λ (v : View). v.role) c.lock-held.ensures.holding.1.renews.is ∙ ap (λ (v : View). v.role) c.enter-seat.ensures.view

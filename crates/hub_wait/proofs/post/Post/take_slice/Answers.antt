@@ -8,6 +8,7 @@ invariant_of-self g c =
     let p = c.in-Got.ensures.remains.of in let d = c.deref.ensures in let q = c.args.self.now.of in
     record {
       of = search (rules, p, d);
+      waits = c.args.self.now.waits;
       sound = ∣ c.in-Got.ensures.remains.sound ∣₁;
       reads = Reads-stepped _ _ _ _ _ _ _ _ _ c.args.self.now.reads c.in-Got.ensures.remains.seen c.in-Got.ensures.mark (search (rules, p, d, q)) c.in-Got.ensures.took c.in-Got.ensures.filled c.next-first.ensures c.step_by_events.ensures;
     }
