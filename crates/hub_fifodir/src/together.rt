@@ -1,7 +1,7 @@
 //! Programs over fifodirs: two threads publish at once, and events are sent on from one fifodir to another.
 ghost use Rattle.std.specs.Prelude.{◌≡◌, ℕ, ◌++◌, [], ◌∷◌, OnOk, OnErr, IfOk, IfErr};
 ghost use Rattle.hub_record.specs.Runs.{by};
-ghost use Rattle.hub_fifodir.specs.Passes.{IsPublisherOf, IsTicketOf, HasTaken, IsRefusedAt};
+ghost use Rattle.hub_fifodir.specs.Passes.{IsPublisherOf, IsTicketOf, HasTaken, IsRefusedAt, KnewOwnClose};
 ghost use Rattle.hub_fifodir.specs.Passes.{publisher_number, got, seen_by, mine, sent_on};
 
 use crate::fifodir::Fifodir;
@@ -27,6 +27,8 @@ fn send<R: Wait>(
     ensures pass { IsPublisherOf fifodir.now me.new
         × (publisher_number me.new ≡ publisher_number me.old) }
     ensures mine { OnOk result (mine me.new ≡ letters.now) }
+    ensures refused { OnErr result (mine me.new ≡ []) }
+    ensures own { KnewOwnClose me.old me.new }
 {
     fifodir.publish(rt, me, letters)
 }
@@ -50,6 +52,9 @@ pub fn send_both<R: Threads + Wait + Sync>(
         × OnOk result.1.1 (by (publisher_number result.1.0) (seen_by result.1.0) ≡ second.now) }
     ensures numbers { (publisher_number result.0.0 ≡ publisher_number one)
         × (publisher_number result.1.0 ≡ publisher_number other) }
+    ensures refused { OnErr result.0.1 (mine result.0.0 ≡ [])
+        × OnErr result.1.1 (mine result.1.0 ≡ []) }
+    ensures own { KnewOwnClose one result.0.0 × KnewOwnClose other result.1.0 }
     ensures same { seen_by result.1.0 ≡ seen_by result.0.0 }
 {
     let (one_sent, other_sent) = thread::join_mut(
@@ -58,13 +63,17 @@ pub fn send_both<R: Threads + Wait + Sync>(
             requires { IsPublisherOf fifodir.now one × (mine one ≡ []) }
             ensures { IsPublisherOf fifodir.entry.now one.exit
                 × (publisher_number one.exit ≡ publisher_number one.entry)
-                × OnOk result (mine one.exit ≡ first.entry.now) }
+                × OnOk result (mine one.exit ≡ first.entry.now)
+                × OnErr result (mine one.exit ≡ [])
+                × KnewOwnClose one.entry one.exit }
         { send(rt, fifodir, &mut one, first) },
         &mut || -> Result<u64, PubError>
             requires { IsPublisherOf fifodir.now other × (mine other ≡ []) }
             ensures { IsPublisherOf fifodir.entry.now other.exit
                 × (publisher_number other.exit ≡ publisher_number other.entry)
-                × OnOk result (mine other.exit ≡ second.entry.now) }
+                × OnOk result (mine other.exit ≡ second.entry.now)
+                × OnErr result (mine other.exit ≡ [])
+                × KnewOwnClose other.entry other.exit }
         { send(rt, fifodir, &mut other, second) },
     );
     fifodir.meet(rt, &mut one, &mut other);
@@ -98,6 +107,7 @@ pub fn send_on<R: Wait>(
     ensures refused { IfErr result (λ unsent. HasTaken ticket.old 1 (Taken.Got 1) ticket.new
         × (got ticket.new ≡ got ticket.old ++ unsent.event ∷ [])
         × IsRefusedAt publisher.new (unsent.event.letter ∷ []) unsent.why) }
+    ensures own { KnewOwnClose publisher.old publisher.new }
     ensures unsent { OnErr result (mine publisher.new ≡ mine publisher.old) }
     ensures sent { IfOk result (λ taken. mine publisher.new
         ≡ mine publisher.old ++ sent_on ticket.old taken ticket.new) }
