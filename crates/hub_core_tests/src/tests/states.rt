@@ -1,0 +1,372 @@
+//! What a call leaves behind in each state that a fifodir may be in. The passes of the call are there before, so that it can be
+//! made where no new ones are given.
+ghost use Rattle.std.specs.Arc.{arc_value};
+ghost use Rattle.hub_fifodir.specs.Passes.{IsPublisherOf, IsTicketOf};
+
+use crate::tests::fixtures::word;
+use crate::tests::passes::{Shared, new_reader, new_sender, open_with, publisher, ticket};
+use crate::tests::waits::open_post;
+use hub_fifodir::{Enter, Publisher, Ticket};
+use hub_letters::{Letter, Want};
+use hub_record::{Event, Kind, Policy};
+use hub_wait::{Go, Pause, Post, SLICE, Span, receive, svlisten, svwait};
+use std::alloc::Global;
+use std::process::Abort;
+use std::sync::{Arc, Wait};
+use std::test::Fail;
+
+/// How the fifodir of a service, with room for 8 events, came to be as it is. A publisher, a ticket and a post came first, in
+/// this order, and then the supervisor started.
+#[derive(Clone, Copy, Debug, PartialEq)]
+enum State {
+    /// Nothing else came.
+    Fresh,
+    /// 20 more events came, so its room was used again.
+    Wrapped,
+    /// 5,100 more events came.
+    Long,
+    /// 40 publishers and 40 tickets came and went.
+    Busy,
+    /// 25 more posts wait.
+    Awaited,
+    /// 8 events are pending.
+    Full,
+    /// 9 events came, and the ticket was evicted. The post had taken 8 of them, and so it wasn't.
+    Evicted,
+    /// 2 events are pending, and it is closed.
+    Closed,
+    /// The service has failed.
+    Failed,
+}
+
+#[derive(Clone, Copy, Debug)]
+enum Call {
+    Nothing,
+    Publish,
+    PublishNothing,
+    PublishTooMuch,
+    PublishUnlawful,
+    Close,
+    CloseTwice,
+    Take,
+    TakeNone,
+    Status,
+    Front,
+    HasMore,
+    Meet,
+    Await,
+    Receive,
+    CatchUp,
+    SvWait,
+    SvListen,
+}
+
+/// What is there: how many events, the flags' code, whether it is closed, the number of the next publisher, the id of the next
+/// ticket, which a closed one doesn't give, the number of the event that the ticket takes next, and how often the bell rang
+/// meanwhile.
+type Left = (u64, u64, bool, u64, Option<u64>, u64, u64);
+
+/// What is there in each state.
+static STATES: [(State, Left); 9] = [
+    (State::Fresh, (1, 6, false, 2, Some(3), 1, 0)),
+    (State::Wrapped, (21, 6, false, 2, Some(3), 21, 0)),
+    (State::Long, (5_101, 6, false, 2, Some(3), 5_101, 0)),
+    (State::Busy, (1, 6, false, 42, Some(43), 1, 0)),
+    (State::Awaited, (1, 6, false, 2, Some(28), 1, 0)),
+    (State::Full, (9, 6, false, 2, Some(3), 1, 0)),
+    (State::Evicted, (10, 6, false, 2, Some(3), 1, 0)),
+    (State::Closed, (3, 6, true, 2, None, 1, 0)),
+    (State::Failed, (2, 14, false, 2, Some(3), 2, 0)),
+];
+
+/// What each call changes of that, in a state where it has an effect: how many events it adds, whether it closes, how many
+/// events it takes at most, and how often it rings.
+static CALLS: [(Call, u64, bool, u64, u64); 18] = [
+    (Call::Nothing, 0, false, 0, 0),
+    (Call::Publish, 1, false, 0, 1),
+    (Call::PublishNothing, 0, false, 0, 1),
+    (Call::PublishTooMuch, 0, false, 0, 0),
+    (Call::PublishUnlawful, 0, false, 0, 0),
+    (Call::Close, 0, true, 0, 1),
+    (Call::CloseTwice, 0, true, 0, 1),
+    (Call::Take, 0, false, 4, 0),
+    (Call::TakeNone, 0, false, 0, 0),
+    (Call::Status, 0, false, 0, 0),
+    (Call::Front, 0, false, 0, 0),
+    (Call::HasMore, 0, false, 0, 0),
+    (Call::Meet, 0, false, 0, 0),
+    (Call::Await, 0, false, 0, 0),
+    (Call::Receive, 0, false, 4, 0),
+    (Call::CatchUp, 0, false, 0, 0),
+    (Call::SvWait, 0, false, 0, 0),
+    (Call::SvListen, 0, false, 0, 0),
+];
+
+/// What is there after the call: a closed one takes no message and isn't closed again, a full one takes no letter, and an
+/// evicted ticket takes nothing.
+fn left_by(before: (State, Left), call: (Call, u64, bool, u64, u64)) -> Left {
+    let (state, (number, code, closed, next, id, taken, _)) = before;
+    let (_, adds, closes, takes, rings) = call;
+    let refused = closed || (state == State::Full && adds > 0);
+    let added = if refused { 0 } else { adds };
+    let pending = number.saturating_sub(taken);
+    let took = if state == State::Evicted { 0 } else { takes.min(pending) };
+    (
+        number.saturating_add(added),
+        if added > 0 { 6 } else { code },
+        closed || closes,
+        next,
+        if closes { None } else { id },
+        taken.saturating_add(took),
+        if refused { 0 } else { rings },
+    )
+}
+
+/// A pause that ends at once.
+#[derive(Drop)]
+struct AtOnce;
+
+impl Pause for AtOnce {
+    fn pause<R: Wait>(&mut self, _rt: &R) -> Go {
+        Go::Again
+    }
+}
+
+/// A fifodir, and those who made their passes before anything came.
+struct Scene {
+    fifodir: Shared,
+    one: Publisher,
+    reader: Ticket,
+    posts: Vec<Post>,
+    ghost one_of: { IsPublisherOf (arc_value fifodir) one },
+    ghost reader_of: { IsTicketOf (arc_value fifodir) reader },
+}
+
+impl Scene {
+    fn new<R: Abort + Wait + Enter>(rt: &R, alloc: Global, fifodir: Shared) -> Scene {
+        let one = publisher(rt, &fifodir);
+        let reader = ticket(rt, &fifodir);
+        Scene {
+            fifodir,
+            one,
+            reader,
+            posts: Vec::new(alloc),
+        }
+    }
+
+    /// So many posts more.
+    fn post<R: Abort + Wait + Enter>(&mut self, rt: &R, count: u64) {
+        for _ in 0..count {
+            let shared = Arc::try_clone(&self.fifodir).expect(rt, "the fifodir");
+            let post = open_post(rt, shared, Want::Up, true);
+            if let Err(refused) = self.posts.push(post) {
+                refused.value.end(rt);
+            }
+        }
+    }
+
+    fn send<R: Wait>(&mut self, rt: &R, letters: &[Letter]) {
+        let _ = self.fifodir.publish(rt, &mut self.one, letters);
+    }
+
+    fn take<R: Wait>(&mut self, rt: &R, out: &mut [Event]) {
+        self.fifodir.take_into(rt, &mut self.reader, out);
+    }
+
+    /// Publishes this letter so often, and each time all take it.
+    fn pass_on<R: Wait>(&mut self, rt: &R, letter: &[Letter], times: u64) {
+        for _ in 0..times {
+            self.send(rt, letter);
+            self.take(rt, &mut [Event::FILLER; 2]);
+            for post in self.posts.as_mut_slice() {
+                post.catch_up(rt, &mut [Event::FILLER; SLICE]);
+            }
+        }
+    }
+
+    fn close<R: Wait>(&mut self, rt: &R) {
+        let _ = self.fifodir.close(rt, &mut self.one);
+    }
+
+    fn await_more<R: Wait>(&mut self, rt: &R) {
+        self.fifodir
+            .await_more(rt, &mut self.reader, 1, &mut AtOnce);
+    }
+
+    fn receive<R: Wait>(&mut self, rt: &R) {
+        let mut out = [Event::FILLER; 4];
+        receive(rt, &self.fifodir, &mut self.reader, &mut out, 1, &mut AtOnce);
+    }
+
+    fn meet<R: Wait>(&mut self, rt: &R) {
+        self.fifodir.meet(rt, &mut self.one, &mut self.reader);
+    }
+
+    fn look(&mut self, call: Call) {
+        match call {
+            Call::Status => {
+                let _ = self.fifodir.status(&mut self.one);
+                let _ = self.fifodir.status(&mut self.reader);
+            }
+            Call::Front => {
+                let _ = self.fifodir.front(&mut self.one);
+            }
+            _ => {
+                let _ = self.fifodir.has_more(&mut self.reader);
+            }
+        }
+    }
+
+    fn wait<R: Wait>(&mut self, rt: &R, call: Call) {
+        let posts = self.posts.as_mut_slice();
+        match call {
+            Call::SvWait => {
+                svwait(rt, posts, Span::All, 1, &mut AtOnce);
+            }
+            Call::SvListen => {
+                svlisten(rt, posts, Span::All, 1, &mut AtOnce, |_posts| 7);
+            }
+            _ => {
+                for post in posts {
+                    post.catch_up(rt, &mut [Event::FILLER; SLICE]);
+                }
+            }
+        }
+    }
+
+    fn end<R: Wait>(self, rt: &R) {
+        let Scene {
+            fifodir,
+            one,
+            reader,
+            mut posts,
+        } = self;
+        fifodir.leave(rt, one);
+        fifodir.cancel(rt, reader);
+        while let Some(post) = posts.pop() {
+            post.end(rt);
+        }
+        posts.destroy_empty();
+    }
+}
+
+/// The messages that the calls publish.
+#[derive(Drop)]
+struct Words {
+    start: Vec<Letter>,
+    many: Vec<Letter>,
+    too_many: Vec<Letter>,
+    unlawful: Vec<Letter>,
+    failed: Vec<Letter>,
+}
+
+impl Words {
+    fn new(alloc: Global) -> Result<Words, Fail> {
+        Ok(Words {
+            start: word(alloc, "s")?,
+            many: word(alloc, "ssssssss")?,
+            too_many: word(alloc, "sssssssss")?,
+            unlawful: word(alloc, "U")?,
+            failed: word(alloc, "O")?,
+        })
+    }
+}
+
+fn come_to<R: Abort + Wait + Enter>(rt: &R, scene: &mut Scene, words: &Words, state: State) {
+    scene.post(rt, 1);
+    scene.pass_on(rt, &words.start, 1);
+    match state {
+        State::Fresh => {}
+        State::Wrapped => scene.pass_on(rt, &words.start, 20),
+        State::Long => scene.pass_on(rt, &words.start, 5_100),
+        State::Busy => {
+            for _ in 0..40 {
+                new_sender(rt, &scene.fifodir).leave(rt);
+                new_reader(rt, &scene.fifodir).cancel(rt);
+            }
+        }
+        State::Awaited => scene.post(rt, 25),
+        State::Full => scene.send(rt, &words.many),
+        State::Evicted => {
+            scene.send(rt, &words.many);
+            scene.wait(rt, Call::CatchUp);
+            scene.send(rt, &words.start);
+        }
+        State::Closed => {
+            scene.send(rt, &words.start);
+            scene.send(rt, &words.start);
+            scene.close(rt);
+        }
+        State::Failed => scene.pass_on(rt, &words.failed, 1),
+    }
+}
+
+fn does<R: Wait>(rt: &R, scene: &mut Scene, words: &Words, call: Call) {
+    match call {
+        Call::Nothing => {}
+        Call::Publish => scene.send(rt, &words.start),
+        Call::PublishNothing => scene.send(rt, &[]),
+        Call::PublishTooMuch => scene.send(rt, &words.too_many),
+        Call::PublishUnlawful => scene.send(rt, &words.unlawful),
+        Call::Close => scene.close(rt),
+        Call::CloseTwice => {
+            scene.close(rt);
+            scene.close(rt);
+        }
+        Call::Take => scene.take(rt, &mut [Event::FILLER; 4]),
+        Call::TakeNone => scene.take(rt, &mut []),
+        Call::Status | Call::Front | Call::HasMore => scene.look(call),
+        Call::Meet => scene.meet(rt),
+        Call::Await => scene.await_more(rt),
+        Call::Receive => scene.receive(rt),
+        Call::CatchUp | Call::SvWait | Call::SvListen => scene.wait(rt, call),
+    }
+}
+
+/// What is there after this call in this state.
+fn left<R: Abort + Wait + Enter>(
+    rt: &R,
+    alloc: Global,
+    words: &Words,
+    state: State,
+    call: Call,
+) -> Result<Left, Fail> {
+    let policy = if state == State::Evicted {
+        Policy::Evict
+    } else {
+        Policy::Hold
+    };
+    let fifodir = open_with(alloc, Kind::Service, (8, 10_000, 100), policy)?;
+    let shared = Arc::try_clone(&fifodir)?;
+    let mut scene = Scene::new(rt, alloc, shared);
+    come_to(rt, &mut scene, words, state);
+    let before = fifodir.bell().rings();
+    does(rt, &mut scene, words, call);
+    let rings = fifodir.bell().rings().wrapping_sub(before);
+    let taken = scene.reader.next();
+    let mut next = new_sender(rt, &fifodir);
+    let (number, status) = (next.me.number(), next.status());
+    next.leave(rt);
+    let id = match fifodir.subscribe(rt) {
+        Ok(reader) => {
+            let id = reader.id();
+            fifodir.cancel(rt, reader);
+            Some(id)
+        }
+        Err(_) => None,
+    };
+    scene.end(rt);
+    Ok((status.number, status.flags.code(), status.closed, number, id, taken, rings))
+}
+
+#[test]
+fn a_call_leaves_behind_what_it_says_in_each_state(rt: HostRuntime) -> Result<(), Fail> {
+    let words = Words::new(rt.alloc())?;
+    for before in STATES.iter() {
+        for call in CALLS.iter() {
+            let found = left(&rt, rt.alloc(), &words, before.0, call.0)?;
+            assert_eq!(rt; found, left_by(*before, *call), "{:?} at {:?}", call.0, before.0);
+        }
+    }
+    Ok(())
+}
