@@ -1,15 +1,11 @@
 //! What a call leaves behind in each state that a fifodir may be in. The passes of the call are there before, so that it can be
 //! made where no new ones are given.
-ghost use Rattle.std.specs.Arc.{arc_value};
-ghost use Rattle.hub_fifodir.specs.Passes.{IsPublisherOf, IsTicketOf};
+mod scene;
 
-use crate::tests::fixtures::word;
-use crate::tests::passes::{Shared, new_reader, new_sender, open_with, publisher, ticket};
-use crate::tests::waits::open_post;
-use hub_fifodir::{Enter, Publisher, Ticket};
-use hub_letters::{Letter, Want};
+use crate::tests::passes::{new_reader, new_sender, open_with};
+use hub_fifodir::Enter;
 use hub_record::{Event, Kind, Policy};
-use hub_wait::{Go, Pause, Post, SLICE, Span, receive, svlisten, svwait};
+use scene::{Scene, Words};
 use std::alloc::Global;
 use std::process::Abort;
 use std::sync::{Arc, Wait};
@@ -40,7 +36,7 @@ enum State {
 }
 
 #[derive(Clone, Copy, Debug)]
-enum Call {
+pub(crate) enum Call {
     Nothing,
     Publish,
     PublishNothing,
@@ -110,7 +106,11 @@ fn left_by(before: (State, Left), call: (Call, u64, bool, u64, u64)) -> Left {
     let refused = closed || (state == State::Full && adds > 0);
     let added = if refused { 0 } else { adds };
     let pending = number.saturating_sub(taken);
-    let took = if state == State::Evicted { 0 } else { takes.min(pending) };
+    let took = if state == State::Evicted {
+        0
+    } else {
+        takes.min(pending)
+    };
     (
         number.saturating_add(added),
         if added > 0 { 6 } else { code },
@@ -120,156 +120,6 @@ fn left_by(before: (State, Left), call: (Call, u64, bool, u64, u64)) -> Left {
         taken.saturating_add(took),
         if refused { 0 } else { rings },
     )
-}
-
-/// A pause that ends at once.
-#[derive(Drop)]
-struct AtOnce;
-
-impl Pause for AtOnce {
-    fn pause<R: Wait>(&mut self, _rt: &R) -> Go {
-        Go::Again
-    }
-}
-
-/// A fifodir, and those who made their passes before anything came.
-struct Scene {
-    fifodir: Shared,
-    one: Publisher,
-    reader: Ticket,
-    posts: Vec<Post>,
-    ghost one_of: { IsPublisherOf (arc_value fifodir) one },
-    ghost reader_of: { IsTicketOf (arc_value fifodir) reader },
-}
-
-impl Scene {
-    fn new<R: Abort + Wait + Enter>(rt: &R, alloc: Global, fifodir: Shared) -> Scene {
-        let one = publisher(rt, &fifodir);
-        let reader = ticket(rt, &fifodir);
-        Scene {
-            fifodir,
-            one,
-            reader,
-            posts: Vec::new(alloc),
-        }
-    }
-
-    /// So many posts more.
-    fn post<R: Abort + Wait + Enter>(&mut self, rt: &R, count: u64) {
-        for _ in 0..count {
-            let shared = Arc::try_clone(&self.fifodir).expect(rt, "the fifodir");
-            let post = open_post(rt, shared, Want::Up, true);
-            if let Err(refused) = self.posts.push(post) {
-                refused.value.end(rt);
-            }
-        }
-    }
-
-    fn send<R: Wait>(&mut self, rt: &R, letters: &[Letter]) {
-        let _ = self.fifodir.publish(rt, &mut self.one, letters);
-    }
-
-    fn take<R: Wait>(&mut self, rt: &R, out: &mut [Event]) {
-        self.fifodir.take_into(rt, &mut self.reader, out);
-    }
-
-    /// Publishes this letter so often, and each time all take it.
-    fn pass_on<R: Wait>(&mut self, rt: &R, letter: &[Letter], times: u64) {
-        for _ in 0..times {
-            self.send(rt, letter);
-            self.take(rt, &mut [Event::FILLER; 2]);
-            for post in self.posts.as_mut_slice() {
-                post.catch_up(rt, &mut [Event::FILLER; SLICE]);
-            }
-        }
-    }
-
-    fn close<R: Wait>(&mut self, rt: &R) {
-        let _ = self.fifodir.close(rt, &mut self.one);
-    }
-
-    fn await_more<R: Wait>(&mut self, rt: &R) {
-        self.fifodir
-            .await_more(rt, &mut self.reader, 1, &mut AtOnce);
-    }
-
-    fn receive<R: Wait>(&mut self, rt: &R) {
-        let mut out = [Event::FILLER; 4];
-        receive(rt, &self.fifodir, &mut self.reader, &mut out, 1, &mut AtOnce);
-    }
-
-    fn meet<R: Wait>(&mut self, rt: &R) {
-        self.fifodir.meet(rt, &mut self.one, &mut self.reader);
-    }
-
-    fn look(&mut self, call: Call) {
-        match call {
-            Call::Status => {
-                let _ = self.fifodir.status(&mut self.one);
-                let _ = self.fifodir.status(&mut self.reader);
-            }
-            Call::Front => {
-                let _ = self.fifodir.front(&mut self.one);
-            }
-            _ => {
-                let _ = self.fifodir.has_more(&mut self.reader);
-            }
-        }
-    }
-
-    fn wait<R: Wait>(&mut self, rt: &R, call: Call) {
-        let posts = self.posts.as_mut_slice();
-        match call {
-            Call::SvWait => {
-                svwait(rt, posts, Span::All, 1, &mut AtOnce);
-            }
-            Call::SvListen => {
-                svlisten(rt, posts, Span::All, 1, &mut AtOnce, |_posts| 7);
-            }
-            _ => {
-                for post in posts {
-                    post.catch_up(rt, &mut [Event::FILLER; SLICE]);
-                }
-            }
-        }
-    }
-
-    fn end<R: Wait>(self, rt: &R) {
-        let Scene {
-            fifodir,
-            one,
-            reader,
-            mut posts,
-        } = self;
-        fifodir.leave(rt, one);
-        fifodir.cancel(rt, reader);
-        while let Some(post) = posts.pop() {
-            post.end(rt);
-        }
-        posts.destroy_empty();
-    }
-}
-
-/// The messages that the calls publish.
-#[derive(Drop)]
-struct Words {
-    start: Vec<Letter>,
-    many: Vec<Letter>,
-    too_many: Vec<Letter>,
-    unlawful: Vec<Letter>,
-    failed: Vec<Letter>,
-}
-
-impl Words {
-    fn new(alloc: Global) -> Result<Words, Fail> {
-        Ok(Words {
-            start: word(alloc, "s")?,
-            many: word(alloc, "ssssssss")?,
-            too_many: word(alloc, "sssssssss")?,
-            unlawful: word(alloc, "U")?,
-            failed: word(alloc, "O")?,
-        })
-    }
 }
 
 fn come_to<R: Abort + Wait + Enter>(rt: &R, scene: &mut Scene, words: &Words, state: State) {
@@ -356,7 +206,15 @@ fn left<R: Abort + Wait + Enter>(
         Err(_) => None,
     };
     scene.end(rt);
-    Ok((status.number, status.flags.code(), status.closed, number, id, taken, rings))
+    Ok((
+        status.number,
+        status.flags.code(),
+        status.closed,
+        number,
+        id,
+        taken,
+        rings,
+    ))
 }
 
 #[test]
@@ -365,7 +223,13 @@ fn a_call_leaves_behind_what_it_says_in_each_state(rt: HostRuntime) -> Result<()
     for before in STATES.iter() {
         for call in CALLS.iter() {
             let found = left(&rt, rt.alloc(), &words, before.0, call.0)?;
-            assert_eq!(rt; found, left_by(*before, *call), "{:?} at {:?}", call.0, before.0);
+            assert_eq!(rt;
+                found,
+                left_by(*before, *call),
+                "{:?} at {:?}",
+                call.0,
+                before.0
+            );
         }
     }
     Ok(())

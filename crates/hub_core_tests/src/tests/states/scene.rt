@@ -1,0 +1,173 @@
+//! A fifodir with those who do something there, and the messages that they publish.
+ghost use Rattle.std.specs.Arc.{arc_value};
+ghost use Rattle.hub_fifodir.specs.Passes.{IsPublisherOf, IsTicketOf};
+
+use super::Call;
+use crate::tests::fixtures::word;
+use crate::tests::passes::{Shared, publisher, ticket};
+use crate::tests::waits::open_post;
+use hub_fifodir::{Enter, Publisher, Ticket};
+use hub_letters::{Letter, Want};
+use hub_record::Event;
+use hub_wait::{Go, Pause, Post, SLICE, Span, receive, svlisten, svwait};
+use std::alloc::Global;
+use std::process::Abort;
+use std::sync::{Arc, Wait};
+use std::test::Fail;
+
+/// A pause that ends at once.
+#[derive(Drop)]
+struct AtOnce;
+
+impl Pause for AtOnce {
+    fn pause<R: Wait>(&mut self, _rt: &R) -> Go {
+        Go::Again
+    }
+}
+
+/// A fifodir, and those who made their passes before anything came.
+pub(crate) struct Scene {
+    pub(crate) fifodir: Shared,
+    one: Publisher,
+    pub(crate) reader: Ticket,
+    posts: Vec<Post>,
+    ghost one_of: { IsPublisherOf (arc_value fifodir) one },
+    ghost reader_of: { IsTicketOf (arc_value fifodir) reader },
+}
+
+impl Scene {
+    pub(crate) fn new<R: Abort + Wait + Enter>(rt: &R, alloc: Global, fifodir: Shared) -> Scene {
+        let one = publisher(rt, &fifodir);
+        let reader = ticket(rt, &fifodir);
+        Scene {
+            fifodir,
+            one,
+            reader,
+            posts: Vec::new(alloc),
+        }
+    }
+
+    /// So many posts more.
+    pub(crate) fn post<R: Abort + Wait + Enter>(&mut self, rt: &R, count: u64) {
+        for _ in 0..count {
+            let shared = Arc::try_clone(&self.fifodir).expect(rt, "the fifodir");
+            let post = open_post(rt, shared, Want::Up, true);
+            if let Err(refused) = self.posts.push(post) {
+                refused.value.end(rt);
+            }
+        }
+    }
+
+    pub(crate) fn send<R: Wait>(&mut self, rt: &R, letters: &[Letter]) {
+        let _ = self.fifodir.publish(rt, &mut self.one, letters);
+    }
+
+    pub(crate) fn take<R: Wait>(&mut self, rt: &R, out: &mut [Event]) {
+        self.fifodir.take_into(rt, &mut self.reader, out);
+    }
+
+    /// Publishes this letter so often, and each time all take it.
+    pub(crate) fn pass_on<R: Wait>(&mut self, rt: &R, letter: &[Letter], times: u64) {
+        for _ in 0..times {
+            self.send(rt, letter);
+            self.take(rt, &mut [Event::FILLER; 2]);
+            for post in self.posts.as_mut_slice() {
+                post.catch_up(rt, &mut [Event::FILLER; SLICE]);
+            }
+        }
+    }
+
+    pub(crate) fn close<R: Wait>(&mut self, rt: &R) {
+        let _ = self.fifodir.close(rt, &mut self.one);
+    }
+
+    pub(crate) fn await_more<R: Wait>(&mut self, rt: &R) {
+        self.fifodir
+            .await_more(rt, &mut self.reader, 1, &mut AtOnce);
+    }
+
+    pub(crate) fn receive<R: Wait>(&mut self, rt: &R) {
+        let mut out = [Event::FILLER; 4];
+        receive(
+            rt,
+            &self.fifodir,
+            &mut self.reader,
+            &mut out,
+            1,
+            &mut AtOnce,
+        );
+    }
+
+    pub(crate) fn meet<R: Wait>(&mut self, rt: &R) {
+        self.fifodir.meet(rt, &mut self.one, &mut self.reader);
+    }
+
+    pub(crate) fn look(&mut self, call: Call) {
+        match call {
+            Call::Status => {
+                let _ = self.fifodir.status(&mut self.one);
+                let _ = self.fifodir.status(&mut self.reader);
+            }
+            Call::Front => {
+                let _ = self.fifodir.front(&mut self.one);
+            }
+            _ => {
+                let _ = self.fifodir.has_more(&mut self.reader);
+            }
+        }
+    }
+
+    pub(crate) fn wait<R: Wait>(&mut self, rt: &R, call: Call) {
+        let posts = self.posts.as_mut_slice();
+        match call {
+            Call::SvWait => {
+                svwait(rt, posts, Span::All, 1, &mut AtOnce);
+            }
+            Call::SvListen => {
+                svlisten(rt, posts, Span::All, 1, &mut AtOnce, |_posts| 7);
+            }
+            _ => {
+                for post in posts {
+                    post.catch_up(rt, &mut [Event::FILLER; SLICE]);
+                }
+            }
+        }
+    }
+
+    pub(crate) fn end<R: Wait>(self, rt: &R) {
+        let Scene {
+            fifodir,
+            one,
+            reader,
+            mut posts,
+        } = self;
+        fifodir.leave(rt, one);
+        fifodir.cancel(rt, reader);
+        while let Some(post) = posts.pop() {
+            post.end(rt);
+        }
+        posts.destroy_empty();
+    }
+}
+
+/// The messages that the calls publish.
+#[derive(Drop)]
+pub(crate) struct Words {
+    pub(crate) start: Vec<Letter>,
+    pub(crate) many: Vec<Letter>,
+    pub(crate) too_many: Vec<Letter>,
+    pub(crate) unlawful: Vec<Letter>,
+    pub(crate) failed: Vec<Letter>,
+}
+
+impl Words {
+    pub(crate) fn new(alloc: Global) -> Result<Words, Fail> {
+        Ok(Words {
+            start: word(alloc, "s")?,
+            many: word(alloc, "ssssssss")?,
+            too_many: word(alloc, "sssssssss")?,
+            unlawful: word(alloc, "U")?,
+            failed: word(alloc, "O")?,
+        })
+    }
+}
