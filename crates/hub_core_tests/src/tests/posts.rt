@@ -40,7 +40,8 @@ fn open_all<R: Abort + Wait + Enter>(
     (2000, Ok(()))
 }
 
-fn end_all<R: Wait>(rt: &R, mut posts: Vec<Post>) {
+/// Ends each of the posts.
+pub(crate) fn end_all<R: Wait>(rt: &R, mut posts: Vec<Post>) {
     while let Some(post) = posts.pop() {
         post.end(rt);
     }

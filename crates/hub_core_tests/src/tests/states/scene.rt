@@ -5,6 +5,7 @@ ghost use Rattle.hub_fifodir.specs.Passes.{IsPublisherOf, IsTicketOf};
 use super::Call;
 use crate::tests::fixtures::word;
 use crate::tests::passes::{Shared, publisher, ticket};
+use crate::tests::posts::end_all;
 use crate::tests::waits::open_post;
 use hub_fifodir::{Enter, Publisher, Ticket};
 use hub_letters::{Letter, Want};
@@ -139,14 +140,11 @@ impl Scene {
             fifodir,
             one,
             reader,
-            mut posts,
+            posts,
         } = self;
         fifodir.leave(rt, one);
         fifodir.cancel(rt, reader);
-        while let Some(post) = posts.pop() {
-            post.end(rt);
-        }
-        posts.destroy_empty();
+        end_all(rt, posts);
     }
 }
 
