@@ -9,9 +9,9 @@ use Rattle.hub_commands.specs.declared.ending.Ending.{Ending}
 use Rattle.hub_server.specs.Sessions.{Reading, Writing}
 
 -- what is done with a plan is done with the same plan
-pub same_plan : {D SR SW R W F : Type 0} (d : Dialing D SR SW) (r : Reading R) (w : Writing W) (old new : Hands D R W F) (plan other : Plan)
-    (result : Result ℕ Ending) → plan ≡ other → CarriesOut d r w old new other result → CarriesOut d r w old new plan result
-same_plan d r w old new plan other result same carried = subst (λ it. CarriesOut d r w old new it result) (sym same) carried
+pub same_plan : {D SR SW R W F : Type 0} (d : Dialing D SR SW) (r : Reading R) (w : Writing W) (n : Writing F) (old new : Hands D R W F) (plan other : Plan)
+    (result : Result ℕ Ending) → plan ≡ other → CarriesOut d r w n old new other result → CarriesOut d r w n old new plan result
+same_plan d r w n old new plan other result same carried = subst (λ it. CarriesOut d r w n old new it result) (sym same) carried
 
 -- what is asked by some words is asked by the same words
 pub same_words : {D SR SW Word : Type 0} (text : Word → List ℕ) (d : Dialing D SR SW) (old new : D) (socket : List ℕ) (words others : List Word)

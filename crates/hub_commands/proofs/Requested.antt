@@ -18,7 +18,7 @@ use Rattle.hub_commands.specs.declared.ending.Ending.TheVariants.{Failed}
 use Rattle.hub_commands.specs.declared.fault.Fault.TheVariants.{Ask}
 
 -- what went over the connection that was made
-over_one : {D SR SW : Type 0} (d : Dialing D SR SW) (old new : D) (socket : List ℕ) (millis : ℕ) (went : Going) (receive receives : SR) (send sends : SW)
+pub over_one : {D SR SW : Type 0} (d : Dialing D SR SW) (old new : D) (socket : List ℕ) (millis : ℕ) (went : Going) (receive receives : SR) (send sends : SW)
     → d.reaches old socket millis (Ok (receive, send)) new → went (d.contents send) (d.contents sends) (d.remaining receive) (d.remaining receives)
     → OverOne d old new socket millis went
 over_one d old new socket millis went receive receives send sends reached over =

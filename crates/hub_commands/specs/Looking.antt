@@ -1,29 +1,58 @@
 -- What the subcommands do that only look.
-use Rattle.std.specs.Prelude.{◌≡◌, ◌⊎◌, ℕ, List, Bool, Result, Ok, Err, true, false}
+use Rattle.std.specs.Prelude.{◌≡◌, ◌⊎◌, ℕ, List, Bool, Option, Result, Ok, Err, true, false}
 use Rattle.hub_ask.specs.Outcomes.{status_of}
 use Rattle.hub_ask.specs.declared.exchanging.TheConstants.{ANSWER}
 use Rattle.hub_ask.specs.declared.fault.AskError.{AskError}
 use Rattle.hub_ask.specs.declared.outcome.Outcome.{Outcome}
+use Rattle.hub_look.specs.Follows.{FailsToFollow, FollowsTo, Manner}
 use Rattle.hub_look.specs.Looks.{OnlyLooks}
+use Rattle.hub_look.specs.Streams.{Streams}
+use Rattle.hub_look.specs.Tables.{FailsToShowStates, ShowsStates}
+use Rattle.hub_server.specs.Sessions.{Writing}
+use Rattle.hub_commands.specs.Asking.{Going}
+use Rattle.hub_commands.specs.Breaking.{any_breaks}
 use Rattle.hub_commands.specs.Dialing.{Dialing, OverOne}
 use Rattle.hub_commands.specs.declared.ending.BadWords.{BadWords}
+use Rattle.hub_commands.specs.declared.ending.BadWords.TheVariants as bad
 use Rattle.hub_commands.specs.declared.ending.Ending.{Ending}
 use Rattle.hub_commands.specs.declared.ending.Ending.TheVariants.{Refused, Stopped, Failed}
 use Rattle.hub_commands.specs.declared.fault.Fault.TheVariants.{Ask}
 
--- Over one connection nothing was sent but looks.
-abbrev pub OnlyLooksOver : {D SR SW : Type 0} → Dialing D SR SW → (old new : D) → (socket : List ℕ) → Type 0
-OnlyLooksOver d old new socket = OverOne d old new socket ANSWER (λ sent sends had has. ∥ OnlyLooks sent sends ∥₁)
+-- Over one connection nothing was sent but looks, and this went over it.
+abbrev pub LooksOver : {D SR SW : Type 0} → Dialing D SR SW → (old new : D) → (socket : List ℕ) → (went : Going) → Type 0
+LooksOver d old new socket went = OverOne d old new socket ANSWER (λ sent sends had has. ∥ OnlyLooks sent sends ∥₁ × went sent sends had has)
 
 -- How a command ended that only looks, if `breaks` says whether its words have an LF: with the status of its outcome, or with
 -- words that were refused, and then no connection was made and nothing was touched, or with a fault.
 abbrev pub LooksWith : {D SR SW : Type 0} → Dialing D SR SW → (old new : D) → (socket : List ℕ) → (breaks : Bool)
-    → (refused : BadWords) → (untouched : Type 0) → Result ℕ Ending → Type 0
-LooksWith d old new socket breaks refused untouched (Ok status) =
-    (breaks ≡ false) × (outcome : Outcome) × (status ≡ status_of outcome) × OnlyLooksOver d old new socket
-LooksWith d old new socket breaks refused untouched (Err (Refused words)) =
+    → (refused : BadWords) → (untouched : Type 0) → (goes : Outcome → Going) → (fails : AskError → Going) → Result ℕ Ending → Type 0
+LooksWith d old new socket breaks refused untouched goes fails (Ok status) =
+    (breaks ≡ false) × (outcome : Outcome) × (status ≡ status_of outcome) × LooksOver d old new socket (goes outcome)
+LooksWith d old new socket breaks refused untouched goes fails (Err (Refused words)) =
     (breaks ≡ true) × (words ≡ refused) × (new ≡ old) × untouched
-LooksWith d old new socket breaks refused untouched (Err (Stopped report)) = ⊥
-LooksWith d old new socket breaks refused untouched (Err (Failed fault)) = (breaks ≡ false)
+LooksWith d old new socket breaks refused untouched goes fails (Err (Stopped report)) = ⊥
+LooksWith d old new socket breaks refused untouched goes fails (Err (Failed fault)) = (breaks ≡ false)
     × ((d.reaches old socket ANSWER (Err fault) new × untouched)
-    ⊎ ((error : AskError) × (fault ≡ Ask error) × OnlyLooksOver d old new socket))
+    ⊎ ((error : AskError) × (fault ≡ Ask error) × LooksOver d old new socket (fails error)))
+
+-- the streams of a command: what goes over its connection, and its notes before and after
+abbrev pub Told : {F : Type 0} → Writing F → (notes note : F) → ((before after : Streams) → Type 0) → Going
+Told n notes note holds sent sends had has = holds
+    (record { sent = sent; had = had; noted = n.contents notes; faults = n.faults notes })
+    (record { sent = sends; had = has; noted = n.contents note; faults = n.faults note })
+
+-- `status` of these names, or of all
+abbrev pub ShowsStatus : {D SR SW F Name : Type 0} → Dialing D SR SW → (old new : D) → (socket : List ℕ) → Writing F → (notes note : F)
+    → (text : Name → List ℕ) → (names : List Name) → (untouched : Type 0) → (held holds : Option (List ℕ)) → Result ℕ Ending → Type 0
+ShowsStatus d old new socket n notes note text names untouched held holds result = LooksWith
+    d old new socket (any_breaks text names) bad.Name untouched
+    (λ outcome. Told n notes note (λ before after. ShowsStates text before after held holds names outcome))
+    (λ error. Told n notes note (λ before after. FailsToShowStates text before after held holds names error)) result
+
+-- `follow` of these names in this manner
+abbrev pub FollowsAsTold : {D SR SW F : Type 0} → Dialing D SR SW → (old new : D) → (socket : List ℕ) → Writing F → (notes note : F)
+    → (breaks : Bool) → Manner → (names : List (List ℕ)) → (untouched : Type 0) → (held holds : Option (List ℕ)) → Result ℕ Ending → Type 0
+FollowsAsTold d old new socket n notes note breaks manner names untouched held holds result = LooksWith
+    d old new socket breaks bad.Word untouched
+    (λ outcome. Told n notes note (λ before after. FollowsTo manner names after held holds outcome))
+    (λ error. Told n notes note (λ before after. FailsToFollow manner names after held holds error)) result

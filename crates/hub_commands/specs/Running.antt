@@ -1,5 +1,5 @@
 -- What the program does with a plan.
-use Rattle.std.specs.Prelude.{◌≡◌, ◌≢◌, ◌⊎◌, ℕ, ◌≤◌, All, IsOk, IfOk, IfErr, false, Result, Ok, Err}
+use Rattle.std.specs.Prelude.{◌≡◌, ◌≢◌, ◌⊎◌, ℕ, ◌≤◌, All, IsOk, IfOk, IfErr, is_some, map, false, Result, Ok, Err}
 use Rattle.hub_arguments.specs.declared.command_line.Plan.{Plan}
 use Rattle.hub_arguments.specs.declared.command_line.Plan.TheVariants as plan
 use Rattle.hub_ask.specs.Lines.{joined}
@@ -7,10 +7,10 @@ use Rattle.hub_ask.specs.Waiting.{AsksAbout, wait_words}
 use Rattle.hub_ask.specs.declared.duration.TheConstants.{MOST_TURNS}
 use Rattle.hub_client.specs.declared.fault.RelayError.{RelayError}
 use Rattle.hub_commands.specs.Asking.{Asks, Waits}
-use Rattle.hub_commands.specs.Breaking.{any_breaks, follow_breaks}
+use Rattle.hub_commands.specs.Breaking.{follow_breaks}
 use Rattle.hub_commands.specs.Calls.{IsRelayed, call_result}
 use Rattle.hub_commands.specs.Dialing.{Dialing}
-use Rattle.hub_commands.specs.Looking.{LooksWith}
+use Rattle.hub_commands.specs.Looking.{FollowsAsTold, ShowsStatus}
 use Rattle.hub_commands.specs.declared.ending.BadWords.TheVariants as bad
 use Rattle.hub_commands.specs.declared.ending.Ending.{Ending}
 use Rattle.hub_commands.specs.declared.ending.Ending.TheVariants.{Refused, Stopped, Failed}
@@ -66,32 +66,33 @@ pub record Scripts {R W : Type 0} (r : Reading R) (w : Writing W) (input rest : 
   pub stopped : IfErr scripted (Stops (w.contents output) (w.contents written) (r.remaining input) (r.remaining rest))
 
 -- What is done with each plan. What a plan doesn't need is as it was.
-abbrev pub CarriesOut : {D SR SW R W F : Type 0} → Dialing D SR SW → Reading R → Writing W → (old new : Hands D R W F) → Plan → Result ℕ Ending → Type 0
-CarriesOut d r w old new plan.Script result =
+abbrev pub CarriesOut : {D SR SW R W F : Type 0} → Dialing D SR SW → Reading R → Writing W → Writing F → (old new : Hands D R W F) → Plan → Result ℕ Ending → Type 0
+CarriesOut d r w n old new plan.Script result =
     Scripts r w old.input new.input old.output new.output result × (new.dialer ≡ old.dialer) × (new.notes ≡ old.notes)
-CarriesOut d r w old new (plan.Serve socket sessions) result = JudgesOrFails result × (new ≡ old)
-CarriesOut d r w old new (plan.ServeForever options) result =
+CarriesOut d r w n old new (plan.Serve socket sessions) result = JudgesOrFails result × (new ≡ old)
+CarriesOut d r w n old new (plan.ServeForever options) result =
     ((result ≡ Ok 0) ⊎ ((fault : Fault) × (result ≡ Err (Failed fault))))
     × (new.dialer ≡ old.dialer) × (new.input ≡ old.input) × (new.output ≡ old.output)
-CarriesOut d r w old new (plan.Call socket) result =
+CarriesOut d r w n old new (plan.Call socket) result =
     Calls r w old.input new.input old.output new.output result × (new.dialer ≡ old.dialer) × (new.notes ≡ old.notes)
-CarriesOut d r w old new (plan.Ask socket words) result =
+CarriesOut d r w n old new (plan.Ask socket words) result =
     Asks d old.dialer new.dialer socket.now (joined (λ word. word.now) words.items) (new.output ≡ old.output)
     (w.contents old.output) (w.contents new.output) result
     × (new.input ≡ old.input) × (new.notes ≡ old.notes)
-CarriesOut d r w old new (plan.Wait socket wish) result =
+CarriesOut d r w n old new (plan.Wait socket wish) result =
     ((turns : ℕ) × (turns ≤ MOST_TURNS) × Waits d old.dialer new.dialer socket.now
     (wait_words wish.span.now wish.want.now turns (joined (λ name. name.now) wish.names.items))
     (AsksAbout wish.want.now (λ name. name.now) wish.names.items) turns
     ((new.output ≡ old.output) × (new.notes ≡ old.notes)) (w.contents old.output) (w.contents new.output) result)
     × (new.input ≡ old.input)
-CarriesOut d r w old new (plan.Status socket names) result =
-    LooksWith d old.dialer new.dialer socket.now (any_breaks (λ name. name.now) names.items) bad.Name
-    ((new.output ≡ old.output) × (new.notes ≡ old.notes)) result
+CarriesOut d r w n old new (plan.Status socket names) result =
+    ShowsStatus d old.dialer new.dialer socket.now n old.notes new.notes (λ name. name.now) names.items
+    ((new.output ≡ old.output) × (new.notes ≡ old.notes)) (w.contents old.output) (w.contents new.output) result
     × (new.input ≡ old.input)
-CarriesOut d r w old new (plan.Follow socket names pattern is_plain is_once) result =
-    LooksWith d old.dialer new.dialer socket.now (follow_breaks (λ word. word.now) pattern names.items) bad.Word
-    ((new.output ≡ old.output) × (new.notes ≡ old.notes)) result
+CarriesOut d r w n old new (plan.Follow socket names pattern is_plain is_once) result =
+    FollowsAsTold d old.dialer new.dialer socket.now n old.notes new.notes (follow_breaks (λ word. word.now) pattern names.items)
+    (record { is_hit = is_some pattern; is_plain = is_plain; is_once = is_once }) (map (λ name. name.now) names.items)
+    ((new.output ≡ old.output) × (new.notes ≡ old.notes)) (w.contents old.output) (w.contents new.output) result
     × (new.input ≡ old.input)
 
 -- How the program ends without a plan: its words ask for a text, are none or are refused, or there was a fault before.
@@ -102,5 +103,5 @@ EndsEarly (Err (Stopped report)) = ⊥
 EndsEarly (Err (Failed fault)) = (fault ≡ Memory) ⊎ ((error : FrontError) × (fault ≡ Script error))
 
 -- What the program does: it carries out a plan, or ends before it has one, and then it touches nothing.
-abbrev pub Runs : {D SR SW R W F : Type 0} → Dialing D SR SW → Reading R → Writing W → (old new : Hands D R W F) → Result ℕ Ending → Type 0
-Runs d r w old new result = ((plan : Plan) × CarriesOut d r w old new plan result) ⊎ (EndsEarly result × (new ≡ old))
+abbrev pub Runs : {D SR SW R W F : Type 0} → Dialing D SR SW → Reading R → Writing W → Writing F → (old new : Hands D R W F) → Result ℕ Ending → Type 0
+Runs d r w n old new result = ((plan : Plan) × CarriesOut d r w n old new plan result) ⊎ (EndsEarly result × (new ≡ old))

@@ -2,7 +2,8 @@
 ghost use Rattle.std.specs.Prelude.{◌≡◌};
 ghost use Rattle.hub_commands.specs.Breaking.{follow_breaks};
 ghost use Rattle.hub_commands.specs.Dialing.{dialing};
-ghost use Rattle.hub_commands.specs.Looking.{LooksWith};
+ghost use Rattle.hub_look.specs.Follows.{manner_of, names_of};
+ghost use Rattle.hub_commands.specs.Looking.{FollowsAsTold};
 
 use crate::breaking::{any_breaks, breaks};
 use crate::dialing::Dial;
@@ -38,12 +39,14 @@ pub fn follow_as_told<H: Wait + Clock, D: Dial, W: Sink, F: Sink>(
     notes: &mut F,
 ) -> Result<u8, Ending>
     // If a word has an LF, it is refused: no connection is made, and nothing is written. Else one connection is made, over which
-    // only looks go.
-    ensures { LooksWith
-        (dialing D.reaches D.Receiver.remaining D.Sender.contents)
-        dialer.old dialer.new socket.now
+    // only looks go. The letters of what the hub replies are written.
+    ensures { FollowsAsTold
+        (dialing D.reaches D.Receiver.remaining D.Sender.contents) dialer.old dialer.new socket.now
+        (record { contents = F.contents; faults = F.faults }) notes.old notes.new
         (follow_breaks (λ word. word.now) following.now.pattern following.now.names.items)
-        BadWords.Word ((output.new ≡ output.old) × (notes.new ≡ notes.old)) result }
+        (manner_of following.now) (names_of following.now)
+        ((output.new ≡ output.old) × (notes.new ≡ notes.old))
+        (W.contents output.old) (W.contents output.new) result }
 {
     if following_breaks(following) {
         return Err(Ending::Refused(BadWords::Word));

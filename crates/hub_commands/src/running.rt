@@ -58,6 +58,7 @@ where
         (dialing D.reaches D.Receiver.remaining D.Sender.contents)
         (record { remaining = R.remaining; reads = R.reads; faults = R.faults })
         (record { contents = W.contents; faults = W.faults })
+        (record { contents = F.contents; faults = F.faults })
         (record { dialer = dialer.old; input = input.old; output = output.old; notes = notes.old })
         (record { dialer = dialer.new; input = input.new; output = output.new; notes = notes.new })
         plan.entry result }
@@ -130,6 +131,7 @@ where
         (dialing D.reaches D.Receiver.remaining D.Sender.contents)
         (record { remaining = R.remaining; reads = R.reads; faults = R.faults })
         (record { contents = W.contents; faults = W.faults })
+        (record { contents = F.contents; faults = F.faults })
         (record { dialer = dialer.old; input = input.old; output = output.old; notes = notes.old })
         (record { dialer = dialer.new; input = input.new; output = output.new; notes = notes.new })
         result }

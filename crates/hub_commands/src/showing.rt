@@ -1,8 +1,7 @@
 //! The subcommand `status`: how fifodirs are.
 ghost use Rattle.std.specs.Prelude.{◌≡◌};
-ghost use Rattle.hub_commands.specs.Breaking.{any_breaks};
 ghost use Rattle.hub_commands.specs.Dialing.{dialing};
-ghost use Rattle.hub_commands.specs.Looking.{LooksWith};
+ghost use Rattle.hub_commands.specs.Looking.{ShowsStatus};
 
 use crate::breaking::any_breaks;
 use crate::dialing::Dial;
@@ -25,11 +24,12 @@ pub fn show_status<H: Wait, D: Dial, W: Sink, F: Sink>(
     notes: &mut F,
 ) -> Result<u8, Ending>
     // If a name has an LF, it is refused: no connection is made, and nothing is written. Else one connection is made, over which
-    // only looks go.
-    ensures { LooksWith
-        (dialing D.reaches D.Receiver.remaining D.Sender.contents)
-        dialer.old dialer.new socket.now (any_breaks (λ name. name.now) names.now)
-        BadWords.Name ((output.new ≡ output.old) × (notes.new ≡ notes.old)) result }
+    // only looks go. The table is written of what the hub replies.
+    ensures { ShowsStatus
+        (dialing D.reaches D.Receiver.remaining D.Sender.contents) dialer.old dialer.new socket.now
+        (record { contents = F.contents; faults = F.faults }) notes.old notes.new
+        (λ name. name.now) names.now ((output.new ≡ output.old) × (notes.new ≡ notes.old))
+        (W.contents output.old) (W.contents output.new) result }
 {
     if any_breaks(names) {
         return Err(Ending::Refused(BadWords::Name));

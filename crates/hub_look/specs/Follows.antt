@@ -10,6 +10,7 @@ use Rattle.hub_requests.specs.declared.reply.Reply.{Reply}
 use Rattle.hub_requests.specs.declared.reply.Reply.TheVariants as reply
 use Rattle.hub_requests.specs.declared.reply.Refusal.{Refusal}
 use Rattle.hub_client.specs.declared.fault.RelayError.TheVariants as relay
+use Rattle.hub_ask.specs.declared.fault.AskError.{AskError}
 use Rattle.hub_ask.specs.declared.fault.AskError.TheVariants.{Relay}
 use Rattle.hub_ask.specs.declared.outcome.Outcome.{Outcome}
 use Rattle.hub_ask.specs.declared.outcome.Outcome.TheVariants as outcome
@@ -226,3 +227,7 @@ EndsFollow manner names after held holds stop =
 abbrev pub FollowsTo : Manner → (names : List (List ℕ)) → (after : Streams) → (held holds : Option (List ℕ)) → Outcome → Type 0
 FollowsTo manner names after held holds went =
     ((went ≡ outcome.Nothing) × IsFollowed manner names after held holds) ⊎ EndsFollow manner names after held holds (stops.Reply went)
+
+-- A follow fails so.
+abbrev pub FailsToFollow : Manner → (names : List (List ℕ)) → (after : Streams) → (held holds : Option (List ℕ)) → AskError → Type 0
+FailsToFollow manner names after held holds error = EndsFollow manner names after held holds (stops.Fault error)

@@ -2,9 +2,8 @@
 ghost use Rattle.std.specs.Prelude.{◌≡◌, length, IfOk, IfErr, OnOk};
 ghost use Rattle.std.specs.List.{list_all};
 ghost use Rattle.hub_ask.specs.declared.outcome.Outcome.TheVariants as outcome;
-ghost use Rattle.hub_look.specs.Follows.{EndsFollow, EndsLookAt, EndsLooks, FollowsTo, IsFollowed, IsSeenTo, LooksOn, manner_of, names_of, scene};
+ghost use Rattle.hub_look.specs.Follows.{EndsFollow, EndsLookAt, EndsLooks, FailsToFollow, FollowsTo, IsFollowed, IsSeenTo, LooksOn, manner_of, names_of, scene};
 ghost use Rattle.hub_look.specs.Streams.{streams};
-ghost use Rattle.hub_look.specs.declared.stop.Stop.TheVariants as stops;
 
 use crate::following::Following;
 use crate::peer::Peer;
@@ -156,10 +155,9 @@ pub fn follow<H: Wait + Clock, SR: Replies, SW: Requests, W: Sink, F: Sink>(
     ensures ok { IfOk result (FollowsTo (manner_of following.now) (names_of following.now)
         (streams SW.contents SR.remaining F.contents F.faults peer.new.client notes.new)
         (W.contents output.old) (W.contents output.new)) }
-    ensures err { IfErr result (λ error. EndsFollow
-        (manner_of following.now) (names_of following.now)
+    ensures err { IfErr result (FailsToFollow (manner_of following.now) (names_of following.now)
         (streams SW.contents SR.remaining F.contents F.faults peer.new.client notes.new)
-        (W.contents output.old) (W.contents output.new) (stops.Fault error)) }
+        (W.contents output.old) (W.contents output.new)) }
 {
     match follow_on(rt, alloc, following, peer, output, notes) {
         Ok(outcome) => Ok(outcome),
