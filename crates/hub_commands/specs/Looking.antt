@@ -4,7 +4,7 @@ use Rattle.hub_ask.specs.Outcomes.{status_of}
 use Rattle.hub_ask.specs.declared.exchanging.TheConstants.{ANSWER}
 use Rattle.hub_ask.specs.declared.fault.AskError.{AskError}
 use Rattle.hub_ask.specs.declared.outcome.Outcome.{Outcome}
-use Rattle.hub_look.specs.Follows.{FailsToFollow, FollowsTo, Manner}
+use Rattle.hub_look.specs.Follows.{Beginning, FailsToFollow, FollowsTo, Manner}
 use Rattle.hub_look.specs.Looks.{OnlyLooks}
 use Rattle.hub_look.specs.Streams.{Streams}
 use Rattle.hub_look.specs.Tables.{FailsToShowStates, ShowsStates}
@@ -49,10 +49,10 @@ ShowsStatus d old new socket n notes note text names untouched held holds result
     (λ outcome. Told n notes note (λ before after. ShowsStates text before after held holds names outcome))
     (λ error. Told n notes note (λ before after. FailsToShowStates text before after held holds names error)) result
 
--- `follow` of these names in this manner
+-- `follow` of these names in this manner, after they were subscribed to so
 abbrev pub FollowsAsTold : {D SR SW F : Type 0} → Dialing D SR SW → (old new : D) → (socket : List ℕ) → Writing F → (notes note : F)
-    → (breaks : Bool) → Manner → (names : List (List ℕ)) → (untouched : Type 0) → (held holds : Option (List ℕ)) → Result ℕ Ending → Type 0
-FollowsAsTold d old new socket n notes note breaks manner names untouched held holds result = LooksWith
+    → (breaks : Bool) → Manner → (begins : Streams → Beginning) → (names : List (List ℕ)) → (untouched : Type 0) → (held holds : Option (List ℕ)) → Result ℕ Ending → Type 0
+FollowsAsTold d old new socket n notes note breaks manner begins names untouched held holds result = LooksWith
     d old new socket breaks bad.Word untouched
-    (λ outcome. Told n notes note (λ before after. FollowsTo manner names after held holds outcome))
-    (λ error. Told n notes note (λ before after. FailsToFollow manner names after held holds error)) result
+    (λ outcome. Told n notes note (λ before after. FollowsTo manner (begins before) names after held holds outcome))
+    (λ error. Told n notes note (λ before after. FailsToFollow manner (begins before) names after held holds error)) result

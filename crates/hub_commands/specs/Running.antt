@@ -17,6 +17,7 @@ use Rattle.hub_commands.specs.declared.ending.Ending.TheVariants.{Refused, Stopp
 use Rattle.hub_commands.specs.declared.fault.Fault.{Fault}
 use Rattle.hub_commands.specs.declared.fault.Fault.TheVariants.{Connect, Script, Memory}
 use Rattle.hub_io.specs.declared.fault.FrontError.{FrontError}
+use Rattle.hub_look.specs.Subscribing.{AreBegun}
 use Rattle.hub_script.specs.Output.{Serves, Stops}
 use Rattle.hub_server.specs.Sessions.{Reading, Writing}
 use Rattle.hub_server.specs.declared.report.Report.{Report}
@@ -91,7 +92,7 @@ CarriesOut d r w n old new (plan.Status socket names) result =
     × (new.input ≡ old.input)
 CarriesOut d r w n old new (plan.Follow socket names pattern is_plain is_once) result =
     FollowsAsTold d old.dialer new.dialer socket.now n old.notes new.notes (follow_breaks (λ word. word.now) pattern names.items)
-    (record { is_hit = is_some pattern; is_plain = is_plain; is_once = is_once }) (map (λ name. name.now) names.items)
+    (record { is_hit = is_some pattern; is_plain = is_plain; is_once = is_once }) (AreBegun (λ word. word.now) pattern is_plain) (map (λ name. name.now) names.items)
     ((new.output ≡ old.output) × (new.notes ≡ old.notes)) (w.contents old.output) (w.contents new.output) result
     × (new.input ≡ old.input)
 

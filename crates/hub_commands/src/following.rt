@@ -2,7 +2,7 @@
 ghost use Rattle.std.specs.Prelude.{◌≡◌};
 ghost use Rattle.hub_commands.specs.Breaking.{follow_breaks};
 ghost use Rattle.hub_commands.specs.Dialing.{dialing};
-ghost use Rattle.hub_look.specs.Follows.{manner_of, names_of};
+ghost use Rattle.hub_look.specs.Follows.{begins_by, manner_of, names_of};
 ghost use Rattle.hub_commands.specs.Looking.{FollowsAsTold};
 
 use crate::breaking::{any_breaks, breaks};
@@ -44,7 +44,7 @@ pub fn follow_as_told<H: Wait + Clock, D: Dial, W: Sink, F: Sink>(
         (dialing D.reaches D.Receiver.remaining D.Sender.contents) dialer.old dialer.new socket.now
         (record { contents = F.contents; faults = F.faults }) notes.old notes.new
         (follow_breaks (λ word. word.now) following.now.pattern following.now.names.items)
-        (manner_of following.now) (names_of following.now)
+        (manner_of following.now) (begins_by following.now) (names_of following.now)
         ((output.new ≡ output.old) × (notes.new ≡ notes.old))
         (W.contents output.old) (W.contents output.new) result }
 {

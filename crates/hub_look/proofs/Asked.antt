@@ -7,7 +7,8 @@ use Rattle.hub_ask.specs.declared.fault.AskError.{AskError}
 use Rattle.hub_ask.specs.declared.outcome.Outcome.{Outcome}
 use Rattle.hub_look.specs.Stops.{IsOwnStop}
 use Rattle.hub_look.specs.Streams.{Streams, IsReplied}
-use Rattle.hub_look.specs.Follows.{Manner, Scene, EndsFollow, EndsLookAt, FollowsTo, IsAwaited, IsSeenTo, IsUnderWay, LooksOn, name_of, AreAsked, IsTaken, EndsAwait, EndsLooks, EndsTake, comes_by, ends_by, scene}
+use Rattle.hub_look.specs.Follows.{Beginning, Manner, Scene, EndsFollow, EndsLookAt, FollowsTo, IsAwaited, IsSeenTo, IsUnderWay, LooksOn, AreAsked, IsTaken, EndsAwait, EndsLooks, EndsTake, comes_by, ends_by, scene}
+use Rattle.hub_look.specs.Subscribing.{name_of}
 use Rattle.hub_look.specs.declared.stop.Stop.{Stop}
 use Rattle.hub_look.specs.declared.stop.Stop.TheVariants as stops
 use Rattle.hub_look.specs.declared.subscribing.Followed.{Followed}
@@ -119,27 +120,27 @@ ends_on manner n before between after holds stop first rest =
 
 -- ---- the whole follow
 
-pub begins : (manner : Manner) (names : List (List ℕ)) (all : List Followed) (streams : Streams) (held : Option (List ℕ))
-    → map name_of all ≡ names → IsUnderWay manner names held (record { all = all; streams = streams; held = held })
-begins manner names all streams held named = record { start = all; between = streams; named = named; count = 0; looks = refl }
+pub begins : (manner : Manner) (begun : Beginning) (names : List (List ℕ)) (all : List Followed) (streams : Streams) (held : Option (List ℕ))
+    → map name_of all ≡ names → begun streams names all → IsUnderWay manner begun names held (record { all = all; streams = streams; held = held })
+begins manner begun names all streams held named subscribed = record { start = all; between = streams; named = named; begun = subscribed; count = 0; looks = refl }
 
-pub continues : (manner : Manner) (names : List (List ℕ)) (held : Option (List ℕ)) (now later : Scene)
-    → IsUnderWay manner names held now → (count : ℕ) × AreAsked manner count now later → IsUnderWay manner names held later
-continues manner names held now later h looks =
+pub continues : (manner : Manner) (begun : Beginning) (names : List (List ℕ)) (held : Option (List ℕ)) (now later : Scene)
+    → IsUnderWay manner begun names held now → (count : ℕ) × AreAsked manner count now later → IsUnderWay manner begun names held later
+continues manner begun names held now later h looks =
     let more = asked_on manner h.count looks.0 (record { all = h.start; streams = h.between; held = held }) now later h.looks looks.1 in
-    record { start = h.start; between = h.between; named = h.named; count = more.0; looks = more.1 }
+    record { start = h.start; between = h.between; named = h.named; begun = h.begun; count = more.0; looks = more.1 }
 
 -- nothing was subscribed to
-pub ends_before : {T : Type 0} (manner : Manner) (names : List (List ℕ)) (after : Streams) (held : Option (List ℕ)) (result : Result T Stop) (stop : Stop)
-    → IsErrAnd result (λ it. it ≡ stop) → IsOwnStop stop → IfErr result (EndsFollow manner names after held held)
-ends_before manner names after held (Ok it) stop is own = tt
-ends_before manner names after held (Err other) stop is own = inl (subst IsOwnStop (sym is) own, refl)
+pub ends_before : {T : Type 0} (manner : Manner) (begun : Beginning) (names : List (List ℕ)) (after : Streams) (held : Option (List ℕ)) (result : Result T Stop) (stop : Stop)
+    → IsErrAnd result (λ it. it ≡ stop) → IsOwnStop stop → IfErr result (EndsFollow manner begun names after held held)
+ends_before manner begun names after held (Ok it) stop is own = tt
+ends_before manner begun names after held (Err other) stop is own = inl (subst IsOwnStop (sym is) own, refl)
 
 -- a reply or a fault ended it
-pub ends_after : {T : Type 0} (manner : Manner) (names : List (List ℕ)) (now : Scene) (after : Streams) (held holds : Option (List ℕ)) (result : Result T Stop) (stop : Stop)
-    → IsErrAnd result (λ it. it ≡ stop) → IsUnderWay manner names held now → EndsLooks manner now after holds stop → IfErr result (EndsFollow manner names after held holds)
-ends_after manner names now after held holds (Ok it) stop is h ends = tt
-ends_after manner names now after held holds (Err other) stop is h ends =
+pub ends_after : {T : Type 0} (manner : Manner) (begun : Beginning) (names : List (List ℕ)) (now : Scene) (after : Streams) (held holds : Option (List ℕ)) (result : Result T Stop) (stop : Stop)
+    → IsErrAnd result (λ it. it ≡ stop) → IsUnderWay manner begun names held now → EndsLooks manner now after holds stop → IfErr result (EndsFollow manner begun names after held holds)
+ends_after manner begun names now after held holds (Ok it) stop is h ends = tt
+ends_after manner begun names now after held holds (Err other) stop is h ends =
     inr (record { now = now; followed = h; ends = subst (EndsLooks manner now after holds) (sym is) ends })
 
 -- one more round ended it
@@ -149,16 +150,16 @@ ends_round manner before between after holds (Ok it) stop is first ends = tt
 ends_round manner before between after holds (Err other) stop is first ends =
     subst (EndsLooks manner before after holds) (sym is) (ends_on manner first.0 before between after holds stop first.1 ends)
 
-pub outcome_of_stop : (manner : Manner) (names : List (List ℕ)) (after : Streams) (held holds : Option (List ℕ)) (result : Result Outcome AskError) (stop : Stop)
-    → MatchResult result (λ it. stop ≡ stops.Reply it) (λ error. stop ≡ stops.Fault error) → EndsFollow manner names after held holds stop → IfOk result (FollowsTo manner names after held holds)
-outcome_of_stop manner names after held holds (Ok it) stop is h = inr (subst (EndsFollow manner names after held holds) is h)
-outcome_of_stop manner names after held holds (Err error) stop is h = tt
+pub outcome_of_stop : (manner : Manner) (begun : Beginning) (names : List (List ℕ)) (after : Streams) (held holds : Option (List ℕ)) (result : Result Outcome AskError) (stop : Stop)
+    → MatchResult result (λ it. stop ≡ stops.Reply it) (λ error. stop ≡ stops.Fault error) → EndsFollow manner begun names after held holds stop → IfOk result (FollowsTo manner begun names after held holds)
+outcome_of_stop manner begun names after held holds (Ok it) stop is h = inr (subst (EndsFollow manner begun names after held holds) is h)
+outcome_of_stop manner begun names after held holds (Err error) stop is h = tt
 
-pub fault_of_stop : (manner : Manner) (names : List (List ℕ)) (after : Streams) (held holds : Option (List ℕ)) (result : Result Outcome AskError) (stop : Stop)
-    → MatchResult result (λ it. stop ≡ stops.Reply it) (λ error. stop ≡ stops.Fault error) → EndsFollow manner names after held holds stop
-    → IfErr result (λ error. EndsFollow manner names after held holds (stops.Fault error))
-fault_of_stop manner names after held holds (Ok it) stop is h = tt
-fault_of_stop manner names after held holds (Err error) stop is h = subst (EndsFollow manner names after held holds) is h
+pub fault_of_stop : (manner : Manner) (begun : Beginning) (names : List (List ℕ)) (after : Streams) (held holds : Option (List ℕ)) (result : Result Outcome AskError) (stop : Stop)
+    → MatchResult result (λ it. stop ≡ stops.Reply it) (λ error. stop ≡ stops.Fault error) → EndsFollow manner begun names after held holds stop
+    → IfErr result (λ error. EndsFollow manner begun names after held holds (stops.Fault error))
+fault_of_stop manner begun names after held holds (Ok it) stop is h = tt
+fault_of_stop manner begun names after held holds (Err error) stop is h = subst (EndsFollow manner begun names after held holds) is h
 
 -- ---- through a slice of all
 
@@ -166,19 +167,19 @@ fault_of_stop manner names after held holds (Err error) stop is h = subst (EndsF
 rewritten : (n : ℕ) (slice rest : List Followed) → length slice ≡ n → take n (slice ++ rest) ≡ slice
 rewritten n slice rest many = take-append-le n slice rest (omega (arith, many)) ∙ take_all n slice (omega (arith, many))
 
-pub continues_by : (manner : Manner) (names : List (List ℕ)) (held : Option (List ℕ)) (all slice new rest : List Followed) (n : ℕ) (before after : Streams) (holds held' : Option (List ℕ))
+pub continues_by : (manner : Manner) (begun : Beginning) (names : List (List ℕ)) (held : Option (List ℕ)) (all slice new rest : List Followed) (n : ℕ) (before after : Streams) (holds held' : Option (List ℕ))
     → slice ≡ all → length new ≡ length slice → length slice ≡ n
-    → IsUnderWay manner names held (record { all = all; streams = before; held = holds })
+    → IsUnderWay manner begun names held (record { all = all; streams = before; held = holds })
     → (count : ℕ) × AreAsked manner count (record { all = slice; streams = before; held = holds }) (record { all = new; streams = after; held = held' })
-    → IsUnderWay manner names held (record { all = take n (new ++ rest); streams = after; held = held' })
-continues_by manner names held all slice new rest n before after holds held' same many all_of h looks =
-    subst (λ it. IsUnderWay manner names held (record { all = it; streams = after; held = held' })) (sym (rewritten n new rest (many ∙ all_of)))
-    (continues manner names held (record { all = slice; streams = before; held = holds }) (record { all = new; streams = after; held = held' })
-    (subst (λ it. IsUnderWay manner names held (record { all = it; streams = before; held = holds })) (sym same) h) looks)
+    → IsUnderWay manner begun names held (record { all = take n (new ++ rest); streams = after; held = held' })
+continues_by manner begun names held all slice new rest n before after holds held' same many all_of h looks =
+    subst (λ it. IsUnderWay manner begun names held (record { all = it; streams = after; held = held' })) (sym (rewritten n new rest (many ∙ all_of)))
+    (continues manner begun names held (record { all = slice; streams = before; held = holds }) (record { all = new; streams = after; held = held' })
+    (subst (λ it. IsUnderWay manner begun names held (record { all = it; streams = before; held = holds })) (sym same) h) looks)
 
-pub ends_after_by : {T : Type 0} (manner : Manner) (names : List (List ℕ)) (all slice : List Followed) (before after : Streams) (held between holds : Option (List ℕ)) (result : Result T Stop) (stop : Stop)
-    → slice ≡ all → IsErrAnd result (λ it. it ≡ stop) → IsUnderWay manner names held (record { all = all; streams = before; held = between })
-    → EndsLooks manner (record { all = slice; streams = before; held = between }) after holds stop → IfErr result (EndsFollow manner names after held holds)
-ends_after_by manner names all slice before after held between holds result stop same is h ends =
-    ends_after manner names (record { all = slice; streams = before; held = between }) after held holds result stop is
-    (subst (λ it. IsUnderWay manner names held (record { all = it; streams = before; held = between })) (sym same) h) ends
+pub ends_after_by : {T : Type 0} (manner : Manner) (begun : Beginning) (names : List (List ℕ)) (all slice : List Followed) (before after : Streams) (held between holds : Option (List ℕ)) (result : Result T Stop) (stop : Stop)
+    → slice ≡ all → IsErrAnd result (λ it. it ≡ stop) → IsUnderWay manner begun names held (record { all = all; streams = before; held = between })
+    → EndsLooks manner (record { all = slice; streams = before; held = between }) after holds stop → IfErr result (EndsFollow manner begun names after held holds)
+ends_after_by manner begun names all slice before after held between holds result stop same is h ends =
+    ends_after manner begun names (record { all = slice; streams = before; held = between }) after held holds result stop is
+    (subst (λ it. IsUnderWay manner begun names held (record { all = it; streams = before; held = between })) (sym same) h) ends

@@ -4,4 +4,5 @@ pub mod Judged
 pub mod Listed
 pub mod LinesSoFar
 pub mod Refusals
+pub mod Subscribed
 pub mod Takes

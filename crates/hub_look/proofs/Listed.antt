@@ -40,7 +40,7 @@ none_shown : (it : Reply) → Shows shown.Nothing it → it ≡ reply.Nothing
 none_shown reply.Nothing h = refl
 none_shown it h = absurd h
 
-replied_so : (before after : Streams) (asked : Request) (line : List ℕ) (read : BorrowedReply) (it : Reply) (h : IsShown line read) → IsHeard before after asked line → h.reply ≡ it → IsReplied before after asked it
+pub replied_so : (before after : Streams) (asked : Request) (line : List ℕ) (read : BorrowedReply) (it : Reply) (h : IsShown line read) → IsHeard before after asked line → h.reply ≡ it → IsReplied before after asked it
 replied_so before after asked line read it h heard same = replied before after asked line it heard (subst IsOfHub same h.of_hub) (h.spelled ∙ ap text_of same)
 
 -- ---- the pages so far

@@ -19,7 +19,8 @@ use Rattle.hub_look.specs.Stops.{IsOwnFault}
 use Rattle.hub_ask.specs.declared.outcome.Outcome.{Outcome}
 use Rattle.hub_ask.specs.declared.outcome.Outcome.TheVariants as outcome
 use Rattle.hub_look.specs.EventLines.{IsTextOf, number_after}
-use Rattle.hub_look.specs.Follows.{Manner, IsTaken, IsWrittenFor, EndsTake, FailsToWrite, RefusesAwait, ends_by, followed_after, name_of, taking, told_of}
+use Rattle.hub_look.specs.Follows.{Manner, IsTaken, IsWrittenFor, EndsTake, FailsToWrite, RefusesAwait, ends_by, followed_after, taking, told_of}
+use Rattle.hub_look.specs.Subscribing.{name_of}
 use Rattle.hub_look.specs.Streams.{IsNoted, IsReplied, IsToldTo, Streams}
 use Rattle.hub_look.specs.Tables.{note_of, reason_of}
 use Rattle.hub_look.specs.declared.stop.Stop.{Stop}

@@ -17,6 +17,7 @@ use Rattle.hub_ask.specs.declared.outcome.Outcome.TheVariants as outcome
 use Rattle.hub_look.specs.EventLines.{IsTextOf, number_after}
 use Rattle.hub_look.specs.Stops.{IsOwnStop}
 use Rattle.hub_look.specs.Streams.{Streams, IsReplied, IsNoted}
+use Rattle.hub_look.specs.Subscribing.{AreBegun, name_of}
 use Rattle.hub_look.specs.Tables.{note_of, reason_of}
 use Rattle.hub_look.specs.declared.following.Following.{Following}
 use Rattle.hub_look.specs.declared.subscribing.Followed.{Followed}
@@ -41,10 +42,6 @@ abbrev pub taking : (is_hit is_once : Bool) (id : ℕ) → Request
 taking true once id = request.Poll id
 taking false true id = request.Take id 1
 taking false false id = request.Take id MOST_TAKEN
-
--- the name of a fifodir that is followed
-abbrev pub name_of : Followed → List ℕ
-name_of followed = followed.name.bytes.items
 
 -- The letters of a reply are written once, as those of the fifodir, and nothing is written for another reply.
 abbrev pub IsWrittenFor : Manner → Followed → Reply → (held holds : Option (List ℕ)) → Type 0
@@ -193,12 +190,21 @@ pub record EndsLooks (manner : Manner) (before : Scene) (after : Streams) (holds
   pub looks : AreAsked manner count before between
   pub ends : EndsLook manner between after holds stop
 
+-- what is known of the streams after fifodirs of these names were subscribed to, and of what is followed then
+abbrev pub Beginning : Type 1
+Beginning = (after : Streams) → (names : List (List ℕ)) → List Followed → Type 0
+
+-- They were subscribed to as they are to be followed. These were the streams before.
+abbrev pub begins_by : Following → (before : Streams) → Beginning
+begins_by following before after names all = AreBegun (λ word. word.now) following.pattern following.is_plain before after names all
+
 -- Each fifodir is followed by its name, and some of them were looked at, one after another. between is how the streams were when all
 -- were subscribed to.
-pub record IsUnderWay (manner : Manner) (names : List (List ℕ)) (held : Option (List ℕ)) (now : Scene) : Type 0 where
+pub record IsUnderWay (manner : Manner) (begins : Beginning) (names : List (List ℕ)) (held : Option (List ℕ)) (now : Scene) : Type 0 where
   pub start : List Followed
   pub between : Streams
   pub named : map name_of start ≡ names
+  pub begun : begins between names start
   pub count : ℕ
   pub looks : AreAsked manner count (record { all = start; streams = between; held = held }) now
 
@@ -207,27 +213,27 @@ abbrev pub AreOver : List Followed → Type 0
 AreOver all = list_all (λ followed. followed.is_over) all ≡ true
 
 -- They were followed until nothing will come any more.
-pub record IsFollowed (manner : Manner) (names : List (List ℕ)) (after : Streams) (held holds : Option (List ℕ)) : Type 0 where
+pub record IsFollowed (manner : Manner) (begins : Beginning) (names : List (List ℕ)) (after : Streams) (held holds : Option (List ℕ)) : Type 0 where
   pub all : List Followed
-  pub followed : IsUnderWay manner names held (record { all = all; streams = after; held = holds })
+  pub followed : IsUnderWay manner begins names held (record { all = all; streams = after; held = holds })
   pub over : AreOver all
 
 -- They were followed until a reply or a fault ended that.
-pub record EndsUnderWay (manner : Manner) (names : List (List ℕ)) (after : Streams) (held holds : Option (List ℕ)) (stop : Stop) : Type 0 where
+pub record EndsUnderWay (manner : Manner) (begins : Beginning) (names : List (List ℕ)) (after : Streams) (held holds : Option (List ℕ)) (stop : Stop) : Type 0 where
   pub now : Scene
-  pub followed : IsUnderWay manner names held now
+  pub followed : IsUnderWay manner begins names held now
   pub ends : EndsLooks manner now after holds stop
 
 -- How a follow ends by a reply or a fault: until all are subscribed to, nothing is written.
-abbrev pub EndsFollow : Manner → (names : List (List ℕ)) → (after : Streams) → (held holds : Option (List ℕ)) → Stop → Type 0
-EndsFollow manner names after held holds stop =
-    (IsOwnStop stop × (holds ≡ held)) ⊎ EndsUnderWay manner names after held holds stop
+abbrev pub EndsFollow : Manner → (begins : Beginning) → (names : List (List ℕ)) → (after : Streams) → (held holds : Option (List ℕ)) → Stop → Type 0
+EndsFollow manner begins names after held holds stop =
+    (IsOwnStop stop × (holds ≡ held)) ⊎ EndsUnderWay manner begins names after held holds stop
 
 -- A follow has this outcome: nothing will come any more, or a reply ended it.
-abbrev pub FollowsTo : Manner → (names : List (List ℕ)) → (after : Streams) → (held holds : Option (List ℕ)) → Outcome → Type 0
-FollowsTo manner names after held holds went =
-    ((went ≡ outcome.Nothing) × IsFollowed manner names after held holds) ⊎ EndsFollow manner names after held holds (stops.Reply went)
+abbrev pub FollowsTo : Manner → (begins : Beginning) → (names : List (List ℕ)) → (after : Streams) → (held holds : Option (List ℕ)) → Outcome → Type 0
+FollowsTo manner begins names after held holds went =
+    ((went ≡ outcome.Nothing) × IsFollowed manner begins names after held holds) ⊎ EndsFollow manner begins names after held holds (stops.Reply went)
 
 -- A follow fails so.
-abbrev pub FailsToFollow : Manner → (names : List (List ℕ)) → (after : Streams) → (held holds : Option (List ℕ)) → AskError → Type 0
-FailsToFollow manner names after held holds error = EndsFollow manner names after held holds (stops.Fault error)
+abbrev pub FailsToFollow : Manner → (begins : Beginning) → (names : List (List ℕ)) → (after : Streams) → (held holds : Option (List ℕ)) → AskError → Type 0
+FailsToFollow manner begins names after held holds error = EndsFollow manner begins names after held holds (stops.Fault error)

@@ -4,4 +4,5 @@ pub mod Streams
 pub mod Stops
 pub mod Tables
 pub mod EventLines
+pub mod Subscribing
 pub mod Follows

@@ -3,8 +3,10 @@ ghost use Rattle.std.specs.Prelude.{◌≡◌, IfOk, IfErr};
 ghost use Rattle.hub_protocol.specs.Spelling.{form_of, spelling};
 ghost use Rattle.hub_ask.specs.Asking.{IsAnswered};
 ghost use Rattle.hub_ask.specs.Hearing.{line_of};
+ghost use Rattle.hub_ask.specs.Lines.{joined};
 ghost use Rattle.hub_look.specs.Stops.{IsOwnFault, IsOwnStop};
 ghost use Rattle.hub_look.specs.Streams.{IsHeard, streams};
+ghost use Rattle.hub_look.specs.Subscribing.{IsHandled};
 ghost use Rattle.hub_look.specs.Tables.{IsJudged};
 ghost use Rattle.hub_look.specs.Looking.{IsLook};
 
@@ -73,6 +75,10 @@ pub(crate) fn handle_for<H: Wait, SR: Replies, SW: Requests, F: Sink>(
     notes: &mut F,
 ) -> Result<u64, Stop>
     ensures begun { peer.new.begun ≡ peer.old.begun }
+    ensures ok { IfOk result (IsHandled
+        (streams SW.contents SR.remaining F.contents F.faults peer.old.client notes.old)
+        (streams SW.contents SR.remaining F.contents F.faults peer.new.client notes.new)
+        (joined (λ word. word.now) words.now)) }
     ensures err { IfErr result IsOwnStop }
 {
     let request = match look_of(alloc, words)? {

@@ -2,7 +2,7 @@
 ghost use Rattle.std.specs.Prelude.{◌≡◌, length, IfOk, IfErr, OnOk};
 ghost use Rattle.std.specs.List.{list_all};
 ghost use Rattle.hub_ask.specs.declared.outcome.Outcome.TheVariants as outcome;
-ghost use Rattle.hub_look.specs.Follows.{EndsFollow, EndsLookAt, EndsLooks, FailsToFollow, FollowsTo, IsFollowed, IsSeenTo, LooksOn, manner_of, names_of, scene};
+ghost use Rattle.hub_look.specs.Follows.{EndsFollow, EndsLookAt, EndsLooks, FailsToFollow, FollowsTo, IsFollowed, IsSeenTo, LooksOn, begins_by, manner_of, names_of, scene};
 ghost use Rattle.hub_look.specs.Streams.{streams};
 
 use crate::following::Following;
@@ -118,11 +118,16 @@ fn follow_on<H: Wait + Clock, SR: Replies, SW: Requests, W: Sink, F: Sink>(
     notes: &mut F,
 ) -> Result<Outcome, Stop>
     ensures begun { peer.new.begun ≡ peer.old.begun }
-    ensures ok { IfOk result (λ went. (went ≡ outcome.Nothing) × IsFollowed
-        (manner_of following.now) (names_of following.now)
+    ensures ok { IfOk result (λ went. (went ≡ outcome.Nothing) × IsFollowed (manner_of following.now)
+        (begins_by following.now
+        (streams SW.contents SR.remaining F.contents F.faults peer.old.client notes.old))
+        (names_of following.now)
         (streams SW.contents SR.remaining F.contents F.faults peer.new.client notes.new)
         (W.contents output.old) (W.contents output.new)) }
-    ensures err { IfErr result (EndsFollow (manner_of following.now) (names_of following.now)
+    ensures err { IfErr result (EndsFollow (manner_of following.now)
+        (begins_by following.now
+        (streams SW.contents SR.remaining F.contents F.faults peer.old.client notes.old))
+        (names_of following.now)
         (streams SW.contents SR.remaining F.contents F.faults peer.new.client notes.new)
         (W.contents output.old) (W.contents output.new)) }
 {
@@ -151,11 +156,18 @@ pub fn follow<H: Wait + Clock, SR: Replies, SW: Requests, W: Sink, F: Sink>(
 ) -> Result<Outcome, AskError>
     // What it sends are looks (`Peer`).
     ensures begun { peer.new.begun ≡ peer.old.begun }
-    // The letters of each reply were written once, in order, under the name of their fifodir. The last reply tells the outcome.
-    ensures ok { IfOk result (FollowsTo (manner_of following.now) (names_of following.now)
+    // Each fifodir was subscribed to, in order. The letters of each reply were written once, in order, under the name of their
+    // fifodir. The last reply tells the outcome.
+    ensures ok { IfOk result (FollowsTo (manner_of following.now)
+        (begins_by following.now
+        (streams SW.contents SR.remaining F.contents F.faults peer.old.client notes.old))
+        (names_of following.now)
         (streams SW.contents SR.remaining F.contents F.faults peer.new.client notes.new)
         (W.contents output.old) (W.contents output.new)) }
-    ensures err { IfErr result (FailsToFollow (manner_of following.now) (names_of following.now)
+    ensures err { IfErr result (FailsToFollow (manner_of following.now)
+        (begins_by following.now
+        (streams SW.contents SR.remaining F.contents F.faults peer.old.client notes.old))
+        (names_of following.now)
         (streams SW.contents SR.remaining F.contents F.faults peer.new.client notes.new)
         (W.contents output.old) (W.contents output.new)) }
 {

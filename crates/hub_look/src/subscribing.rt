@@ -1,7 +1,11 @@
 //! The beginning of a follow: a handle for each fifodir.
-ghost use Rattle.std.specs.Prelude.{◌≡◌, ◌++◌, ◌∷◌, [], map, IfOk, IfErr, IfSome, OnOk};
-ghost use Rattle.hub_look.specs.Follows.{name_of};
+ghost use Rattle.std.specs.Prelude.{◌≡◌, ◌++◌, ◌∷◌, [], map, Ok, IfOk, IfErr, OnOk, MatchOption};
+ghost use Rattle.hub_record.specs.declared.Status.{Status as status};
+ghost use Rattle.hub_ask.specs.Lines.{joined};
 ghost use Rattle.hub_look.specs.Stops.{IsOwnStop};
+ghost use Rattle.hub_look.specs.Streams.{streams};
+ghost use Rattle.hub_look.specs.Subscribing.{AreBegun, IsBegun, IsCancelled, IsNumbered, IsSubscribed, IsTried, name_of};
+ghost use Rattle.hub_look.specs.Tables.{IsJudged};
 
 use crate::asking::{ask_about, handle_for, state_of};
 use crate::following::Following;
@@ -38,6 +42,10 @@ fn events_of<H: Wait, SR: Replies, SW: Requests, F: Sink>(
     notes: &mut F,
 ) -> Result<u64, Stop>
     ensures begun { peer.new.begun ≡ peer.old.begun }
+    ensures ok { IfOk result (λ number. (status : status) × IsJudged
+        (streams SW.contents SR.remaining F.contents F.faults peer.old.client notes.old)
+        (streams SW.contents SR.remaining F.contents F.faults peer.new.client notes.new)
+        name.now (Ok status) × (number ≡ status.number)) }
     ensures err { IfErr result IsOwnStop }
 {
     match state_of(rt, alloc, name, peer, notes)? {
@@ -55,7 +63,13 @@ fn subscribe_between<H: Wait, SR: Replies, SW: Requests, F: Sink>(
     notes: &mut F,
 ) -> Result<Option<Followed>, Stop>
     ensures begun { peer.new.begun ≡ peer.old.begun }
-    ensures name { IfOk result (λ it. IfSome it (λ followed. name_of followed ≡ name.now)) }
+    ensures ok { IfOk result (λ it. MatchOption it
+        (IsCancelled
+        (streams SW.contents SR.remaining F.contents F.faults peer.old.client notes.old)
+        (streams SW.contents SR.remaining F.contents F.faults peer.new.client notes.new) name.now)
+        (IsNumbered
+        (streams SW.contents SR.remaining F.contents F.faults peer.old.client notes.old)
+        (streams SW.contents SR.remaining F.contents F.faults peer.new.client notes.new) name.now)) }
     ensures err { IfErr result IsOwnStop }
 {
     let before = events_of(rt, alloc, name, peer, notes)?;
@@ -85,7 +99,10 @@ fn subscribe_numbered<H: Wait, SR: Replies, SW: Requests, F: Sink>(
     notes: &mut F,
 ) -> Result<Followed, Stop>
     ensures begun { peer.new.begun ≡ peer.old.begun }
-    ensures name { IfOk result (λ followed. name_of followed ≡ name.now) }
+    ensures ok { IfOk result (IsTried
+        (streams SW.contents SR.remaining F.contents F.faults peer.old.client notes.old)
+        (streams SW.contents SR.remaining F.contents F.faults peer.new.client notes.new)
+        name.now) }
     ensures err { IfErr result IsOwnStop }
 {
     'tries: for _ in 0..TRIES {
@@ -106,7 +123,10 @@ fn subscribe_by<H: Wait, SR: Replies, SW: Requests, F: Sink>(
     notes: &mut F,
 ) -> Result<Followed, Stop>
     ensures begun { peer.new.begun ≡ peer.old.begun }
-    ensures name { IfOk result (λ followed. name_of followed ≡ name.now) }
+    ensures ok { IfOk result (IsSubscribed
+        (streams SW.contents SR.remaining F.contents F.faults peer.old.client notes.old)
+        (streams SW.contents SR.remaining F.contents F.faults peer.new.client notes.new)
+        (joined (λ word. word.now) words.now) name.now) }
     ensures err { IfErr result IsOwnStop }
 {
     let handle = handle_for(rt, alloc, words, name, peer, notes)?;
@@ -128,7 +148,11 @@ fn subscribe<H: Wait, SR: Replies, SW: Requests, F: Sink>(
     notes: &mut F,
 ) -> Result<Followed, Stop>
     ensures begun { peer.new.begun ≡ peer.old.begun }
-    ensures name { IfOk result (λ followed. name_of followed ≡ name.now) }
+    ensures ok { IfOk result (IsBegun
+        (λ word. word.now) following.now.pattern following.now.is_plain
+        (streams SW.contents SR.remaining F.contents F.faults peer.old.client notes.old)
+        (streams SW.contents SR.remaining F.contents F.faults peer.new.client notes.new)
+        name.now) }
     ensures err { IfErr result IsOwnStop }
 {
     match following.pattern {
@@ -160,6 +184,11 @@ pub(crate) fn subscribe_to_all<H: Wait, SR: Replies, SW: Requests, F: Sink>(
     ensures begun { peer.new.begun ≡ peer.old.begun }
     ensures names { IfOk result (λ all. map name_of all.items
         ≡ map (λ name. name.now) following.now.names.items) }
+    ensures ok { IfOk result (λ all. AreBegun
+        (λ word. word.now) following.now.pattern following.now.is_plain
+        (streams SW.contents SR.remaining F.contents F.faults peer.old.client notes.old)
+        (streams SW.contents SR.remaining F.contents F.faults peer.new.client notes.new)
+        (map (λ name. name.now) following.now.names.items) all.items) }
     ensures err { IfErr result IsOwnStop }
 {
     let mut all = Vec::new(alloc);
