@@ -1,5 +1,5 @@
 -- The lines of sessions that stopped, one after another.
-use Rattle.std.proofs.Common.{◌≡◌, ℕ, ◌+◌, ◌<◌, ◌≤◌, ◌∙◌, List, [], ◌++◌, suc, length, drop, get_or, Option, Result, Ok, Err, OnOk, ap, sym, arith}
+use Rattle.std.proofs.Common.{◌≡◌, ℕ, ◌+◌, ◌<◌, ◌≤◌, ◌∙◌, List, ◌++◌, suc, length, drop, get_or, Option, Result, Ok, Err, OnOk, ap, sym, arith}
 use Rattle.std.proofs.KnownBytes.{Appends-trans}
 use Rattle.std.proofs.lemmas.List.{append_assoc, append-nil, drop_all, drop_more}
 use Rattle.std.specs.Io.KnownBytes.{Appends}
