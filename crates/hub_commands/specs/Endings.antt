@@ -1,6 +1,6 @@
 -- How the program ends: its exit status, and its last lines on standard error.
 use Rattle.std.specs.Prelude.{ℕ, List, [], ◌∷◌, ◌++◌, codes, Result, Ok, Err}
-use Rattle.hub_commands.specs.BadTexts.{bad_text}
+use Rattle.hub_commands.specs.BadWords.{bad_text}
 use Rattle.hub_commands.specs.Faults.{line_of, report_lines}
 use Rattle.hub_commands.specs.declared.ending.Ending.{Ending}
 use Rattle.hub_commands.specs.declared.ending.Ending.TheVariants.{Refused, Stopped, Failed}

@@ -1,10 +1,9 @@
 pub mod Faults
 pub mod Calls
 pub mod Serving
-pub mod BadTexts
+pub mod BadWords
 pub mod Endings
 pub mod Dialing
 pub mod Asking
-pub mod Breaking
 pub mod Looking
 pub mod Running

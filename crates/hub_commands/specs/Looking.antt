@@ -10,7 +10,7 @@ use Rattle.hub_look.specs.Streams.{Streams}
 use Rattle.hub_look.specs.Tables.{FailsToShowStates, ShowsStates}
 use Rattle.hub_server.specs.Sessions.{Writing}
 use Rattle.hub_commands.specs.Asking.{Going}
-use Rattle.hub_commands.specs.Breaking.{any_breaks}
+use Rattle.hub_commands.specs.BadWords.{any_breaks}
 use Rattle.hub_commands.specs.Dialing.{Dialing, OverOne}
 use Rattle.hub_commands.specs.declared.ending.BadWords.{BadWords}
 use Rattle.hub_commands.specs.declared.ending.BadWords.TheVariants as bad

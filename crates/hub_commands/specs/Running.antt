@@ -7,7 +7,7 @@ use Rattle.hub_ask.specs.Waiting.{AsksAbout, wait_words}
 use Rattle.hub_ask.specs.declared.duration.TheConstants.{MOST_TURNS}
 use Rattle.hub_client.specs.declared.fault.RelayError.{RelayError}
 use Rattle.hub_commands.specs.Asking.{Asks, Waits}
-use Rattle.hub_commands.specs.Breaking.{follow_breaks}
+use Rattle.hub_commands.specs.BadWords.{follow_breaks}
 use Rattle.hub_commands.specs.Calls.{IsRelayed, call_result}
 use Rattle.hub_commands.specs.Dialing.{Dialing}
 use Rattle.hub_commands.specs.Looking.{FollowsAsTold, ShowsStatus}

@@ -28,7 +28,7 @@ pub enum BadWords {
 }
 
 impl fmt::Display for BadWords {
-    ghost use Rattle.hub_commands.specs.BadTexts.{bad_text};
+    ghost use Rattle.hub_commands.specs.BadWords.{bad_text};
 
     ghost output = { λ it. Some (bad_text it) };
 

@@ -1,6 +1,6 @@
 //! The subcommand `follow`: the letters of fifodirs as they come.
 ghost use Rattle.std.specs.Prelude.{◌≡◌};
-ghost use Rattle.hub_commands.specs.Breaking.{follow_breaks};
+ghost use Rattle.hub_commands.specs.BadWords.{follow_breaks};
 ghost use Rattle.hub_commands.specs.Dialing.{dialing};
 ghost use Rattle.hub_look.specs.Follows.{begins_by, manner_of, names_of};
 ghost use Rattle.hub_commands.specs.Looking.{FollowsAsTold};

@@ -21,7 +21,7 @@ use Rattle.hub_fifodir.specs.declared.views.Writing.{Writing}
 use Rattle.hub_fifodir.specs.declared.views.Role.{Role}
 use Rattle.hub_fifodir.specs.declared.views.Role.TheVariants.{Publisher}
 use Rattle.hub_fifodir.specs.declared.locked.Locked.{Locked}
-use Rattle.hub_fifodir.specs.Word.{packed_word}
+use Rattle.hub_fifodir.specs.Events.{packed_word}
 use Rattle.hub_fifodir.specs.Events.{is_closed, front_word, StartsWith}
 use Rattle.hub_fifodir.specs.Locks.{RepresentsWorld, KeepsPublishers, status_of}
 use Rattle.hub_fifodir.specs.Rule.{IsLive, IsNumbered, IsSane, IsBehind, IsSound, book_of}

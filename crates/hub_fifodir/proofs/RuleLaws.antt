@@ -8,7 +8,7 @@ use lib.Seq.{drop-drop}
 use Rattle.atomic_table.specs.Table.{State}
 use Rattle.hub_record.specs.declared.Event.{Event}
 use Rattle.hub_letters.specs.Flags.{flags_of}
-use Rattle.hub_fifodir.specs.Word.{packed_word}
+use Rattle.hub_fifodir.specs.Events.{packed_word}
 use Rattle.std.proofs.Common.{get_or}
 use Rattle.std.proofs.lemmas.Bool.{ne_eqb}
 use Rattle.hub_record.specs.World.{letters, World, current}

@@ -13,7 +13,7 @@ use Rattle.hub_fifodir.specs.declared.views.Writing.{Writing}
 use Rattle.hub_fifodir.specs.declared.views.Role.TheVariants.{Ticket, Publisher}
 use Rattle.hub_fifodir.specs.declared.locked.Locked.{Locked}
 use Rattle.hub_fifodir.specs.Events.{StartsWith}
-use Rattle.hub_fifodir.specs.Word.{packed_word}
+use Rattle.hub_fifodir.specs.Events.{packed_word}
 use Rattle.hub_fifodir.specs.Locks.{RepresentsWorld, is_current}
 use Rattle.hub_fifodir.specs.Rule.{RuleHolds, IsLive, cursor_of}
 

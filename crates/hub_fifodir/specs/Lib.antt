@@ -1,4 +1,3 @@
-pub mod Word
 pub mod Locks
 pub mod Events
 pub mod Rule

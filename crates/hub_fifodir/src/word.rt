@@ -2,7 +2,7 @@
 ghost use Rattle.std.specs.Prelude.{◌≡◌, ◌≤◌, Bool, ℕ};
 ghost use Rattle.hub_letters.specs.declared.flags.Flags.{Flags};
 ghost use Rattle.hub_record.specs.declared.limits.TheConstants.{MOST_EVENTS};
-ghost use Rattle.hub_fifodir.specs.Word.{packed_word};
+ghost use Rattle.hub_fifodir.specs.Events.{packed_word};
 
 use hub_letters::Flags;
 use hub_record::Status;

@@ -1,5 +1,5 @@
 -- What each letter says, and the last letter of a kind in a word. A word is a list of letters, each seen as its byte.
-use Rattle.std.specs.Prelude.{ℕ, ◌==◌, Bool, true, false, if◌then◌else◌, List, [], ◌∷◌, Option, Some, None, ◌≡◌, ◌++◌, All}
+use Rattle.std.specs.Prelude.{ℕ, ◌==◌, Bool, true, false, if◌then◌else◌, List, [], ◌∷◌, Option, Some, None, ◌≡◌, ◌++◌, All, codes}
 use Rattle.std.specs.List.{list_any}
 
 -- what a letter says
@@ -63,6 +63,13 @@ is_gave_up m = false
 
 abbrev pub is_among : List ℕ → ℕ → Bool
 is_among these letter = list_any (λ c. letter == c) these
+
+-- the letters after which no run of a service goes on
+abbrev pub falls : ℕ → Bool
+falls letter = is_among (codes "sdD") letter
+
+abbrev pub has_fall : List ℕ → Bool
+has_fall word = list_any falls word
 
 -- the last letter of the word that is one of `all` is one of `these`
 pub record LastIs (all these : List ℕ) (word : List ℕ) : Type 0 where

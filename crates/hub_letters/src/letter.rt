@@ -1,6 +1,6 @@
 //! Letters.
 ghost use Rattle.std.specs.Prelude.{◌≡◌, ◌↔◌, ◌≤◌, ◌++◌, ℕ, List, [], ◌∷◌, SomeIff, true, false};
-ghost use Rattle.hub_letters.specs.Falls.{falls, has_fall};
+ghost use Rattle.hub_letters.specs.Marks.{falls, has_fall};
 ghost use Rattle.hub_letters.specs.Flags.{flags_of};
 
 use std::marker::Model;

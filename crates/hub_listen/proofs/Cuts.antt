@@ -1,7 +1,7 @@
 -- A piece cut in two, if the first part is quiet; and that there is one answer.
 use Rattle.std.proofs.Common.{◌≡◌, ℕ, suc, ◌+◌, ◌<◌, ◌≤◌, ◌-◌, false, List, [], ◌∷◌, ◌++◌, take, length, refl, sym, ap, subst, ◌∙◌, arith, append_assoc, length-append, ⊎_elim, Result, Ok, Err, true≢false}
 use Rattle.std.proofs.lemmas.Bool.{cases_lt}
-use Rattle.hub_letters.specs.declared.bounds.TheConstants.{MOST_GATHERED}
+use Rattle.hub_letters.specs.declared.mode.TheConstants.{MOST_GATHERED}
 use Rattle.hub_listen.specs.Hit.{finds, IsHit, HasNoHit}
 use Rattle.hub_listen.specs.Listening.{Listening, Feeds, after_hit, after_quiet}
 use Rattle.hub_listen.specs.Pieces.{counted_from, left_by, CutsAnywhere, AnswersOnce}

@@ -1,7 +1,7 @@
 -- The length of a hit as a function, and that there is always an answer.
 use Rattle.std.proofs.Common.{◌≡◌, ◌≢◌, ◌⊎◌, ℕ, zero, suc, ◌+◌, ◌-◌, ◌<◌, ◌≤◌, Bool, true, false, List, ◌++◌, take, length, min, Option, None, Some, refl, sym, ap, ◌∙◌, arith, ⊎_elim, inl, inr, Result, Ok, Err}
 use Rattle.std.proofs.lemmas.Bool.{cases_lt, cases_Bool, cond-true, cond-false}
-use Rattle.hub_letters.specs.declared.bounds.TheConstants.{MOST_GATHERED}
+use Rattle.hub_letters.specs.declared.mode.TheConstants.{MOST_GATHERED}
 use Rattle.hub_listen.specs.Hit.{finds, HasNoHit, first_such, hit_length}
 use Rattle.hub_listen.specs.Listening.{Listening, Feeds, after_hit, after_quiet, is_spent}
 use Rattle.hub_listen.specs.Pieces.{LengthIsHit, NoLengthIsNoHit, AnswersEach}

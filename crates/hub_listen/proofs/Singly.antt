@@ -1,7 +1,7 @@
 -- Letters fed one at a time, and all of them at once.
 use Rattle.std.proofs.Common.{◌≡◌, ◌≢◌, ℕ, ◌+◌, ◌-◌, ◌<◌, ◌≤◌, false, List, [], ◌∷◌, ◌++◌, take, drop, length, length-append, slice_range, drop-cons, refl, sym, ap, subst, ◌∙◌, arith, ⊎_elim, Result, Ok, Err, true≢false}
 use Rattle.std.proofs.lemmas.List.{take_more, take-append-le, take-append-drop, length-take-le, append-nil}
-use Rattle.hub_letters.specs.declared.bounds.TheConstants.{MOST_GATHERED}
+use Rattle.hub_letters.specs.declared.mode.TheConstants.{MOST_GATHERED}
 use Rattle.hub_letters.specs.declared.mode.Mode.{Mode}
 use Rattle.hub_letters.specs.declared.mode.Mode.TheVariants.{Repeat}
 use Rattle.hub_listen.specs.Hit.{IsHit}

@@ -3,7 +3,7 @@ use Rattle.std.specs.Prelude.{◌≡◌, ℕ, zero, suc, ◌+◌, ◌-◌, ◌�
 use Rattle.std.specs.Option.{option_map_or}
 use Rattle.regex.specs.Patterns.{find_str, default_config}
 use Rattle.regex_syntax.specs.Grammar.{read}
-use Rattle.hub_letters.specs.declared.bounds.TheConstants.{MOST_GATHERED}
+use Rattle.hub_letters.specs.declared.mode.TheConstants.{MOST_GATHERED}
 
 -- the text is a pattern
 abbrev pub IsPattern : List ℕ → Type 0

@@ -1,7 +1,7 @@
 -- What the fields of a listener keep.
 use Rattle.std.specs.Prelude.{◌≡◌, ◌≤◌, false, length, string_bytes, vec_capacity, vec_len}
 use Rattle.std.specs.String.{string_capacity}
-use Rattle.hub_letters.specs.declared.bounds.TheConstants.{MOST_GATHERED}
+use Rattle.hub_letters.specs.declared.mode.TheConstants.{MOST_GATHERED}
 use Rattle.hub_listen.specs.Hit.{finds}
 use Rattle.hub_listen.specs.Letters.{AreLetters}
 use Rattle.hub_listen.specs.Alive.{AreAlive, HasRoom}

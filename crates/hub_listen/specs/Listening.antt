@@ -1,6 +1,6 @@
 -- What a listener holds, and what a piece of letters does to it.
 use Rattle.std.specs.Prelude.{◌≡◌, ℕ, ◌+◌, ◌-◌, ◌≤◌, ◌<◌, Bool, true, false, List, [], ◌∷◌, ◌++◌, length, take, min, Result, Ok, Err}
-use Rattle.hub_letters.specs.declared.bounds.TheConstants.{MOST_GATHERED}
+use Rattle.hub_letters.specs.declared.mode.TheConstants.{MOST_GATHERED}
 use Rattle.hub_listen.specs.Hit.{IsHit, HasNoHit}
 use Rattle.hub_letters.specs.declared.mode.Mode.{Mode}
 use Rattle.hub_letters.specs.declared.mode.Mode.TheVariants.{Once, Repeat}

@@ -1,6 +1,6 @@
 -- How the answers to pieces of letters are related.
 use Rattle.std.specs.Prelude.{◌≡◌, ◌≢◌, ◌⊎◌, ◌↔◌, ℕ, ◌+◌, ◌≤◌, false, List, [], ◌∷◌, ◌++◌, length, Some, None, Result, Ok, Err}
-use Rattle.hub_letters.specs.declared.bounds.TheConstants.{MOST_GATHERED}
+use Rattle.hub_letters.specs.declared.mode.TheConstants.{MOST_GATHERED}
 use Rattle.hub_listen.specs.Hit.{IsHit, HasNoHit, hit_length}
 use Rattle.hub_listen.specs.Listening.{Listening, Feeds, is_spent}
 use Rattle.hub_listen.specs.declared.feed.Feed.{Feed}

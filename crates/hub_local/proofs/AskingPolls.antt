@@ -4,7 +4,7 @@ use Rattle.std.proofs.lemmas.Bool.{cases_Bool, le-leb, lt-leb, le-ltb, lt-ltb}
 use Rattle.std.proofs.lemmas.Map.Steps.{set_value_same}
 use Rattle.std.specs.Map.{lookup, set_value}
 use Rattle.std.specs.Str.{bytes_eq}
-use Rattle.hub_letters.specs.declared.bounds.TheConstants.{MOST_GATHERED}
+use Rattle.hub_letters.specs.declared.mode.TheConstants.{MOST_GATHERED}
 use Rattle.hub_listen.specs.Hit.{HasNoHit}
 use Rattle.hub_listen.specs.Listening.{Listening, after_hit, after_quiet, fitting}
 use Rattle.hub_letters.specs.declared.mode.Mode.{Mode}

@@ -1,7 +1,7 @@
 -- What an await says of the take or poll that comes next.
 use Rattle.std.proofs.Common.{◌≡◌, ◌≢◌, ◌⊎◌, ◌≤◌, ◌||◌, ◌+◌, ℕ, if◌then◌else◌, Bool, true, false, [], length, nat_lt, Option, Some, None, is_some, inl, inr, refl, sym, ap, ◌∙◌, true≢false, arith}
 use Rattle.std.proofs.lemmas.Bool.{cases_Bool, ltb-false}
-use Rattle.hub_letters.specs.declared.bounds.TheConstants.{MOST_GATHERED}
+use Rattle.hub_letters.specs.declared.mode.TheConstants.{MOST_GATHERED}
 use Rattle.hub_listen.specs.Hit.{hit_length}
 use Rattle.hub_listen.proofs.Lengths.{no_length_is_no_hit}
 use Rattle.hub_record.specs.World.{World, Subscription, letters, is_evicted, subscription_in, reply_for, take_reply, take_events}

@@ -2,7 +2,7 @@
 use Rattle.std.proofs.Common.{◌≡◌, ℕ, zero, suc, ◌+◌, ◌-◌, ◌<◌, ◌≤◌, Bool, true, false, List, [], ◌∷◌, ◌++◌, length, take, drop, slice_get, slice_range, Option, Some, None, is_some, option_to_list, Ok, refl, sym, ap, subst, ◌∙◌, inl, inr, length-append, arith, Err}
 use Rattle.std.proofs.lemmas.List.{length-drop, length-take-le, take-append-drop}
 use Rattle.std.proofs.Math.Seq.{take-length}
-use Rattle.hub_letters.specs.declared.bounds.TheConstants.{MOST_GATHERED}
+use Rattle.hub_letters.specs.declared.mode.TheConstants.{MOST_GATHERED}
 use Rattle.hub_listen.specs.Hit.{HasNoHit}
 use Rattle.hub_listen.specs.Listening.{Listening, Feeds, is_spent, after_quiet, fitting}
 use Rattle.hub_listen.specs.declared.feed.Feed.TheVariants as fed

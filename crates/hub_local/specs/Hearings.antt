@@ -1,6 +1,6 @@
 -- What a listener hears of the letters that it still has to hear.
 use Rattle.std.specs.Prelude.{ℕ, ◌≡◌, ◌⊎◌, ◌+◌, ◌<◌, ◌≤◌, true, false, List, [], ◌∷◌, length, take, slice_get, Option, Some, None, Result, Ok, Err}
-use Rattle.hub_letters.specs.declared.bounds.TheConstants.{MOST_GATHERED}
+use Rattle.hub_letters.specs.declared.mode.TheConstants.{MOST_GATHERED}
 use Rattle.hub_listen.specs.Hit.{IsHit, HasNoHit}
 use Rattle.hub_listen.specs.Listening.{Listening, Feeds, after_hit, after_quiet, fitting}
 use Rattle.hub_listen.specs.declared.feed.Feed.TheVariants as fed

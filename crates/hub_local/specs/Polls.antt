@@ -1,7 +1,7 @@
 -- What a poll answers: the letters that a listener still has to hear are heard one at a time, until there is a hit or
 -- no room.
 use Rattle.std.specs.Prelude.{ℕ, ◌≡◌, ◌⊎◌, ◌+◌, ◌-◌, ◌<◌, Bool, false, if◌then◌else◌, List, [], ◌++◌, length, take, drop, nat_lt, slice_get, option_to_list, Option, Some, None}
-use Rattle.hub_letters.specs.declared.bounds.TheConstants.{MOST_GATHERED}
+use Rattle.hub_letters.specs.declared.mode.TheConstants.{MOST_GATHERED}
 use Rattle.hub_listen.specs.Hit.{HasNoHit, hit_length}
 use Rattle.hub_listen.specs.Listening.{after_hit, after_quiet, fitting}
 use Rattle.hub_letters.specs.declared.mode.Mode.{Mode}

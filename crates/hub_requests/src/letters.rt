@@ -1,6 +1,6 @@
 //! The letters of what was taken.
 ghost use Rattle.std.specs.Prelude.{◌≡◌, ◌≤◌, length, vec_len, vec_capacity};
-ghost use Rattle.hub_letters.specs.declared.bounds.TheConstants.{MOST_GATHERED};
+ghost use Rattle.hub_letters.specs.declared.mode.TheConstants.{MOST_GATHERED};
 ghost use Rattle.hub_record.specs.World.{letters};
 
 use crate::texts::Excerpt;

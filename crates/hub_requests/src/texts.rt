@@ -1,7 +1,7 @@
 //! The lists in requests and replies. In contracts each is its list. Neither `of` nor `items` takes memory.
 ghost use Rattle.std.specs.Prelude.{◌≡◌, ◌≤◌, ◌*◌, length, string_bytes, vec_len};
 ghost use Rattle.std.specs.Fmt.{decimal};
-ghost use Rattle.hub_letters.specs.declared.bounds.TheConstants.{MOST_GATHERED};
+ghost use Rattle.hub_letters.specs.declared.mode.TheConstants.{MOST_GATHERED};
 ghost use Rattle.hub_requests.specs.Texts.{number_or_dash, numbers_text};
 ghost use Rattle.hub_requests.specs.declared.bounds.TheConstants.{MOST_SERVICES};
 
@@ -77,7 +77,7 @@ pub struct Excerpt {
 
 impl Model for Excerpt {
     ghost use Rattle.std.specs.Prelude.{◌≤◌, List, ℕ, vec_len};
-    ghost use Rattle.hub_letters.specs.declared.bounds.TheConstants.{MOST_GATHERED};
+    ghost use Rattle.hub_letters.specs.declared.mode.TheConstants.{MOST_GATHERED};
 
     ghost Value = { List ℕ };
 

@@ -6,16 +6,14 @@
 //! also stops if there is no row.
 #![tactic(auto)]
 
-mod sharing;
-
 use anyhow::{Result, anyhow};
-use ftrighub::{Desk, Enter, LocalDesk, Source, serve};
-use hub_fakes::Dripping;
-use std::alloc::{AllocGlobal, Global};
+use ftrighub::{Desk, Enter, Hub, LocalDesk, SharedDesk, Source, serve};
+use hub_fakes::{Dripping, Yielding};
+use std::alloc::{AllocError, AllocGlobal, Global};
 use std::fs;
 use std::process::ExitCode;
 use std::rt::Runtime;
-use std::sync::Wait;
+use std::sync::{Arc, Wait};
 
 fn main(rt: HostRuntime) -> ExitCode {
     match run(&rt, rt.alloc()) {
@@ -90,7 +88,7 @@ impl Row {
             &mut Dripping::new(input, 1, 0),
         )?;
         tell(name, "a local desk, one byte a read", dripping)?;
-        let mut shared = sharing::alone(alloc)?;
+        let mut shared = alone(alloc)?;
         let line = self.differs_at(rt, alloc, &mut shared, &mut &*input);
         shared.release(rt);
         tell(name, "a shared desk", line?)
@@ -134,4 +132,10 @@ fn tell(row: &str, desk: &str, line: Option<u64>) -> Result<()> {
         Some(line) => Err(anyhow!("row {row}, {desk}: another output in line {line}")),
         None => Ok(()),
     }
+}
+
+/// The desk of a session that is alone over a new hub.
+fn alone(alloc: Global) -> Result<SharedDesk<Yielding>, AllocError> {
+    let hub = Arc::new(alloc, Hub::new(alloc)?)?;
+    SharedDesk::new(alloc, hub, Yielding)
 }

@@ -8,7 +8,7 @@ use Rattle.std.proofs.lemmas.List.Folds.{list_any-append}
 use Rattle.hub_letters.specs.declared.flags.Flags.{Flags}
 use Rattle.hub_letters.specs.Marks.{Mark, mark, later, last_among, is_life, is_supervision, is_hope, is_began, is_gave_up}
 use Rattle.hub_letters.specs.Flags.{up_by, settled_by, flags_by, flags_of}
-use Rattle.hub_letters.specs.Falls.{falls, has_fall}
+use Rattle.hub_letters.specs.Marks.{falls, has_fall}
 use Rattle.hub_record.specs.declared.Status.{Status}
 use Rattle.hub_wait.specs.Watching.{Watching, flag_after, flags_after, flags_after_marks, watching_after_step, renewed_by}
 use Rattle.hub_wait.specs.Histories.{ShowsFlagsOf, ShowsFallsOf, MissesNoFall, has_fall_between, IsSlice, Move, Step, Renew, End, is_end, is_renewal, reach, furthest, HasMoved, BeginAtAnyStatus, FollowAnySlices}

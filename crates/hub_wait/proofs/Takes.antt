@@ -2,7 +2,7 @@
 use Rattle.std.proofs.Common.{◌≡◌, ◌≢◌, ℕ, ◌+◌, ◌-◌, ◌≤◌, Bool, true, false, ◌||◌, ◌&&◌, Option, unwrap_or, inl, inr, List, ◌++◌, take, drop, length, sym, refl, ap, subst, ◌∙◌, arith}
 use Rattle.std.proofs.lemmas.Bool.{cases_Bool, ltb-true, lt-ltb}
 use Rattle.std.proofs.lemmas.List.{take_all, take-append-le, length-append, length-take-le, length-drop, length-map, drop-take, take-take, drop-map, take-map, map-append}
-use Rattle.hub_letters.specs.Falls.{has_fall}
+use Rattle.hub_letters.specs.Marks.{has_fall}
 use Rattle.hub_letters.specs.Flags.{flags_of}
 use Rattle.hub_record.specs.declared.Event.{Event}
 use Rattle.hub_record.specs.declared.Taken.TheVariants.{Got, Evicted}

@@ -3,7 +3,7 @@ use Rattle.std.specs.Prelude.{ℕ, ◌≡◌, ◌+◌, ◌≤◌, max, Bool, tru
 use Rattle.std.specs.List.{list_any}
 use Rattle.hub_letters.specs.declared.want.Want.{Want}
 use Rattle.hub_letters.specs.Flags.{flags_of}
-use Rattle.hub_letters.specs.Falls.{has_fall}
+use Rattle.hub_letters.specs.Marks.{has_fall}
 use Rattle.hub_record.specs.declared.Status.{Status}
 use Rattle.hub_wait.specs.Watching.{Watching, new_watching, watching_after_step, renewed_by}
 

@@ -5,7 +5,7 @@ use Rattle.hub_letters.specs.declared.want.Want.{Want}
 use Rattle.hub_letters.specs.Marks.{Mark, mark, last_among, is_life, is_supervision, is_hope, is_began, is_gave_up}
 use Rattle.hub_letters.specs.Flags.{up_by, settled_by}
 use Rattle.hub_letters.specs.Wants.{is_met, is_hopeless}
-use Rattle.hub_letters.specs.Falls.{has_fall}
+use Rattle.hub_letters.specs.Marks.{has_fall}
 use Rattle.hub_record.specs.declared.Status.{Status}
 
 -- what is wanted of a service, how many events it had when the watch began, how many are known, their flags, whether one of

@@ -1,6 +1,6 @@
 use Rattle.std.proofs.Common.{◌≡◌, ℕ, ◌+◌, ◌≤◌, ◌++◌, false, length, take, string_bytes, vec_len}
 use Rattle.std.specs.String.{string_capacity}
-use Rattle.hub_letters.specs.declared.bounds.TheConstants.{MOST_GATHERED}
+use Rattle.hub_letters.specs.declared.mode.TheConstants.{MOST_GATHERED}
 use Rattle.hub_listen.specs.Hit.{finds}
 use Rattle.hub_listen.specs.Letters.{AreLetters}
 use Rattle.hub_listen.specs.Alive.{AreAlive, HasRoom}

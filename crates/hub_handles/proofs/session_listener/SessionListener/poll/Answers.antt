@@ -1,5 +1,5 @@
 use Rattle.std.proofs.Common.{◌<◌, ◌+◌, ℕ, length, [], Bool, refl, sym, subst, ap, ◌∙◌, inl, inr, arith}
-use Rattle.hub_letters.specs.declared.bounds.TheConstants.{MOST_GATHERED}
+use Rattle.hub_letters.specs.declared.mode.TheConstants.{MOST_GATHERED}
 use Rattle.hub_handles.specs.Hearings.{HasRoom, HearsOne}
 use Rattle.hub_handles.proofs.Hearings.{hears_none, hears_quietly, gathers_none, gathers_one, hit_polls, stop_polls}
 use Rattle.hub_handles.proofs.session_listener.SessionListener.poll.Goals as goal

@@ -1,5 +1,5 @@
 use Rattle.std.proofs.Common.{◌≡◌, ◌<◌, ◌⊎◌, length, None}
-use Rattle.hub_letters.specs.declared.bounds.TheConstants.{MOST_GATHERED}
+use Rattle.hub_letters.specs.declared.mode.TheConstants.{MOST_GATHERED}
 use Rattle.hub_handles.specs.Hearings.{HearsQuietly}
 use Rattle.hub_handles.proofs.session_listener.SessionListener.poll.Given as goal
 
