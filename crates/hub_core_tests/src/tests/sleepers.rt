@@ -27,27 +27,30 @@ const MESSAGES: u64 = 5;
 const FOR_EVER: u64 = 100_000;
 
 /// Sleeps until there are so many events.
-fn sleep_until<R: Wait>(rt: &R, me: &mut Sender, number: u64) {
-    let waiter = me.fifodir.admit();
+fn sleep_until<R: Wait>(rt: &R, fifodir: &Shared, me: &mut Sender, number: u64) {
+    let waiter = fifodir.admit();
     for _ in rt.forever() {
         let (found, looked) = me.look();
         if found >= number {
             break;
         }
-        me.fifodir
+        fifodir
             .bell()
             .sleep(rt, looked, Duration::from_secs(FOR_EVER));
     }
-    me.fifodir.dismiss(waiter);
+    fifodir.dismiss(waiter);
 }
 
 /// Sleeps until each message is there, of so many letters each. Counts in `awake` before the first one and after each.
 fn sleep_for_each<R: Wait + Enter>(rt: &R, fifodir: Shared, length: u64, awake: &AtomicU64) {
+    let Ok(shared) = Arc::try_clone(&fifodir) else {
+        return;
+    };
     let Ok(mut me) = Sender::of(rt, fifodir) else {
         return;
     };
     for message in 0..=MESSAGES {
-        sleep_until(rt, &mut me, message.wrapping_mul(length));
+        sleep_until(rt, &shared, &mut me, message.wrapping_mul(length));
         awake.fetch_add(1, Ordering::SeqCst);
     }
     me.leave(rt);
