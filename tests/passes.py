@@ -10,10 +10,12 @@ import tempfile
 import time
 from pathlib import Path
 
-from editing import apply, copy_sources, edited
+import clauses
+import libraries
+from editing import apply, edited
 
-# The first edit of a crate may wait until the crates below are built. If the pass accepts an edit, `rt` goes on and proves them,
-# until the time is over.
+# The first edit of a crate may wait until those crates below are built that no library of these sources is there for. If the pass accepts
+# an edit, `rt` goes on and proves them, until the time is over.
 SECONDS = 1800
 # The errors of a pass come within so many seconds after the first one.
 AFTER = 5
@@ -55,10 +57,19 @@ def fault_of(edit, crate):
     return f"it is refused by another error: {others[0]}" if others else None
 
 
+def copy_for(name, tree):
+    """Copies the sources, with the libraries below this crate that are of these sources, and has `rt` know that they are."""
+    clauses.copy_with_libraries(tree, name)
+    for below in clauses.crates_below(name) - {name}:
+        stamp = tree / "crates" / below / "out" / "rlib" / "stamp"
+        if libraries.fault_of(below) is None and not stamp.is_file():
+            stamp.write_text(libraries.stamps()[below], encoding="utf-8")
+
+
 def try_edits(edits):
     """Tries edits of one crate one after the other, in one copy of the sources. Yields each with its fault and its seconds."""
     with tempfile.TemporaryDirectory() as work:
-        copy_sources(Path(work))
+        copy_for(edits[0].crate.name, Path(work))
         for edit in edits:
             begun = time.monotonic()
             fault = fault_of(edit, Path(work) / "crates" / edit.crate.name)
