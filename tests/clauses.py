@@ -15,8 +15,8 @@ from pathlib import Path
 
 import libraries
 from editing import ROOT, apply, copy_sources, edited
-from running import Untried, run
-from trials import kit
+from functions import path_of
+from running import Untried, kit, run
 
 REFUSED = re.compile(r"must-fail (\w+)/([\w.-]+)\.edit: refused, as it must be(.*)")
 # A line about a goal that isn't proved, and one about a proof file that names what an edit took away.
@@ -24,10 +24,6 @@ TOLD = re.compile(r"(note: )?\S+:\d+:\d+: ")
 NAMES = re.compile(r"(note: )?(\./)?proofs/.*(has no field|is not in scope|has no `|was not admitted)")
 # A line about proofs that rest on a lemma which isn't proved.
 RESTS = re.compile(r"(?:\./)?proofs/(?:\w+/)*(\w+)/\w+\.antt:.* which was not admitted, (?:was|were) not checked: (.*)")
-# Functions that a derive may write besides, whose names alone say too little.
-DERIVED = {"clone", "cmp", "eq", "fmt", "hash", "partial_cmp"}
-# The head of a trait or an impl: the trait, or the impl's parameters, its trait with its types, and its type.
-HEAD = re.compile(r"(?:pub )?(?:trait (\w+)|impl(?:<(.*?)>)? (?:([\w:]+)(?:<(.*)>)? for )?&?([\w:]+))")
 # How many seconds a check may take, if nothing else says when it ends.
 SECONDS = 3600
 # Runs `rt check` over the libraries as they are. `rt ci` leaves them without the stamps by which `rt check` knows them. The first word
@@ -121,57 +117,6 @@ def lacking(name):
     return next((fault for it in sorted(crates_below(name) - {name}) if (fault := libraries.fault_of(it))), None)
 
 
-def joined(words, left_out):
-    """Returns the words of a text as one word, as `rt` names an impl by the types in its head, without its parameters."""
-    return "".join(it[0].upper() + it[1:] for it in re.findall(r"\w+", words) if it not in left_out)
-
-
-def functions_in(crate):
-    """Yields the functions of a crate: the file, the line, the type, the trait with its types, and the name. What a type or trait lacks
-    is empty."""
-    for file in sorted(crate.glob("src/**/*.rt")):
-        kind = trait = ""
-        for number, line in enumerate(file.read_text(encoding="utf-8").splitlines(), 1):
-            if head := HEAD.match(line):
-                name, parameters, of, types, it = head.groups()
-                kind = (it or "").split("::")[-1]
-                trait = (of or name or "").split("::")[-1] + joined(types or "", re.findall(r"(?:^|, )(\w+)", parameters or ""))
-            elif line.startswith("}"):
-                kind = trait = ""
-            for name in re.findall(r"\bfn (\w+)", line):
-                yield str(file.relative_to(crate)), number, kind, trait, name
-
-
-def home_of(crate, file, kind, trait):
-    """Returns the file by which `rt` names the functions of an impl: its own, or that of the type if it has no trait."""
-    declared = re.compile(rf"^(?:pub(?:\([^)]*\))? )?(?:struct|enum) {kind}\b", re.M)
-    others = (it for it in sorted(crate.glob("src/**/*.rt")) if declared.search(it.read_text(encoding="utf-8")))
-    return next((str(it.relative_to(crate)) for it in others), file) if kind and not trait else file
-
-
-def path_of(edit):
-    """Returns the path by which `rt` knows the function that has to refuse the edit: its name, or, if the crate has several of that name
-    or a module of it, with its module and type. A function in a file that the edit changes comes first, and there the one nearest above
-    the change."""
-    *owner, name = edit.refused_by[0].split("::")
-    found = [it for it in functions_in(edit.crate) if it[4] == name]
-    if len(found) == 1 and name not in DERIVED and not any(edit.crate.glob(f"src/**/{name}.rt")):
-        return name
-    changed = {}
-    for path, old, _ in edit.pairs:
-        changed.setdefault(path, (edit.crate / path).read_text(encoding="utf-8").partition(old)[0].count("\n") + 1)
-
-    def distance(it):
-        return changed[it[0]] - it[1] if it[0] in changed and it[1] <= changed[it[0]] else sys.maxsize - (it[0] in changed)
-
-    fits = [it for it in found if not owner or owner[-1] in (it[2], it[3], it[2] + it[3], Path(it[0]).stem)]
-    for file, _, kind, trait, _ in sorted(fits, key=distance):
-        home = home_of(edit.crate, file, kind, trait)
-        module = [it for it in home[len("src/") : -len(".rt")].split("/") if it != "lib"]
-        return "::".join([*module, *([kind + trait] if kind + trait else []), name])
-    return edit.refused_by[0]
-
-
 def failed_in(said, edit):
     """Returns the functions and clauses whose goals failed, by what a check said. If an edit changes a definition of specs/, a lemma may
     fail in their place, on which their proofs rest."""
@@ -183,6 +128,24 @@ def failed_in(said, edit):
     return failed
 
 
+def check(tree, crate, names, end, *more):
+    """Checks these functions of a crate's copy, or all if there is none. Returns the status, or None if there was no time, and what it says."""
+    words = [sys.executable, "-c", CHECK, kit() / "bin", "--jobs", "1", *more, *(it for name in names for it in ("--only", name))]
+    return run(words, tree / "output", end, cwd=crate, env={**os.environ, "TMPDIR": str(tree)})
+
+
+def said_of(status, said, edit):
+    """Returns in a line what a check that failed says. Raises Untried if it has no verdict."""
+    if unknown := re.search(r"^rattle: error: .*\bfunctions?\b.*", said, re.M):
+        return unknown[0]
+    if status != 1:
+        raise Untried("there is no time left" if status is None else f"its check ended with status {status}: {said.strip()[-200:]}")
+    if failed := failed_in(said, edit):
+        return f"what failed is {'; '.join(f'{function}, {clause}' for function, clause in failed)}"
+    told = [it for it in said.splitlines() if TOLD.match(it)] or [said.strip()[:200]]
+    return f"no goal failed, and the check says first: {told[0][:200]}"
+
+
 def fault_of(tree, edit, end):
     """Returns why the edit isn't refused by its clause in a copy that has the libraries. Raises Untried if that isn't known."""
     crate, wanted = tree / "crates" / edit.crate.name, (edit.refused_by[0].split("::")[-1], edit.refused_by[1])
@@ -190,31 +153,25 @@ def fault_of(tree, edit, end):
     if fault:
         return fault
     kept = apply(texts, crate)
-    words = [sys.executable, "-c", CHECK, kit() / "bin", "--jobs", "1", "--only", path_of(edit)]
-    status, said = run(words, tree / "output", end, cwd=crate, env={**os.environ, "TMPDIR": str(tree)})
+    status, said = check(tree, crate, [path_of(edit)], end)
     apply(kept, crate)
-    failed = failed_in(said, edit)
-    if wanted in failed:
+    if wanted in failed_in(said, edit):
         return None
-    if status == 0:
-        return f"{edit.refused_by[0]} is proved with it"
-    if unknown := re.search(r"^rattle: error: .*\bfunctions?\b.*", said, re.M):
-        return unknown[0]
-    if status != 1:
-        raise Untried("there is no time left" if status is None else f"its check ended with status {status}: {said.strip()[-200:]}")
-    if failed:
-        return f"what failed is {'; '.join(f'{function}, {clause}' for function, clause in failed)}"
-    told = [it for it in said.splitlines() if TOLD.match(it)] or [said.strip()[:200]]
-    return f"no goal failed, and the check says first: {told[0][:200]}"
+    return f"{edit.refused_by[0]} is proved with it" if status == 0 else said_of(status, said, edit)
+
+
+def build_below(name):
+    """Builds the libraries below a crate, if they aren't there. Returns why they can't be built, or None."""
+    if not lacking(name):
+        return None
+    built = subprocess.run(["rt", "check", "--only", ""], cwd=ROOT / "crates" / name, capture_output=True, text=True, check=False)
+    return f"its libraries can't be built: {(built.stdout + built.stderr).strip()[-200:]}" if built.returncode else None
 
 
 def try_edits(edits):
-    """Tries edits of one crate, one after the other. Yields each with its fault and its seconds. The libraries below are built first, if
-    they aren't."""
-    name, why = edits[0].crate.name, None
-    if lacking(name):
-        built = subprocess.run(["rt", "check", "--only", ""], cwd=ROOT / "crates" / name, capture_output=True, text=True, check=False)
-        why = f"its libraries can't be built: {(built.stdout + built.stderr).strip()[-200:]}" if built.returncode else None
+    """Tries edits of one crate, one after the other. Yields each with its fault and its seconds."""
+    name = edits[0].crate.name
+    why = build_below(name)
     with tempfile.TemporaryDirectory() as work:
         copy_with_libraries(Path(work), name)
         for edit in edits:

@@ -4,11 +4,14 @@ import functools
 import re
 import subprocess
 
-from editing import ROOT
+from editing import ROOT, TEST
 
 FILE = ROOT / "tests" / "edits-refused.txt"
+# What was seen first of an edit that only a test refuses: the prover proves it.
+PROVED = "proved, "
 HEAD = """When edits were last refused: at which commit (a + says that the sources had changes since), by which toolchain, and the mark
-of the edit's text. `tests/edits --try` writes this page. An edit without a line hasn't been tried since edits.txt has it.
+of the edit's text. 'proved' says that the prover first proved the edit, which then a test refused. `tests/edits --try` writes this page.
+An edit without a line hasn't been tried since edits.txt has it.
 
 """
 LINE = re.compile(r"(\w+/\w+): (.+)")
@@ -20,9 +23,14 @@ def records():
     return dict(LINE.findall(FILE.read_text(encoding="utf-8").partition("\n\n")[2])) if FILE.is_file() else {}
 
 
+def seen(edit):
+    """Returns what a record ends with: what was seen before the edit was refused, and its mark."""
+    return f"{PROVED if edit.kind == TEST else ''}{edit.mark()}"
+
+
 def is_current(edit):
-    """Whether it is on record that the edit was refused as it is."""
-    return records().get(edit.path, "").endswith(f", {edit.mark()}")
+    """Whether it is on record that the edit was refused as it is, and before that what has to be seen."""
+    return records().get(edit.path, "").endswith(f", {seen(edit)}")
 
 
 def last(edit):
@@ -30,7 +38,9 @@ def last(edit):
     when, _, mark = records().get(edit.path, "").rpartition(", ")
     if not when:
         return "not tried since edits.txt has it"
-    return f"refused at {when}" if mark == edit.mark() else f"changed since it was refused at {when}"
+    if mark != edit.mark():
+        return f"changed since it was refused at {when}"
+    return f"refused at {when}" if is_current(edit) else f"refused at {when}, but nobody saw that the prover proves it"
 
 
 def said(*words):
@@ -58,5 +68,5 @@ def put(edit, refused, when):
     records.cache_clear()
     kept.pop(edit.path, None)
     if refused:
-        kept[edit.path] = f"{when}, {edit.mark()}"
+        kept[edit.path] = f"{when}, {seen(edit)}"
     FILE.write_text(HEAD + "".join(f"{path}: {it}\n" for path, it in sorted(kept.items())), encoding="utf-8")
