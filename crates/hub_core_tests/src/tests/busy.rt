@@ -72,11 +72,11 @@ fn two_threads_that_publish_come_to_an_end(rt: HostRuntime) -> Result<(), Fail> 
     Ok(())
 }
 
-/// How many letters one message has, so that its publisher holds the lock for long.
-const LONG: usize = 8_000_000;
+/// How many letters one message has, so that its publisher holds the lock for some hundred milliseconds.
+const LONG: usize = 64_000_000;
 
-/// How many such messages there are at most.
-const ROUNDS: u64 = 200;
+/// How many such messages there are at most: some minutes of them, so that a busy machine has its chance.
+const ROUNDS: u64 = 1_000;
 
 /// How the two threads know of each other.
 #[derive(Drop)]
@@ -110,7 +110,7 @@ fn send_long<R: Abort + Wait + Enter>(
 fn meet_meanwhile<R: Abort + Wait + Enter + Clock>(rt: &R, fifodir: &Fifodir, progress: &Progress) {
     let mut one = publisher(rt, fifodir);
     let mut other = publisher(rt, fifodir);
-    for _ in 0..20_000 {
+    for _ in 0..1_000_000 {
         let begun = progress
             .begun
             .load(Ordering::SeqCst)
@@ -148,7 +148,8 @@ fn met_meanwhile<R: Abort + Threads + Wait + Enter + Clock + Sync>(
     Ok(progress.met.load(Ordering::SeqCst))
 }
 
-// One message takes some milliseconds. So there are many, on a machine that is busy or whose clock is coarse.
+// A message lasts far longer than the sleep before a meeting. There are many, since a machine that is busy or whose clock is
+// coarse may wake the sleeper only after a message; the first meeting ends the test.
 #[test]
 fn a_meeting_does_not_wait_for_the_lock(rt: HostRuntime) -> Result<(), Fail> {
     let fifodir = open(rt.alloc(), Kind::Plain, (64, 1_000_000_000_000, 10))?;
