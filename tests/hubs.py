@@ -216,9 +216,15 @@ class Report:
     def add(self, name, fault):
         if fault is None:
             self.passed += 1
+            self.tell_passed(name)
         else:
             self.failed += 1
             sys.stdout.write(f"{self.test}, {name}: FAILED: {fault}\n")
+
+    def tell_passed(self, name):
+        """Names what has passed as well, for what tries edits."""
+        if os.environ.get("SAY_PASSED"):
+            sys.stdout.write(f"{self.test}, {name}: passed\n")
 
     def same(self, name, found, wanted):
         self.add(name, None if found == wanted else f"{found!r}, and wanted is {wanted!r}")
@@ -234,6 +240,8 @@ class Report:
             frames = traceback.extract_tb(fault.__traceback__)[1:]
             place = " > ".join(f"{os.path.basename(it.filename)}:{it.lineno}" for it in frames)
             self.add(name, f"it broke off at {place}: {fault!r}")
+        else:
+            self.tell_passed(name)
 
     def end(self):
         """Prints the last line, and returns the status of the test."""

@@ -19,7 +19,7 @@ import subprocess
 import sys
 
 from editing import ROOT
-from trials import kit
+from running import kit
 
 RECORD = ROOT / "out" / "libraries"
 # Prints the stamp that `rt` gives each library for the sources as they are. The words are the folder of the toolchain's programs, and

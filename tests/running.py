@@ -2,11 +2,13 @@
 """
 
 import contextlib
+import functools
 import os
 import signal
 import subprocess
 import threading
 import time
+from pathlib import Path
 
 # For how many seconds a group of processes may end by itself once it is told to.
 GRACE = 5
@@ -16,6 +18,12 @@ RUNNING, GUARD = set(), threading.Lock()
 
 class Untried(Exception):
     """An edit can't be tried here, or not in the time that is left."""
+
+
+@functools.cache
+def kit():
+    """Returns the folder of the toolchain."""
+    return Path(subprocess.run(["rt", "doc"], capture_output=True, text=True, check=True).stdout.strip()).parent
 
 
 def end_group(process):

@@ -55,6 +55,10 @@ separated by exactly one space. Each request below has an example and its reply.
   pub N LETTERS  publish letters (bytes from ! to ~); the reply has the number
                  of the first event
                  pub web ab                    ok 0
+  tell N STATE   say where a service is: off, down, up, ready or failed. The
+                 letters that bring it there are published, or none if it is
+                 there; the reply has the number of the first event
+                 tell db ready                 ok 0
   status N       the number of events, the sum of the state's flags (up 1,
                  settled 2, supervised 4, failed 8), and open or closed
                  status web                    ok 2 0 open
@@ -97,7 +101,7 @@ A line that can't be carried out gets `no` and one word, and changes nothing:
                  out of range
   name, id       there is no such fifodir; no such handle
   exists         there is a fifodir with this name
-  kind           a wait for a fifodir that isn't a service's
+  kind           a wait or a tell for a fifodir that isn't a service's
   unlawful I     the letter at I (the first has 0) isn't in the lawful order
   full           too many events would be pending: retry
   spent          the fifodir has accepted all the events that it ever will

@@ -2,3 +2,4 @@ pub mod Counting
 pub mod Exchanges
 pub mod Sent
 pub mod Tellings
+pub mod Durations

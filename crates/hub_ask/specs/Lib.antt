@@ -8,5 +8,6 @@ pub mod Outcomes
 pub mod States
 pub mod Bounding
 pub mod Unfinished
+pub mod Timing
 pub mod Asking
 pub mod Waiting

@@ -35,7 +35,9 @@ fn count_unfinished(unfinished: usize, bytes: &[u8]) -> usize
 }
 
 impl<S: Source> Bounded<S> {
-    pub(crate) fn new(inner: S) -> Bounded<S> {
+    pub(crate) fn new(inner: S) -> Bounded<S>
+        ensures { result.inner ≡ inner }
+    {
         Bounded {
             inner,
             unfinished: 0,

@@ -1,6 +1,7 @@
 //! A connection whose calls end by a time.
-ghost use Rattle.std.specs.Prelude.{◌<◌, None, length};
+ghost use Rattle.std.specs.Prelude.{◌≡◌, ◌<◌, None, IfOk, length};
 ghost use Rattle.std.specs.Io.{ReadsAtMost, WritesAtMost};
+ghost use Rattle.hub_ask.specs.Timing.{EndBy, deadline_of};
 
 use crate::bounded::Bounded;
 use crate::deadline::Deadline;
@@ -28,14 +29,18 @@ pub fn halves<C: Clock + Copy>(
     clock: C,
     connection: &UnixStream,
     deadline: Deadline,
-) -> io::Result<(Bounded<Timed<C>>, Timed<C>)> {
+) -> io::Result<(Bounded<Timed<C>>, Timed<C>)>
+    ensures { IfOk result (λ both. EndBy deadline both.0 both.1) }
+{
     let replies = Timed::new(clock, connection.try_clone()?, deadline);
     let requests = Timed::new(clock, connection.try_clone()?, deadline);
     Ok((Bounded::new(replies), requests))
 }
 
 impl<C: Clock> Timed<C> {
-    fn new(clock: C, stream: UnixStream, deadline: Deadline) -> Timed<C> {
+    fn new(clock: C, stream: UnixStream, deadline: Deadline) -> Timed<C>
+        ensures { deadline_of result ≡ deadline }
+    {
         Timed {
             stream,
             clock,

@@ -3,15 +3,16 @@ use Rattle.std.proofs.Common.{◌≡◌, ℕ, List, Option, Result, sym, subst}
 use Rattle.hub_arguments.specs.declared.command_line.Plan.{Plan}
 use Rattle.hub_ask.specs.Lines.{joined}
 use Rattle.hub_commands.specs.Asking.{Asks}
+use Rattle.hub_commands.specs.Calls.{Calling}
 use Rattle.hub_commands.specs.Dialing.{Dialing}
 use Rattle.hub_commands.specs.Running.{CarriesOut, Hands}
 use Rattle.hub_commands.specs.declared.ending.Ending.{Ending}
 use Rattle.hub_server.specs.Sessions.{Reading, Writing}
 
 -- what is done with a plan is done with the same plan
-pub same_plan : {D SR SW R W F : Type 0} (d : Dialing D SR SW) (r : Reading R) (w : Writing W) (n : Writing F) (old new : Hands D R W F) (plan other : Plan)
-    (result : Result ℕ Ending) → plan ≡ other → CarriesOut d r w n old new other result → CarriesOut d r w n old new plan result
-same_plan d r w n old new plan other result same carried = subst (λ it. CarriesOut d r w n old new it result) (sym same) carried
+pub same_plan : {D SR SW CR CW R W F : Type 0} (d : Dialing D SR SW) (c : Calling D CR CW) (r : Reading R) (w : Writing W) (n : Writing F) (old new : Hands D R W F) (plan other : Plan)
+    (result : Result ℕ Ending) → plan ≡ other → CarriesOut d c r w n old new other result → CarriesOut d c r w n old new plan result
+same_plan d c r w n old new plan other result same carried = subst (λ it. CarriesOut d c r w n old new it result) (sym same) carried
 
 -- what is asked by some words is asked by the same words
 pub same_words : {D SR SW Word : Type 0} (text : Word → List ℕ) (d : Dialing D SR SW) (old new : D) (socket : List ℕ) (words others : List Word)

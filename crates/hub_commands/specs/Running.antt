@@ -1,21 +1,20 @@
 -- What the program does with a plan.
-use Rattle.std.specs.Prelude.{◌≡◌, ◌≢◌, ◌⊎◌, ℕ, ◌≤◌, All, IsOk, IfOk, IfErr, is_some, map, false, Result, Ok, Err}
+use Rattle.std.specs.Prelude.{◌≡◌, ◌⊎◌, ℕ, ◌≤◌, List, All, IsOk, IfOk, IfErr, is_some, map, false, Result, Ok, Err}
 use Rattle.hub_arguments.specs.declared.command_line.Plan.{Plan}
 use Rattle.hub_arguments.specs.declared.command_line.Plan.TheVariants as plan
 use Rattle.hub_ask.specs.Lines.{joined}
 use Rattle.hub_ask.specs.Waiting.{AsksAbout, wait_words}
 use Rattle.hub_ask.specs.declared.duration.TheConstants.{MOST_TURNS}
-use Rattle.hub_client.specs.declared.fault.RelayError.{RelayError}
 use Rattle.hub_commands.specs.Asking.{Asks, Waits}
 use Rattle.hub_commands.specs.BadWords.{follow_breaks}
-use Rattle.hub_commands.specs.Calls.{IsRelayed, call_result}
+use Rattle.hub_commands.specs.Calls.{Calling, IsCall}
 use Rattle.hub_commands.specs.Dialing.{Dialing}
 use Rattle.hub_commands.specs.Looking.{FollowsAsTold, ShowsStatus}
 use Rattle.hub_commands.specs.declared.ending.BadWords.TheVariants as bad
 use Rattle.hub_commands.specs.declared.ending.Ending.{Ending}
 use Rattle.hub_commands.specs.declared.ending.Ending.TheVariants.{Refused, Stopped, Failed}
 use Rattle.hub_commands.specs.declared.fault.Fault.{Fault}
-use Rattle.hub_commands.specs.declared.fault.Fault.TheVariants.{Connect, Script, Memory}
+use Rattle.hub_commands.specs.declared.fault.Fault.TheVariants.{Script, Memory}
 use Rattle.hub_io.specs.declared.fault.FrontError.{FrontError}
 use Rattle.hub_look.specs.Subscribing.{AreBegun}
 use Rattle.hub_script.specs.Output.{Serves, Stops}
@@ -51,13 +50,12 @@ Judges report result = (IsClean report × (result ≡ Ok 0)) ⊎ ((IsClean repor
 abbrev pub JudgesOrFails : Result ℕ Ending → Type 0
 JudgesOrFails result = ((report : Report) × Judges report result) ⊎ ((fault : Fault) × (result ≡ Err (Failed fault)))
 
--- `call` relayed its input, or it had no connection and nothing was read or written
-pub record Calls {R W : Type 0} (r : Reading R) (w : Writing W) (input rest : R) (output written : W) (result : Result ℕ Ending) : Type 0 where
+-- `call` called this socket
+pub record Calls {D CR CW R W : Type 0} (c : Calling D CR CW) (old new : D) (socket : List ℕ) (r : Reading R) (w : Writing W) (input rest : R) (output written : W)
+    (result : Result ℕ Ending) : Type 0 where
   pub called : Result ℕ Fault
   pub ended : result ≡ ending_of called
-  pub connected : called ≡ Err Connect → (rest ≡ input) × (written ≡ output)
-  pub relayed : called ≢ Err Connect → (outcome : Result ℕ RelayError) × (called ≡ call_result outcome)
-      × IsRelayed r w input rest output written outcome
+  pub calls : IsCall c old new socket r w input rest output written called
 
 -- `script` answered its input
 pub record Scripts {R W : Type 0} (r : Reading R) (w : Writing W) (input rest : R) (output written : W) (result : Result ℕ Ending) : Type 0 where
@@ -67,30 +65,30 @@ pub record Scripts {R W : Type 0} (r : Reading R) (w : Writing W) (input rest : 
   pub stopped : IfErr scripted (Stops (w.contents output) (w.contents written) (r.remaining input) (r.remaining rest))
 
 -- What is done with each plan. What a plan doesn't need is as it was.
-abbrev pub CarriesOut : {D SR SW R W F : Type 0} → Dialing D SR SW → Reading R → Writing W → Writing F → (old new : Hands D R W F) → Plan → Result ℕ Ending → Type 0
-CarriesOut d r w n old new plan.Script result =
+abbrev pub CarriesOut : {D SR SW CR CW R W F : Type 0} → Dialing D SR SW → Calling D CR CW → Reading R → Writing W → Writing F → (old new : Hands D R W F) → Plan → Result ℕ Ending → Type 0
+CarriesOut d c r w n old new plan.Script result =
     Scripts r w old.input new.input old.output new.output result × (new.dialer ≡ old.dialer) × (new.notes ≡ old.notes)
-CarriesOut d r w n old new (plan.Serve socket sessions) result = JudgesOrFails result × (new ≡ old)
-CarriesOut d r w n old new (plan.ServeForever options) result =
+CarriesOut d c r w n old new (plan.Serve socket sessions) result = JudgesOrFails result × (new ≡ old)
+CarriesOut d c r w n old new (plan.ServeForever options) result =
     ((result ≡ Ok 0) ⊎ ((fault : Fault) × (result ≡ Err (Failed fault))))
     × (new.dialer ≡ old.dialer) × (new.input ≡ old.input) × (new.output ≡ old.output)
-CarriesOut d r w n old new (plan.Call socket) result =
-    Calls r w old.input new.input old.output new.output result × (new.dialer ≡ old.dialer) × (new.notes ≡ old.notes)
-CarriesOut d r w n old new (plan.Ask socket words) result =
+CarriesOut d c r w n old new (plan.Call socket) result =
+    Calls c old.dialer new.dialer socket.now r w old.input new.input old.output new.output result × (new.notes ≡ old.notes)
+CarriesOut d c r w n old new (plan.Ask socket words) result =
     Asks d old.dialer new.dialer socket.now (joined (λ word. word.now) words.items) (new.output ≡ old.output)
     (w.contents old.output) (w.contents new.output) result
     × (new.input ≡ old.input) × (new.notes ≡ old.notes)
-CarriesOut d r w n old new (plan.Wait socket wish) result =
+CarriesOut d c r w n old new (plan.Wait socket wish) result =
     ((turns : ℕ) × (turns ≤ MOST_TURNS) × Waits d old.dialer new.dialer socket.now
     (wait_words wish.span.now wish.want.now turns (joined (λ name. name.now) wish.names.items))
     (AsksAbout wish.want.now (λ name. name.now) wish.names.items) turns
     ((new.output ≡ old.output) × (new.notes ≡ old.notes)) (w.contents old.output) (w.contents new.output) result)
     × (new.input ≡ old.input)
-CarriesOut d r w n old new (plan.Status socket names) result =
+CarriesOut d c r w n old new (plan.Status socket names) result =
     ShowsStatus d old.dialer new.dialer socket.now n old.notes new.notes (λ name. name.now) names.items
     ((new.output ≡ old.output) × (new.notes ≡ old.notes)) (w.contents old.output) (w.contents new.output) result
     × (new.input ≡ old.input)
-CarriesOut d r w n old new (plan.Follow socket names pattern is_plain is_once) result =
+CarriesOut d c r w n old new (plan.Follow socket names pattern is_plain is_once) result =
     FollowsAsTold d old.dialer new.dialer socket.now n old.notes new.notes (follow_breaks (λ word. word.now) pattern names.items)
     (record { is_hit = is_some pattern; is_plain = is_plain; is_once = is_once }) (AreBegun (λ word. word.now) pattern is_plain) (map (λ name. name.now) names.items)
     ((new.output ≡ old.output) × (new.notes ≡ old.notes)) (w.contents old.output) (w.contents new.output) result
@@ -104,5 +102,5 @@ EndsEarly (Err (Stopped report)) = ⊥
 EndsEarly (Err (Failed fault)) = (fault ≡ Memory) ⊎ ((error : FrontError) × (fault ≡ Script error))
 
 -- What the program does: it carries out a plan, or ends before it has one, and then it touches nothing.
-abbrev pub Runs : {D SR SW R W F : Type 0} → Dialing D SR SW → Reading R → Writing W → Writing F → (old new : Hands D R W F) → Result ℕ Ending → Type 0
-Runs d r w n old new result = ((plan : Plan) × CarriesOut d r w n old new plan result) ⊎ (EndsEarly result × (new ≡ old))
+abbrev pub Runs : {D SR SW CR CW R W F : Type 0} → Dialing D SR SW → Calling D CR CW → Reading R → Writing W → Writing F → (old new : Hands D R W F) → Result ℕ Ending → Type 0
+Runs d c r w n old new result = ((plan : Plan) × CarriesOut d c r w n old new plan result) ⊎ (EndsEarly result × (new ≡ old))

@@ -63,3 +63,13 @@ pub fn connect<H: Net + Clock + Copy>(
         Err(_) => Err(Fault::Connect),
     }
 }
+
+/// Connects to the server at the socket, for a call, and returns the connection twice: for receiving and for sending. Both are
+/// clones, since the descriptor of a clone is 3 or more. If a standard stream is closed, the connection itself may have
+/// that stream's descriptor.
+pub(crate) fn connection_at<H: Net>(rt: &H, socket: &str) -> Option<(UnixStream, UnixStream)> {
+    let connection = UnixStream::connect(rt, socket).ok()?;
+    let receive = connection.try_clone().ok()?;
+    let send = connection.try_clone().ok()?;
+    Some((receive, send))
+}

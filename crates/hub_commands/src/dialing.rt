@@ -4,10 +4,12 @@ ghost use Rattle.hub_ask.specs.declared.fault.AskError.TheVariants as ask;
 ghost use Rattle.hub_commands.specs.declared.fault.Fault.{Fault as fault_of};
 ghost use Rattle.hub_commands.specs.declared.fault.Fault.TheVariants as fault;
 
-use crate::connecting::connect;
+use crate::connecting::{connect, connection_at};
 use crate::fault::Fault;
 use hub_ask::{Bounded, Replies, Requests, Timed};
+use hub_io::{Sink, Source};
 use std::net::Net;
+use std::os::unix::net::UnixStream;
 use std::rt::Clock;
 
 /// The means to reach hubs. A function that has no other can't connect without it.
@@ -26,6 +28,20 @@ pub trait Dial {
     /// call began.
     fn dial(&mut self, socket: &str, millis: u64) -> Result<(Self::Receiver, Self::Sender), Fault>
         ensures { reaches self.old socket.now millis result self.new };
+
+    /// The half of a connection of a call for a hub's replies.
+    type Incoming: Source + Drop;
+
+    /// The half for lines.
+    type Outgoing: Sink + Drop;
+
+    /// `connects old socket both new`: a dialer in the state `old` may give this for a call of the socket, and is then in the state
+    /// `new`.
+    ghost connects: { Self → List ℕ → Result (Self.Incoming × Self.Outgoing) fault_of → Self → Type 0 };
+
+    /// Connects to the hub at the socket for a call, and returns the two halves of the connection. They wait without end.
+    fn connect(&mut self, socket: &str) -> Result<(Self::Incoming, Self::Outgoing), Fault>
+        ensures { connects self.old socket.now result self.new };
 }
 
 /// Reaches hubs at Unix sockets.
@@ -51,5 +67,15 @@ impl<H: Net + Clock + Copy> Dial for Dialer<H> {
 
     fn dial(&mut self, socket: &str, millis: u64) -> Result<(Bounded<Timed<H>>, Timed<H>), Fault> {
         connect(&self.rt, socket, millis)
+    }
+
+    type Incoming = UnixStream;
+
+    type Outgoing = UnixStream;
+
+    ghost connects = { λ old _ both new. (new ≡ old) × IfErr both (λ it. it ≡ fault.Connect) };
+
+    fn connect(&mut self, socket: &str) -> Result<(UnixStream, UnixStream), Fault> {
+        connection_at(&self.rt, socket).ok_or(Fault::Connect)
     }
 }

@@ -7,7 +7,7 @@ ghost use Rattle.hub_commands.specs.Faults.{line_if, pending_lines};
 use crate::desks::HubDesks;
 use crate::fault::Fault;
 use crate::notice::Notice;
-use crate::place::{Place, take_place};
+use crate::place::{InPlace, Place, take_place};
 use crate::watching::{Pending, Watcher};
 use hub_arguments::HubOptions;
 use hub_front::{Enter, Stay};
@@ -52,7 +52,7 @@ where
 }
 
 // Serves sessions at this place. The threads come before the place, since a client that could connect would be cut off if one of
-// them couldn't be started.
+// them couldn't be started: who has no `Keeper` can't put the socket there. Nor is anybody told before it is there (`InPlace`).
 fn serve_at<H, F>(
     rt: &H,
     alloc: Global,
@@ -75,12 +75,12 @@ where
     let idle = options.idle.map(Duration::from_secs);
     let listener = place.listen(rt, options.mode)?;
     let door = SharedDoor::new(alloc, listener, idle, *rt)?;
-    let _workers = start_workers(rt, alloc, &desks, &door, &watcher, options.sessions)?;
-    place.put(rt)?;
+    let keeper = start_workers(rt, alloc, &desks, &door, &watcher, options.sessions)?;
+    let there = place.put(rt, &keeper, options.sessions)?;
     if let Some(notice) = notice {
-        notice.give(rt)?;
+        notice.give(rt, &there)?;
     }
-    watch(rt, alloc, place, &watcher, faults)
+    watch(rt, alloc, place, &there, &watcher, faults)
 }
 
 // Tells the faults of sessions, and keeps the socket in its place. It returns only if the socket is lost.
@@ -88,6 +88,7 @@ fn watch<H, F>(
     rt: &H,
     alloc: Global,
     place: &Place<'_>,
+    there: &InPlace,
     watcher: &Watcher<H>,
     faults: &mut F,
 ) -> Result<(), Fault>
@@ -98,7 +99,7 @@ where
     'seconds: for _ in rt.forever() {
         let pending = watcher.take(rt);
         let _: io::Result<()> = tell_pending(alloc, pending, faults);
-        if place.keep(rt)? {
+        if place.keep(rt, there)? {
             let _: io::Result<()> = Fault::Restored.tell(alloc, faults);
         }
         if pending.has_faults() {

@@ -1,6 +1,7 @@
 //! The descriptor that is told when a hub listens.
 
 use crate::fault::Fault;
+use crate::place::InPlace;
 use libc::net::{POLLERR, POLLHUP, POLLOUT, poll};
 use libc::types::pollfd;
 use std::rt::Clock;
@@ -15,7 +16,7 @@ const RETRY: u64 = 100;
 const LAST_STREAM: i32 = 2;
 
 /// A descriptor of the program that gets a newline, as s6 wants it at its `notification-fd`.
-#[derive(Clone, Copy, Drop)]
+#[derive(Drop)]
 pub(crate) struct Notice {
     descriptor: i32,
 }
@@ -33,8 +34,8 @@ impl Notice {
         Ok(Notice { descriptor })
     }
 
-    /// Writes the newline at the descriptor's place, and closes the descriptor.
-    pub(crate) fn give<H: Clock + Wait>(self, rt: &H) -> Result<(), Fault> {
+    /// Writes the newline at the descriptor's place, and closes the descriptor. The hub's socket is there by then.
+    pub(crate) fn give<H: Clock + Wait>(self, rt: &H, _there: &InPlace) -> Result<(), Fault> {
         let given = write_newline(rt, self.descriptor);
         if self.descriptor > LAST_STREAM {
             libc::close(self.descriptor);

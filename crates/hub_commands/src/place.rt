@@ -1,9 +1,12 @@
 //! The place of a socket that one server after the other listens at.
 
+ghost use Rattle.std.specs.Prelude.{◌≡◌};
+
 use crate::fault::Fault;
 use crate::folder::{Folder, remove_left};
 use crate::lock::lock_beside;
 use crate::look::{has_socket, is_served};
+use hub_server::Keeper;
 use std::alloc::Global;
 use std::fs;
 use std::fs::{File, Files, Metadata, Permissions};
@@ -20,6 +23,12 @@ pub(crate) struct Place<'a> {
     folder: Folder,
     /// The device and the number that tell the hub's socket from each other file. None before it listens.
     own: Option<(u64, u64)>,
+}
+
+/// That a hub's socket was put in its place. Only [`Place::put`] makes one.
+#[derive(Drop)]
+pub(crate) struct InPlace {
+    made: (),
 }
 
 /// Takes the socket's place, if no server has it. An error is `Taken` if another server has it, `Listen` or `Memory`.
@@ -67,14 +76,22 @@ impl Place<'_> {
         Ok(listener)
     }
 
-    /// Puts the socket in its place. A stale socket's file makes way for it, and nothing else does.
-    pub(crate) fn put<H: Files + Net>(&self, rt: &H) -> Result<(), Fault> {
+    /// Puts the socket in its place, once there are threads for so many sessions. A stale socket's file makes way for it, and nothing
+    /// else does.
+    pub(crate) fn put<H: Files + Net>(
+        &self,
+        rt: &H,
+        _keeper: &Keeper,
+        _sessions: u64,
+    ) -> Result<InPlace, Fault>
+        requires crew { _keeper.now.crew.value.asked ≡ _sessions }
+    {
         if self.link(rt).is_ok() {
-            return Ok(());
+            return Ok(InPlace { made: () });
         }
         self.take_stale_away(rt)?;
         match self.link(rt) {
-            Ok(()) => Ok(()),
+            Ok(()) => Ok(InPlace { made: () }),
             Err(_) if has_socket(rt, self.socket)? => Err(Fault::Taken),
             Err(_) => Err(Fault::Listen),
         }
@@ -107,7 +124,7 @@ impl Place<'_> {
 
     /// Sees to it that the socket is in its place. Returns whether it was away and is back. An error is `Lost` if another file is
     /// in its place, or if it can't be put back.
-    pub(crate) fn keep<H: Files>(&self, rt: &H) -> Result<bool, Fault> {
+    pub(crate) fn keep<H: Files>(&self, rt: &H, _there: &InPlace) -> Result<bool, Fault> {
         match fs::symlink_metadata(rt, self.socket) {
             Ok(found) if self.own == Some(identity(&found)) => Ok(false),
             Ok(_) => Err(Fault::Lost),

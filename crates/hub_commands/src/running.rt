@@ -1,4 +1,5 @@
 //! What the program does with the words of its command line.
+ghost use Rattle.hub_commands.specs.Calls.{calling};
 ghost use Rattle.hub_commands.specs.Dialing.{dialing};
 ghost use Rattle.hub_commands.specs.Running.{CarriesOut, Judges, Runs};
 
@@ -56,6 +57,8 @@ where
     // What the subcommand of the plan ensures, and what the plan doesn't need is as it was.
     ensures { CarriesOut
         (dialing D.reaches D.Receiver.remaining D.Sender.contents)
+        (calling D.connects D.Incoming.remaining D.Incoming.reads D.Incoming.faults
+        D.Outgoing.contents D.Outgoing.faults)
         (record { remaining = R.remaining; reads = R.reads; faults = R.faults })
         (record { contents = W.contents; faults = W.faults })
         (record { contents = F.contents; faults = F.faults })
@@ -74,7 +77,7 @@ where
             Ok(0)
         }
         Plan::Call { socket } => {
-            call(rt, alloc, socket, input, output)?;
+            call(rt, alloc, dialer, socket, input, output)?;
             Ok(0)
         }
         Plan::Ask { socket, words } => ask_words(rt, alloc, dialer, socket, &words, output),
@@ -129,6 +132,8 @@ where
     // One plan is carried out. Or there is none, and everything is as it was.
     ensures { Runs
         (dialing D.reaches D.Receiver.remaining D.Sender.contents)
+        (calling D.connects D.Incoming.remaining D.Incoming.reads D.Incoming.faults
+        D.Outgoing.contents D.Outgoing.faults)
         (record { remaining = R.remaining; reads = R.reads; faults = R.faults })
         (record { contents = W.contents; faults = W.faults })
         (record { contents = F.contents; faults = F.faults })

@@ -13,6 +13,7 @@ use Rattle.hub_fifodir.proofs.Locking.{locks}
 use Rattle.hub_fifodir.proofs.Stores.{publishes, closes}
 use Rattle.hub_fifodir.proofs.Unlocks.{unlocks}
 use Rattle.hub_fifodir.proofs.Notes.{splits, joins}
+use Rattle.hub_fifodir.proofs.Pending.{pending_behind}
 
 pub asks_lock : (rules : Rules) (slots id : ℕ) (old me : M) → me ≡ old → IsIdle old → Allows (RuleHolds rules) slots id me 1 (λ _. 1) (lock_step (step slots 1 1 0 maybe.none) me)
 asks_lock rules slots id old me same idle = subst (λ (m : M). Allows (RuleHolds rules) slots id m 1 (λ _. 1) (lock_step (step slots 1 1 0 maybe.none) m)) (sym same) (locks book_of IsBehind IsSound rules slots id old idle.live idle.held idle.out)
@@ -25,11 +26,11 @@ asks_enter rules slots = enters book_of IsBehind IsSound rules slots (visitor ru
 
 pub asks_unlock : (rules : Rules) (slots id : ℕ) (old me : M) (b : Locked) (w : View) → me ≡ (old.0, (0, Some b) ∷ []) → Gives old b w → Allows (RuleHolds rules) slots id me 1 (λ _. 0) (λ _ m. (m.0 ≡ w) × (m.1 ≡ []))
 asks_unlock rules slots id old me b w same g = subst (λ (m : M). Allows (RuleHolds rules) slots id m 1 (λ _. 0) (λ _ m. (m.0 ≡ w) × (m.1 ≡ []))) (sym same)
-    (λ s h wide at small. let t = unlocks book_of IsBehind IsSound rules slots id (old.0, (0, Some b) ∷ []) g.0 b g.1 g.2 g.3 g.4 refl g.6 g.7 s h wide at small in (t.0, t.1, t.2, t.3, (t.4.0 ∙ sym g.5, t.4.1)))
+    (λ s h wide at small. let t = unlocks book_of IsBehind IsSound rules slots id (old.0, (0, Some b) ∷ []) g.0 b g.1 g.2 g.3 g.4 refl g.6 g.7 (pending_behind old.0.rules old.0.sight.seen old.0.sight.closed b g.6) s h wide at small in (t.0, t.1, t.2, t.3, (t.4.0 ∙ sym g.5, t.4.1)))
 
 pub asks_message : (rules : Rules) (slots id : ℕ) (me : M) (new : ℕ) (message : List ℕ) (w : View) → WritesMessage me new message w → Allows (RuleHolds rules) slots id me 0 (λ _. new) (λ _ m. (m.0 ≡ w) × (m.1 ≡ me.1))
 asks_message rules slots id me new message w g s h wide at small =
-    let t = publishes book_of IsBehind IsSound rules slots id me (writing_of me.0.role) message g.0 new g.3 g.1 g.2 g.4 g.5 s h wide at small in (t.0, t.1, t.2, t.3, (t.4.0 ∙ sym g.6, t.4.1))
+    let t = publishes book_of IsBehind IsSound rules slots id me (writing_of me.0.role) message g.0 new g.3 g.1 g.2 g.4 g.5 g.7 s h wide at small in (t.0, t.1, t.2, t.3, (t.4.0 ∙ sym g.6, t.4.1))
 
 pub asks_mark : (rules : Rules) (slots id : ℕ) (me : M) (new : ℕ) (w : View) → WritesMark me new w → Allows (RuleHolds rules) slots id me 0 (λ _. new) (λ _ m. (m.0 ≡ w) × (m.1 ≡ me.1))
 asks_mark rules slots id me new w g s h wide at small =

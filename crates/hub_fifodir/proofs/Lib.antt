@@ -13,5 +13,8 @@ pub mod Subscriptions
 pub mod Rests
 pub mod Opening
 pub mod Publishing
+pub mod Added
 pub mod Taking
 pub mod RuleLaws
+pub mod Pending
+pub mod Moments

@@ -41,6 +41,7 @@ module _ {B : Type 0} (book_of : B → Book) (represents : Rules → List Event 
         homes_are = refl;
         is_sound = ok;
         bounded = bounded;
+        pending = λ _ i next e. omega arith;
         locked = (fits, refl);
         each = all_more (Fits rules a) [] (visitor rules [] 0) record { ruled = refl; part = part_whole rules a; met_part = tt; holds = tt; in_role = tt } (λ k u e. absurd (maybe.some-ne-none u (sym e)));
         reached = (0, visitor rules [] 0, refl, (tt, inl refl));
@@ -82,6 +83,7 @@ module _ {B : Type 0} (book_of : B → Book) (represents : Rules → List Event 
           homes_are = ap (λ (l : List (maybe.Option (Option B))). set l 0 maybe.none) r.homes_are;
           is_sound = r.is_sound;
           bounded = r.bounded;
+          pending = r.pending;
           locked = at_own (HasHeld a.book) s.views id v w at (live, ap Some known.1);
           each = all_set (Fits rules a') s.views id w (seated rules a' id w v.role seat')
               (λ k u _ p. fits_map rules a a' k u u.role (λ h. record { ruled = h.ruled; part = h.part; met_part = h.met_part; holds = held_none rules a' k u.sight u.held (not_held rules a b k u.sight u.held is h.holds); in_role = h.in_role }) (r.each k u p));

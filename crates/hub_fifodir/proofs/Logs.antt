@@ -1,5 +1,5 @@
 -- Lists of events: prefixes, slices, and the letters of one publisher.
-use Rattle.std.proofs.Common.{◌≡◌, ◌≢◌, ◌⊎◌, ℕ, zero, suc, ◌+◌, ◌-◌, ◌≤◌, List, [], ◌∷◌, ◌++◌, map, length, take, drop, sym, refl, ap, ◌∙◌, subst, inl, inr, append_assoc, append-nil, arith, length-append, eq-eqb, ne_eqb, length-drop}
+use Rattle.std.proofs.Common.{◌≡◌, ◌≢◌, ◌⊎◌, ℕ, zero, suc, ◌+◌, ◌-◌, ◌≤◌, List, [], ◌∷◌, ◌++◌, length, take, drop, sym, refl, ap, ◌∙◌, subst, inl, inr, append_assoc, append-nil, arith, length-append, eq-eqb, ne_eqb, length-drop}
 use Rattle.std.proofs.lemmas.List.{take-append-le, drop-append-le, map-append, nil_from_length}
 use lib.Seq.{take-add, drop-drop}
 use mathlib.Core.Option.{some, some-injective, some-ne-none}

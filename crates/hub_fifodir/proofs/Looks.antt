@@ -50,6 +50,7 @@ module _ {B : Type 0} (book_of : B → Book) (represents : Rules → List Event 
     homes_are = r.homes_are;
     is_sound = r.is_sound;
     bounded = r.bounded;
+    pending = r.pending;
     locked = home_more a a.lock s.views w r.locked;
     each = all_more (Fits rules a) s.views w fits r.each;
     reached = somewhere_more (HasSeen (sight a.log a.mark)) s.views w r.reached;
@@ -85,6 +86,7 @@ module _ {B : Type 0} (book_of : B → Book) (represents : Rules → List Event 
           homes_are = r.homes_are;
           is_sound = r.is_sound;
           bounded = r.bounded;
+          pending = r.pending;
           locked = home_kept a a.lock s.views id v w at (λ h. absurd (none_some (sym idle ∙ h.1))) r.locked;
           each = all_set (Fits rules a) s.views id w (seated rules a id w v.role seat') (λ k u _ p. r.each k u p);
           reached = here (HasSeen (sight a.log a.mark)) s.views id v w at (live, inl refl);

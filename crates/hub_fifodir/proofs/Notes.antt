@@ -50,6 +50,7 @@ module _ {B : Type 0} (book_of : B → Book) (represents : Rules → List Event 
     homes_are = r.homes_are;
     is_sound = r.is_sound;
     bounded = r.bounded;
+    pending = r.pending;
     locked = home_kept book_of represents sound rules a a.lock s.views id v w at (λ h. absurd (none_some (sym idle ∙ h.1))) r.locked;
     each = all_set (Fits rules a) s.views id w fits (λ j u n q. r.each j u q);
     reached = seen;

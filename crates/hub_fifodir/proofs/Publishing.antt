@@ -22,18 +22,19 @@ use Rattle.hub_fifodir.specs.declared.views.Role.{Role}
 use Rattle.hub_fifodir.specs.declared.views.Role.TheVariants.{Publisher}
 use Rattle.hub_fifodir.specs.declared.locked.Locked.{Locked}
 use Rattle.hub_fifodir.specs.Events.{packed_word}
-use Rattle.hub_fifodir.specs.Events.{is_closed, front_word, StartsWith}
+use Rattle.hub_fifodir.specs.Events.{is_closed, front_word}
 use Rattle.hub_fifodir.specs.Locks.{RepresentsWorld, KeepsPublishers, status_of}
-use Rattle.hub_fifodir.specs.Rule.{IsLive, IsNumbered, IsSane, IsBehind, IsSound, book_of}
-use Rattle.hub_fifodir.specs.Steps.{M, Locks, Gives, Grows, IsWriter, WritesMessage, WritesMark, view_with_letters, closing, writing_of, mine_of, writer, view_at_rest}
+use Rattle.hub_fifodir.specs.Rule.{sight, IsLive, IsNumbered, IsSane, IsBehind, IsSound, book_of}
+use Rattle.hub_fifodir.specs.Steps.{M, Locks, Gives, IsWriter, WritesMessage, WritesMark, view_with_letters, closing, writing_of, mine_of, writer, view_at_rest}
 use Rattle.hub_record.specs.declared.limits.Policy.{Policy}
 use Rattle.hub_record.specs.declared.limits.Policy.TheVariants.{Hold, Evict}
-use Rattle.hub_fifodir.specs.Passes.{IsRefusedBy, most_needed}
+use Rattle.hub_fifodir.specs.Passes.{IsRefusedBy, HasAdded, most_needed}
 use Rattle.hub_record.proofs.Since.{by-append}
 use Rattle.hub_record.proofs.Publishing.{letters_after}
 use Rattle.hub_record.proofs.Keeps.{length_stamped}
-use Rattle.hub_fifodir.proofs.Logs.{by_own, starts_more}
+use Rattle.hub_fifodir.proofs.Logs.{by_own}
 use Rattle.hub_fifodir.proofs.Rests.{rests, same_book}
+use Rattle.hub_fifodir.proofs.Pending.{pending_same}
 
 true_apart : false ≡ true → ⊥
 true_apart e = cc
@@ -108,7 +109,18 @@ module _ (m0 m1 : M) (n : ℕ) (b : Locked) (w : IsWriter m0 n) (h : Locks book_
   pub rests_refused : (b' : Locked) → b' ≡ b → Gives m1 b' (view_at_rest m1.0 m1.0.role)
   rests_refused b' e = rests m1 b b' live_held is_held h.bounded (ap book_of e) (subst (IsBehind m1.0.rules m1.0.sight.seen m1.0.sight.closed) (sym e) h.behind)
 
-  is_n : (writing_of m1.0.role).number ≡ n
+  -- a seat that rests again is the publisher's between two calls
+  pub writer_still : (m3 : M) → m3 ≡ (view_at_rest m1.0 m1.0.role, []) → IsWriter m3 n
+  writer_still m3 e = record {
+    role = ap (λ (m : M). m.0.role) e ∙ role_held ∙ ap (writer n) (sym (ap (λ (m : M). mine_of m.0.role) e ∙ ap mine_of role_held));
+    held = ap (λ (m : M). m.0.held) e;
+    out = ap (λ (m : M). m.1) e;
+    met = ap (λ (m : M). m.0.met) e;
+    own = ap (λ (m : M). by n m.0.sight.seen) e ∙ mine_held ∙ sym (ap (λ (m : M). mine_of m.0.role) e ∙ ap mine_of role_held);
+    within = subst (λ (m : M). length m.0.sight.seen ≤ m.0.rules.limits.total) (sym e) h.renews.sound_is.0;
+  }
+
+  pub is_n : (writing_of m1.0.role).number ≡ n
   is_n = ap (λ (r : Role). (writing_of r).number) role_held
 
   is_writing : m1.0.role ≡ Publisher (writing_of m1.0.role)
@@ -148,6 +160,7 @@ module _ (m0 m1 : M) (n : ℕ) (b : Locked) (w : IsWriter m0 n) (h : Locks book_
       word_is (after_publish h.behind.world n message (Ok first)) (m1.0.sight.seen ++ as_events (writing_of m1.0.role).number message) 0 status word events_are (h.behind.closed ∙ ap is_closed is_open) s e,
       sound_longer (writing_of m1.0.role).number,
       refl,
+      pending_same m1.0.rules (m1.0.sight.seen ++ as_events (writing_of m1.0.role).number message) m1.0.sight.closed b b' behind (after.for.cursors ∙ sym h.behind.for.for.cursors),
     )
 
     module _ (m2 : M) (e2 : m2 ≡ (view_with_letters m1.0 (writing_of m1.0.role) message, m1.1)) where
@@ -165,9 +178,6 @@ module _ (m0 m1 : M) (n : ℕ) (b : Locked) (w : IsWriter m0 n) (h : Locks book_
         seen_is : m3.0.sight.seen ≡ m1.0.sight.seen ++ as_events n message
         seen_is = ap (λ (m : M). m.0.sight.seen) now ∙ ap (λ (k : ℕ). m1.0.sight.seen ++ as_events k message) is_n
 
-        pub closed_now : m3.0.sight.closed ≡ 0
-        closed_now = ap (λ (m : M). m.0.sight.closed) now ∙ is_open
-
         pub mine_longer : mine_of m3.0.role ≡ mine_of m0.0.role ++ message
         mine_longer = ap mine_of role_is
 
@@ -184,17 +194,14 @@ module _ (m0 m1 : M) (n : ℕ) (b : Locked) (w : IsWriter m0 n) (h : Locks book_
           within = sound_now.0;
         }
 
-        pub seen_longer : (others : List Event) × (m3.0.sight.seen ≡ (m0.0.sight.seen ++ others) ++ as_events n message)
-        seen_longer = (h.renews.grows.0.0, seen_is ∙ ap (λ (l : List Event). l ++ as_events n message) h.renews.grows.0.1)
-
-        pub grows_longer : Grows m0.0.sight m3.0.sight
-        grows_longer = (
-          subst (λ (l : List Event). StartsWith l m0.0.sight.seen) (sym seen_is) (starts_more m1.0.sight.seen (as_events n message) m0.0.sight.seen h.renews.grows.0),
-          λ k. absurd (k (sym (ap (λ (s : Sight). s.closed) (h.renews.grows.1 k)) ∙ is_open)),
+        pub added : HasAdded m1 n message (Ok first) m3
+        added = (
+          is_open,
+          r.1 ∙ ap length h.behind.events,
+          ap (λ (m : M). m.0.rules) now,
+          ap (λ (m : M). m.0.sight) now ∙ (λ i. sight (m1.0.sight.seen ++ as_events (is_n i) message) (is_open i)),
+          mine_longer ∙ ap (λ (l : List ℕ). l ++ message) (sym (ap mine_of role_held)),
         )
-
-        pub count_longer : first + length message ≡ length m3.0.sight.seen
-        count_longer = ap (λ (x : ℕ). x + length message) (r.1 ∙ ap length h.behind.events) ∙ sym (ap length seen_is ∙ length-append m1.0.sight.seen (as_events n message) ∙ ap (λ (x : ℕ). length m1.0.sight.seen + x) (length_stamped n message))
 
   -- the record was closed
   module _ (b' : Locked) (shut : h.behind.world.closed ≡ false) (after : RepresentsWorld b' (after_close h.behind.world)) (others : KeepsPublishers b b') (pos : 0 < n) where

@@ -31,7 +31,7 @@ use Rattle.hub_fifodir.proofs.Looks.{its_seat}
 abbrev S : Type 0
 S = State (Option Locked) View
 
-ticket_at : (rules : Rules) (s : S) (r : RuleHolds rules s) (j : ℕ) (t : Taking) (h : HasTicket s j t) → IsTicket r.a.book r.a.ticket_at j h.0.sight.seen t
+pub ticket_at : (rules : Rules) (s : S) (r : RuleHolds rules s) (j : ℕ) (t : Taking) (h : HasTicket s j t) → IsTicket r.a.book r.a.ticket_at j h.0.sight.seen t
 ticket_at rules s r j t h = subst (InRole r.a.book r.a.log r.a.ticket_at r.a.writer_at j h.0.sight.seen) h.2 (its_seat book_of IsBehind IsSound rules s r j h.0 h.1 (subst IsLive (sym h.2) tt)).in_role
 
 publisher_at : (rules : Rules) (s : S) (r : RuleHolds rules s) (j : ℕ) (p : Writing) (h : HasPublisher s j p) → IsPublisher r.a.book r.a.log r.a.writer_at j h.0.sight.seen p

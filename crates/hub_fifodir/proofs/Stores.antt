@@ -14,7 +14,7 @@ use Rattle.hub_fifodir.specs.declared.views.View.{View}
 use Rattle.hub_fifodir.specs.declared.views.Role.{Role}
 use Rattle.hub_fifodir.specs.declared.views.Role.TheVariants.{Ticket, Publisher}
 use Rattle.hub_fifodir.specs.Events.{front_word}
-use Rattle.hub_fifodir.specs.Rule.{LockState, held_by, lock_word, Account, IsGiven, IsPart, IsPartIfAny, InRole, IsSeat, Fits, Holds, sight, IsLive, HasId, HasSeen, HasHeld, HasClosed, At, IsNumbered, IsHome}
+use Rattle.hub_fifodir.specs.Rule.{LockState, held_by, lock_word, Account, IsGiven, HoldsPending, IsPart, IsPartIfAny, InRole, IsSeat, Fits, Holds, sight, IsLive, HasId, HasSeen, HasHeld, HasClosed, At, IsNumbered, IsHome}
 use Rattle.hub_fifodir.specs.Steps.{view_with_letters, closing}
 use Rattle.hub_record.proofs.Since.{by-append}
 use Rattle.hub_fifodir.proofs.Logs.{by_own, by_other, at_join, at_stamped}
@@ -57,8 +57,9 @@ module _ {B : Type 0} (book_of : B → Book) (represents : Rules → List Event 
 
   pub publishes : (slots id : ℕ) (me : Me (Option B) View) (p : Writing) (message : List ℕ) (k : Book) (new : ℕ) → me.0.role ≡ Publisher p → me.0.held ≡ Some k → me.0.sight.closed ≡ 0
       → new ≡ front_word (me.0.sight.seen ++ as_events p.number message) 0 → sound me.0.rules (me.0.sight.seen ++ as_events p.number message)
+      → HoldsPending me.0.rules (me.0.sight.seen ++ as_events p.number message) k
       → Allows R slots id me 0 (λ _. new) (λ _ m. (m.0 ≡ view_with_letters me.0 p message) × (m.1 ≡ me.1))
-  publishes slots id me p message k new role held unclosed is ok s r _ at _ =
+  publishes slots id me p message k new role held unclosed is ok few s r _ at _ =
       let a = r.a in let v = me.0 in let x = as_events p.number message in let w = view_with_letters v p message in
       let (live, seat, h, mine, seen, unmarked) = at_work s r id v p k at role held unclosed in
       let log : List Event = a.log ++ x in
@@ -82,6 +83,8 @@ module _ {B : Type 0} (book_of : B → Book) (represents : Rules → List Event 
           homes_are = r.homes_are;
           is_sound = subst (λ (x : Rules). sound x log) seat.ruled (subst (λ (l : List Event). sound v.rules (l ++ x)) seen ok);
           bounded = r.bounded;
+          pending = subst (λ (y : Rules). HoldsPending y log a.book) seat.ruled
+              (subst (λ (l : List Event). HoldsPending v.rules (l ++ x) a.book) seen (subst (λ (b : Book). HoldsPending v.rules (v.sight.seen ++ x) b) h.1 few));
           locked = subst (λ (t : LockState B). IsHome book_of represents sound rules a' t (set s.views id w)) (sym h.0) (at_kept (HasHeld a.book) s.views id v w id at (λ e. (tt, e.1)) (home_taken a id s.views h.0 r.locked));
           each = all_set (Fits rules a') s.views id w (seated rules a' id w w.role seat')
               (λ j u n q. fits_map rules a a' j u u.role (λ f. record {
@@ -127,6 +130,7 @@ module _ {B : Type 0} (book_of : B → Book) (represents : Rules → List Event 
           homes_are = r.homes_are;
           is_sound = r.is_sound;
           bounded = r.bounded;
+          pending = r.pending;
           authors = r.authors;
           words_are = ap (λ (l : List ℕ). set l 0 new) r.words_are ∙ ap (λ (n : ℕ). n ∷ lock_word a.lock ∷ []) word;
           locked = subst (λ (t : LockState B). IsHome book_of represents sound rules a' t (set s.views id w)) (sym h.0) (at_kept (HasHeld a.book) s.views id v w id at (λ e. e) (home_taken a id s.views h.0 r.locked));

@@ -1,10 +1,15 @@
 -- Subscriptions by id, if one is changed or a new one is added, and the cursors of a world.
-use Rattle.std.proofs.Common.{ℕ, ◌≡◌, ◌≢◌, ◌+◌, ◌<◌, ◌≤◌, true, false, List, [], ◌∷◌, ◌++◌, length, Option, Some, None, nat_eq, refl, sym, ap, ◌∙◌, inl, inr, arith}
+use Rattle.std.proofs.Common.{ℕ, ◌≡◌, ◌≢◌, ◌+◌, ◌<◌, ◌≤◌, true, false, List, [], ◌∷◌, ◌++◌, length, Option, Some, None, Err, nat_eq, refl, sym, ap, subst, ◌∙◌, inl, inr, arith}
 use Rattle.std.proofs.lemmas.Bool.{ne_eqb, eq-eqb, eqb-true, cases_Bool}
 use Rattle.std.specs.Option.{option_map}
-use Rattle.hub_record.specs.World.{World, Subscription, subscription_in, found_from, changed_from, as_cancelled}
+use Rattle.hub_record.specs.declared.SubError.{SubError}
+use Rattle.hub_record.specs.declared.SubError.TheVariants as sub
+use Rattle.hub_record.specs.declared.limits.Limits.{Limits}
+use Rattle.hub_record.specs.declared.limits.TheConstants.{MOST_PASSES}
+use Rattle.hub_record.specs.World.{World, Subscription, IsWorld, SubscribeReply, subscription_in, current_from, found_from, changed_from, as_cancelled}
 use Rattle.hub_record.specs.Kept.{Kept, Represents}
 use Rattle.hub_record.proofs.Cursors.{lookup_current}
+use Rattle.hub_fifodir.specs.Passes.{MayRefuseBy}
 use Rattle.hub_fifodir.specs.Rule.{cursor_of, IsGiven}
 
 pub found_changed : (f : Subscription → Subscription) (from : ℕ) (subs : List Subscription) (id : ℕ) (s : Subscription) → found_from from subs id ≡ Some s → (f s).current ≡ true → found_from from (changed_from f from subs id) id ≡ Some (f s)
@@ -88,3 +93,17 @@ found_active from (x ∷ rest) i s h =
       ]
       | inr e ↦ found_active (from + 1) rest i s (simp e at h)
     ]
+
+-- ---- why there is no ticket
+
+few_current : (from : ℕ) (subs : List Subscription) → length (current_from from subs) ≤ length subs
+few_current from [] = omega arith
+few_current from (s ∷ rest) =
+    let few = few_current (from + 1) rest in
+    elim (cases_Bool s.current) [ inl st ↦ simp st (omega arith) | inr st ↦ simp st (omega arith) ]
+
+pub may_refuse : (w : World) (limits : Limits) (e : SubError) → IsWorld w → w.limits ≡ limits → SubscribeReply w (Err e) → MayRefuseBy limits e
+may_refuse w limits sub.Many i is reply =
+    let few = few_current 1 w.subscriptions in let given = i.given in let many = reply.1 in
+    subst (λ (l : Limits). MOST_PASSES ≤ l.ids) is (omega arith)
+may_refuse w limits e i is reply = tt

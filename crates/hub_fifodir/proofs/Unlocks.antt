@@ -15,7 +15,7 @@ use Rattle.hub_fifodir.specs.declared.views.View.{View}
 use Rattle.hub_fifodir.specs.declared.views.Role.{Role}
 use Rattle.hub_fifodir.specs.declared.views.Role.TheVariants.{Ticket, Publisher}
 use Rattle.hub_fifodir.specs.Locks.{is_current}
-use Rattle.hub_fifodir.specs.Rule.{free, Account, IsGiven, InRole, IsSeat, Fits, Holds, sight, resting, HasId, HasSeen, HasClosed, At, IsNumbered, cursor_of}
+use Rattle.hub_fifodir.specs.Rule.{free, Account, IsGiven, HoldsPending, InRole, IsSeat, Fits, Holds, sight, resting, HasId, HasSeen, HasClosed, At, IsNumbered, cursor_of}
 use Rattle.hub_fifodir.specs.Steps.{with_value_at, Changes}
 use Rattle.hub_fifodir.proofs.ViewLists.{all_set, at_kept, at_own, here}
 use Rattle.hub_fifodir.proofs.OneSeat.{seated, fits_map, held_none, held_elsewhere, numbered_live, number_given}
@@ -75,8 +75,9 @@ module _ {B : Type 0} (book_of : B → Book) (represents : Rules → List Event 
 
   pub unlocks : (slots id : ℕ) (me : Me (Option B) View) (k : Book) (b : B) (r' : Role) (i0 n0 : ℕ) → me.0.held ≡ Some k → me.1 ≡ (0, Some b) ∷ []
       → represents me.0.rules me.0.sight.seen me.0.sight.closed b → Changes me.0.sight.seen me.0.role r' k (book_of b) i0 n0
+      → HoldsPending me.0.rules me.0.sight.seen (book_of b)
       → Allows R slots id me 1 (λ _. 0) (λ _ m. (m.0 ≡ resting me.0.rules me.0.sight r') × (m.1 ≡ []))
-  unlocks slots id me k b r' i0 n0 held out fits c s r _ at _ =
+  unlocks slots id me k b r' i0 n0 held out fits c few s r _ at _ =
       let a = r.a in let v = me.0 in let w = resting v.rules v.sight r' in
       let seat = its_seat book_of represents sound rules s r id v at c.live in
       let h = subst (Holds rules a id v.sight) held seat.holds in
@@ -101,6 +102,7 @@ module _ {B : Type 0} (book_of : B → Book) (represents : Rules → List Event 
           homes_are = ap (put_back s.homes) out ∙ ap (λ (l : List (maybe.Option (Option B))). set l 0 (maybe.some (Some b))) r.homes_are;
           is_sound = r.is_sound;
           bounded = c.bounded;
+          pending = subst (λ (x : Rules). HoldsPending x a.log k') seat.ruled (subst (λ (l : List Event). HoldsPending v.rules l k') seen few);
           locked = (subst (λ (x : Rules). represents x a.log a.mark b) seat.ruled (subst (λ (n : ℕ). represents v.rules a.log n b) closed (subst (λ (l : List Event). represents v.rules l v.sight.closed b) seen fits)), refl);
           each = all_set (Fits rules a') s.views id w (seated rules a' id w r' seat')
               (λ j u n q. fits_map rules a a' j u u.role (λ f. record {

@@ -1,8 +1,9 @@
 -- What the rule says about any table under it.
-use Rattle.std.specs.Prelude.{◌≢◌, slice_index, length, ◌≡◌, ◌⊎◌, ◌≤◌, ◌+◌, ◌∷◌, [], ℕ, Option, Some, true, false}
+use Rattle.std.specs.Prelude.{◌≢◌, slice_index, length, ◌≡◌, ◌⊎◌, ◌≤◌, ◌+◌, ◌∷◌, [], ℕ, Bool, Option, Some, true, false}
 use mathlib.Core.Option.{some}
 use lib.ListN.{get_elem?}
 use Rattle.atomic_table.specs.Table.{State}
+use Rattle.hub_letters.specs.declared.flags.Flags.{Flags}
 use Rattle.hub_letters.specs.Flags.{flags_of}
 use Rattle.hub_record.specs.declared.limits.Policy.TheVariants.{Hold}
 use Rattle.hub_record.specs.World.{World, base, letters, is_evicted}
@@ -77,3 +78,9 @@ pub record IsHistory (rules : Rules) (s : State (Option Locked) View) (b : Locke
 
 abbrev pub RecordIsHistory : Type 0
 RecordIsHistory = (rules : Rules) (s : Board) (b : Locked) → RuleHolds rules s → IsFree s b → (w : World) × IsHistory rules s b w
+
+-- With the policy Hold, no more is pending for a current ticket than may be, whoever has the lock: the front word shows how many
+-- events there are.
+abbrev pub HoldKeepsAllAlways : Type 0
+HoldKeepsAllAlways = (rules : Rules) (s : Board) (j : ℕ) (t : Taking) (number : ℕ) (closed : Bool) (flags : Flags) → RuleHolds rules s → rules.limits.policy ≡ Hold
+    → HasTicket s j t → t.gone ≡ false → slice_index s.words 0 ≡ packed_word number closed flags → number ≤ t.next + rules.limits.waiting

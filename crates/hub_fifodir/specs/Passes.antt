@@ -1,7 +1,9 @@
 -- What contracts say about a fifodir and its passes.
-use Rattle.std.specs.Prelude.{◌≡◌, ◌≢◌, ℕ, ◌+◌, ◌-◌, ◌<◌, ◌≤◌, ◌++◌, ◌⊎◌, ◌&&◌, Bool, true, false, min, length, drop, List, [], Option, Some, None, Err}
+use Rattle.std.specs.Prelude.{◌≡◌, ◌≢◌, ℕ, ◌+◌, ◌-◌, ◌<◌, ◌≤◌, ◌++◌, ◌⊎◌, ◌&&◌, Bool, true, false, min, length, drop, List, [], Option, Some, None, Result, Ok, Err, take}
 use Rattle.atomic_table.specs.Seated.{TableId}
 use Rattle.hub_letters.specs.Flags.{flags_of}
+use Rattle.hub_letters.specs.declared.state.State.{State}
+use Rattle.hub_letters.specs.States.{word_behind}
 use Rattle.hub_record.specs.declared.Event.{Event}
 use Rattle.hub_record.specs.declared.Kind.{Kind}
 use Rattle.hub_record.specs.declared.limits.Limits.{Limits}
@@ -13,7 +15,9 @@ use Rattle.hub_record.specs.declared.Taken.TheVariants.{Got, Nothing, End, Evict
 use Rattle.hub_record.specs.declared.PubError.{PubError}
 use Rattle.hub_record.specs.declared.SubError.{SubError}
 use Rattle.hub_record.specs.declared.PubError.TheVariants as post
-use Rattle.hub_record.specs.World.{World, IsWorld, letters, as_events, is_slow, evicts, IsLawfulIn, IsUnlawfulIn, SubscribeReply}
+use Rattle.hub_record.specs.declared.SubError.TheVariants as sub
+use Rattle.hub_record.specs.declared.limits.TheConstants.{MOST_PASSES}
+use Rattle.hub_record.specs.World.{letters, as_events, is_slow, evicts, IsLawfulIn, IsUnlawfulIn}
 use Rattle.hub_fifodir.specs.declared.views.Rules.{Rules}
 use Rattle.hub_fifodir.specs.declared.views.Sight.{Sight}
 use Rattle.hub_fifodir.specs.declared.views.Role.{Role}
@@ -21,9 +25,11 @@ use Rattle.hub_fifodir.specs.declared.fifodir.Fifodir.{Fifodir}
 use Rattle.hub_fifodir.specs.declared.publisher.Publisher.{Publisher}
 use Rattle.hub_fifodir.specs.declared.ticket.Ticket.{Ticket}
 use Rattle.hub_fifodir.specs.declared.bell.Waiter.{Waiter}
+use Rattle.hub_fifodir.specs.declared.bell.Heard.{Heard}
+use Rattle.hub_fifodir.specs.declared.bell.Looked.{Looked}
 use Rattle.hub_fifodir.specs.Events.{slice, is_closed}
-use Rattle.hub_fifodir.specs.Rule.{IsSound}
-use Rattle.hub_fifodir.specs.Steps.{Grows, KnowsOwnClose, mine_of, got_of}
+use Rattle.hub_fifodir.specs.Rule.{IsSound, sight}
+use Rattle.hub_fifodir.specs.Steps.{M, Grows, KnowsOwnClose, mine_of, got_of}
 
 -- ---- a fifodir
 
@@ -42,6 +48,13 @@ limits_of f = f.rules.limits
 -- the table of the fifodir that a waiter waits for
 abbrev pub table_of_waiter : Waiter → TableId
 table_of_waiter w = w.seat.table_id
+
+-- how often the bell had rung when a waiter heard it, before it looks and after
+abbrev pub rings_heard : Heard → ℕ
+rings_heard h = h.rings
+
+abbrev pub rings_looked : Looked → ℕ
+rings_looked l = l.rings
 
 -- ---- passes
 
@@ -172,13 +185,33 @@ IsRefusedBy rules s message post.Full = (s.closed ≡ 0) × IsLawfulIn rules.kin
 abbrev pub IsRefusedAt : Publisher → List ℕ → PubError → Type 0
 IsRefusedAt p message e = IsRefusedBy (publisher_view p).rules (publisher_sight p) message e
 
+-- A seat that had the lock added a message of the publisher n, and released the lock. If the message was refused, it changed nothing.
+abbrev pub HasAdded : M → ℕ → List ℕ → Result ℕ PubError → M → Type 0
+HasAdded m n message (Ok first) m' = (m.0.sight.closed ≡ 0) × (first ≡ length m.0.sight.seen) × (m'.0.rules ≡ m.0.rules)
+    × (m'.0.sight ≡ sight (m.0.sight.seen ++ as_events n message) 0) × (mine_of m'.0.role ≡ mine_of m.0.role ++ message)
+HasAdded m n message (Err e) m' = (m'.0.rules ≡ m.0.rules) × (m'.0.sight ≡ m.0.sight) × (m'.0.role ≡ m.0.role) × IsRefusedBy m.0.rules m.0.sight message e
+
+-- the word for a state behind the first n events that a publisher has seen
+abbrev pub word_told : State → ℕ → Publisher → List ℕ
+word_told state n p = word_behind state (letters (take n (seen_by p)))
+
+-- the word for a state behind all that a publisher has seen
+abbrev pub word_to_tell : State → Publisher → List ℕ
+word_to_tell state p = word_behind state (letters (seen_by p))
+
 -- a ticket begins at the end of what it has seen
 abbrev pub HasSubscribed : Ticket → Type 0
 HasSubscribed t = (ticket_mark t ≡ length (ticket_seen t)) × (ticket_next t ≡ ticket_mark t) × (got t ≡ [])
 
--- Why there is no ticket: some record of the fifodir's kind and within its limits refuses a subscription so.
+-- There are many subscriptions only if so many ids may be given. Of the other reasons nothing is said: at any time another thread
+-- may close a fifodir or use up its ids, and memory may run out.
+abbrev pub MayRefuseBy : Limits → SubError → Type 0
+MayRefuseBy limits sub.Many = MOST_PASSES ≤ limits.ids
+MayRefuseBy limits e = Unit {0}
+
+-- why there is no ticket
 abbrev pub MayRefuseTicket : Fifodir → SubError → Type 0
-MayRefuseTicket f e = (w : World) × IsWorld w × (w.kind ≡ kind_of f) × (w.limits ≡ limits_of f) × SubscribeReply w (Err e)
+MayRefuseTicket f e = MayRefuseBy (limits_of f) e
 
 -- whether a ticket with this next is evicted, by what it has seen: the policy is Evict, and more is pending than may be
 abbrev pub is_evicted_by : Rules → Sight → ℕ → Bool

@@ -1,11 +1,12 @@
 -- The rule of the table: there is one history, and each seat has seen a prefix of it.
-use Rattle.std.specs.Prelude.{◌≡◌, ◌≢◌, ◌⊎◌, ℕ, ◌≤◌, ◌<◌, List, [], ◌∷◌, length, Option, Some, None, Bool, true, false, not, nat_eq}
+use Rattle.std.specs.Prelude.{◌≡◌, ◌≢◌, ◌⊎◌, ℕ, ◌+◌, ◌≤◌, ◌<◌, List, [], ◌∷◌, length, Option, Some, None, Bool, true, false, not, nat_eq}
 use Rattle.std.specs.Map.{lookup}
 use mathlib.Core.Option as maybe
 use lib.ListN.{get_elem?}
 use Rattle.atomic_table.specs.Table.{State}
 use Rattle.hub_record.specs.declared.Event.{Event}
 use Rattle.hub_record.specs.declared.Kind.TheVariants.{Plain}
+use Rattle.hub_record.specs.declared.limits.Policy.TheVariants.{Hold}
 use Rattle.hub_record.specs.World.{World, least_limits, letters, IsLawfulIn}
 use Rattle.hub_record.specs.Runs.{by}
 use Rattle.hub_fifodir.specs.declared.views.Rules.{Rules}
@@ -70,6 +71,10 @@ IsGiven n most = (0 < n) × (n ≤ most)
 pub record IsBounded (book : Book) : Type 0 where
   pub cursors : (i next : ℕ) → cursor_of book.cursors i ≡ Some next → IsGiven i book.ids
   pub active : (n : ℕ) → is_current book.active n ≡ true → IsGiven n book.numbers
+
+-- with the policy Hold, no more events are pending behind a cursor than may be
+abbrev pub HoldsPending : Rules → List Event → Book → Type 0
+HoldsPending rules log book = rules.limits.policy ≡ Hold → (i next : ℕ) → cursor_of book.cursors i ≡ Some next → length log ≤ next + rules.limits.waiting
 
 -- free, with the locked value in its slot, or taken by a seat
 pub data LockState (B : Type 0) : Type 0 where
@@ -174,6 +179,7 @@ module _ {B : Type 0} (book_of : B → Book) (represents : Rules → List Event 
     pub homes_are : s.homes ≡ home a.lock ∷ []
     pub is_sound : sound rules a.log
     pub bounded : IsBounded a.book
+    pub pending : HoldsPending rules a.log a.book
     pub locked : IsHome rules a a.lock s.views
     pub each : (j : ℕ) (v : View) → get_elem? s.views j ≡ maybe.some v → Fits rules a j v
     -- some seat has seen the whole record, and the publisher that closed it has

@@ -15,7 +15,7 @@ use Rattle.hub_fifodir.specs.declared.views.Role.TheVariants.{Note, Ticket, Publ
 use Rattle.hub_fifodir.specs.declared.locked.Locked.{Locked}
 use Rattle.hub_fifodir.specs.Events.{StartsWith, slice, front_word}
 use Rattle.hub_fifodir.specs.Locks.{is_current}
-use Rattle.hub_fifodir.specs.Rule.{sight, view, resting, visitor, IsLive, IsSane, HasId, IsNumbered, cursor_of, cursor_if, IsGiven, IsBounded, InRole, book_of, IsBehind, IsSound}
+use Rattle.hub_fifodir.specs.Rule.{sight, view, resting, visitor, IsLive, IsSane, HasId, IsNumbered, cursor_of, cursor_if, IsGiven, IsBounded, HoldsPending, InRole, book_of, IsBehind, IsSound}
 
 -- ---- what a seat learns
 
@@ -133,6 +133,10 @@ pub record IsWriter (m : M) (n : ℕ) : Type 0 where
   pub own : by n m.0.sight.seen ≡ mine_of m.0.role
   pub within : length m.0.sight.seen ≤ m.0.rules.limits.total
 
+-- the seat of the current publisher n has taken the lock, and the value b behind it
+abbrev pub HoldsAsWriter : M → ℕ → Locked → Type 0
+HoldsAsWriter m n b = (before : M) × IsWriter before n × Holding before b m
+
 -- the seat of a current ticket, between two calls
 pub record IsTaker (m : M) (id mark next : ℕ) : Type 0 where
   pub role : m.0.role ≡ taker id mark next (got_of m.0.role)
@@ -161,6 +165,7 @@ abbrev pub WritesMessage : M → ℕ → List ℕ → View → Type 0
 WritesMessage m new message w = (k : Book) × (m.0.held ≡ Some k) × (m.0.sight.closed ≡ 0) × (m.0.role ≡ Publisher (writing_of m.0.role))
     × (new ≡ front_word (m.0.sight.seen ++ as_events (writing_of m.0.role).number message) 0) × IsSound m.0.rules (m.0.sight.seen ++ as_events (writing_of m.0.role).number message)
     × (w ≡ view_with_letters m.0 (writing_of m.0.role) message)
+    × HoldsPending m.0.rules (m.0.sight.seen ++ as_events (writing_of m.0.role).number message) k
 
 abbrev pub WritesMark : M → ℕ → View → Type 0
 WritesMark m new w = (k : Book) × (m.0.held ≡ Some k) × (m.0.sight.closed ≡ 0) × (m.0.role ≡ Publisher (writing_of m.0.role))

@@ -70,8 +70,12 @@ pub struct Heard {
 }
 
 impl Heard {
+    ghost use Rattle.hub_fifodir.specs.Passes.{rings_heard, rings_looked};
+
     /// The same number, after a look.
-    pub(crate) fn after_look(self) -> Looked {
+    pub(crate) fn after_look(self) -> Looked
+        ensures { rings_looked result ≡ rings_heard self }
+    {
         Looked { rings: self.rings }
     }
 }
@@ -83,8 +87,12 @@ pub struct Looked {
 }
 
 impl Looked {
+    ghost use Rattle.hub_fifodir.specs.Passes.{rings_looked};
+
     /// How often the bell had rung.
-    pub fn rings(self) -> u64 {
+    pub fn rings(self) -> u64
+        ensures { result ≡ rings_looked self }
+    {
         self.rings
     }
 }

@@ -28,6 +28,7 @@ pub struct Fifodir {
 
 impl Fifodir {
     ghost use Rattle.hub_fifodir.specs.Passes.{IsOf, IsStatusOf, OnlyLooks, Remains, table_of, table_of_waiter, rules_of, kind_of, limits_of};
+    ghost use Rattle.hub_fifodir.specs.Passes.{rings_heard, rings_looked};
 
     /// An open fifodir without events and passes, with a bell of its own.
     pub fn new(alloc: Global, kind: Kind, limits: Limits) -> Result<Fifodir, AllocError>
@@ -127,6 +128,7 @@ impl Fifodir {
         ensures remains { Remains self.now (A.view me.old) (A.view me.new) }
         ensures looks { OnlyLooks (A.view me.old) (A.view me.new) }
         ensures status { IsStatusOf result.0 (A.view me.new).sight }
+        ensures heard { rings_looked result.1 ≡ rings_heard heard }
     {
         (self.status(me), heard.after_look())
     }

@@ -2,7 +2,7 @@
 ghost use Rattle.std.specs.Prelude.{◌≡◌, ◌≤◌, ◌++◌, drop, length};
 ghost use Rattle.hub_record.specs.Runs.{by};
 ghost use Rattle.hub_fifodir.specs.Laws.{TicketsDiffer, PublishersDiffer, SeatsAgree, RecordIsHistory};
-ghost use Rattle.hub_fifodir.specs.Laws.{TicketsHaveCursors, CursorsHaveTickets, ActiveHavePublishers, BaseIsBehind, HoldKeepsAll};
+ghost use Rattle.hub_fifodir.specs.Laws.{TicketsHaveCursors, CursorsHaveTickets, ActiveHavePublishers, BaseIsBehind, HoldKeepsAll, HoldKeepsAllAlways};
 ghost use Rattle.hub_fifodir.specs.Passes.{publisher_number, seen_by, mine};
 ghost use Rattle.hub_fifodir.specs.Passes.{ticket_mark, ticket_next, ticket_seen, ticket_rules, got};
 
@@ -70,4 +70,10 @@ pub fn publishes_each_once(_publisher: &Publisher)
 /// A record never has more events than the total of its limits.
 pub fn keeps_the_total(_ticket: &Ticket)
     ensures { length (ticket_seen _ticket.now) ≤ (ticket_rules _ticket.now).limits.total }
+{}
+
+/// With the policy Hold no more events are pending for a current ticket than may be, also between the steps of a call that has the
+/// lock.
+pub fn hold_keeps_all_always()
+    ensures { HoldKeepsAllAlways }
 {}

@@ -1,13 +1,15 @@
 //! The value behind the lock.
 ghost use Rattle.std.specs.Prelude.{◌≡◌, ◌++◌, [], length, drop, IfOk, OnErr, OnOk};
-ghost use Rattle.hub_record.specs.World.{World, empty_world, SubscribeReply, after_subscribe, PublishReply, after_publish};
+ghost use Rattle.hub_letters.specs.States.{word_behind};
+ghost use Rattle.hub_record.specs.declared.Kind.TheVariants.{Service};
+ghost use Rattle.hub_record.specs.World.{World, empty_world, letters, SubscribeReply, after_subscribe, PublishReply, after_publish};
 ghost use Rattle.hub_record.specs.World.{take_reply, take_events, after_take};
 ghost use Rattle.hub_record.specs.World.{cancel_reply, after_cancel, close_reply, after_close};
 ghost use Rattle.hub_fifodir.specs.Locks.{RepresentsWorld, status_of, numbers_of, given_by};
 ghost use Rattle.hub_fifodir.specs.Locks.{PublisherReply, IsAfterPublisher, HasLeft, KeepsPublishers, KeepsRecord};
 
 use crate::PassError;
-use hub_letters::Letter;
+use hub_letters::{Letter, State, Word};
 use hub_record::{
     Closed, Event, Kind, Limits, MOST_PASSES, NoId, PubError, Record, Status, SubError, Taken,
 };
@@ -87,6 +89,15 @@ impl Locked {
         ensures err { OnErr result (self.new ≡ self.old) }
     {
         self.kept.publish(number, letters)
+    }
+
+    /// The letters that bring the service to a state: none if it is there already.
+    pub fn word(&self, state: State) -> Word
+        requires { self.now.kept.value.kind ≡ Service }
+        ensures { (w : World) → RepresentsWorld self.now w
+            → result ≡ word_behind state (letters w.events) }
+    {
+        self.kept.word(state)
     }
 
     /// Takes what is pending behind a cursor, as far as it fits. An error says that the id has no cursor.

@@ -1,11 +1,16 @@
 //! Publishers, and the calls of a fifodir that take one.
-ghost use Rattle.std.specs.Prelude.{◌≡◌, ◌≢◌, ◌<◌, [], IfOk, IfErr, OnErr, OnOk};
-ghost use Rattle.hub_fifodir.specs.Steps.{IsWriter};
+ghost use Rattle.std.specs.Prelude.{◌≡◌, ◌≢◌, ◌<◌, [], true, IfOk, IfErr, OnErr, OnOk};
+ghost use Rattle.hub_letters.specs.States.{is_at_end};
+ghost use Rattle.hub_record.specs.World.{letters};
+ghost use Rattle.hub_record.specs.declared.Kind.TheVariants.{Service};
+ghost use Rattle.hub_fifodir.specs.Rule.{IsSound};
+ghost use Rattle.hub_fifodir.specs.Notes.{KeepsPlace};
+ghost use Rattle.hub_fifodir.specs.Steps.{IsWriter, HoldsAsWriter};
 
 use crate::fifodir::Fifodir;
-use crate::steps::Seat;
+use crate::steps::{Held, Seat};
 use crate::{PassError, steps, word};
-use hub_letters::Letter;
+use hub_letters::{Letter, State};
 use hub_record::{Closed, Enter, PubError};
 use std::sync::Wait;
 
@@ -31,7 +36,8 @@ impl Publisher {
 
 impl Fifodir {
     ghost use Rattle.hub_fifodir.specs.Passes.{IsPublisherOf, Remains, HasSoundSight, publisher_number, publisher_view};
-    ghost use Rattle.hub_fifodir.specs.Passes.{closed_mark, mine, KnewOwnClose, HasPublished, IsRefusedAt};
+    ghost use Rattle.hub_fifodir.specs.Passes.{table_of, kind_of, closed_mark, mine, seen_by, KnewOwnClose, HasPublished, IsRefusedAt};
+    ghost use Rattle.hub_fifodir.specs.Passes.{HasAdded, word_told, word_to_tell};
 
     /// A new publisher, which has published nothing. A closed fifodir gives publishers too.
     pub fn publisher<R: Wait + Enter>(&self, rt: &R) -> Result<Publisher, PassError>
@@ -67,18 +73,53 @@ impl Fifodir {
         ensures err { OnErr result (mine me.new ≡ mine me.old) }
         ensures refused { IfErr result (λ e. IsRefusedAt me.new letters.now e) }
     {
+        let held = self.lock(rt, &mut me.seat);
+        self.add(me.number, &mut me.seat, held, letters)
+    }
+
+    /// Publishes the letters that bring the service to a state from where it is, as one message: none if it is there already.
+    /// It finds out where the service is and publishes in one step under the lock, so nothing comes between.
+    pub fn tell<R: Wait>(&self, rt: &R, me: &mut Publisher, state: State) -> Result<u64, PubError>
+        requires of { IsPublisherOf self.now me.old }
+        requires service { kind_of self.now ≡ Service }
+        ensures remains { Remains self.now (publisher_view me.old) (publisher_view me.new) }
+        ensures own { KnewOwnClose me.old me.new }
+        ensures ok { IfOk result (λ n. HasPublished me.old (word_told state n me.new) n me.new) }
+        ensures there { OnOk result (is_at_end state (letters (seen_by me.new)) ≡ true) }
+        ensures err { OnErr result (mine me.new ≡ mine me.old) }
+        ensures refused { IfErr result (λ e. IsRefusedAt me.new (word_to_tell state me.new) e) }
+    {
+        let held = self.lock(rt, &mut me.seat);
+        let word = held.locked.word(state);
+        self.add(me.number, &mut me.seat, held, word.letters())
+    }
+
+    // Adds a message of this publisher, whose seat has the lock, and releases the lock.
+    fn add(
+        &self,
+        number: u64,
+        seat: &mut Seat,
+        mut held: Held<'_>,
+        letters: &[Letter],
+    ) -> Result<u64, PubError>
+        requires table { seat.old.at.table_id ≡ table_of self.now }
+        requires writer { HoldsAsWriter seat.old.at.me number held.locked }
+        ensures table { KeepsPlace seat.old.at seat.new.at }
+        ensures writer { IsWriter seat.new.at.me number }
+        ensures sound { IsSound seat.new.at.me.0.rules seat.new.at.me.0.sight.seen }
+        ensures added { HasAdded seat.old.at.me number letters.now result seat.new.at.me }
+    {
         let board = self.board();
-        let mut held = self.lock(rt, &mut me.seat);
-        match held.locked.publish(me.number, letters) {
+        match held.locked.publish(number, letters) {
             Ok(first) => {
                 let word = word::pack(held.locked.status());
-                steps::write_message(board, &mut me.seat, word, letters);
-                steps::rest(board, &mut me.seat, held);
+                steps::write_message(board, seat, word, letters);
+                steps::rest(board, seat, held);
                 self.waiters().tell();
                 Ok(first)
             }
             Err(refusal) => {
-                steps::rest(board, &mut me.seat, held);
+                steps::rest(board, seat, held);
                 Err(refusal)
             }
         }

@@ -10,6 +10,8 @@ use Rattle.hub_requests.specs.declared.reply.Refusal.TheVariants as no
 use Rattle.hub_requests.specs.declared.reply.Reply.{Reply}
 use Rattle.hub_requests.specs.declared.reply.Reply.TheVariants.{Done, Number, No}
 use Rattle.hub_fifodir.specs.declared.fifodir.Fifodir.{Fifodir}
+use Rattle.hub_fifodir.specs.Passes.{MayRefuseTicket}
+use Rattle.hub_listen.specs.Hit.{IsPattern}
 use Rattle.hub_listen.specs.Listening.{new_listening}
 use Rattle.hub_letters.specs.declared.mode.Mode.{Mode}
 use Rattle.hub_letters.specs.declared.mode.Mode.TheVariants.{Repeat}
@@ -49,19 +51,23 @@ abbrev pub IsFirst : Option Refusal → (Refusal → Type 0) → Refusal → Typ
 IsFirst (Some first) IsOther refusal = refusal ≡ first
 IsFirst None IsOther refusal = IsOther refusal
 
--- the fifodir gives no subscription, or there is no memory for one more handle
-abbrev pub IsOfSub : Refusal → Type 0
-IsOfSub refusal = (refusal ≡ no.Memory) ⊎ ((error : SubError) × (refusal ≡ refusal_of_sub error))
+-- the fifodir gives no subscription, and this is why
+abbrev pub IsByFifodir : Fifodir → Refusal → Type 0
+IsByFifodir fifodir refusal = (error : SubError) × (refusal ≡ refusal_of_sub error) × MayRefuseTicket fifodir error
 
-abbrev pub IsRefusedSub : Handles → Refusal → Type 0
-IsRefusedSub hs refusal = IsFirst (refusal_of hs) IsOfSub refusal
+-- that, or there is no memory for one more handle
+abbrev pub IsOfSub : Fifodir → Refusal → Type 0
+IsOfSub fifodir refusal = (refusal ≡ no.Memory) ⊎ IsByFifodir fifodir refusal
 
--- a listener also needs a pattern
-abbrev pub IsOfListener : Refusal → Type 0
-IsOfListener refusal = (refusal ≡ no.Pattern) ⊎ IsOfSub refusal
+abbrev pub IsRefusedSub : Handles → Fifodir → Refusal → Type 0
+IsRefusedSub hs fifodir refusal = IsFirst (refusal_of hs) (IsOfSub fifodir) refusal
 
-abbrev pub IsRefusedListener : Handles → Refusal → Type 0
-IsRefusedListener hs refusal = IsFirst (refusal_of hs) IsOfListener refusal
+-- A listener also needs a pattern, or the memory for one. Only if the text is a pattern, the fifodir refuses.
+abbrev pub IsOfListener : List ℕ → Fifodir → Refusal → Type 0
+IsOfListener text fifodir refusal = (refusal ≡ no.Pattern) ⊎ (refusal ≡ no.Memory) ⊎ (IsPattern text × IsByFifodir fifodir refusal)
+
+abbrev pub IsRefusedListener : Handles → List ℕ → Fifodir → Refusal → Type 0
+IsRefusedListener hs text fifodir refusal = IsFirst (refusal_of hs) (IsOfListener text fifodir) refusal
 
 -- the same handles are current, and as many were given
 pub record IsStill (old new : Handles) : Type 0 where
@@ -92,6 +98,7 @@ pub record AddsListener (old : Handles) (name : List ℕ) (fifodir : Fifodir) (m
   pub is_next : IsNext old number new
   pub hearing : SessionListener
   pub begins : Begins name fifodir hearing.subscription
+  pub read : IsPattern pattern
   pub heard : hearing.listener ≡ new_listening pattern Repeat
   pub mode_is : hearing.mode ≡ mode
   pub unheld : hearing.held ≡ None
@@ -102,12 +109,12 @@ pub record AddsListener (old : Handles) (name : List ℕ) (fifodir : Fifodir) (m
 -- a handle under the next number, or none
 abbrev pub Subscribes : List ℕ → Fifodir → Handles → Reply → Handles → Type 0
 Subscribes name fifodir old (Number n) new = AddsSubscription old name fifodir n new
-Subscribes name fifodir old (No refusal) new = IsStill old new × IsRefusedSub old refusal
+Subscribes name fifodir old (No refusal) new = IsStill old new × IsRefusedSub old fifodir refusal
 Subscribes name fifodir old _ new = ⊥
 
 abbrev pub Listens : List ℕ → Fifodir → Mode → List ℕ → Handles → Reply → Handles → Type 0
 Listens name fifodir mode pattern old (Number n) new = AddsListener old name fifodir mode pattern n new
-Listens name fifodir mode pattern old (No refusal) new = IsStill old new × IsRefusedListener old refusal
+Listens name fifodir mode pattern old (No refusal) new = IsStill old new × IsRefusedListener old pattern fifodir refusal
 Listens name fifodir mode pattern old _ new = ⊥
 
 -- ---- one handle changes, or none

@@ -3,6 +3,7 @@ ghost use Rattle.std.specs.Prelude.{◌≡◌, ◌<◌, ◌⊎◌, ℕ, None, So
 ghost use Rattle.std.specs.Arc.{arc_value};
 ghost use Rattle.std.specs.Map.{lookup};
 ghost use Rattle.hub_letters.specs.declared.mode.Mode.TheVariants.{Repeat};
+ghost use Rattle.hub_listen.specs.Hit.{IsPattern};
 ghost use Rattle.hub_listen.specs.Listening.{new_listening};
 ghost use Rattle.hub_requests.specs.Ranges.{IsTake};
 ghost use Rattle.hub_requests.specs.declared.reply.Reply.TheVariants.{Done, Late};
@@ -89,7 +90,7 @@ impl Handles {
         ensures ok { IfOk result (λ number. AddsSubscription self.old
             name.now (arc_value dir) number self.new) }
         ensures err { OnErr result (IsStill self.old self.new) }
-        ensures in_place { IfErr result (IsRefusedSub self.old) }
+        ensures in_place { IfErr result (IsRefusedSub self.old (arc_value dir)) }
     {
         self.has_room()?;
         if self.subscriptions.reserve(1).is_err() {
@@ -132,7 +133,7 @@ impl Handles {
         ensures ok { IfOk result (λ number. AddsListener self.old
             name.now (arc_value dir) mode pattern.now number self.new) }
         ensures err { OnErr result (IsStill self.old self.new) }
-        ensures in_place { IfErr result (IsRefusedListener self.old) }
+        ensures in_place { IfErr result (IsRefusedListener self.old pattern.now (arc_value dir)) }
     {
         self.has_room()?;
         let listener = listener_for(self.alloc, pattern)?;
@@ -257,10 +258,11 @@ fn reply_of(more: bool) -> Reply
 /// A listener for this pattern that has heard nothing.
 fn listener_for(alloc: Global, pattern: &PatternText) -> Result<Listener, Refusal>
     ensures ok { IfOk result (λ listener. listener ≡ new_listening pattern.now Repeat) }
+    ensures read { OnOk result (IsPattern pattern.now) }
     ensures err { IfErr result (λ refusal. (refusal ≡ no.Pattern) ⊎ (refusal ≡ no.Memory)) }
 {
     Listener::new(alloc, pattern.items(), Mode::Repeat).map_err(|error| match error {
-        ListenError::Pattern => Refusal::Pattern,
+        ListenError::Pattern | ListenError::Large => Refusal::Pattern,
         ListenError::Memory => Refusal::Memory,
     })
 }

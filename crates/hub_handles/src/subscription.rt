@@ -1,7 +1,7 @@
 //! A session's subscriptions.
-ghost use Rattle.std.specs.Prelude.{◌≡◌, ◌≤◌, length, vec_len, vec_capacity, Err, IfOk, IfNone, IfSome, MatchBool};
+ghost use Rattle.std.specs.Prelude.{◌≡◌, ◌≤◌, length, vec_len, vec_capacity, Err, IfErr, IfOk, IfNone, IfSome, MatchBool};
 ghost use Rattle.std.specs.Arc.{arc_value};
-ghost use Rattle.hub_fifodir.specs.Passes.{IsTicketOf, HasSoundSight, ticket_view};
+ghost use Rattle.hub_fifodir.specs.Passes.{IsTicketOf, HasSoundSight, MayRefuseTicket, ticket_view};
 ghost use Rattle.hub_requests.specs.declared.bounds.TheConstants.{MOST_TAKEN};
 
 use crate::room::Room;
@@ -33,7 +33,8 @@ impl Subscription {
         name: &Name,
         dir: Arc<Fifodir, Global>,
     ) -> Result<Subscription, SubError>
-        ensures { IfOk result (λ s. Begins name.now (arc_value dir) s) }
+        ensures ok { IfOk result (λ s. Begins name.now (arc_value dir) s) }
+        ensures refused { IfErr result (MayRefuseTicket (arc_value dir)) }
     {
         let ticket = dir.subscribe(rt)?;
         Ok(Subscription {

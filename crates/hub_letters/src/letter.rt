@@ -27,6 +27,27 @@ impl Letter {
     /// The letter `!`, which fills a slice before letters are put into it.
     pub const LEAST: Letter = Letter { byte: b'!' };
 
+    /// `s`: the supervisor started.
+    pub(crate) const BEGAN: Letter = Letter { byte: b's' };
+
+    /// `u`: the run process was started.
+    pub(crate) const RAN: Letter = Letter { byte: b'u' };
+
+    /// `U`: the service reported that it is ready.
+    pub(crate) const REPORTED: Letter = Letter { byte: b'U' };
+
+    /// `d`: the run process died.
+    pub(crate) const DIED: Letter = Letter { byte: b'd' };
+
+    /// `D`: the finish script ended.
+    pub(crate) const FINISHED: Letter = Letter { byte: b'D' };
+
+    /// `O`: the service won't be restarted.
+    pub(crate) const GAVE_UP: Letter = Letter { byte: b'O' };
+
+    /// `x`: the supervisor is about to exit.
+    pub(crate) const EXITED: Letter = Letter { byte: b'x' };
+
     /// The letter with this byte. None if the byte isn't within 0x21 to 0x7E.
     pub fn of(byte: u8) -> Option<Letter>
         ensures { SomeIff result ((33 ≤ byte) × (byte ≤ 126)) byte }

@@ -67,7 +67,7 @@ cut old new first second (Ok Quiet) q f =
 cut old new first second (Err Overlong) q f =
     let all = length-append old.gathered first in let both = length-append first second in let over = f.2 in
     (q.0, HasNoHit-past old.pattern old.gathered first second q.1 q.2 f.1, omega arith, refl)
-cut old new first second (Err Memory) q f = (q.0, refl)
+cut old new first second (Err Memory) q f = absurd f
 
 pub cuts_anywhere : CutsAnywhere
 cuts_anywhere old between new first second answer q f =
@@ -85,23 +85,23 @@ one_hit p g l k k' h h' =
     (cases_lt k k')
 
 pub answers_once : AnswersOnce
-answers_once old n n' l (Err Memory) r real real' f f' = absurd (real refl)
-answers_once old n n' l r (Err Memory) real real' f f' = absurd (real' refl)
-answers_once old n n' l (Ok Spent) (Ok Spent) real real' f f' = (refl, f.1 ∙ sym f'.1)
-answers_once old n n' l (Ok Spent) (Ok (Hit k)) real real' f f' = absurd (true≢false (sym f.0 ∙ f'.0))
-answers_once old n n' l (Ok Spent) (Ok Quiet) real real' f f' = absurd (true≢false (sym f.0 ∙ f'.0))
-answers_once old n n' l (Ok Spent) (Err Overlong) real real' f f' = absurd (true≢false (sym f.0 ∙ f'.0))
-answers_once old n n' l (Ok (Hit k)) (Ok Spent) real real' f f' = absurd (true≢false (sym f'.0 ∙ f.0))
-answers_once old n n' l (Ok Quiet) (Ok Spent) real real' f f' = absurd (true≢false (sym f'.0 ∙ f.0))
-answers_once old n n' l (Err Overlong) (Ok Spent) real real' f f' = absurd (true≢false (sym f'.0 ∙ f.0))
-answers_once old n n' l (Ok (Hit k)) (Ok (Hit k')) real real' f f' =
+answers_once old n n' l (Err Memory) r f f' = absurd f
+answers_once old n n' l r (Err Memory) f f' = absurd f'
+answers_once old n n' l (Ok Spent) (Ok Spent) f f' = (refl, f.1 ∙ sym f'.1)
+answers_once old n n' l (Ok Spent) (Ok (Hit k)) f f' = absurd (true≢false (sym f.0 ∙ f'.0))
+answers_once old n n' l (Ok Spent) (Ok Quiet) f f' = absurd (true≢false (sym f.0 ∙ f'.0))
+answers_once old n n' l (Ok Spent) (Err Overlong) f f' = absurd (true≢false (sym f.0 ∙ f'.0))
+answers_once old n n' l (Ok (Hit k)) (Ok Spent) f f' = absurd (true≢false (sym f'.0 ∙ f.0))
+answers_once old n n' l (Ok Quiet) (Ok Spent) f f' = absurd (true≢false (sym f'.0 ∙ f.0))
+answers_once old n n' l (Err Overlong) (Ok Spent) f f' = absurd (true≢false (sym f'.0 ∙ f.0))
+answers_once old n n' l (Ok (Hit k)) (Ok (Hit k')) f f' =
     let e = one_hit old.pattern old.gathered l k k' f.1 f'.1 in
     (ap (λ j. Ok (Hit j)) e, f.2 ∙ ap (after_hit old l) e ∙ sym f'.2)
-answers_once old n n' l (Ok (Hit k)) (Ok Quiet) real real' f f' = absurd (none_or_hit old.pattern old.gathered l k f.1 f'.1)
-answers_once old n n' l (Ok (Hit k)) (Err Overlong) real real' f f' = absurd (none_or_hit old.pattern old.gathered l k f.1 f'.1)
-answers_once old n n' l (Ok Quiet) (Ok (Hit k)) real real' f f' = absurd (none_or_hit old.pattern old.gathered l k f'.1 f.1)
-answers_once old n n' l (Err Overlong) (Ok (Hit k)) real real' f f' = absurd (none_or_hit old.pattern old.gathered l k f'.1 f.1)
-answers_once old n n' l (Ok Quiet) (Ok Quiet) real real' f f' = (refl, f.3 ∙ sym f'.3)
-answers_once old n n' l (Ok Quiet) (Err Overlong) real real' f f' = let a = f.2 in let b = f'.2 in absurd (omega arith)
-answers_once old n n' l (Err Overlong) (Ok Quiet) real real' f f' = let a = f.2 in let b = f'.2 in absurd (omega arith)
-answers_once old n n' l (Err Overlong) (Err Overlong) real real' f f' = (refl, f.3 ∙ sym f'.3)
+answers_once old n n' l (Ok (Hit k)) (Ok Quiet) f f' = absurd (none_or_hit old.pattern old.gathered l k f.1 f'.1)
+answers_once old n n' l (Ok (Hit k)) (Err Overlong) f f' = absurd (none_or_hit old.pattern old.gathered l k f.1 f'.1)
+answers_once old n n' l (Ok Quiet) (Ok (Hit k)) f f' = absurd (none_or_hit old.pattern old.gathered l k f'.1 f.1)
+answers_once old n n' l (Err Overlong) (Ok (Hit k)) f f' = absurd (none_or_hit old.pattern old.gathered l k f'.1 f.1)
+answers_once old n n' l (Ok Quiet) (Ok Quiet) f f' = (refl, f.3 ∙ sym f'.3)
+answers_once old n n' l (Ok Quiet) (Err Overlong) f f' = let a = f.2 in let b = f'.2 in absurd (omega arith)
+answers_once old n n' l (Err Overlong) (Ok Quiet) f f' = let a = f.2 in let b = f'.2 in absurd (omega arith)
+answers_once old n n' l (Err Overlong) (Err Overlong) f f' = (refl, f.3 ∙ sym f'.3)

@@ -1,5 +1,5 @@
 -- The length of a hit as a function, and that there is always an answer.
-use Rattle.std.proofs.Common.{◌≡◌, ◌≢◌, ◌⊎◌, ℕ, zero, suc, ◌+◌, ◌-◌, ◌<◌, ◌≤◌, Bool, true, false, List, ◌++◌, take, length, min, Option, None, Some, refl, sym, ap, ◌∙◌, arith, ⊎_elim, inl, inr, Result, Ok, Err}
+use Rattle.std.proofs.Common.{◌≡◌, ◌⊎◌, ℕ, zero, suc, ◌+◌, ◌-◌, ◌<◌, ◌≤◌, Bool, true, false, List, ◌++◌, take, length, min, Option, None, Some, refl, sym, ap, ◌∙◌, arith, ⊎_elim, inl, inr, Result, Ok, Err}
 use Rattle.std.proofs.lemmas.Bool.{cases_lt, cases_Bool, cond-true, cond-false}
 use Rattle.hub_letters.specs.declared.mode.TheConstants.{MOST_GATHERED}
 use Rattle.hub_listen.specs.Hit.{finds, HasNoHit, first_such, hit_length}
@@ -8,7 +8,7 @@ use Rattle.hub_listen.specs.Pieces.{LengthIsHit, NoLengthIsNoHit, AnswersEach}
 use Rattle.hub_listen.specs.declared.feed.Feed.{Feed}
 use Rattle.hub_listen.specs.declared.feed.Feed.TheVariants.{Spent, Hit, Quiet}
 use Rattle.hub_listen.specs.declared.feed.FeedError.{FeedError}
-use Rattle.hub_listen.specs.declared.feed.FeedError.TheVariants.{Overlong, Memory}
+use Rattle.hub_listen.specs.declared.feed.FeedError.TheVariants.{Overlong}
 
 -- ---- the first of some numbers that passes a test
 
@@ -93,19 +93,19 @@ some_or_none None = inr refl
 some_or_none (Some k) = inl (k, refl)
 
 without_hit : (old : Listening) (piece : List ℕ) → is_spent old ≡ false → HasNoHit old.pattern old.gathered piece
-    → (answer : Result Feed FeedError) × (new : Listening) × (answer ≢ Err Memory) × Feeds old piece answer new
+    → (answer : Result Feed FeedError) × (new : Listening) × Feeds old piece answer new
 without_hit old piece unspent none =
-    ⊎_elim (λ (over : MOST_GATHERED < length old.gathered + length piece). (Err Overlong, old, (λ e. cc), (unspent, none, over, refl)))
-    (λ (fits : length old.gathered + length piece ≤ MOST_GATHERED). (Ok Quiet, after_quiet old piece, (λ e. cc), (unspent, none, fits, refl)))
+    ⊎_elim (λ (over : MOST_GATHERED < length old.gathered + length piece). (Err Overlong, old, (unspent, none, over, refl)))
+    (λ (fits : length old.gathered + length piece ≤ MOST_GATHERED). (Ok Quiet, after_quiet old piece, (unspent, none, fits, refl)))
     (cases_lt MOST_GATHERED (length old.gathered + length piece))
 
 pub answers : AnswersEach
 answers old piece =
-    ⊎_elim (λ (spent : is_spent old ≡ true). (Ok Spent, old, (λ e. cc), (spent, refl)))
+    ⊎_elim (λ (spent : is_spent old ≡ true). (Ok Spent, old, (spent, refl)))
     (λ (unspent : is_spent old ≡ false).
     ⊎_elim
     (λ hit. let found = (length_is_hit old.pattern old.gathered piece hit.0).0 hit.1 in
-    (Ok (Hit hit.0), after_hit old piece hit.0, (λ e. cc), (unspent, found, refl)))
+    (Ok (Hit hit.0), after_hit old piece hit.0, (unspent, found, refl)))
     (λ none. without_hit old piece unspent ((no_length_is_no_hit old.pattern old.gathered piece).0 none))
     (some_or_none (hit_length old.pattern old.gathered piece)))
     (cases_Bool (is_spent old))

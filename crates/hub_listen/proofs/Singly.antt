@@ -44,7 +44,7 @@ at_the_first old new x letters (Ok (Hit k)) unspent fits f other = (
 at_the_first old new x letters (Ok Quiet) unspent fits f other = absurd (other refl)
 at_the_first old new x letters (Err Overlong) unspent fits f other =
     let over = f.2 in (unspent, HasNoHit-append old.pattern old.gathered (x ∷ []) letters f.1 (omega arith), omega arith, refl)
-at_the_first old new x letters (Err Memory) unspent fits f other = (unspent, refl)
+at_the_first old new x letters (Err Memory) unspent fits f other = absurd f
 
 -- what an answer to the second part leaves is what it leaves of both
 left_by-left_by : (later : Result Feed FeedError) (old between new : Listening)

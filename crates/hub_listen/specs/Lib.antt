@@ -1,4 +1,5 @@
 pub mod Hit
+pub mod Refused
 pub mod Letters
 pub mod States
 pub mod Size

@@ -42,8 +42,7 @@ after_quiet l piece = record l { gathered = l.gathered ++ piece }
 abbrev pub fitting : Listening → List ℕ → ℕ
 fitting l letters = min (length letters) (MOST_GATHERED - length l.gathered)
 
--- The piece took the listener from `old` to `new`, with this answer. Instead of any answer but Spent, it may report
--- that memory ran out.
+-- The piece took the listener from `old` to `new`, with this answer. No piece is answered Memory.
 abbrev pub Feeds : Listening → List ℕ → Result Feed FeedError → Listening → Type 0
 Feeds old piece (Ok Spent) new = (is_spent old ≡ true) × (new ≡ old)
 Feeds old piece (Ok (Hit k)) new =
@@ -54,4 +53,4 @@ Feeds old piece (Ok Quiet) new =
 Feeds old piece (Err Overlong) new =
     (is_spent old ≡ false) × HasNoHit old.pattern old.gathered piece × (MOST_GATHERED < length old.gathered + length piece)
     × (new ≡ old)
-Feeds old piece (Err Memory) new = (is_spent old ≡ false) × (new ≡ old)
+Feeds old piece (Err Memory) new = ⊥

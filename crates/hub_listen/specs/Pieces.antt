@@ -6,7 +6,6 @@ use Rattle.hub_listen.specs.Listening.{Listening, Feeds, is_spent}
 use Rattle.hub_listen.specs.declared.feed.Feed.{Feed}
 use Rattle.hub_listen.specs.declared.feed.Feed.TheVariants.{Spent, Hit, Quiet}
 use Rattle.hub_listen.specs.declared.feed.FeedError.{FeedError}
-use Rattle.hub_listen.specs.declared.feed.FeedError.TheVariants.{Memory}
 
 -- the answer, with a hit counted from this many letters earlier
 abbrev pub counted_from : ℕ → Result Feed FeedError → Result Feed FeedError
@@ -26,15 +25,14 @@ CutsAnywhere = (old between new : Listening) (first second : List ℕ) (answer :
     → Feeds old first (Ok Quiet) between → Feeds between second answer new
     → Feeds old (first ++ second) (counted_from (length first) answer) (left_by answer old new)
 
--- Unless memory runs out, a listener has an answer to each piece,
+-- A listener has an answer to each piece,
 abbrev pub AnswersEach : Type 0
-AnswersEach = (old : Listening) (piece : List ℕ)
-    → (answer : Result Feed FeedError) × (new : Listening) × (answer ≢ Err Memory) × Feeds old piece answer new
+AnswersEach = (old : Listening) (piece : List ℕ) → (answer : Result Feed FeedError) × (new : Listening) × Feeds old piece answer new
 
 -- and only one, with one listener afterwards.
 abbrev pub AnswersOnce : Type 0
 AnswersOnce = (old new new' : Listening) (piece : List ℕ) (answer answer' : Result Feed FeedError)
-    → answer ≢ Err Memory → answer' ≢ Err Memory → Feeds old piece answer new → Feeds old piece answer' new'
+    → Feeds old piece answer new → Feeds old piece answer' new'
     → (answer ≡ answer') × (new ≡ new')
 
 -- The letters were fed one at a time, in their order, up to the first answer other than Quiet.

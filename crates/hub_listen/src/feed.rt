@@ -18,7 +18,7 @@ pub enum FeedError {
     /// There is no hit, and the gathered letters and the piece together are more letters than a listener gathers.
     #[error("more letters than a listener gathers")]
     Overlong,
-    /// The search ran out of memory. This can't happen today, since all room is made with the listener.
+    /// The search ran out of memory. No piece is answered so, since all room is made with the listener.
     #[error("out of memory")]
     Memory,
 }

@@ -7,7 +7,7 @@ pub fn cuts_anywhere()
     ensures { CutsAnywhere }
 {}
 
-/// Unless memory runs out, the listener and the piece determine the answer, and what the listener is afterwards.
+/// The listener and the piece determine the answer, and what the listener is afterwards.
 #[tactic(auto, using(crate::proofs::Lengths::answers, crate::proofs::Cuts::answers_once))]
 pub fn answers_once()
     ensures some { AnswersEach }

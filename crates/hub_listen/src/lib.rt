@@ -32,4 +32,5 @@ mod states;
 pub use feed::{Feed, FeedError};
 pub use hub_letters::Mode;
 pub use listener::{ListenError, Listener};
+pub use pattern::Pattern;
 pub use size::MOST_BYTES;

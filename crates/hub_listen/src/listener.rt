@@ -1,9 +1,12 @@
 //! Listeners.
-ghost use Rattle.std.specs.Prelude.{◌≡◌, ◌≤◌, length, IfOk, OnOk};
+ghost use Rattle.std.specs.Prelude.{◌≡◌, ◌+◌, ◌≤◌, length, string_bytes, IfOk, IfErr, OnOk};
 ghost use Rattle.hub_listen.specs.Hit.{IsPattern};
 ghost use Rattle.hub_listen.specs.Inside.{listening_of, IsKept};
 ghost use Rattle.hub_listen.specs.Listening.{Listening, Feeds, new_listening, is_spent};
-ghost use Rattle.hub_listen.specs.Size.{IsSmall};
+ghost use Rattle.hub_listen.specs.Alive.{SearchesFor};
+ghost use Rattle.hub_listen.specs.Refused.{IsRefusedAs};
+ghost use Rattle.hub_listen.specs.Size.{bytes_for, IsSmall};
+ghost use Rattle.hub_listen.specs.declared.size.TheConstants.{MOST_BYTES};
 ghost use Rattle.hub_listen.specs.declared.listener.ListenError.TheVariants.{Memory};
 
 use crate::alive::Alive;
@@ -19,9 +22,12 @@ use thiserror::Error;
 /// Why there is no listener.
 #[derive(Clone, Copy, Debug, PartialEq, Eq, Error)]
 pub enum ListenError {
-    /// The text isn't a pattern, or the pattern is too large ([`MOST_BYTES`](crate::MOST_BYTES)).
+    /// The text isn't a pattern, or its parts nest too deep.
     #[error("no pattern can be read")]
     Pattern,
+    /// It is a pattern, and it is too large ([`MOST_BYTES`](crate::MOST_BYTES)).
+    #[error("the pattern is too large")]
+    Large,
     #[error("out of memory")]
     /// There was no memory for the pattern or the listener's room.
     Memory,
@@ -36,17 +42,15 @@ impl From<AllocError> for ListenError {
 }
 
 impl From<regex::Error> for ListenError {
-    ghost use Rattle.std.specs.Prelude.{◌≢◌};
-    ghost use Rattle.regex.specs.declared.error.Error.TheVariants.{OutOfMemory};
-    ghost use Rattle.hub_listen.specs.declared.listener.ListenError.TheVariants.{Pattern};
+    ghost use Rattle.hub_listen.specs.Refused.{told_as};
 
-    ghost from_gives = { λ refused error.
-        (refused ≡ OutOfMemory → error ≡ Memory) × (refused ≢ OutOfMemory → error ≡ Pattern) };
+    ghost from_gives = { λ refused error. error ≡ told_as refused };
 
     fn from(refused: regex::Error) -> ListenError {
         match refused {
+            regex::Error::Syntax(_) => ListenError::Pattern,
+            regex::Error::CompiledTooBig | regex::Error::Internal => ListenError::Large,
             regex::Error::OutOfMemory => ListenError::Memory,
-            _ => ListenError::Pattern,
         }
     }
 }
@@ -80,6 +84,7 @@ impl Listener {
         ensures ok { IfOk result (λ listener. listener ≡ new_listening pattern.now mode) }
         ensures read { OnOk result (IsPattern pattern.now) }
         ensures small { OnOk result (IsSmall pattern.now) }
+        ensures refused { IfErr result (IsRefusedAs pattern.now) }
     {
         let pattern = Pattern::new(alloc, pattern)?;
         let alive = Alive::new(alloc, &pattern.nfa)?;
@@ -91,6 +96,15 @@ impl Listener {
             letters: Vec::with_capacity(alloc, MOST_GATHERED)?,
             hit: Vec::with_capacity(alloc, MOST_GATHERED)?,
         })
+    }
+
+    /// The compiled pattern by which it searches.
+    pub fn pattern(&self) -> &Pattern
+        ensures text { string_bytes result.now.text ≡ self.now.pattern }
+        ensures searches { ∥ SearchesFor result.now.nfa self.now.pattern ∥₁ }
+        ensures small { bytes_for result.now.nfa + length self.now.pattern ≤ MOST_BYTES }
+    {
+        &self.pattern
     }
 
     /// The letters gathered since the last hit.

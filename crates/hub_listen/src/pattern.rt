@@ -1,6 +1,7 @@
 //! Patterns.
-ghost use Rattle.std.specs.Prelude.{◌≡◌, ◌≤◌, ◌+◌, string_bytes, length, IfOk, OnOk};
+ghost use Rattle.std.specs.Prelude.{◌≡◌, ◌≤◌, ◌+◌, string_bytes, length, IfOk, IfErr, OnOk};
 ghost use Rattle.hub_listen.specs.Hit.{IsPattern};
+ghost use Rattle.hub_listen.specs.Refused.{IsRefusedAs, told_as};
 ghost use Rattle.hub_listen.specs.Size.{bytes_for, IsSmall};
 ghost use Rattle.hub_listen.specs.Alive.{SearchesFor};
 ghost use Rattle.hub_listen.specs.declared.size.TheConstants.{MOST_BYTES};
@@ -16,9 +17,10 @@ use std::alloc::Global;
 /// What compiling a pattern may spend.
 const MOST_WORK: usize = 280 << 10;
 
-/// The text of a pattern, and the NFA that searches for it.
+/// The text of a pattern, and the NFA that searches for it. They take at most [`MOST_BYTES`](crate::MOST_BYTES), with the room for
+/// the states of a search.
 #[derive(Drop)]
-pub(crate) struct Pattern {
+pub struct Pattern {
     pub(crate) text: String,
     pub(crate) nfa: Nfa,
     pub(crate) ghost searches: { ∥ SearchesFor nfa (string_bytes text) ∥₁ },
@@ -31,10 +33,11 @@ impl Pattern {
         ensures text { IfOk result (λ pattern. string_bytes pattern.text ≡ text.now) }
         ensures read { OnOk result (IsPattern text.now) }
         ensures small { OnOk result (IsSmall text.now) }
+        ensures refused { IfErr result (IsRefusedAs text.now) }
     {
         let nfa = nfa_of(alloc, text)?;
         if !is_small(&nfa, text) {
-            return Err(ListenError::Pattern);
+            return Err(ListenError::Large);
         }
         let text = String::from_str(alloc, text)?;
         Ok(Pattern { text, nfa })
@@ -45,6 +48,7 @@ impl Pattern {
 fn nfa_of(alloc: Global, text: &str) -> Result<Nfa, Error>
     ensures searches { IfOk result (λ nfa. ∥ SearchesFor nfa text.now ∥₁) }
     ensures read { OnOk result (IsPattern text.now) }
+    ensures refused { IfErr result (λ error. IsRefusedAs text.now (told_as error)) }
 {
     let Parsed { hir, names } = regex_syntax::parse(alloc, text, &Config::default())?;
     let Ok(groups) = u32::try_from(names.len()) else {

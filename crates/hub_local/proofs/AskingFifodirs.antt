@@ -1,5 +1,5 @@
 -- The requests about a fifodir, and the one for the names of all.
-use Rattle.std.proofs.Common.{◌≡◌, ℕ, ◌<◌, ◌≤◌, Bool, true, false, List, [], ◌∷◌, ◌++◌, length, Option, Some, None, is_some, Ok, Err, refl, sym, ap, subst, ◌∙◌, arith, ◌≢◌}
+use Rattle.std.proofs.Common.{◌≡◌, ℕ, ◌<◌, ◌≤◌, Bool, true, false, List, [], ◌∷◌, ◌++◌, length, Option, Some, None, is_some, Result, Ok, Err, refl, sym, ap, subst, ◌∙◌, arith, ◌≢◌}
 use Rattle.std.specs.Map.{lookup, keys_of}
 use Rattle.std.specs.Str.{bytes_eq}
 use Rattle.hub_record.specs.declared.Closed.{Closed}
@@ -8,24 +8,25 @@ use Rattle.hub_record.specs.declared.PubError.TheVariants as post
 use Rattle.hub_record.specs.declared.Status.{Status}
 use Rattle.hub_record.specs.Kept.{Kept, Represents}
 use Rattle.hub_record.specs.declared.Kind.{Kind}
+use Rattle.hub_record.specs.declared.Kind.TheVariants.{Plain, Service}
 use Rattle.hub_record.specs.declared.limits.Limits.{Limits}
-use Rattle.hub_record.specs.World.{World, empty_world, PublishReply, after_publish, close_reply, after_close}
-use Rattle.hub_local.specs.DeskAnswers.{answered_with, in_world, make_answer, publish_answer, close_answer, status_answer, refusal_to_make, names_answer}
-use Rattle.hub_local.specs.Desks.{Desk, Fifodir, refusal_answer, world_of, names_in}
+use Rattle.hub_record.specs.World.{World, empty_world, after_publish, close_reply, after_close}
+use Rattle.hub_local.specs.DeskAnswers.{answered_with, in_world, make_answer, publish_answer, close_answer, status_answer, refusal_to_make, refusal_to_tell, refusal_by_kind, names_answer}
+use Rattle.hub_local.specs.Desks.{Desk, Answer, Fifodir, refusal_answer, world_of, names_in}
 use Rattle.hub_local.specs.Replies.{publish_reply}
-use Rattle.hub_requests.specs.Refusals.{refusal_of_pub}
+use Rattle.hub_requests.specs.Refusals.{refusal_of_pub, reply_to_publish}
 use Rattle.hub_local.specs.Representing.{Local, AreKept, RepresentsDesk, CarriesOut, AsksWith, Unchanged}
 use Rattle.hub_local.specs.declared.local_desk.LocalFifodir.{LocalFifodir}
-use Rattle.hub_requests.specs.declared.request.Request.TheVariants.{Pub, Close, Status as Show, Names}
+use Rattle.hub_requests.specs.declared.request.Request.TheVariants.{Close, Status as Show, Names}
 use Rattle.hub_requests.specs.declared.reply.Reply.{Reply}
-use Rattle.hub_requests.specs.declared.reply.Reply.TheVariants.{Done, Number, State, No}
+use Rattle.hub_requests.specs.declared.reply.Reply.TheVariants.{Done, State, No}
+use Rattle.hub_requests.specs.declared.reply.Refusal.{Refusal}
 use Rattle.hub_requests.specs.declared.reply.Refusal.TheVariants as no
 use Rattle.std.proofs.lemmas.Bool.{le-leb, lt-leb}
 use Rattle.hub_requests.specs.declared.bounds.TheConstants.{MOST_NAMES}
 use Rattle.hub_local.proofs.Holdings.{held_still, held_with_more}
 use Rattle.hub_local.proofs.Asking.{by_carrying, by_refusing, by_lacking, still_lacking, represents_same, Replaces, world_there, represents_replaced, represents_still, named}
-use Rattle.hub_local.proofs.KeptFifodirs.{some_kept, is_some-world_of, length-kept, kept_push}
-use Rattle.hub_local.proofs.RecordReplies.{publish_reply_is}
+use Rattle.hub_local.proofs.KeptFifodirs.{some_kept, none_kept, is_some-world_of, length-kept, kept_push}
 use Rattle.hub_requests.specs.declared.reply.Refusal.TheVariants.{Memory}
 use Rattle.hub_requests.specs.Listings.{fitting, names_shown, names_reply}
 use Rattle.std.specs.Prelude.{drop}
@@ -100,39 +101,59 @@ module _ (old new : Local) (name : List ℕ) (r : LocalFifodir) (kept : Kept) (p
         represents = represents_still old new name r kept put d st w t.1 (subst (λ (k : Kept). Represents k w) (sym still) t.2);
       })
 
--- ---- pub
+-- ---- pub and tell
 
-real_refusal : (error : PubError) → refusal_of_pub error ≡ no.Memory → ⊥
+pub real_refusal : (error : PubError) → refusal_of_pub error ≢ no.Memory
 real_refusal post.Closed e = cc
 real_refusal (post.Unlawful i) e = cc
 real_refusal post.Spent e = cc
 real_refusal post.Full e = cc
 
-module _ (old new : Local) (name message : List ℕ) (r : LocalFifodir) (kept : Kept) (put : Replaces old new name r kept) (reply : Reply) where
-  pub publish_done : (first : ℕ) → ((w : World) → Represents r.kept w → PublishReply w message (Ok first)) → ((w : World) → Represents r.kept w → Represents kept (after_publish w 1 message (Ok first)))
-      → reply ≡ Number first → AsksWith false old (Pub name message) reply new
-  publish_done first replies after is = by_carrying old new false _ _ _ reply (λ e. cc) (λ d st.
+said_so : (d : Desk) (name message : List ℕ) (w : World) (r : Result ℕ PubError) → reply_to_publish r ≡ (publish_answer d name message w r).reply
+said_so d name message w (Ok first) = refl
+said_so d name message w (Err error) = refl
+
+module _ (old new : Local) (name : List ℕ) (r : LocalFifodir) (kept : Kept) (put : Replaces old new name r kept) (word : World → List ℕ) where
+  abbrev Publishes : Desk → Answer
+  Publishes d = in_world d (λ w. publish_answer d name (word w) w (publish_reply w (word w))) (world_of d.fifodirs name)
+
+  goes_on : (d : Desk) → RepresentsDesk old d → (w : World) → world_of d.fifodirs name ≡ Some w → (reply : Result ℕ PubError) → Represents kept (after_publish w 1 (word w) reply)
+      → RepresentsDesk new (publish_answer d name (word w) w reply).desk
+  goes_on d st w is (Ok first) h = represents_replaced old new name r kept put d st w (after_publish w 1 (word w) (Ok first)) is h (λ id k. k)
+  goes_on d st w is (Err error) h = represents_still old new name r kept put d st w is h
+
+  -- what the fifodir under the name was asked to publish is the word of its world
+  pub published : (own : Desk → Option Refusal) (reply : Reply) → ((d : Desk) (w : World) → world_of d.fifodirs name ≡ Some w → Represents r.kept w → own d ≡ None)
+      → ((w : World) → Represents r.kept w → reply ≡ reply_to_publish (publish_reply w (word w)))
+      → ((w : World) → Represents r.kept w → Represents kept (after_publish w 1 (word w) (publish_reply w (word w)))) → reply ≢ No no.Memory
+      → CarriesOut old false own Publishes Unchanged reply new
+  published own reply unrefused said after real = by_carrying old new false _ _ _ reply real (λ d st.
       let t = world_there old new name r kept put d st in
       let w = t.0 in record {
-        answer = answered_with (Number first) d name (after_publish w 1 message (Ok first));
-        unrefused = named d name w t.1;
-        done_is = ap (in_world d (λ v. publish_answer d name message v (publish_reply v message))) t.1
-            ∙ ap (publish_answer d name message w) (sym (publish_reply_is w message (Ok first) (replies w t.2)));
-        said = is;
-        represents = represents_replaced old new name r kept put d st w (after_publish w 1 message (Ok first)) t.1 (after w t.2) (λ id k. k);
+        answer = publish_answer d name (word w) w (publish_reply w (word w));
+        unrefused = unrefused d w t.1 t.2;
+        done_is = ap (in_world d (λ v. publish_answer d name (word v) v (publish_reply v (word v)))) t.1;
+        said = said w t.2 ∙ said_so d name (word w) w (publish_reply w (word w));
+        represents = goes_on d st w t.1 (publish_reply w (word w)) (after w t.2);
       })
 
-  pub publish_refused : (error : PubError) → ((w : World) → Represents r.kept w → PublishReply w message (Err error)) → kept ≡ r.kept → reply ≡ No (refusal_of_pub error) → AsksWith false old (Pub name message) reply new
-  publish_refused error replies still is = by_carrying old new false _ _ _ reply (λ e. real_refusal error (let k : refusal_of_pub error ≡ no.Memory = cc in k)) (λ d st.
-      let t = world_there old new name r kept put d st in
-      let w = t.0 in record {
-        answer = refusal_answer d (refusal_of_pub error);
-        unrefused = named d name w t.1;
-        done_is = ap (in_world d (λ v. publish_answer d name message v (publish_reply v message))) t.1
-            ∙ ap (publish_answer d name message w) (sym (publish_reply_is w message (Err error) (replies w t.2)));
-        said = is;
-        represents = represents_still old new name r kept put d st w t.1 (subst (λ (k : Kept). Represents k w) (sym still) t.2);
-      })
+  -- a plain one isn't told anything
+  pub untold : (reply : Reply) (done : Desk → Answer) (left : Desk → Desk → Type 0) → r.kept.kind ≡ Plain → kept ≡ r.kept → reply ≡ No no.Kind
+      → CarriesOut old false (λ d. refusal_to_tell (world_of d.fifodirs name)) done left reply new
+  untold reply done left plain still is = by_refusing old new false (λ d. refusal_to_tell (world_of d.fifodirs name)) done left reply no.Kind is (λ (e : no.Kind ≡ no.Memory). cc)
+      (λ d st. (let t = world_there old new name r kept put d st in ap refusal_to_tell t.1 ∙ ap refusal_by_kind (sym t.2.kind ∙ plain)))
+      (λ d st. (let t = world_there old new name r kept put d st in represents_still old new name r kept put d st t.0 t.1 (subst (λ (k : Kept). Represents k t.0) (sym still) t.2)))
+
+-- a service may be told
+pub may_tell : (d : Desk) (name : List ℕ) (w : World) (kept : Kept) → world_of d.fifodirs name ≡ Some w → Represents kept w → kept.kind ≡ Service → refusal_to_tell (world_of d.fifodirs name) ≡ None
+may_tell d name w kept at h service = ap refusal_to_tell at ∙ ap refusal_by_kind (sym h.kind ∙ service)
+
+pub tell_no_name : (before old new : Local) (name : List ℕ) (done : Desk → Answer) (left : Desk → Desk → Type 0) → before ≡ old → new ≡ before
+    → None ≡ lookup (bytes_eq name) before.fifodirs → CarriesOut old false (λ d. refusal_to_tell (world_of d.fifodirs name)) done left (No no.Name) new
+tell_no_name before old new name done left same still none =
+    by_refusing old new false (λ d. refusal_to_tell (world_of d.fifodirs name)) done left (No no.Name) no.Name refl (λ (e : no.Name ≡ no.Memory). cc)
+    (λ d st. ap refusal_to_tell (none_kept name old.fifodirs d.fifodirs st.fifodirs (sym (none ∙ ap (λ (z : Local). lookup (bytes_eq name) z.fifodirs) same))))
+    (λ d st. represents_same old new d (still ∙ same) st)
 
 -- ---- status
 

@@ -13,7 +13,7 @@ use Rattle.hub_record.specs.declared.limits.Limits.{Limits}
 use Rattle.hub_record.specs.declared.SubError.{SubError}
 use Rattle.hub_record.specs.declared.PubError.{PubError}
 use Rattle.hub_record.specs.declared.Closed.{Closed}
-use Rattle.hub_local.specs.DeskAnswers.{own_refusal, request_answer, answer_by, in_world, for_holding, for_hearing, make_answer, subscribe_answer, publish_answer, close_answer, new_hearing}
+use Rattle.hub_local.specs.DeskAnswers.{own_refusal, request_answer, answer_by, in_world, for_holding, for_hearing, make_answer, subscribe_answer, publish_answer, close_answer, new_hearing, word_in}
 use Rattle.hub_local.specs.Desks.{Desk, Answer, Fifodir, names_in, world_of, with_world, holding_at, end_in, without_held, without_all, active}
 use Rattle.hub_local.specs.Laws.{NamesStay, NamesOutliveTheEnd, name_made}
 use Rattle.hub_local.specs.Polls.{hear_answer, heard_on, heard_to_hit, ended_by, taken_from, to_hear}
@@ -24,7 +24,7 @@ use Rattle.hub_local.specs.Waits.{Opening, so_far, opened_by, opened_in, with_po
 use Rattle.hub_local.specs.declared.local_desk.Holding.{Holding}
 use Rattle.hub_local.specs.declared.local_desk.LocalListener.{LocalListener}
 use Rattle.hub_local.specs.declared.local_desk.waits.LocalPost.{LocalPost}
-use Rattle.hub_requests.specs.declared.request.Request.TheVariants.{Dir, Svc, Sub, Pub, Take, Cancel, Close, Status, Listen, Poll, Await, Wait}
+use Rattle.hub_requests.specs.declared.request.Request.TheVariants.{Dir, Svc, Sub, Pub, Tell, Take, Cancel, Close, Status, Listen, Poll, Await, Wait}
 use Rattle.hub_requests.specs.declared.reply.Reply.{Reply}
 use Rattle.hub_requests.specs.declared.reply.Reply.TheVariants.{Done, No}
 use Rattle.hub_requests.specs.declared.reply.Refusal.{Refusal}
@@ -131,6 +131,7 @@ names_stay d read (Dir name waiting total evict) = made_last d name _ _ _ _ (nam
 names_stay d read (Svc name waiting total notifies evict) = made_last d name _ _ _ _ (name_made (Svc name waiting total notifies evict)) refl (λ refusal. refl)
 names_stay d read (Sub name) = answer_stays d _ _ (in_world_stays d _ (world_of d.fifodirs name) (λ w. subscribed_stays d name None w (subscribe_reply w)))
 names_stay d read (Pub name message) = answer_stays d _ _ (in_world_stays d _ (world_of d.fifodirs name) (λ w. published_stays d name message w (publish_reply w message)))
+names_stay d read (Tell name state) = answer_stays d _ _ (in_world_stays d _ (world_of d.fifodirs name) (λ w. published_stays d name (word_in state w) w (publish_reply w (word_in state w))))
 names_stay d read (Take id max) = answer_stays d _ _ (for_holding_stays d _ (holding_at d id) (λ h. in_world_stays d _ (world_of d.fifodirs h.name) (λ w. names_in-with_world d.fifodirs h.name (after_take w h.id max))))
 names_stay d read (Cancel id) = answer_stays d _ _ (for_holding_stays d _ (holding_at d id) (λ h. names_in-without_held d.fifodirs h))
 names_stay d read (Close name) = answer_stays d _ _ (in_world_stays d _ (world_of d.fifodirs name) (λ w. closed_stays d name w (close_reply w)))

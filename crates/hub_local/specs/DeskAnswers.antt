@@ -3,6 +3,8 @@ use Rattle.std.specs.Prelude.{ℕ, ◌≡◌, ◌+◌, Bool, true, false, if◌t
 use Rattle.std.specs.List.{list_all}
 use Rattle.hub_letters.specs.declared.mode.TheConstants.{MOST_GATHERED}
 use Rattle.hub_letters.specs.Flags.{flags_of}
+use Rattle.hub_letters.specs.States.{word_behind}
+use Rattle.hub_letters.specs.declared.state.State as states
 use Rattle.hub_listen.specs.Hit.{IsPattern}
 use Rattle.hub_listen.specs.Listening.{new_listening}
 use Rattle.hub_letters.specs.declared.mode.Mode.{Mode}
@@ -31,7 +33,7 @@ use Rattle.hub_local.specs.Waits.{wait_answer, LeftByWait}
 use Rattle.hub_local.specs.declared.local_desk.LocalListener.{LocalListener}
 use Rattle.hub_local.specs.declared.local_desk.Holding.{Holding}
 use Rattle.hub_requests.specs.declared.request.Request.{Request}
-use Rattle.hub_requests.specs.declared.request.Request.TheVariants.{Dir, Svc, Sub, Pub, Take, Cancel, Close, Status, Listen, Poll, Await, Wait, Names}
+use Rattle.hub_requests.specs.declared.request.Request.TheVariants.{Dir, Svc, Sub, Pub, Tell, Take, Cancel, Close, Status, Listen, Poll, Await, Wait, Names}
 use Rattle.hub_requests.specs.declared.reply.Reply.{Reply}
 use Rattle.hub_requests.specs.declared.reply.Reply.TheVariants.{Done, Number, State, Got, Nothing, End, Evicted, No}
 use Rattle.hub_requests.specs.declared.reply.Refusal.{Refusal}
@@ -47,6 +49,15 @@ refusal_to_make d name =
 
 abbrev pub refusal_by_name : Desk → List ℕ → Option Refusal
 refusal_by_name d name = if is_some (world_of d.fifodirs name) then None else Some no.Name
+
+abbrev pub refusal_by_kind : Kind → Option Refusal
+refusal_by_kind Plain = Some no.Kind
+refusal_by_kind Service = None
+
+-- only of a service can be told where it is
+abbrev pub refusal_to_tell : Option World → Option Refusal
+refusal_to_tell None = Some no.Name
+refusal_to_tell (Some w) = refusal_by_kind w.kind
 
 -- the refusal of one more handle, for a subscription to the fifodir of this name
 abbrev pub refusal_to_hold : Desk → List ℕ → Option Refusal
@@ -93,6 +104,7 @@ own_refusal d read (Dir name waiting total evict) = refusal_to_make d name
 own_refusal d read (Svc name waiting total notifies evict) = refusal_to_make d name
 own_refusal d read (Sub name) = refusal_to_hold d name
 own_refusal d read (Pub name letters) = refusal_by_name d name
+own_refusal d read (Tell name state) = refusal_to_tell (world_of d.fifodirs name)
 own_refusal d read (Take id max) = refusal_to_take (holding_at d id)
 own_refusal d read (Cancel id) = refusal_by_handle (holding_at d id)
 own_refusal d read (Close name) = refusal_by_name d name
@@ -151,6 +163,10 @@ abbrev pub publish_answer : Desk → List ℕ → List ℕ → World → Result 
 publish_answer d name message w (Err error) = refusal_answer d (refusal_of_pub error)
 publish_answer d name message w (Ok first) = answered_with (Number first) d name (after_publish w 1 message (Ok first))
 
+-- the letters that bring the service to a state
+abbrev pub word_in : states.State → World → List ℕ
+word_in state w = word_behind state (letters w.events)
+
 abbrev pub take_shown : List ℕ → Result Taken NoId → Reply
 take_shown letters (Ok (taken.Got count)) = Got letters
 take_shown letters (Ok taken.Nothing) = Nothing
@@ -181,6 +197,7 @@ request_answer d (Dir name waiting total evict) = make_answer d name Plain None 
 request_answer d (Svc name waiting total notifies evict) = make_answer d name Service (Some notifies) (limits_of waiting total MOST_IDS (policy_of evict))
 request_answer d (Sub name) = in_world d (λ w. subscribe_answer d name None w (subscribe_reply w)) (world_of d.fifodirs name)
 request_answer d (Pub name message) = in_world d (λ w. publish_answer d name message w (publish_reply w message)) (world_of d.fifodirs name)
+request_answer d (Tell name state) = in_world d (λ w. publish_answer d name (word_in state w) w (publish_reply w (word_in state w))) (world_of d.fifodirs name)
 request_answer d (Take id max) = for_holding d (λ h. in_world d (took d max h) (world_of d.fifodirs h.name)) (holding_at d id)
 request_answer d (Cancel id) = for_holding d (cancel_answer d id) (holding_at d id)
 request_answer d (Close name) = in_world d (λ w. close_answer d name w (close_reply w)) (world_of d.fifodirs name)

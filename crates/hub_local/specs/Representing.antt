@@ -8,7 +8,7 @@ use Rattle.hub_local.specs.DeskAnswers.{own_refusal, request_answer, answer_by, 
 use Rattle.hub_local.specs.declared.local_desk.LocalFifodir.{LocalFifodir}
 use Rattle.hub_local.specs.declared.local_desk.Holding.{Holding}
 use Rattle.hub_requests.specs.declared.request.Request.{Request}
-use Rattle.hub_requests.specs.declared.request.Request.TheVariants.{Pub, Cancel, Close, Status, Await}
+use Rattle.hub_requests.specs.declared.request.Request.TheVariants.{Pub, Tell, Cancel, Close, Status, Await}
 use Rattle.hub_requests.specs.declared.reply.Reply.{Reply}
 use Rattle.hub_requests.specs.declared.reply.Reply.TheVariants.{No}
 use Rattle.hub_requests.specs.declared.reply.Refusal.{Refusal}
@@ -74,6 +74,7 @@ pub record CarriesOut (old : Local) (grows : Bool) (own : Desk → Option Refusa
 -- whether a request needs memory: all do but these
 abbrev pub grows : Request → Bool
 grows (Pub name letters) = false
+grows (Tell name state) = false
 grows (Cancel id) = false
 grows (Close name) = false
 grows (Status name) = false

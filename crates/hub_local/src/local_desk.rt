@@ -122,6 +122,7 @@ impl Desk for LocalDesk {
             } => self.make(name, Kind::Plain, None, limits(*waiting, *total, *evict)),
             Request::Sub { name } => self.subscribe(name),
             Request::Pub { name, letters } => self.publish(name, letters),
+            Request::Tell { name, state } => self.tell(name, *state),
             Request::Take { id, max } => self.take(*id, *max),
             Request::Cancel { id } => self.cancel(*id),
             Request::Close { name } => self.close(name),

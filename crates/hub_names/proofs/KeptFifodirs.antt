@@ -1,18 +1,20 @@
 -- What stays and what comes in the fifodirs that a session keeps.
-use Rattle.std.proofs.Common.{◌≡◌, ℕ, List, Option, None, Some, false, Result, Ok, Err, IfOk, IfNone, IfSome, refl, subst, inl, inr}
+use Rattle.std.proofs.Common.{◌≡◌, ℕ, List, Option, None, Some, false, option_map, Result, Ok, Err, IfOk, IfNone, IfSome, refl, sym, subst, inl, inr}
 use Rattle.std.specs.Arc.{arc_value}
 use Rattle.std.specs.Str.{bytes_eq}
 use Rattle.hub_requests.specs.declared.reply.Refusal.{Refusal}
 use Rattle.hub_requests.specs.declared.reply.Reply.{Reply}
-use Rattle.hub_fifodir.specs.declared.publisher.Publisher.{Publisher}
+use Rattle.hub_names.specs.declared.hub.Found.{Found}
 use Rattle.hub_names.specs.declared.hub.Hub.{Hub}
 use Rattle.hub_names.specs.declared.hub.Made.{Made}
+use Rattle.hub_names.specs.declared.hub.looking.NamesLook.{NamesLook}
 use Rattle.hub_names.specs.declared.fifodirs.Fifodirs.{Fifodirs}
 use Rattle.hub_names.specs.declared.joined.Joined.{Joined}
-use Rattle.hub_names.specs.Hubs.{IsFoundIn}
+use Rattle.hub_names.specs.Hubs.{IsFoundIn, given_as, seen_under}
+use Rattle.hub_names.specs.Looks.{IsLookAt}
 use Rattle.hub_names.specs.Says.{says_status}
 use Rattle.hub_names.specs.Speaking.{AsksAsPublisher, found_of, fifodir_of, publisher_of}
-use Rattle.hub_names.specs.Fifodirs.{joined_at, IsFound, IsKeptAs, IsNewIn, IsSilent, Joins, Keeps, IsAsBefore, AsksByName, KeepsAll}
+use Rattle.hub_names.specs.Fifodirs.{joined_at, HasMissed, IsFound, IsKeptAs, IsNewIn, IsSilent, Joins, Keeps, IsAsBefore, AsksByName, AsksUnder, KeepsAll}
 
 pub one_of : {A : Type 0} (a b : A) (o : Option A) → o ≡ Some a → o ≡ Some b → a ≡ b
 one_of a b o e f = cc
@@ -29,10 +31,28 @@ joins_new hub old new name key j unknown silent found same here others = record 
   };
 }
 
+-- ---- a look at the hub
+
+module _ {E : Type 0} (hub : Hub) (name : List ℕ) (look : NamesLook) (found : Result (Option Found) E) where
+  -- that found a fifodir
+  pub finds : (f : Found) → found ≡ Ok (Some f) → IfOk found (λ f. IfSome f (IsFoundIn hub name)) → IsFoundIn hub name f
+  finds f is each = subst (λ (r : Result (Option Found) E). IfOk r (λ f. IfSome f (IsFoundIn hub name))) is each
+
+  -- that found none
+  pub misses : (fs : Fifodirs) → fs.look ≡ Some look → IsLookAt hub look → found ≡ Ok None → IfOk found (λ f. option_map given_as f ≡ seen_under look name) → HasMissed hub name fs
+  misses fs last looked is seen = record {
+    look = look;
+    last = last;
+    looked = looked;
+    none = sym (subst (λ (r : Result (Option Found) E). IfOk r (λ f. option_map given_as f ≡ seen_under look name)) is seen);
+  }
+
+-- ---- what is asked
+
 -- what is kept under a name, or was found by it, was asked and is kept as it then is
-pub asks_kept : (hub : Hub) (says : Publisher → Reply → Publisher → Type 0) (old new : Fifodirs) (name : List ℕ) (was now : Joined) (reply : Reply)
-    → IsFound hub old name was → Keeps old name now new → AsksAsPublisher says was reply now → AsksByName hub says old name reply new
-asks_kept hub says old new name was now reply found keeps asked = inl (record { before = was; after = now; found = found; asked = asked; keeps = keeps })
+pub asks_kept : (hub : Hub) (asks : Joined → Reply → Joined → Type 0) (old new : Fifodirs) (name : List ℕ) (was now : Joined) (reply : Reply)
+    → IsFound hub old name was → Keeps old name now new → asks was reply now → AsksUnder hub asks old name reply new
+asks_kept hub asks old new name was now reply found keeps asked = inl (record { before = was; after = now; found = found; asked = asked; keeps = keeps })
 
 -- ---- a status without the lock
 
@@ -40,7 +60,7 @@ asks_kept hub says old new name was now reply found keeps asked = inl (record { 
 pub status_known : (old new : Fifodirs) (name : List ℕ) (was now : Joined) (told : Option Reply) → joined_at old name ≡ Some was → joined_at new name ≡ Some now
     → ((other : List ℕ) → bytes_eq name other ≡ false → joined_at new other ≡ joined_at old other) → IfSome told (λ reply. AsksAsPublisher says_status was reply now)
     → IfSome told (λ reply. (hub : Hub) → AsksByName hub says_status old name reply new)
-status_known old new name was now (Some reply) at here others asked = λ hub. asks_kept hub says_status old new name was now reply (inl at) (record { here = here; others = others }) asked
+status_known old new name was now (Some reply) at here others asked = λ hub. asks_kept hub (AsksAsPublisher says_status) old new name was now reply (inl at) (record { here = here; others = others }) asked
 status_known old new name was now None at here others asked = tt
 
 -- or not told, where none is kept

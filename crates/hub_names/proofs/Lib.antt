@@ -1,2 +1,3 @@
 pub mod Speakers
 pub mod KeptFifodirs
+mod Changes

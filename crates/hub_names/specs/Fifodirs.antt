@@ -7,13 +7,16 @@ use Rattle.hub_requests.specs.declared.reply.Refusal.{Refusal}
 use Rattle.hub_requests.specs.declared.reply.Refusal.TheVariants as no
 use Rattle.hub_requests.specs.declared.reply.Reply.{Reply}
 use Rattle.hub_requests.specs.declared.reply.Reply.TheVariants.{No}
+use Rattle.hub_letters.specs.declared.state.State.{State}
 use Rattle.hub_fifodir.specs.declared.publisher.Publisher.{Publisher}
 use Rattle.hub_names.specs.declared.hub.Hub.{Hub}
 use Rattle.hub_names.specs.declared.hub.Made.{Made}
 use Rattle.hub_names.specs.declared.fifodirs.Fifodirs.{Fifodirs}
 use Rattle.hub_names.specs.declared.joined.Joined.{Joined}
-use Rattle.hub_names.specs.Hubs.{IsFoundIn}
-use Rattle.hub_names.specs.Speaking.{AsksAsPublisher, fifodir_of, notifies_of, publisher_of}
+use Rattle.hub_names.specs.declared.hub.looking.NamesLook.{NamesLook}
+use Rattle.hub_names.specs.Hubs.{IsFoundIn, seen_under}
+use Rattle.hub_names.specs.Looks.{IsLookAt}
+use Rattle.hub_names.specs.Speaking.{AsksAsPublisher, Tells, fifodir_of, notifies_of, publisher_of}
 
 -- what is kept under the name
 abbrev pub joined_at : Fifodirs → List ℕ → Option Joined
@@ -56,31 +59,53 @@ pub record IsKeptAs (fs : Fifodirs) (name : List ℕ) (found : Made) : Type 0 wh
   pub dir : arc_value found.dir ≡ fifodir_of joined
   pub notifies : found.notifies ≡ notifies_of joined
 
--- the name wasn't known before, and isn't now
-pub record IsFinding (old : Fifodirs) (name : List ℕ) (new : Fifodirs) (refusal : Refusal) : Type 0 where
-  pub unknown : joined_at old name ≡ None
-  pub before : IsAsBefore old new
-  pub refused : (refusal ≡ no.Name) ⊎ (refusal ≡ no.Memory)
+-- the session's last look at the hub saw no fifodir under the name
+pub record HasMissed (hub : Hub) (name : List ℕ) (fs : Fifodirs) : Type 0 where
+  pub look : NamesLook
+  pub last : fs.look ≡ Some look
+  pub looked : IsLookAt hub look
+  pub none : seen_under look name ≡ None
 
 -- the name has no fifodir, or there is no memory to find it
-abbrev pub IsMissing : Fifodirs → List ℕ → Refusal → Type 0
-IsMissing fs name refusal = ((refusal ≡ no.Name) × (joined_at fs name ≡ None)) ⊎ (refusal ≡ no.Memory)
+abbrev pub IsSoughtBy : Hub → List ℕ → Fifodirs → Refusal → Type 0
+IsSoughtBy hub name fs refusal = ((refusal ≡ no.Name) × HasMissed hub name fs) ⊎ (refusal ≡ no.Memory)
 
--- asked of the publisher under the name
-pub record AsksKept (hub : Hub) (says : Publisher → Reply → Publisher → Type 0) (old : Fifodirs) (name : List ℕ) (reply : Reply) (new : Fifodirs) : Type 0 where
+-- the name wasn't known before, and isn't now
+pub record IsFinding (hub : Hub) (old : Fifodirs) (name : List ℕ) (new : Fifodirs) (refusal : Refusal) : Type 0 where
+  pub unknown : joined_at old name ≡ None
+  pub before : IsAsBefore old new
+  pub refused : IsSoughtBy hub name new refusal
+
+abbrev pub IsMissed : Hub → Fifodirs → List ℕ → Type 0
+IsMissed hub fs name = (joined_at fs name ≡ None) × HasMissed hub name fs
+
+-- the name isn't known, and was missed; or there is no memory to find it
+abbrev pub IsMissing : Hub → Fifodirs → List ℕ → Refusal → Type 0
+IsMissing hub fs name refusal = ((refusal ≡ no.Name) × IsMissed hub fs name) ⊎ (refusal ≡ no.Memory)
+
+-- asked of what is kept under the name
+pub record AsksKept (hub : Hub) (asks : Joined → Reply → Joined → Type 0) (old : Fifodirs) (name : List ℕ) (reply : Reply) (new : Fifodirs) : Type 0 where
   pub before : Joined
   pub after : Joined
   pub found : IsFound hub old name before
-  pub asked : AsksAsPublisher says before reply after
+  pub asked : asks before reply after
   pub keeps : Keeps old name after new
 
-pub record IsUnfound (old : Fifodirs) (name : List ℕ) (reply : Reply) (new : Fifodirs) : Type 0 where
+pub record IsUnfound (hub : Hub) (old : Fifodirs) (name : List ℕ) (reply : Reply) (new : Fifodirs) : Type 0 where
   pub refusal : Refusal
   pub said : reply ≡ No refusal
-  pub finding : IsFinding old name new refusal
+  pub finding : IsFinding hub old name new refusal
 
+abbrev pub AsksUnder : Hub → (Joined → Reply → Joined → Type 0) → Fifodirs → List ℕ → Reply → Fifodirs → Type 0
+AsksUnder hub asks old name reply new = AsksKept hub asks old name reply new ⊎ IsUnfound hub old name reply new
+
+-- asked of the publisher under the name
 abbrev pub AsksByName : Hub → (Publisher → Reply → Publisher → Type 0) → Fifodirs → List ℕ → Reply → Fifodirs → Type 0
-AsksByName hub says old name reply new = AsksKept hub says old name reply new ⊎ IsUnfound old name reply new
+AsksByName hub says old name reply new = AsksUnder hub (AsksAsPublisher says) old name reply new
+
+-- the service under the name is told where it is
+abbrev pub TellsByName : Hub → State → Fifodirs → List ℕ → Reply → Fifodirs → Type 0
+TellsByName hub state old name reply new = AsksUnder hub (Tells state) old name reply new
 
 -- whatever was kept is kept still
 pub record KeepsAll (hub : Hub) (old new : Fifodirs) : Type 0 where

@@ -4,4 +4,5 @@ pub mod Says
 pub mod Speaking
 pub mod Fifodirs
 pub mod Looks
+pub mod Changes
 pub mod Lending

@@ -3,14 +3,18 @@ use Rattle.std.specs.Prelude.{◌≡◌, ◌≢◌, Bool, [], Option, None, Some
 use Rattle.std.specs.Arc.{arc_value}
 use Rattle.hub_requests.specs.declared.reply.Reply.{Reply}
 use Rattle.hub_requests.specs.declared.reply.Reply.TheVariants.{No}
+use Rattle.hub_letters.specs.declared.state.State.{State}
+use Rattle.hub_record.specs.declared.Kind.TheVariants.{Plain, Service}
+use Rattle.hub_requests.specs.declared.reply.Refusal.TheVariants.{Kind}
 use Rattle.hub_fifodir.specs.declared.PassError.{PassError}
 use Rattle.hub_fifodir.specs.declared.fifodir.Fifodir.{Fifodir}
 use Rattle.hub_fifodir.specs.declared.publisher.Publisher.{Publisher}
-use Rattle.hub_fifodir.specs.Passes.{IsPublisherOf, closed_mark, mine, publisher_number, publisher_sight}
+use Rattle.hub_fifodir.specs.Passes.{IsPublisherOf, kind_of, closed_mark, mine, publisher_number, publisher_sight}
 use Rattle.hub_fifodir.specs.Steps.{Grows}
 use Rattle.hub_names.specs.declared.hub.Found.{Found}
 use Rattle.hub_names.specs.declared.joined.Joined.{Joined}
 use Rattle.hub_names.specs.Refusals.{refusal_of_pass}
+use Rattle.hub_names.specs.Says.{says_told}
 
 abbrev pub found_of : Joined → Found
 found_of j = j.found
@@ -63,3 +67,8 @@ pub record IsUnmade (old : Joined) (reply : Reply) (new : Joined) : Type 0 where
 
 abbrev pub AsksAsPublisher : (Publisher → Reply → Publisher → Type 0) → Joined → Reply → Joined → Type 0
 AsksAsPublisher says old reply new = Spoke says old reply new ⊎ IsUnmade old reply new
+
+-- the fifodir is a service's, and its publisher told where that is; or it is plain, and nothing is done
+abbrev pub Tells : State → Joined → Reply → Joined → Type 0
+Tells state old reply new = ((kind_of (fifodir_of old) ≡ Service) × AsksAsPublisher (says_told state) old reply new)
+    ⊎ ((kind_of (fifodir_of old) ≡ Plain) × (reply ≡ No Kind) × (new ≡ old))

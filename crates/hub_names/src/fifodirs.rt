@@ -1,13 +1,15 @@
 //! The fifodirs that a session found, by name.
 ghost use Rattle.std.specs.Prelude.{◌≡◌, None, IfErr, IfNone, IfSome, OnOk, IfOk};
 ghost use Rattle.std.specs.Borrow.{sem};
+ghost use Rattle.hub_names.specs.Refusals.{refusal_of_hub};
 ghost use Rattle.hub_names.specs.Says.{says_closed, says_published, says_status};
 ghost use Rattle.hub_names.specs.declared.hub.Hub.{Hub};
 
-use crate::hub::{Hub, Made, NamesLook};
+use crate::hub::{Hub, HubError, Made, NamesChange, NamesLook};
 use crate::joined::Joined;
 use hub_fifodir::Enter;
-use hub_record::Letters;
+use hub_letters::State;
+use hub_record::{Kind, Letters, Limits};
 use hub_requests::{Name, Refusal, Reply};
 use indexmap::IndexMap;
 use std::alloc::Global;
@@ -21,14 +23,17 @@ use std::sync::Wait;
 pub struct Fifodirs {
     alloc: Global,
     by_name: IndexMap<Name, Joined>,
-    /// What the session last saw of its hub's names.
+    /// What the session last saw of its hub's names, as contracts see it.
     look: Option<NamesLook>,
+    /// How it last changed them, or tried to.
+    change: Option<NamesChange>,
 }
 
 impl Fifodirs {
+    ghost use Rattle.hub_names.specs.Changes.{MakesName};
     ghost use Rattle.hub_names.specs.Looks.{AsksNames};
     ghost use Rattle.hub_names.specs.Lending.{LendsJoined};
-    ghost use Rattle.hub_names.specs.Fifodirs.{AsksByName, IsAsBefore, IsSilent, IsKeptAs, KeepsAll, KeepsNone, Joins, IsFinding, IsMissing, IsFound, joined_at};
+    ghost use Rattle.hub_names.specs.Fifodirs.{AsksByName, TellsByName, IsAsBefore, IsSilent, IsKeptAs, KeepsAll, KeepsNone, Joins, IsFinding, IsMissing, IsFound, joined_at};
 
     /// Those of a new session: it has found none.
     pub fn new(alloc: Global) -> Fifodirs
@@ -38,6 +43,7 @@ impl Fifodirs {
             alloc,
             by_name: IndexMap::new(alloc),
             look: None,
+            change: None,
         }
     }
 
@@ -45,9 +51,11 @@ impl Fifodirs {
     fn join<H: Wait>(&mut self, rt: &H, hub: &Hub, name: &Name) -> Result<(), Refusal>
         requires { joined_at self.old name.now ≡ None }
         ensures ok { OnOk result (Joins hub.now self.old name.now self.new) }
-        ensures err { IfErr result (IsFinding self.old name.now self.new) }
+        ensures err { IfErr result (IsFinding hub.now self.old name.now self.new) }
     {
-        let Ok(found) = hub.find(rt, name) else {
+        let (look, found) = hub.find(rt, name);
+        self.look = Some(look);
+        let Ok(found) = found else {
             return Err(Refusal::Memory);
         };
         let Some(found) = found else {
@@ -71,7 +79,7 @@ impl Fifodirs {
 
     /// What is kept under this name, to be asked. A name that isn't known yet is looked up in the hub.
     fn joined<H: Wait>(&mut self, rt: &H, hub: &Hub, name: &Name) -> Result<&mut Joined, Refusal>
-        ensures* writes_back { sem 𝓛 (LendsJoined self.entry name.now result) }
+        ensures* writes_back { sem 𝓛 (LendsJoined hub.now self.entry name.now result) }
         ensures found { IfOk result (λ joined. IsFound hub.now self.old name.now joined.now) }
     {
         if !self.by_name.contains_key(name) {
@@ -87,7 +95,7 @@ impl Fifodirs {
     pub fn find<H: Wait>(&mut self, rt: &H, hub: &Hub, name: &Name) -> Result<Made, Refusal>
         ensures ok { IfOk result (λ found. IsKeptAs self.new name.now found) }
         ensures kept { KeepsAll hub.now self.old self.new }
-        ensures missing { IfErr result (IsMissing self.new name.now) }
+        ensures missing { IfErr result (IsMissing hub.now self.new name.now) }
     {
         self.joined(rt, hub, name)?.copy()
     }
@@ -105,6 +113,16 @@ impl Fifodirs {
     {
         match self.joined(rt, hub, name) {
             Ok(joined) => joined.publish(rt, letters),
+            Err(refusal) => Reply::No(refusal),
+        }
+    }
+
+    /// Tells where the service of this name is, by the session's publisher there.
+    pub fn tell<H: Wait + Enter>(&mut self, rt: &H, hub: &Hub, name: &Name, state: State) -> Reply
+        ensures { TellsByName hub.now state self.old name.now result self.new }
+    {
+        match self.joined(rt, hub, name) {
+            Ok(joined) => joined.tell(rt, state),
             Err(refusal) => Reply::No(refusal),
         }
     }
@@ -151,6 +169,26 @@ impl Fifodirs {
         reply
     }
 
+    /// Makes a fifodir in the hub, under a name that has none there. The session doesn't find it by that.
+    pub fn make<H: Wait + Enter>(
+        &mut self,
+        rt: &H,
+        hub: &Hub,
+        name: &Name,
+        kind: Kind,
+        limits: Limits,
+        notifies: bool,
+    ) -> Reply
+        ensures { MakesName hub.now kind limits notifies self.old name.now result self.new }
+    {
+        let (change, made) = hub.make_named(rt, name, kind, limits, notifies);
+        self.change = Some(change);
+        match made {
+            Ok(()) => Reply::Done,
+            Err(error) => Reply::No(refusal_of_hub(error)),
+        }
+    }
+
     /// Ends all publishers.
     pub fn leave<H: Wait>(&mut self, rt: &H)
         ensures { KeepsNone self.new }
@@ -169,7 +207,18 @@ impl Fifodirs {
             alloc: _,
             by_name,
             look: _,
+            change: _,
         } = self;
         by_name.destroy_empty();
+    }
+}
+
+fn refusal_of_hub(error: HubError) -> Refusal
+    ensures { result ≡ refusal_of_hub error }
+{
+    match error {
+        HubError::Exists => Refusal::Exists,
+        HubError::Many => Refusal::Many,
+        HubError::Memory => Refusal::Memory,
     }
 }

@@ -1,18 +1,22 @@
 //! The fifodirs that sessions share, by name.
-ghost use Rattle.std.specs.Prelude.{◌≡◌, ◌≤◌, ◌++◌, ◌∷◌, [], ℕ, List, true, false, is_some, option_map, IfOk, IfSome, OnOk, OnErr, Err};
+ghost use Rattle.std.specs.Prelude.{◌≡◌, ◌≤◌, ◌++◌, ◌∷◌, [], ℕ, List, true, false, is_some, option_map, IfOk, IfErr, IfSome, OnOk, OnErr, Err};
 ghost use Rattle.std.specs.Arc.{arc_value};
 ghost use Rattle.std.specs.Str.{bytes_eq};
 ghost use Rattle.indexmap.specs.IndexMap.{get, index_map_len, keys};
 ghost use Rattle.hub_requests.specs.declared.bounds.TheConstants.{MOST_NAMES};
 
-use hub_fifodir::{Bell, Fifodir};
+use hub_fifodir::{Bell, Enter, Fifodir};
 use hub_record::{Kind, Limits};
 use hub_requests::{MOST_NAMES, Name, Refusal, Reply, names_reply};
 use indexmap::IndexMap;
 use std::alloc::{AllocError, Global};
-use std::snapshot::Snapshot;
 use std::sync::{Arc, RwLock, Wait};
 use thiserror::Error;
+
+mod looking;
+
+use looking::{Changing, Looking};
+pub use looking::{NamesChange, NamesLook};
 
 /// Why no fifodir was made.
 #[derive(Clone, Copy, Debug, PartialEq, Eq, Hash, Error)]
@@ -61,36 +65,29 @@ impl Made {
     }
 }
 
-/// A fifodir that was found, with what it was found by. Only [`Hub::find`] makes one.
+/// A fifodir that was found, with the look that found it. Only [`Hub::find`] makes one.
 #[derive(Drop)]
 pub struct Found {
     pub dir: Arc<Fifodir, Global>,
     /// Whether its service reports readiness.
     pub notifies: bool,
-    /// The hub, as contracts see it.
-    hub: Snapshot<Hub>,
-    /// The name that the hub had it under.
-    name: Snapshot<Name>,
-    /// The fifodir that the hub gave.
-    given: Snapshot<Arc<Fifodir, Global>>,
-    ghost is_given: { arc_value dir ≡ arc_value given.value },
+    /// What the hub then had under its names, as contracts see it.
+    look: NamesLook,
 }
 
 impl Found {
-    ghost use Rattle.hub_names.specs.Hubs.{IsFoundIn};
+    ghost use Rattle.hub_names.specs.Hubs.{found_as, given_as};
 
-    /// What the hub has under the name.
-    fn of(hub: &Hub, name: &Name, made: Made) -> Found
-        ensures { IsFoundIn hub.now name.now result }
+    /// What this look found.
+    fn of(made: Made, look: NamesLook) -> Found
+        ensures given { given_as result ≡ found_as made }
+        ensures look { result.look ≡ look }
     {
         let Made { dir, notifies } = made;
-        let given = Snapshot::of(&dir);
         Found {
             dir,
             notifies,
-            hub: Snapshot::of(hub),
-            name: Snapshot::of(name),
-            given,
+            look,
         }
     }
 
@@ -104,30 +101,6 @@ impl Found {
             dir,
             notifies: self.notifies,
         })
-    }
-}
-
-/// What a session saw of a hub's names at one moment, as contracts see it: it has no bytes. Only [`Hub::list`] makes one.
-#[derive(Drop)]
-pub struct NamesLook {
-    hub: Snapshot<Hub>,
-    /// What was under the hub's lock.
-    named: Snapshot<Named>,
-}
-
-impl NamesLook {
-    ghost use Rattle.hub_names.specs.Looks.{IsLookAt, names_seen};
-
-    /// A look at what the hub has under its lock.
-    fn at(hub: &Hub, named: &Named) -> NamesLook
-        ensures at { IsLookAt hub.now result }
-        ensures seen { names_seen result ≡ keys named.now.fifodirs }
-    {
-        prove!(named.fifodirs.len() <= MOST_NAMES);
-        NamesLook {
-            hub: Snapshot::of(hub),
-            named: Snapshot::of(named),
-        }
     }
 }
 
@@ -145,8 +118,10 @@ impl Named {
     ghost use Rattle.hub_names.specs.Hubs.{HasMade, found_as};
     ghost use Rattle.hub_names.specs.Looks.{Lists};
 
-    fn make(
+    /// Makes a fifodir under a name that has none. It asks for `Enter`, so that what only looks can't make one.
+    fn make<H: Enter>(
         &mut self,
+        _rt: &H,
         name: &Name,
         kind: Kind,
         limits: Limits,
@@ -216,7 +191,8 @@ pub struct Hub {
 }
 
 impl Hub {
-    ghost use Rattle.hub_names.specs.Hubs.{IsFoundIn};
+    ghost use Rattle.hub_names.specs.Changes.{HasMadeUnder, IsChangeAt, IsWhyUnmade};
+    ghost use Rattle.hub_names.specs.Hubs.{IsFoundIn, given_as, seen_under};
     ghost use Rattle.hub_names.specs.Looks.{IsLookAt, Lists, names_seen};
 
     /// A hub without a name.
@@ -235,39 +211,36 @@ impl Hub {
         })
     }
 
-    /// Makes a fifodir under a name that has none.
-    pub fn make<H: Wait>(
-        &self,
-        rt: &H,
-        name: Name,
-        kind: Kind,
-        limits: Limits,
-        notifies: bool,
-    ) -> Result<(), HubError> {
-        self.make_named(rt, &name, kind, limits, notifies)
-    }
-
-    /// The same, by a name that the caller keeps.
-    pub fn make_named<H: Wait>(
+    /// Makes a fifodir under a name that has none. The change tells contracts what the hub had before, and what after.
+    pub fn make_named<H: Wait + Enter>(
         &self,
         rt: &H,
         name: &Name,
         kind: Kind,
         limits: Limits,
         notifies: bool,
-    ) -> Result<(), HubError> {
-        self.named.write(rt).make(name, kind, limits, notifies)
+    ) -> (NamesChange, Result<(), HubError>)
+        ensures at { IsChangeAt self.now result.0 }
+        ensures ok { OnOk result.1 (HasMadeUnder kind limits notifies name.now result.0) }
+        ensures err { IfErr result.1 (IsWhyUnmade name.now result.0) }
+    {
+        Changing::at(self, rt).make(rt, name, kind, limits, notifies)
     }
 
-    /// The fifodir of this name, if it has one. It stays as long as the hub does.
-    pub fn find<H: Wait>(&self, rt: &H, name: &Name) -> Result<Option<Found>, AllocError>
-        ensures { IfOk result (λ found. IfSome found (IsFoundIn self.now name.now)) }
+    /// The fifodir of this name, if it has one, with the look at the hub that found it or didn't. It stays as long as the hub
+    /// does.
+    pub fn find<H: Wait>(
+        &self,
+        rt: &H,
+        name: &Name,
+    ) -> (NamesLook, Result<Option<Found>, AllocError>)
+        ensures at { IsLookAt self.now result.0 }
+        ensures seen { IfOk result.1 (λ found. option_map given_as found
+            ≡ seen_under result.0 name.now) }
+        ensures found { IfOk result.1 (λ found. IfSome found (IsFoundIn self.now name.now)) }
     {
-        let made = self.named.read(rt).find(name)?;
-        match made {
-            Some(made) => Ok(Some(Found::of(self, name, made))),
-            None => Ok(None),
-        }
+        let names = Looking::at(self, rt);
+        (names.look(), names.find(name))
     }
 
     /// The names from place `from` on, in the order in which they were made and as many as fit in one reply, with the look at
@@ -276,7 +249,7 @@ impl Hub {
         ensures at { IsLookAt self.now result.0 }
         ensures lists { Lists (names_seen result.0) from result.1 }
     {
-        let named = self.named.read(rt);
-        (NamesLook::at(self, &named), named.list(from))
+        let names = Looking::at(self, rt);
+        (names.look(), names.list(from))
     }
 }

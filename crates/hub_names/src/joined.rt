@@ -8,7 +8,8 @@ ghost use Rattle.hub_names.specs.Says.{says_closed, says_published, says_status}
 
 use crate::hub::{Found, Made};
 use hub_fifodir::{Enter, PassError, Publisher};
-use hub_record::{Closed, Letters};
+use hub_letters::State;
+use hub_record::{Closed, Kind, Letters};
 use hub_requests::{Refusal, Reply};
 use std::mem;
 use std::sync::Wait;
@@ -23,7 +24,7 @@ pub struct Joined {
 }
 
 impl Joined {
-    ghost use Rattle.hub_names.specs.Speaking.{AsksAsPublisher, IsSpeaker, fifodir_of, found_of, publisher_of};
+    ghost use Rattle.hub_names.specs.Speaking.{AsksAsPublisher, IsSpeaker, Tells, fifodir_of, found_of, publisher_of};
 
     /// A fifodir that a session found, and at which it has no publisher yet.
     pub fn new(found: Found) -> Joined
@@ -86,10 +87,25 @@ impl Joined {
         };
         let published = self.found.dir.publish(rt, &mut publisher, letters.items());
         self.keep(publisher);
-        match published {
-            Ok(first) => Reply::Number(first),
-            Err(error) => Reply::No(Refusal::from(error)),
+        Reply::to_publish(published)
+    }
+
+    /// Tells where the service is, by the publisher that it keeps, or by a new one, which it keeps from then on. A plain
+    /// fifodir gets no publisher.
+    pub fn tell<H: Wait + Enter>(&mut self, rt: &H, state: State) -> Reply
+        ensures { Tells state self.old result self.new }
+    {
+        match self.found.dir.kind() {
+            Kind::Plain => return Reply::No(Refusal::Kind),
+            Kind::Service => {}
         }
+        let mut publisher = match self.speaker(rt) {
+            Ok(publisher) => publisher,
+            Err(error) => return Reply::No(refusal_of_pass(error)),
+        };
+        let told = self.found.dir.tell(rt, &mut publisher, state);
+        self.keep(publisher);
+        Reply::to_publish(told)
     }
 
     /// Closes the fifodir by the publisher that it keeps, or by a new one, which it keeps from then on.

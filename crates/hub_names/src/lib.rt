@@ -13,4 +13,4 @@ mod hub;
 mod joined;
 
 pub use fifodirs::Fifodirs;
-pub use hub::{Found, Hub, HubError, Made, NamesLook};
+pub use hub::{Found, Hub, HubError, Made, NamesChange, NamesLook};

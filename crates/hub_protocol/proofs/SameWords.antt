@@ -1,15 +1,17 @@
--- Modes, spans, wants and policies with the same spelling are one.
+-- Modes, spans, wants, states and policies with the same spelling are one.
 use Rattle.std.proofs.Common.{◌≡◌, ◌≢◌, ℕ, List, false, refl, sym, ◌∙◌}
 use Rattle.std.specs.Str.{bytes_eq}
 use Rattle.std.proofs.lemmas.Slice.Eq.{bytes_eq-Decides}
 use Rattle.std.proofs.lemmas.Bool.{false≢true}
 use Rattle.hub_letters.specs.declared.want.Want.{Want}
 use Rattle.hub_letters.specs.declared.want.Want.TheVariants.{Up, Ready, Down, Finished, Restarted, RestartedReady}
+use Rattle.hub_letters.specs.declared.state.State.{State}
+use Rattle.hub_letters.specs.declared.state.State.TheVariants as state
 use Rattle.hub_letters.specs.declared.mode.Mode.{Mode}
 use Rattle.hub_letters.specs.declared.mode.Mode.TheVariants.{Once, Repeat}
 use Rattle.hub_letters.specs.declared.span.Span.{Span}
 use Rattle.hub_letters.specs.declared.span.Span.TheVariants.{All, Any}
-use Rattle.hub_protocol.specs.Spelling.{text_of_mode, text_of_span, text_of_want}
+use Rattle.hub_protocol.specs.Spelling.{text_of_mode, text_of_span, text_of_state, text_of_want}
 
 -- texts that a test tells apart
 pub apart : (a b : List ℕ) → bytes_eq a b ≡ false → a ≢ b
@@ -33,3 +35,11 @@ same_want Finished Finished e = refl
 same_want Restarted Restarted e = refl
 same_want RestartedReady RestartedReady e = refl
 same_want a b e = absurd (apart (text_of_want a) (text_of_want b) refl e)
+
+pub same_state : (a b : State) → text_of_state a ≡ text_of_state b → a ≡ b
+same_state state.Off state.Off e = refl
+same_state state.Down state.Down e = refl
+same_state state.Up state.Up e = refl
+same_state state.Ready state.Ready e = refl
+same_state state.Failed state.Failed e = refl
+same_state a b e = absurd (apart (text_of_state a) (text_of_state b) refl e)

@@ -5,6 +5,8 @@ use Rattle.std.specs.List.{slice_split, join_with_byte, AllZip}
 use Rattle.std.specs.Str.{bytes_eq}
 use Rattle.hub_letters.specs.declared.want.Want as wants
 use Rattle.hub_letters.specs.declared.want.Want.TheVariants.{Up, Ready, Down, Finished, Restarted, RestartedReady}
+use Rattle.hub_letters.specs.declared.state.State as states
+use Rattle.hub_letters.specs.declared.state.State.TheVariants as state
 use Rattle.hub_letters.specs.declared.mode.Mode as modes
 use Rattle.hub_letters.specs.declared.mode.Mode.TheVariants.{Once, Repeat}
 use Rattle.hub_letters.specs.declared.span.Span as spans
@@ -28,6 +30,7 @@ pub data Field : Type 0 where
   Mode : (mode : modes.Mode) → Field
   Span : (span : spans.Span) → Field
   Want : (want : wants.Want) → Field
+  State : (s : states.State) → Field
 
 -- what the end of a line says; a pattern with spaces is several pieces
 pub data Last : Type 0 where
@@ -75,6 +78,7 @@ IsOf kind.Letters (Letters letters) = AreLetters letters
 IsOf kind.Mode (Mode mode) = Unit {0}
 IsOf kind.Span (Span s) = Unit {0}
 IsOf kind.Want (Want want) = Unit {0}
+IsOf kind.State (State s) = Unit {0}
 IsOf kind field = ⊥
 
 -- the line ends as it may end
@@ -131,6 +135,13 @@ text_of_want Finished = codes "finished"
 text_of_want Restarted = codes "restarted"
 text_of_want RestartedReady = codes "restarted-ready"
 
+abbrev pub text_of_state : states.State → List ℕ
+text_of_state state.Off = codes "off"
+text_of_state state.Down = codes "down"
+text_of_state state.Up = codes "up"
+text_of_state state.Ready = codes "ready"
+text_of_state state.Failed = codes "failed"
+
 abbrev pub is_space : ℕ → Bool
 is_space b = b == 32
 
@@ -150,6 +161,7 @@ text_of_field (Letters letters) = letters
 text_of_field (Mode mode) = text_of_mode mode
 text_of_field (Span s) = text_of_span s
 text_of_field (Want want) = text_of_want want
+text_of_field (State s) = text_of_state s
 
 abbrev pub pieces_of_last : Last → List (List ℕ)
 pieces_of_last Nothing = []
@@ -178,6 +190,7 @@ form_of (request.Dir name waiting total evict) = says (codes "dir") (Name name �
 form_of (request.Svc name waiting total notifies evict) = says (codes "svc") (Name name ∷ Number waiting ∷ Number total ∷ Number (digit_of notifies) ∷ []) (Evict evict)
 form_of (request.Sub name) = says (codes "sub") (Name name ∷ []) Nothing
 form_of (request.Pub name letters) = says (codes "pub") (Name name ∷ Letters letters ∷ []) Nothing
+form_of (request.Tell name s) = says (codes "tell") (Name name ∷ State s ∷ []) Nothing
 form_of (request.Take id max) = says (codes "take") (Number id ∷ Number max ∷ []) Nothing
 form_of (request.Cancel id) = says (codes "cancel") (Number id ∷ []) Nothing
 form_of (request.Close name) = says (codes "close") (Name name ∷ []) Nothing
@@ -217,6 +230,10 @@ abbrev pub want_in : Field → wants.Want
 want_in (Want want) = want
 want_in field = Up
 
+abbrev pub state_in : Field → states.State
+state_in (State s) = s
+state_in field = state.Off
+
 abbrev pub names_in : Last → List (List ℕ)
 names_in (Names names) = names
 names_in last = []
@@ -244,6 +261,7 @@ request_by word a b c d last =
     else (if bytes_eq word (codes "svc") then request.Svc (name_in a) (number_in b) (number_in c) (flag_in d) (evict_in last)
     else (if bytes_eq word (codes "sub") then request.Sub (name_in a)
     else (if bytes_eq word (codes "pub") then request.Pub (name_in a) (letters_in b)
+    else (if bytes_eq word (codes "tell") then request.Tell (name_in a) (state_in b)
     else (if bytes_eq word (codes "take") then request.Take (number_in a) (number_in b)
     else (if bytes_eq word (codes "cancel") then request.Cancel (number_in a)
     else (if bytes_eq word (codes "close") then request.Close (name_in a)
@@ -252,7 +270,7 @@ request_by word a b c d last =
     else (if bytes_eq word (codes "poll") then request.Poll (number_in a)
     else (if bytes_eq word (codes "await") then request.Await (number_in a) (number_in b)
     else (if bytes_eq word (codes "wait") then request.Wait (span_in a) (want_in b) (number_in c) (names_in last)
-    else request.Names (number_in a))))))))))))
+    else request.Names (number_in a)))))))))))))
 
 -- the request of a form; any, if the form is that of none
 abbrev pub request_from : Form → Request

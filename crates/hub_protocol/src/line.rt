@@ -8,7 +8,7 @@ ghost use Rattle.hub_protocol.specs.Lines.{AreRead, IsEnd, IsFieldOf, IsWithinKi
 use crate::fields::{are_letters, are_names, is_pattern, numeral, split_at_space};
 use crate::table::{Ending, Kind, MOST_FIELDS};
 use crate::words::Spelled;
-use hub_letters::{Mode, Span, Want};
+use hub_letters::{Mode, Span, State, Want};
 use hub_requests::Name;
 
 /// What a field says.
@@ -20,6 +20,7 @@ pub enum Field<'a> {
     Mode(Mode),
     Span(Span),
     Want(Want),
+    State(State),
 }
 
 /// What the end of a line says. Names are as in the line, with one space between two.
@@ -67,6 +68,7 @@ fn field_of(kind: Kind, text: &[u8]) -> Option<Field<'_>>
         Kind::Mode => Mode::of_word(text).map(|mode| Field::Mode(mode)),
         Kind::Span => Span::of_word(text).map(|span| Field::Span(span)),
         Kind::Want => Want::of_word(text).map(|want| Field::Want(want)),
+        Kind::State => State::of_word(text).map(|state| Field::State(state)),
     }
 }
 

@@ -1,14 +1,14 @@
 //! The request of a line.
 ghost use Rattle.std.specs.Prelude.{◌≡◌, ◌∷◌, [], length, IfOk};
 ghost use Rattle.hub_protocol.specs.Spelling as spelled;
-ghost use Rattle.hub_protocol.specs.Spelling.{EndsSoundly, IsName, IsPatternText, IsForm, IsSound, AreLetters, AreNames, evict_in, fields_of, flag_in, form_of, letters_in, mode_in, name_in, names_in, number_in, pattern_in, span_in, want_in};
+ghost use Rattle.hub_protocol.specs.Spelling.{EndsSoundly, IsName, IsPatternText, IsForm, IsSound, AreLetters, AreNames, evict_in, fields_of, flag_in, form_of, letters_in, mode_in, name_in, names_in, number_in, pattern_in, span_in, state_in, want_in};
 ghost use Rattle.hub_protocol.specs.Table.{IsWord};
 ghost use Rattle.hub_protocol.specs.declared.table.TheConstants.{MOST_FIELDS};
 ghost use Rattle.hub_protocol.specs.Lines.{AreAllSound, AreWithinKinds, IsMadeOf, field_shown, form_shown, last_shown};
 
 use crate::line::{Field, Last, Line};
 use crate::table::forms;
-use hub_letters::{Letter, Mode, Span, Want};
+use hub_letters::{Letter, Mode, Span, State, Want};
 use hub_record::Letters;
 use hub_requests::{Name, Names, PatternText, Request};
 use std::alloc::{AllocError, Global};
@@ -113,6 +113,15 @@ fn want(field: Field<'_>) -> Want
     }
 }
 
+fn state(field: Field<'_>) -> State
+    ensures { result ≡ state_in (field_shown field.entry) }
+{
+    match field {
+        Field::State(state) => state,
+        _ => State::Off,
+    }
+}
+
 fn names(alloc: Global, last: Last<'_>) -> Result<Names, AllocError>
     requires { EndsSoundly (last_shown last) }
     ensures { IfOk result (λ names. names ≡ names_in (last_shown last.entry)) }
@@ -158,6 +167,7 @@ macro_rules! read {
     (MODE $alloc:ident $field:ident) => { mode($field) };
     (SPAN $alloc:ident $field:ident) => { span($field) };
     (WANT $alloc:ident $field:ident) => { want($field) };
+    (STATE $alloc:ident $field:ident) => { state($field) };
     (REPORTS $alloc:ident $field:ident) => { flag($field) };
     ($number:ident $alloc:ident $field:ident) => { number($field) };
 }

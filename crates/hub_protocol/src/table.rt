@@ -22,6 +22,8 @@ pub enum Kind {
     Span,
     /// What a wait may want.
     Want,
+    /// Where a service may be told to be.
+    State,
 }
 
 /// What ends a line behind its fields.
@@ -60,6 +62,8 @@ const SPAN: Kind = Kind::Span;
 
 const WANT: Kind = Kind::Want;
 
+const STATE: Kind = Kind::State;
+
 const TURNS: Kind = Kind::Number(0, MOST_TURNS);
 
 /// The most fields that a row has.
@@ -75,6 +79,7 @@ macro_rules! forms {
             b"svc" Svc { name: a NAME, waiting: b WAITING, total: c TOTAL, notifies: d REPORTS } Evict(evict)
             b"sub" Sub { name: a NAME } Nothing
             b"pub" Pub { name: a NAME, letters: b LETTERS } Nothing
+            b"tell" Tell { name: a NAME, state: b STATE } Nothing
             b"take" Take { id: a ANY, max: b MAX } Nothing
             b"cancel" Cancel { id: a ANY } Nothing
             b"close" Close { name: a NAME } Nothing

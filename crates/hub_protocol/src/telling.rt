@@ -7,7 +7,7 @@ ghost use Rattle.hub_protocol.specs.Writing.{Appends, field_told, last_told, lin
 use crate::table::forms;
 use crate::words::Spelled;
 use crate::writing::{Appended, append_letters, append_name, append_names, append_number};
-use hub_letters::{Mode, Span, Want};
+use hub_letters::{Mode, Span, State, Want};
 use hub_record::Letters;
 use hub_requests::{Name, Names, PatternText, Request};
 use std::alloc::AllocError;
@@ -21,6 +21,7 @@ enum Told<'a> {
     Mode(Mode),
     Span(Span),
     Want(Want),
+    State(State),
 }
 
 /// What ends the line of a request.
@@ -64,6 +65,7 @@ macro_rules! told {
     (MODE $field:ident) => { Told::Mode(*$field) };
     (SPAN $field:ident) => { Told::Span(*$field) };
     (WANT $field:ident) => { Told::Want(*$field) };
+    (STATE $field:ident) => { Told::State(*$field) };
     (REPORTS $field:ident) => { Told::Number(u64::from(*$field)) };
     ($number:ident $field:ident) => { Told::Number(*$field) };
 }
@@ -132,6 +134,7 @@ fn append_field(field: Told<'_>, out: &mut Vec<u8>) -> Appended
         Told::Mode(mode) => append_word(mode, out),
         Told::Span(span) => append_word(span, out),
         Told::Want(want) => append_word(want, out),
+        Told::State(state) => append_word(state, out),
     }
 }
 

@@ -1,8 +1,8 @@
-//! The words of modes, spans and wants.
+//! The words of modes, spans, wants and states.
 ghost use Rattle.std.specs.Prelude.{◌≡◌, ◌≢◌, ℕ, List, MatchOption};
-ghost use Rattle.hub_protocol.specs.Spelling.{text_of_mode, text_of_span, text_of_want};
+ghost use Rattle.hub_protocol.specs.Spelling.{text_of_mode, text_of_span, text_of_state, text_of_want};
 
-use hub_letters::{Mode, Span, Want};
+use hub_letters::{Mode, Span, State, Want};
 
 /// A type whose values are words of a line.
 pub trait Spelled: Copy {
@@ -81,5 +81,30 @@ impl Spelled for Span {
             b"any" => Some(Span::Any),
             _ => None,
         }
+    }
+}
+
+impl Spelled for State {
+    ghost word = { text_of_state };
+
+    fn text(self) -> &'static [u8] {
+        match self {
+            State::Off => b"off",
+            State::Down => b"down",
+            State::Up => b"up",
+            State::Ready => b"ready",
+            State::Failed => b"failed",
+        }
+    }
+
+    fn of_word(text: &[u8]) -> Option<State> {
+        Some(match text {
+            b"off" => State::Off,
+            b"down" => State::Down,
+            b"up" => State::Up,
+            b"ready" => State::Ready,
+            b"failed" => State::Failed,
+            _ => return None,
+        })
     }
 }

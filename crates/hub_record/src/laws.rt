@@ -1,11 +1,12 @@
 //! Laws of the model, which no clause of a single call says. They are about the definitions alone, and so they hold for
 //! every record that represents a world.
 ghost use Rattle.std.specs.Prelude.{◌≡◌, ◌≢◌, ◌<◌, ◌≤◌, ◌+◌, ℕ, List, [], Ok, length, get_or, false};
-ghost use Rattle.hub_record.specs.World.{World, IsWorld, empty_world, active};
+ghost use Rattle.hub_record.specs.World.{World, IsWorld, Subscription, empty_world, active, take_reply};
 ghost use Rattle.hub_record.specs.Kept.{Kept, Represents};
+ghost use Rattle.hub_record.specs.Laws.{IsOut, StaysOut, SaysOut, HasMark};
 ghost use Rattle.hub_record.specs.Runs.{IsRun, SaidTo, AllGatherSinceMark, after_call, by, ids_given, letters_published, world_after};
 
-use crate::{Call, Kind, Limits, Said};
+use crate::{Call, Kind, Limits, Said, Taken};
 
 /// After every run each subscription, cancelled or not, has gathered the events between its mark and its cursor, each
 /// event once and in order. The letters of a publisher are those of its accepted messages.
@@ -67,4 +68,26 @@ pub fn empty_message_changes_nothing()
         → after_call w (Call.Publish who []) said ≡ w }
     ensures accepted { (w : World) (who : ℕ) (said : Said) → IsWorld w → w.closed ≡ false
         → SaidTo w (Call.Publish who []) said → said ≡ Said.Published (Ok (length w.events)) }
+{}
+
+/// An evicted subscription stays evicted until it is cancelled, and gathers no more. Once a take answered `Evicted`, each later one
+/// does, or is refused since the id was cancelled.
+pub fn evicted_stays_evicted()
+    ensures still { (w : World) (calls : List Call) (replies : List Said) (id : ℕ)
+        (s : Subscription) → IsRun w calls replies → IsOut w id s
+        → StaysOut (world_after w calls replies) id s }
+    ensures says { (w : World) (calls : List Call) (replies : List Said) (id most later : ℕ)
+        → IsRun w calls replies → take_reply w id most ≡ Ok Taken.Evicted
+        → SaysOut (world_after w calls replies) id later }
+{}
+
+/// The mark of a subscription is the number of events at its subscribe, and stays so whatever comes after.
+pub fn marks_stay()
+    ensures end { (w : World) (id mark : ℕ)
+        → SaidTo w Call.Subscribe (Said.Subscribed (Ok (id, mark))) → mark ≡ length w.events }
+    ensures stays { (w : World) (id mark : ℕ) (calls : List Call) (replies : List Said)
+        → SaidTo w Call.Subscribe (Said.Subscribed (Ok (id, mark)))
+        → IsRun (after_call w Call.Subscribe (Said.Subscribed (Ok (id, mark)))) calls replies
+        → HasMark (world_after
+        (after_call w Call.Subscribe (Said.Subscribed (Ok (id, mark)))) calls replies) id mark }
 {}

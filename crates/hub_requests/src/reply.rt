@@ -9,7 +9,7 @@ use hub_record::{PubError, Status, SubError};
 pub enum Reply {
     /// The request was carried out.
     Done,
-    /// A handle (to `sub` and `listen`) or the number of a message's first event (to `pub`).
+    /// A handle (to `sub` and `listen`), or the number of a message's first event (to `pub` and `tell`).
     Number(u64),
     /// The status of a fifodir.
     State(Status),
@@ -53,7 +53,7 @@ pub enum Refusal {
     Name,
     /// A fifodir has this name already.
     Exists,
-    /// A `wait` names a plain fifodir, and needs a service's.
+    /// A `wait` or a `tell` names a plain fifodir, and needs a service's.
     Kind,
     /// This session has no handle with this number, or it isn't of the sort that the request needs.
     Id,
@@ -77,9 +77,20 @@ pub enum Refusal {
 }
 
 impl Reply {
-    ghost use Rattle.std.specs.Prelude.{◌≤◌, length};
+    ghost use Rattle.std.specs.Prelude.{◌≡◌, ◌≤◌, length};
+    ghost use Rattle.hub_requests.specs.Refusals.{reply_to_publish};
     ghost use Rattle.hub_requests.specs.Texts.{text_of};
     ghost use Rattle.hub_requests.specs.declared.bounds.TheConstants.{LONGEST_REPLY};
+
+    /// What a `pub` or a `tell` is answered.
+    pub fn to_publish(published: Result<u64, PubError>) -> Reply
+        ensures { result ≡ reply_to_publish published }
+    {
+        match published {
+            Ok(first) => Reply::Number(first),
+            Err(error) => Reply::No(Refusal::from(error)),
+        }
+    }
 
     /// A law: the text of a reply has at most `LONGEST_REPLY` bytes.
     pub fn is_short(&self)

@@ -2,7 +2,7 @@
 
 use crate::name::Name;
 use crate::texts::{Names, PatternText};
-use hub_letters::{Mode, Span, Want};
+use hub_letters::{Mode, Span, State, Want};
 use hub_record::Letters;
 
 /// A request. Each variant has a line of its own form, which begins with the variant's word.
@@ -34,6 +34,11 @@ pub enum Request {
     Pub {
         name: Name,
         letters: Letters,
+    },
+    /// Publishes the letters that bring a service to a state from where it is: none if it is there already.
+    Tell {
+        name: Name,
+        state: State,
     },
     /// Takes at most `max` events (1 to 256) that are pending for a subscription.
     Take {

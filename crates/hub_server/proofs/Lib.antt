@@ -1,2 +1,3 @@
 pub mod GivenSessions
 pub mod Joined
+pub mod Crewed

@@ -4,3 +4,4 @@ pub mod Turns
 pub mod Doors
 pub mod Promised
 pub mod Reports
+pub mod Crews

@@ -9,6 +9,7 @@
 
 mod bell;
 mod connection;
+mod crew;
 mod desks;
 mod door;
 mod gate;
@@ -18,12 +19,14 @@ mod limit;
 mod listening;
 mod promise;
 mod report;
+mod seat;
 mod serving;
 mod started;
 mod together;
 mod workers;
 
 pub use connection::{Connection, Timed};
+pub use crew::{Crew, Keeper};
 pub use desks::Desks;
 pub use door::{Door, SharedDoor};
 pub use gate::{Gate, Next};

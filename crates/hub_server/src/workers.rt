@@ -1,19 +1,26 @@
 //! Threads that serve sessions, and the one that puts others in the place of those that have left.
 ghost use Rattle.std.specs.Prelude.{◌≡◌, IfOk, vec_len};
+ghost use Rattle.hub_server.specs.Crews.{HasWorked, IsCrew};
+ghost use Rattle.hub_server.specs.Sessions.{IsEnded};
 
 use crate::bell::Bell;
 use crate::connection::Connection;
+use crate::crew::{Crew, Keeper, Place};
 use crate::desks::Desks;
 use crate::door::SharedDoor;
+use crate::gate::Gate;
 use crate::journal::Journal;
 use crate::lasting::serve_on;
 use crate::report::ServeError;
+use crate::seat::Seat;
 use crate::together::STACK_SIZE;
 use hub_front::Enter;
+use hub_io::{Sink, Source};
 use std::alloc::{AllocError, Global};
+use std::io::{Read, Write};
 use std::rt::Clock;
-use std::sync::atomic::{AtomicBool, Ordering};
-use std::sync::{Arc, Mutex, OnceLock, Wait};
+use std::sync::atomic::Ordering;
+use std::sync::{Arc, OnceLock, Wait};
 use std::thread::{Builder, JoinHandle, Threads};
 
 /// What each worker has a share of.
@@ -24,44 +31,6 @@ struct Means<C, O: Drop, J: Drop> {
     door: SharedDoor<C>,
     journal: J,
     bell: Arc<Bell, Global>,
-}
-
-/// How many bytes a worker takes as it leaves. Once it has ended they are freed. When so large a piece is freed, the C library joins all
-/// free pieces of the heap that it is from, and returns the end of that heap to the system.
-const PIECE: usize = 100_000;
-
-/// What a worker shares with who puts another one in its place.
-#[derive(Drop)]
-struct Seat {
-    /// The worker sets this as its last step.
-    has_left: AtomicBool,
-    /// What the worker has taken of its heap as it left.
-    piece: Mutex<Option<Vec<u8>>>,
-}
-
-impl Seat {
-    fn new() -> Seat {
-        Seat {
-            has_left: AtomicBool::new(false),
-            piece: Mutex::new(None),
-        }
-    }
-
-    fn take_piece<H: Wait>(&self, rt: &H, alloc: Global) {
-        *self.piece.lock(rt) = Vec::with_capacity(alloc, PIECE).ok();
-    }
-
-    fn free_piece<H: Wait>(&self, rt: &H) {
-        *self.piece.lock(rt) = None;
-    }
-}
-
-/// A place for a worker.
-#[derive(Drop)]
-struct Place {
-    /// The worker, until it is joined. None: no thread could be started yet.
-    thread: Option<JoinHandle<()>>,
-    seat: Arc<Seat, Global>,
 }
 
 /// Threads, each of which serves one session after the other.
@@ -98,6 +67,23 @@ where
             .spawn(rt, move || work(own, means, seat))
             .map_err(|_| ServeError::Spawn)
     }
+
+    // Puts another worker in the place of one that has left. Returns whether there is one.
+    fn renew<H>(&self, rt: &H, place: &mut Place) -> bool
+    where
+        H: Threads + Wait + Enter + Copy + Send + 'static,
+    {
+        if place.seat.has_left.swap(false, Ordering::AcqRel) {
+            if let Some(thread) = place.thread.take() {
+                thread.join(rt);
+            }
+            place.seat.free_piece(rt);
+        }
+        if place.thread.is_none() {
+            place.thread = self.start(rt, &place.seat).ok();
+        }
+        place.thread.is_some()
+    }
 }
 
 // What a worker does: it serves sessions until it had better leave, and says so.
@@ -107,6 +93,19 @@ where
     C: Clock + Copy + Send + Drop + 'static,
     O: Desks + Send + Drop + 'static,
     J: Journal<Connection<C>, Connection<C>> + Send + Drop + 'static,
+    ensures { HasWorked ⟦<SharedDoor<C> as Gate<Connection<C>, Connection<C>>>⟧.gives
+        (record { numbers = J.numbers; tells = J.tells; fails = J.fails })
+        (IsEnded (O.most means.desks) (O.opens means.desks) O.asks O.ends
+        (record {
+          remaining = ⟦<Connection<C> as Read>⟧.remaining;
+          reads = ⟦<Connection<C> as Source>⟧.reads;
+          faults = ⟦<Connection<C> as Source>⟧.faults;
+        })
+        (record {
+          contents = ⟦<Connection<C> as Write>⟧.contents;
+          faults = ⟦<Connection<C> as Sink>⟧.faults;
+        }))
+        means.door means.journal }
 {
     let Means {
         alloc,
@@ -127,28 +126,6 @@ where
     bell.ring(&rt);
 }
 
-impl Place {
-    // Puts another worker in the place of one that has left. Returns whether there is one.
-    fn renew<H, C, O, J>(&mut self, rt: &H, means: &Means<C, O, J>) -> bool
-    where
-        H: Threads + Wait + Enter + Copy + Send + 'static,
-        C: Clock + Copy + Send + Drop + 'static,
-        O: Desks + Send + Drop + 'static,
-        J: Journal<Connection<C>, Connection<C>> + Send + Drop + 'static,
-    {
-        if self.seat.has_left.swap(false, Ordering::AcqRel) {
-            if let Some(thread) = self.thread.take() {
-                thread.join(rt);
-            }
-            self.seat.free_piece(rt);
-        }
-        if self.thread.is_none() {
-            self.thread = means.start(rt, &self.seat).ok();
-        }
-        self.thread.is_some()
-    }
-}
-
 impl<C, O, J> Workers<C, O, J>
 where
     C: Clock + Copy + Send + Drop + 'static,
@@ -159,7 +136,7 @@ where
     fn start<H>(rt: &H, means: Means<C, O, J>, count: u64) -> Result<Workers<C, O, J>, ServeError>
     where
         H: Threads + Wait + Enter + Copy + Send + 'static,
-        ensures { IfOk result (λ workers. vec_len workers.places ≡ count) }
+        ensures { IfOk result (λ workers. IsCrew count workers.places.items) }
     {
         let mut places = Vec::new(means.alloc);
         'workers: for _worker in 0..count {
@@ -181,7 +158,7 @@ where
     {
         let mut are_there = true;
         'places: for place in self.places.iter_mut() {
-            let is_there = place.renew(rt, &self.means);
+            let is_there = self.means.renew(rt, place);
             are_there = are_there && is_there;
         }
         are_there
@@ -204,8 +181,8 @@ where
     }
 }
 
-/// Whether the workers could be started, once that is known.
-type Begun = OnceLock<Result<(), ServeError>>;
+/// The workers that were started, or why one couldn't be, once that is known.
+type Begun = OnceLock<Result<Crew, ServeError>>;
 
 // Starts so many workers, says whether they could be started, and keeps them.
 fn start_and_keep<H, C, O, J>(rt: &H, means: Means<C, O, J>, count: u64, begun: &Begun)
@@ -217,7 +194,7 @@ where
 {
     match Workers::start(rt, means, count) {
         Ok(mut workers) => {
-            let _ = begun.set(rt, Ok(()));
+            let _ = begun.set(rt, Ok(Crew::of(count, &workers.places)));
             workers.keep(rt)
         }
         Err(fault) => {
@@ -238,12 +215,14 @@ pub fn start_workers<H, C, O, J>(
     door: &SharedDoor<C>,
     journal: &J,
     count: u64,
-) -> Result<JoinHandle<()>, ServeError>
+) -> Result<Keeper, ServeError>
 where
     H: Threads + Wait + Enter + Copy + Send + 'static,
     C: Clock + Copy + Send + Drop + 'static,
     O: Desks + Send + Drop + 'static,
     J: Journal<Connection<C>, Connection<C>> + Send + Drop + 'static,
+    // As many were started as were asked for. A `Crew` says that each has its thread.
+    ensures { IfOk result (λ keeper. keeper.crew.value.asked ≡ count) }
 {
     let (Ok(bell), Ok(begun)) = (Arc::new(alloc, Bell::new()), Arc::new(alloc, Begun::new())) else {
         return Err(ServeError::Memory);
@@ -262,7 +241,8 @@ where
         .spawn(rt, move || start_and_keep(&own, means, count, &told))
         .map_err(|_| ServeError::Spawn)?;
     match begun.wait(rt) {
-        Ok(()) => Ok(keeper),
+        Ok(crew) if crew.asked == count => Ok(Keeper::of(keeper, crew)),
+        Ok(_) => Err(ServeError::Spawn),
         Err(fault) => Err(*fault),
     }
 }

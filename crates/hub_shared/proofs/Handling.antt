@@ -15,14 +15,14 @@ use Rattle.hub_names.specs.Fifodirs.{AsksByName, IsAsBefore, IsKeptAs, joined_at
 use Rattle.hub_handles.specs.Handles.{Subscribes, Listens}
 use Rattle.hub_shared.specs.Desks.{SubscribesTo, ListensTo}
 
-pub subscribes_to : (fs : Fifodirs) (name : List ℕ) (found : Made) (old new : Handles) (reply : Reply) → IsKeptAs fs name found
-    → Subscribes name (arc_value found.dir) old reply new → SubscribesTo fs name old reply new
-subscribes_to fs name found old new reply kept step =
+pub subscribes_to : (hub : Hub) (fs : Fifodirs) (name : List ℕ) (found : Made) (old new : Handles) (reply : Reply) → IsKeptAs fs name found
+    → Subscribes name (arc_value found.dir) old reply new → SubscribesTo hub fs name old reply new
+subscribes_to hub fs name found old new reply kept step =
     inl (kept.joined, kept.kept_is, subst (λ (dir : Fifodir). Subscribes name dir old reply new) kept.dir step)
 
-pub listens_to : (fs : Fifodirs) (name : List ℕ) (found : Made) (mode : Mode) (pattern : List ℕ) (old new : Handles) (reply : Reply) → IsKeptAs fs name found
-    → Listens name (arc_value found.dir) mode pattern old reply new → ListensTo fs name mode pattern old reply new
-listens_to fs name found mode pattern old new reply kept step =
+pub listens_to : (hub : Hub) (fs : Fifodirs) (name : List ℕ) (found : Made) (mode : Mode) (pattern : List ℕ) (old new : Handles) (reply : Reply) → IsKeptAs fs name found
+    → Listens name (arc_value found.dir) mode pattern old reply new → ListensTo hub fs name mode pattern old reply new
+listens_to hub fs name found mode pattern old new reply kept step =
     inl (kept.joined, kept.kept_is, subst (λ (dir : Fifodir). Listens name dir mode pattern old reply new) kept.dir step)
 
 -- what is asked of fifodirs that are as before

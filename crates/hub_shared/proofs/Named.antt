@@ -6,18 +6,20 @@ use Rattle.std.specs.Arc.{arc_value}
 use Rattle.std.specs.Map.{lookup}
 use Rattle.std.specs.Str.{bytes_eq}
 use Rattle.hub_requests.specs.declared.request.Request.{Request}
-use Rattle.hub_requests.specs.declared.request.Request.TheVariants.{Dir, Svc, Sub, Pub, Close, Status, Listen, Wait, Names}
+use Rattle.hub_requests.specs.declared.request.Request.TheVariants.{Dir, Svc, Sub, Pub, Tell, Close, Status, Listen, Wait, Names}
 use Rattle.hub_requests.specs.declared.reply.Reply.{Reply}
 use Rattle.hub_requests.specs.declared.reply.Reply.TheVariants as answer
 use Rattle.hub_letters.specs.declared.mode.Mode.{Mode}
+use Rattle.hub_letters.specs.declared.state.State.{State}
 use Rattle.hub_fifodir.specs.declared.publisher.Publisher.{Publisher}
 use Rattle.hub_names.specs.declared.hub.Hub.{Hub}
 use Rattle.hub_names.specs.declared.fifodirs.Fifodirs.{Fifodirs}
 use Rattle.hub_names.specs.declared.joined.Joined.{Joined}
-use Rattle.hub_names.specs.Fifodirs.{AsksByName, KeepsAll, KeepsNone, joined_at}
+use Rattle.hub_names.specs.Fifodirs.{AsksUnder, KeepsAll, KeepsNone, joined_at}
 use Rattle.hub_names.specs.Hubs.{IsFoundIn}
 use Rattle.hub_names.proofs.KeptFifodirs.{one_of}
-use Rattle.hub_names.specs.Speaking.{AsksAsPublisher, fifodir_of}
+use Rattle.hub_names.specs.Speaking.{AsksAsPublisher, Tells, fifodir_of, found_of}
+use Rattle.hub_names.specs.Says.{says_told}
 use Rattle.hub_handles.specs.declared.handles.Handles.{Handles}
 use Rattle.hub_handles.specs.declared.session_listener.SessionListener.{SessionListener}
 use Rattle.hub_handles.specs.declared.subscription.Subscription.{Subscription}
@@ -80,10 +82,15 @@ asked_found : (says : Publisher → Reply → Publisher → Type 0) (before afte
 asked_found says before after reply (inl spoke) = spoke.spoken.found
 asked_found says before after reply (inr unmade) = unmade.found
 
-spoken_named : (hub : Hub) (says : Publisher → Reply → Publisher → Type 0) (fs gs : Fifodirs) (hs : Handles) (name : List ℕ) (reply : Reply) → AsksByName hub says fs name reply gs
-    → AreNamed hub fs hs → AreNamed hub gs hs
-spoken_named hub says fs gs hs name reply (inl a) n =
-    let same = asked_found says a.before a.after reply a.asked in
+told_found : (state : State) (before after : Joined) (reply : Reply) → Tells state before reply after → after.found ≡ before.found
+told_found state before after reply (inl (service, asked)) = asked_found (says_told state) before after reply asked
+told_found state before after reply (inr (plain, said, same)) = ap found_of same
+
+-- what is asked keeps the fifodir
+spoken_named : (hub : Hub) (asks : Joined → Reply → Joined → Type 0) (keeps : (before after : Joined) (reply : Reply) → asks before reply after → after.found ≡ before.found)
+    (fs gs : Fifodirs) (hs : Handles) (name : List ℕ) (reply : Reply) → AsksUnder hub asks fs name reply gs → AreNamed hub fs hs → AreNamed hub gs hs
+spoken_named hub asks keeps fs gs hs name reply (inl a) n =
+    let same = keeps a.before a.after reply a.asked in
     let still : (s : Subscription) → IsNamed fs s → IsNamed gs s = λ s was.
     elim (cases_Bool (bytes_eq name (name_of s))) [
       | inl e ↦ (
@@ -114,7 +121,7 @@ spoken_named hub says fs gs hs name reply (inl a) n =
       subscriptions = λ id s at. still s (n.subscriptions id s at);
       listeners = λ id h at. still h.subscription (n.listeners id h at);
     }
-spoken_named hub says fs gs hs name reply (inr u) n = named_as_before hub fs gs hs (λ key. ap (lookup (bytes_eq key)) u.finding.before) n
+spoken_named hub asks keeps fs gs hs name reply (inr u) n = named_as_before hub fs gs hs (λ key. ap (lookup (bytes_eq key)) u.finding.before) n
 
 -- ---- other handles
 
@@ -150,14 +157,14 @@ listener_left fs h named z is = subst (λ (h : SessionListener). IsNamed fs h.su
 begun_named : (fs : Fifodirs) (name : List ℕ) (j : Joined) (s : Subscription) → joined_at fs name ≡ Some j → name_of s ≡ name → arc_value s.dir ≡ fifodir_of j → IsNamed fs s
 begun_named fs name j s at named dir = record { joined = j; kept_is = ap (joined_at fs) named ∙ at; dir = dir }
 
-subscribed_named : (hub : Hub) (fs : Fifodirs) (hs ks : Handles) (name : List ℕ) (reply : Reply) → SubscribesTo fs name hs reply ks → AreNamed hub fs hs → AreNamed hub fs ks
+subscribed_named : (hub : Hub) (fs : Fifodirs) (hs ks : Handles) (name : List ℕ) (reply : Reply) → SubscribesTo hub fs name hs reply ks → AreNamed hub fs hs → AreNamed hub fs ks
 subscribed_named hub fs hs ks name (answer.Number number) (inl (j, at, a)) n =
     subscription_changed hub fs hs ks number a.subscription (begun_named fs name j a.subscription at a.begins.named a.begins.dir) a.placed a.others a.listeners n
 subscribed_named hub fs hs ks name (answer.No refusal) (inl (j, at, a)) n = handles_still hub fs hs ks a.0 n
 subscribed_named hub fs hs ks name reply (inl (j, at, a)) n = absurd a
 subscribed_named hub fs hs ks name reply (inr (unfound, same)) n = subst (AreNamed hub fs) (sym same) n
 
-listened_named : (hub : Hub) (fs : Fifodirs) (hs ks : Handles) (name : List ℕ) (mode : Mode) (pattern : List ℕ) (reply : Reply) → ListensTo fs name mode pattern hs reply ks
+listened_named : (hub : Hub) (fs : Fifodirs) (hs ks : Handles) (name : List ℕ) (mode : Mode) (pattern : List ℕ) (reply : Reply) → ListensTo hub fs name mode pattern hs reply ks
     → AreNamed hub fs hs → AreNamed hub fs ks
 listened_named hub fs hs ks name mode pattern (answer.Number number) (inl (j, at, a)) n =
     listener_changed hub fs hs ks number (Some a.hearing) (listener_left fs a.hearing (begun_named fs name j a.hearing.subscription at a.begins.named a.begins.dir)) a.placed a.others a.subscriptions n
@@ -178,20 +185,22 @@ kept_named hub fs hs ks keeps n = record {
 
 -- ---- whatever is asked
 
-same_both : (hub : Hub) (fs gs : Fifodirs) (hs ks : Handles) → gs ≡ fs → ks ≡ hs → AreNamed hub fs hs → AreNamed hub gs ks
-same_both hub fs gs hs ks e f n = subst (λ (z : Fifodirs). AreNamed hub z ks) (sym e) (subst (AreNamed hub fs) (sym f) n)
+-- the session keeps the same by name
+kept_as_it_was : (hub : Hub) (fs gs : Fifodirs) (hs : Handles) → gs.by_name.entries ≡ fs.by_name.entries → AreNamed hub fs hs → AreNamed hub gs hs
+kept_as_it_was hub fs gs hs same n = named_as_before hub fs gs hs (λ key. ap (lookup (bytes_eq key)) same) n
 
 asked_named : (hub : Hub) (fs gs : Fifodirs) (hs ks : Handles) (request : Request) (reply : Reply) → AreNamed hub fs hs → CarriesOut hub fs hs request reply gs ks → AreNamed hub gs ks
-asked_named hub fs gs hs ks (Dir name waiting total evict) reply n (made, e, f) = same_both hub fs gs hs ks e f n
-asked_named hub fs gs hs ks (Svc name waiting total notifies evict) reply n (made, e, f) = same_both hub fs gs hs ks e f n
+asked_named hub fs gs hs ks (Dir name waiting total evict) reply n ((limits, are, m), f) = subst (AreNamed hub gs) (sym f) (kept_as_it_was hub fs gs hs (ap (λ (z : Fifodirs). z.by_name.entries) m.kept) n)
+asked_named hub fs gs hs ks (Svc name waiting total notifies evict) reply n ((limits, are, m), f) = subst (AreNamed hub gs) (sym f) (kept_as_it_was hub fs gs hs (ap (λ (z : Fifodirs). z.by_name.entries) m.kept) n)
 asked_named hub fs gs hs ks (Sub name) reply n (keeps, a) = subscribed_named hub gs hs ks name reply a (all_still hub fs gs hs keeps n)
-asked_named hub fs gs hs ks (Pub name letters) reply n (a, f) = subst (AreNamed hub gs) (sym f) (spoken_named hub _ fs gs hs name reply a n)
-asked_named hub fs gs hs ks (Close name) reply n (a, f) = subst (AreNamed hub gs) (sym f) (spoken_named hub _ fs gs hs name reply a n)
-asked_named hub fs gs hs ks (Status name) reply n (a, f) = subst (AreNamed hub gs) (sym f) (spoken_named hub _ fs gs hs name reply a n)
+asked_named hub fs gs hs ks (Pub name letters) reply n (a, f) = subst (AreNamed hub gs) (sym f) (spoken_named hub _ (asked_found _) fs gs hs name reply a n)
+asked_named hub fs gs hs ks (Tell name state) reply n (a, f) = subst (AreNamed hub gs) (sym f) (spoken_named hub _ (told_found state) fs gs hs name reply a n)
+asked_named hub fs gs hs ks (Close name) reply n (a, f) = subst (AreNamed hub gs) (sym f) (spoken_named hub _ (asked_found _) fs gs hs name reply a n)
+asked_named hub fs gs hs ks (Status name) reply n (a, f) = subst (AreNamed hub gs) (sym f) (spoken_named hub _ (asked_found _) fs gs hs name reply a n)
 asked_named hub fs gs hs ks (Listen name mode pattern) reply n (keeps, a) = listened_named hub gs hs ks name _ _ reply a (all_still hub fs gs hs keeps n)
 asked_named hub fs gs hs ks (Wait span want turns names) reply n (keeps, why, f) = subst (AreNamed hub gs) (sym f) (all_still hub fs gs hs keeps n)
 asked_named hub fs gs hs ks (Names from) reply n (a, f) =
-    subst (AreNamed hub gs) (sym f) (named_as_before hub fs gs hs (λ key. ap (λ (z : Fifodirs). lookup (bytes_eq key) z.by_name.entries) a.kept) n)
+    subst (AreNamed hub gs) (sym f) (kept_as_it_was hub fs gs hs (ap (λ (z : Fifodirs). z.by_name.entries) a.kept) n)
 asked_named hub fs gs hs ks request reply n a = subst (λ (z : Fifodirs). AreNamed hub z ks) (sym a.0) (kept_named hub fs hs ks (keeps_tickets hs ks request reply a.1) n)
 
 new_named : (hub : Hub) (fs : Fifodirs) (hs : Handles) → KeepsNone fs → HoldsNone hs → AreNamed hub fs hs

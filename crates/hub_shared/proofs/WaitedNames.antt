@@ -1,29 +1,44 @@
 -- The names of a wait as its session finds them, and the posts that it opens.
-use Rattle.std.proofs.Common.{◌≡◌, ℕ, ◌+◌, ◌<◌, List, [], ◌∷◌, ◌++◌, length, take, get_or, Bool, true, false, sym, ap, ◌∙◌, subst, arith}
+use Rattle.std.proofs.Common.{◌≡◌, ℕ, zero, suc, ◌+◌, ◌<◌, List, [], ◌∷◌, ◌++◌, length, take, get_or, Bool, true, false, Result, Ok, Err, IfErr, ◌⊎◌, inl, inr, refl, sym, ap, ◌∙◌, subst, arith}
 use Rattle.std.proofs.lemmas.Grind.{common_steps}
-use Rattle.std.proofs.lemmas.List.{take_more}
+use Rattle.std.proofs.lemmas.List.{append_assoc, take_more}
 use Rattle.std.proofs.lemmas.List.Elements.{All-push, All-weaker}
 use Rattle.std.proofs.lemmas.List.Quantifiers.{Any-push}
 use Rattle.std.specs.Arc.{arc_value}
 use Rattle.std.specs.List.{Any, AllZip}
+use Rattle.std.specs.Result.{IsErrAnd}
 use Rattle.hub_letters.specs.declared.want.Want.{Want}
 use Rattle.hub_record.specs.declared.Kind.{Kind}
 use Rattle.hub_record.specs.declared.Kind.TheVariants.{Plain, Service}
 use Rattle.hub_fifodir.specs.declared.fifodir.Fifodir.{Fifodir}
-use Rattle.hub_fifodir.specs.Passes.{kind_of}
+use Rattle.hub_record.specs.declared.SubError.{SubError}
+use Rattle.hub_record.specs.declared.SubError.TheVariants as sub
+use Rattle.hub_requests.specs.Refusals.{refusal_of_sub}
+use Rattle.hub_requests.specs.declared.reply.Refusal.{Refusal}
+use Rattle.hub_fifodir.specs.Passes.{MayRefuseTicket, kind_of}
 use Rattle.hub_wait.specs.declared.post.Post.{Post}
 use Rattle.hub_wait.specs.Posts.{HasOpened}
 use Rattle.hub_names.specs.declared.hub.Hub.{Hub}
 use Rattle.hub_names.specs.declared.hub.Made.{Made}
 use Rattle.hub_names.specs.declared.fifodirs.Fifodirs.{Fifodirs}
 use Rattle.hub_names.specs.Fifodirs.{IsKeptAs, KeepsAll}
-use Rattle.hub_shared.specs.Waits.{IsKnown, IsOfKind, AreFound, AreOpened, AreSeen, IsPostAt, ArePosts}
+use Rattle.hub_shared.specs.Waits.{IsKnown, IsOfKind, AreFound, AreOpened, AreSeen, IsPostAt, ArePosts, IsPostRefused, IsRefusedAtName, IsWaitRefused, MayRefusePost}
 
 Any-weaker : {X : Type 0} (P Q : X → Type 0) → ((x : X) → P x → Q x) → (xs : List X) → Any P xs → Any Q xs
 Any-weaker P Q f xs (k, x, within, at, p) = (k, x, within, at, f x p)
 
 Any-then : {X : Type 0} (P : X → Type 0) (xs : List X) (y : X) → Any P xs → Any P (xs ++ y ∷ [])
 Any-then P xs y (k, x, within, at, p) = (k, x, grind (arith, common_steps), grind (arith, common_steps), p)
+
+Any-here : {X : Type 0} (P : X → Type 0) (x : X) (xs : List X) → P x → Any P (x ∷ xs)
+Any-here P x xs p = (0, x, omega arith, refl, p)
+
+Any-there : {X : Type 0} (P : X → Type 0) (y : X) (xs : List X) → Any P xs → Any P (y ∷ xs)
+Any-there P y xs (k, x, within, at, p) = (suc k, x, omega (arith, within), at, p)
+
+Any-cases : {X : Type 0} (P : X → Type 0) (y : X) (xs : List X) → Any P (y ∷ xs) → P y ⊎ Any P xs
+Any-cases P y xs (zero, x, within, at, p) = inl (subst P (sym at) p)
+Any-cases P y xs (suc k, x, within, at, p) = inr (k, x, omega (arith, within), at, p)
 
 known_still : (hub : Hub) (old new : Fifodirs) → KeepsAll hub old new → (name : List ℕ) → IsKnown old name → IsKnown new name
 known_still hub old new keeps name (j, at) = (j, keeps.each name j at)
@@ -96,6 +111,65 @@ posts_found fs want [] (f ∷ found) posts at opened = absurd at
 posts_found fs want (n ∷ names) [] posts at opened = absurd at
 posts_found fs want (n ∷ names) (f ∷ found) [] at opened = absurd opened
 posts_found fs want (n ∷ names) (f ∷ found) (p ∷ ps) at opened = (post_found fs want n f p at.0 opened.0, posts_found fs want names found ps at.1 opened.1)
+
+-- ---- a post that was refused
+
+refusing_found : (fs : Fifodirs) (error : SubError) (name : List ℕ) (found : Made) → IsKeptAs fs name found → MayRefuseTicket (arc_value found.dir) error → MayRefusePost fs error name
+refusing_found fs error name found at refuses =
+    record { joined = at.joined; kept_is = at.kept_is; refuses = subst (λ (dir : Fifodir). MayRefuseTicket dir error) at.dir refuses }
+
+none_refuses : {X : Type 0} (P : X → Type 0) → Any P [] → ⊥
+none_refuses P (k, x, within, at, p) = omega (arith, within)
+
+refused_found : (fs : Fifodirs) (error : SubError) (names : List (List ℕ)) (found : List Made) → AreFound fs names found → Any (λ made. MayRefuseTicket (arc_value made.dir) error) found
+    → Any (MayRefusePost fs error) names
+refused_found fs error [] [] at some = absurd (none_refuses (λ made. MayRefuseTicket (arc_value made.dir) error) some)
+refused_found fs error [] (f ∷ found) at some = absurd at
+refused_found fs error (n ∷ names) [] at some = absurd at
+refused_found fs error (n ∷ names) (f ∷ found) at some =
+    elim (Any-cases (λ made. MayRefuseTicket (arc_value made.dir) error) f found some) [
+      | inl here ↦ Any-here (MayRefusePost fs error) n names (refusing_found fs error n f at.0 here)
+      | inr there ↦ Any-there (MayRefusePost fs error) n names (refused_found fs error names found at.1 there)
+    ]
+
+refused_at_name : (fs : Fifodirs) (names : List (List ℕ)) (found : List Made) (refusal : Refusal) → AreFound fs names found → IsPostRefused found refusal → IsRefusedAtName fs names refusal
+refused_at_name fs names found refusal at (error, is, some) = (error, is, refused_found fs error names found at some)
+
+-- a fifodir refuses with one of its four reasons
+refused_so : (hub : Hub) (fs : Fifodirs) (names : List (List ℕ)) (error : SubError) → IsRefusedAtName fs names (refusal_of_sub error) → AreSeen fs names false
+    → IsWaitRefused hub fs names (refusal_of_sub error)
+refused_so hub fs names sub.Closed at seen = (at, seen)
+refused_so hub fs names sub.Many at seen = (at, seen)
+refused_so hub fs names sub.Spent at seen = (at, seen)
+refused_so hub fs names sub.Memory at seen = tt
+
+pub wait_refused : (hub : Hub) (fs : Fifodirs) (names : List (List ℕ)) (found : List Made) (refusal : Refusal) → AreFound fs names found → IsPostRefused found refusal → AreSeen fs names false
+    → IsWaitRefused hub fs names refusal
+wait_refused hub fs names found refusal at refused seen =
+    let all = refused_at_name fs names found refusal at refused in
+    let is = refused.1 in
+    subst (IsWaitRefused hub fs names) (sym is) (refused_so hub fs names refused.0 (subst (IsRefusedAtName fs names) is all) seen)
+
+-- the next of those that were found
+pub next_found : (found before rest after : List Made) (made : Made) → found ≡ before ++ rest → rest ≡ made ∷ after → found ≡ before ++ made ∷ after
+next_found found before rest after made is next = is ∙ ap (λ (ms : List Made). before ++ ms) next
+
+pub next_taken : (found before rest after : List Made) (made : Made) → found ≡ before ++ rest → rest ≡ made ∷ after → found ≡ (before ++ made ∷ []) ++ after
+next_taken found before rest after made is next = next_found found before rest after made is next ∙ sym (append_assoc before (made ∷ []) after)
+
+-- one of the fifodirs that were found refuses, behind those that gave a post
+pub one_refuses : (before rest found : List Made) (made : Made) (error : SubError) → found ≡ before ++ made ∷ rest → MayRefuseTicket (arc_value made.dir) error
+    → Any (λ made. MayRefuseTicket (arc_value made.dir) error) found
+one_refuses [] rest found made error is refuses =
+    subst (Any (λ m. MayRefuseTicket (arc_value m.dir) error)) (sym is) (Any-here (λ m. MayRefuseTicket (arc_value m.dir) error) made rest refuses)
+one_refuses (b ∷ before) rest found made error is refuses =
+    subst (Any (λ m. MayRefuseTicket (arc_value m.dir) error)) (sym is)
+    (Any-there (λ m. MayRefuseTicket (arc_value m.dir) error) b (before ++ made ∷ rest) (one_refuses before rest (before ++ made ∷ rest) made error refl refuses))
+
+pub post_refused : {A : Type 0} (found : List Made) (error : SubError) (result : Result A Refusal) → IsErrAnd result (λ r. r ≡ refusal_of_sub error)
+    → Any (λ made. MayRefuseTicket (arc_value made.dir) error) found → IfErr result (IsPostRefused found)
+post_refused found error (Ok a) is some = absurd is
+post_refused found error (Err r) is some = (error, is, some)
 
 -- ---- the next name, which was found just now
 

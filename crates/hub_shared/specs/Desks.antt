@@ -1,12 +1,17 @@
 -- What a session is answered, and what it leaves.
-use Rattle.std.specs.Prelude.{◌≡◌, ℕ, List, Option, Some, ◌⊎◌}
+use Rattle.std.specs.Prelude.{◌≡◌, ℕ, List, Bool, false, Option, Some, ◌⊎◌}
 use Rattle.std.specs.Arc.{arc_value}
 use Rattle.hub_io.specs.declared.client.Client.{Client}
-use Rattle.hub_requests.specs.declared.reply.Refusal.TheVariants as no
+use Rattle.hub_record.specs.declared.Kind.{Kind}
+use Rattle.hub_record.specs.declared.Kind.TheVariants.{Plain, Service}
+use Rattle.hub_record.specs.declared.limits.Limits.{Limits}
+use Rattle.hub_record.specs.LimitsOf.{limits_of}
+use Rattle.hub_record.specs.declared.limits.TheConstants.{MOST_IDS}
+use Rattle.hub_requests.specs.Room.{policy_of}
 use Rattle.hub_requests.specs.declared.reply.Reply.{Reply}
-use Rattle.hub_requests.specs.declared.reply.Reply.TheVariants.{Done, No}
+use Rattle.hub_requests.specs.declared.reply.Reply.TheVariants.{No}
 use Rattle.hub_requests.specs.declared.request.Request.{Request}
-use Rattle.hub_requests.specs.declared.request.Request.TheVariants.{Dir, Svc, Sub, Pub, Close, Status, Listen, Wait, Names}
+use Rattle.hub_requests.specs.declared.request.Request.TheVariants.{Dir, Svc, Sub, Pub, Tell, Close, Status, Listen, Wait, Names}
 use Rattle.hub_names.specs.declared.hub.Hub.{Hub}
 use Rattle.hub_names.specs.declared.fifodirs.Fifodirs.{Fifodirs}
 use Rattle.hub_letters.specs.declared.mode.Mode.{Mode}
@@ -15,41 +20,42 @@ use Rattle.hub_names.specs.declared.joined.Joined.{Joined}
 use Rattle.hub_shared.specs.declared.shared_desk.SharedDesk.{SharedDesk}
 use Rattle.hub_names.specs.Speaking.{fifodir_of}
 use Rattle.hub_names.specs.Says.{says_published, says_closed, says_status}
-use Rattle.hub_names.specs.Fifodirs.{joined_at, AsksByName, IsMissing, KeepsAll, KeepsNone}
+use Rattle.hub_names.specs.Fifodirs.{joined_at, AsksByName, TellsByName, IsMissing, KeepsAll, KeepsNone}
 use Rattle.hub_names.specs.Looks.{AsksNames}
+use Rattle.hub_names.specs.Changes.{MakesName}
 use Rattle.hub_handles.specs.Handles.{Subscribes, Listens, HoldsNone, given_of}
 use Rattle.hub_handles.specs.Requests.{AsksHandle}
 use Rattle.hub_shared.specs.Waits.{WaitsFor, IsWaitRefusal}
 
--- a fifodir was made, or why not
-abbrev pub IsMadeReply : Reply → Type 0
-IsMadeReply Done = Unit {0}
-IsMadeReply (No refusal) = (refusal ≡ no.Exists) ⊎ (refusal ≡ no.Many) ⊎ (refusal ≡ no.Memory)
-IsMadeReply _ = ⊥
+-- A fifodir of this kind, with the limits that were asked for, was made in the hub under the name, or why not.
+abbrev pub IsMadeReply : Hub → Kind → ℕ → ℕ → Bool → Bool → Fifodirs → List ℕ → Reply → Fifodirs → Type 0
+IsMadeReply hub kind waiting total notifies evict fs name reply gs =
+    (limits : Limits) × (limits_of waiting total MOST_IDS (policy_of evict) ≡ Some limits) × MakesName hub kind limits notifies fs name reply gs
 
 -- no fifodir was found by the name
-abbrev pub IsUnfoundReply : Fifodirs → List ℕ → Reply → Type 0
-IsUnfoundReply fs name (No refusal) = IsMissing fs name refusal
-IsUnfoundReply fs name _ = ⊥
+abbrev pub IsUnfoundReply : Hub → Fifodirs → List ℕ → Reply → Type 0
+IsUnfoundReply hub fs name (No refusal) = IsMissing hub fs name refusal
+IsUnfoundReply hub fs name _ = ⊥
 
 -- a handle on the fifodir that is kept under the name; where it isn't found, or refuses, no handle is given
-abbrev pub SubscribesTo : Fifodirs → List ℕ → Handles → Reply → Handles → Type 0
-SubscribesTo fs name old reply new = ((j : Joined) × (joined_at fs name ≡ Some j) × Subscribes name (fifodir_of j) old reply new) ⊎ (IsUnfoundReply fs name reply × (new ≡ old))
+abbrev pub SubscribesTo : Hub → Fifodirs → List ℕ → Handles → Reply → Handles → Type 0
+SubscribesTo hub fs name old reply new = ((j : Joined) × (joined_at fs name ≡ Some j) × Subscribes name (fifodir_of j) old reply new) ⊎ (IsUnfoundReply hub fs name reply × (new ≡ old))
 
-abbrev pub ListensTo : Fifodirs → List ℕ → Mode → List ℕ → Handles → Reply → Handles → Type 0
-ListensTo fs name mode pattern old reply new = ((j : Joined) × (joined_at fs name ≡ Some j) × Listens name (fifodir_of j) mode pattern old reply new) ⊎ (IsUnfoundReply fs name reply × (new ≡ old))
+abbrev pub ListensTo : Hub → Fifodirs → List ℕ → Mode → List ℕ → Handles → Reply → Handles → Type 0
+ListensTo hub fs name mode pattern old reply new = ((j : Joined) × (joined_at fs name ≡ Some j) × Listens name (fifodir_of j) mode pattern old reply new) ⊎ (IsUnfoundReply hub fs name reply × (new ≡ old))
 
 -- What a request leads to. Of what the hub has, which other sessions change, nothing can be said but by what the
--- session's own passes see.
+-- session's own passes see, and by what the hub's lock gave when the session looked or made a name.
 abbrev pub CarriesOut : Hub → Fifodirs → Handles → Request → Reply → Fifodirs → Handles → Type 0
-CarriesOut hub fs hs (Dir name waiting total evict) reply gs ks = IsMadeReply reply × (gs ≡ fs) × (ks ≡ hs)
-CarriesOut hub fs hs (Svc name waiting total notifies evict) reply gs ks = IsMadeReply reply × (gs ≡ fs) × (ks ≡ hs)
-CarriesOut hub fs hs (Sub name) reply gs ks = KeepsAll hub fs gs × SubscribesTo gs name hs reply ks
+CarriesOut hub fs hs (Dir name waiting total evict) reply gs ks = IsMadeReply hub Plain waiting total false evict fs name reply gs × (ks ≡ hs)
+CarriesOut hub fs hs (Svc name waiting total notifies evict) reply gs ks = IsMadeReply hub Service waiting total notifies evict fs name reply gs × (ks ≡ hs)
+CarriesOut hub fs hs (Sub name) reply gs ks = KeepsAll hub fs gs × SubscribesTo hub gs name hs reply ks
 CarriesOut hub fs hs (Pub name letters) reply gs ks = AsksByName hub (says_published letters) fs name reply gs × (ks ≡ hs)
+CarriesOut hub fs hs (Tell name state) reply gs ks = TellsByName hub state fs name reply gs × (ks ≡ hs)
 CarriesOut hub fs hs (Close name) reply gs ks = AsksByName hub says_closed fs name reply gs × (ks ≡ hs)
 CarriesOut hub fs hs (Status name) reply gs ks = AsksByName hub says_status fs name reply gs × (ks ≡ hs)
-CarriesOut hub fs hs (Listen name mode pattern) reply gs ks = KeepsAll hub fs gs × ListensTo gs name mode pattern hs reply ks
-CarriesOut hub fs hs (Wait span want turns names) reply gs ks = KeepsAll hub fs gs × (WaitsFor gs span want names reply ⊎ IsWaitRefusal gs names reply) × (ks ≡ hs)
+CarriesOut hub fs hs (Listen name mode pattern) reply gs ks = KeepsAll hub fs gs × ListensTo hub gs name mode pattern hs reply ks
+CarriesOut hub fs hs (Wait span want turns names) reply gs ks = KeepsAll hub fs gs × (WaitsFor gs span want names reply ⊎ IsWaitRefusal hub gs names reply) × (ks ≡ hs)
 CarriesOut hub fs hs (Names from) reply gs ks = AsksNames hub fs from reply gs × (ks ≡ hs)
 CarriesOut hub fs hs request reply gs ks = (gs ≡ fs) × AsksHandle hs request reply ks
 

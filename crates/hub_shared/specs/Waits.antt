@@ -5,7 +5,9 @@ use Rattle.std.specs.List.{AllZip}
 use Rattle.hub_letters.specs.declared.want.Want.{Want}
 use Rattle.hub_record.specs.declared.Kind.{Kind}
 use Rattle.hub_record.specs.declared.Kind.TheVariants.{Plain, Service}
-use Rattle.hub_fifodir.specs.Passes.{kind_of}
+use Rattle.hub_record.specs.declared.SubError.{SubError}
+use Rattle.hub_fifodir.specs.Passes.{MayRefuseTicket, kind_of}
+use Rattle.hub_requests.specs.Refusals.{refusal_of_sub}
 use Rattle.hub_requests.specs.declared.reply.Refusal.{Refusal}
 use Rattle.hub_requests.specs.declared.reply.Refusal.TheVariants as no
 use Rattle.hub_requests.specs.declared.reply.Reply.{Reply}
@@ -17,9 +19,10 @@ use Rattle.hub_wait.specs.declared.post.Post.{Post}
 use Rattle.hub_wait.specs.Posts.{HasOpened, watch_of}
 use Rattle.hub_wait.specs.Watching.{is_met_at}
 use Rattle.hub_names.specs.declared.fifodirs.Fifodirs.{Fifodirs}
+use Rattle.hub_names.specs.declared.hub.Hub.{Hub}
 use Rattle.hub_names.specs.declared.hub.Made.{Made}
 use Rattle.hub_names.specs.declared.joined.Joined.{Joined}
-use Rattle.hub_names.specs.Fifodirs.{joined_at, IsKeptAs}
+use Rattle.hub_names.specs.Fifodirs.{joined_at, IsKeptAs, IsMissed}
 use Rattle.hub_names.specs.Speaking.{fifodir_of, notifies_of}
 
 -- the name has a fifodir of this kind
@@ -37,8 +40,8 @@ AreSeen fs names true = All (IsKnown fs) names × Any (IsOfKind fs Plain) names
 AreSeen fs names false = All (IsOfKind fs Service) names
 
 -- why the names weren't all seen
-abbrev pub IsUnseen : Fifodirs → List (List ℕ) → Refusal → Type 0
-IsUnseen fs names refusal = ((refusal ≡ no.Name) × Any (λ name. joined_at fs name ≡ None) names) ⊎ (refusal ≡ no.Memory)
+abbrev pub IsUnseen : Hub → Fifodirs → List (List ℕ) → Refusal → Type 0
+IsUnseen hub fs names refusal = ((refusal ≡ no.Name) × Any (IsMissed hub fs) names) ⊎ (refusal ≡ no.Memory)
 
 -- the fifodir that is kept under each name, in their order
 abbrev pub AreFound : Fifodirs → List (List ℕ) → List Made → Type 0
@@ -48,16 +51,25 @@ AreFound fs names found = AllZip (IsKeptAs fs) names found
 abbrev pub AreOpened : Want → List Made → List Post → Type 0
 AreOpened want found posts = AllZip (λ made post. HasOpened (arc_value made.dir) want made.notifies post) found posts
 
--- why a fifodir gives no post
-abbrev pub IsPostRefused : Refusal → Type 0
-IsPostRefused refusal = (refusal ≡ no.Closed) ⊎ (refusal ≡ no.Many) ⊎ (refusal ≡ no.Spent) ⊎ (refusal ≡ no.Memory)
+-- why no post was opened: one of the fifodirs gives no ticket
+abbrev pub IsPostRefused : List Made → Refusal → Type 0
+IsPostRefused found refusal = (error : SubError) × (refusal ≡ refusal_of_sub error) × Any (λ made. MayRefuseTicket (arc_value made.dir) error) found
+
+-- the fifodir that is kept under the name gives no ticket
+pub record MayRefusePost (fs : Fifodirs) (error : SubError) (name : List ℕ) : Type 0 where
+  pub joined : Joined
+  pub kept_is : joined_at fs name ≡ Some joined
+  pub refuses : MayRefuseTicket (fifodir_of joined) error
+
+abbrev pub IsRefusedAtName : Fifodirs → List (List ℕ) → Refusal → Type 0
+IsRefusedAtName fs names refusal = (error : SubError) × (refusal ≡ refusal_of_sub error) × Any (MayRefusePost fs error) names
 
 -- Why no wait was begun. First each name is looked for, then each must be a service's, and only then a post may be refused.
-abbrev pub IsWaitRefused : Fifodirs → List (List ℕ) → Refusal → Type 0
-IsWaitRefused fs names no.Name = Any (λ name. joined_at fs name ≡ None) names
-IsWaitRefused fs names no.Kind = AreSeen fs names true
-IsWaitRefused fs names no.Memory = Unit {0}
-IsWaitRefused fs names refusal = IsPostRefused refusal × AreSeen fs names false
+abbrev pub IsWaitRefused : Hub → Fifodirs → List (List ℕ) → Refusal → Type 0
+IsWaitRefused hub fs names no.Name = Any (IsMissed hub fs) names
+IsWaitRefused hub fs names no.Kind = AreSeen fs names true
+IsWaitRefused hub fs names no.Memory = Unit {0}
+IsWaitRefused hub fs names refusal = IsRefusedAtName fs names refusal × AreSeen fs names false
 
 -- a post at the fifodir that is kept under the name
 pub record IsPostAt (fs : Fifodirs) (want : Want) (name : List ℕ) (post : Post) : Type 0 where
@@ -93,6 +105,6 @@ pub record WaitsFor (fs : Fifodirs) (span : Span) (want : Want) (names : List (L
   pub posts : ArePosts fs want names opened
   pub settled : Settles span opened reply
 
-abbrev pub IsWaitRefusal : Fifodirs → List (List ℕ) → Reply → Type 0
-IsWaitRefusal fs names (answer.No refusal) = IsWaitRefused fs names refusal
-IsWaitRefusal fs names _ = ⊥
+abbrev pub IsWaitRefusal : Hub → Fifodirs → List (List ℕ) → Reply → Type 0
+IsWaitRefusal hub fs names (answer.No refusal) = IsWaitRefused hub fs names refusal
+IsWaitRefusal hub fs names _ = ⊥

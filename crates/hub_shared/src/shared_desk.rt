@@ -1,6 +1,7 @@
 //! The desk of one session among several.
 ghost use Rattle.std.specs.Prelude.{◌≤◌, IfOk, length};
 ghost use Rattle.std.specs.Arc.{arc_value};
+ghost use Rattle.hub_requests.specs.Ranges.{AreLimits};
 ghost use Rattle.hub_requests.specs.declared.bounds.TheConstants.{MOST_SERVICES};
 ghost use Rattle.hub_requests.specs.declared.request.Request.TheVariants as asked;
 
@@ -8,8 +9,8 @@ use hub_fifodir::Enter;
 use hub_handles::Handles;
 use hub_io::Client;
 use hub_letters::{Mode, Span, Want};
-use hub_names::{Fifodirs, Hub, HubError};
-use hub_record::{Kind, Limits};
+use hub_names::{Fifodirs, Hub};
+use hub_record::Kind;
 use hub_requests::{Desk, Name, Names, PatternText, Refusal, Reply, Request, limits};
 use hub_wait::Pause;
 use std::alloc::{AllocError, Global};
@@ -38,7 +39,7 @@ pub struct SharedDesk<P: Pause + Copy> {
 }
 
 impl<P: Pause + Copy> SharedDesk<P> {
-    ghost use Rattle.hub_shared.specs.Desks.{Asks, IsMadeReply, IsNewDesk, Watches};
+    ghost use Rattle.hub_shared.specs.Desks.{Asks, IsNewDesk, Watches};
 
     /// A session that has found no fifodir and has no handle.
     pub fn new(alloc: Global, hub: Arc<Hub, Global>, pause: P) -> Result<SharedDesk<P>, AllocError>
@@ -77,20 +78,38 @@ impl<P: Pause + Copy> SharedDesk<P> {
         fifodirs.release(rt);
     }
 
-    /// `reports` says of a service whether it reports readiness. None makes a plain fifodir.
-    fn make<H: Wait>(&self, rt: &H, name: &Name, reports: Option<bool>, limits: Limits) -> Reply
-        ensures { IsMadeReply result }
+    fn make_plain<H: Wait + Enter>(
+        &mut self,
+        rt: &H,
+        name: &Name,
+        waiting: u64,
+        total: u64,
+        evict: bool,
+    ) -> Reply
+        requires { AreLimits waiting total }
+        ensures { Asks self.old (asked.Dir name.now waiting total evict) result self.new }
     {
-        let (kind, notifies) = match reports {
-            Some(notifies) => (Kind::Service, notifies),
-            None => (Kind::Plain, false),
-        };
-        match self.hub.make_named(rt, name, kind, limits, notifies) {
-            Ok(()) => Reply::Done,
-            Err(HubError::Exists) => Reply::No(Refusal::Exists),
-            Err(HubError::Many) => Reply::No(Refusal::Many),
-            Err(HubError::Memory) => Reply::No(Refusal::Memory),
-        }
+        let limits = limits(waiting, total, evict);
+        self.fifodirs
+            .make(rt, &self.hub, name, Kind::Plain, limits, false)
+    }
+
+    fn make_service<H: Wait + Enter>(
+        &mut self,
+        rt: &H,
+        name: &Name,
+        waiting: u64,
+        total: u64,
+        notifies: bool,
+        evict: bool,
+    ) -> Reply
+        requires { AreLimits waiting total }
+        ensures { Asks self.old (asked.Svc name.now waiting total notifies evict)
+            result self.new }
+    {
+        let limits = limits(waiting, total, evict);
+        self.fifodirs
+            .make(rt, &self.hub, name, Kind::Service, limits, notifies)
     }
 
     fn subscribe<H: Wait + Enter>(&mut self, rt: &H, name: &Name) -> Reply
@@ -170,16 +189,17 @@ impl<P: Pause + Copy> Desk for SharedDesk<P> {
                 waiting,
                 total,
                 evict,
-            } => self.make(rt, name, None, limits(*waiting, *total, *evict)),
+            } => self.make_plain(rt, name, *waiting, *total, *evict),
             Request::Svc {
                 name,
                 waiting,
                 total,
                 notifies,
                 evict,
-            } => self.make(rt, name, Some(*notifies), limits(*waiting, *total, *evict)),
+            } => self.make_service(rt, name, *waiting, *total, *notifies, *evict),
             Request::Sub { name } => self.subscribe(rt, name),
             Request::Pub { name, letters } => self.fifodirs.publish(rt, &self.hub, name, letters),
+            Request::Tell { name, state } => self.fifodirs.tell(rt, &self.hub, name, *state),
             Request::Take { id, max } => self.handles.take(rt, *id, *max),
             Request::Cancel { id } => self.handles.cancel(rt, *id),
             Request::Close { name } => self.fifodirs.close(rt, &self.hub, name),

@@ -14,7 +14,7 @@ use std::test::Fail;
 
 /// A fifodir whose changes ring this bell.
 fn open_with_bell(alloc: Global, bell: &Arc<Bell, Global>) -> Result<Shared, Fail> {
-    let limits = Limits::of(64, 1000, 10).ok_or("no limits")?;
+    let limits = Limits::of(64, 10_000, 100).ok_or("no limits")?;
     let bell = Arc::try_clone(bell)?;
     let fifodir = Fifodir::with_bell(alloc, Kind::Plain, limits, bell)?;
     Ok(Arc::new(alloc, fifodir)?)
@@ -89,6 +89,45 @@ fn rings_for_each<R: Abort + Wait + Enter + Clock + Copy>(
     reader.cancel(rt);
     sender.leave(rt);
     Ok([awaited, posted, ended])
+}
+
+/// How often the bell of a fifodir has rung while somebody waits for 1,100 letters, and after one that nobody waits for.
+fn rings_of_a_long_wait<R: Abort + Wait + Enter>(rt: &R, alloc: Global) -> Result<[u64; 2], Fail> {
+    let letters = word(alloc, "a")?;
+    let bell = Arc::new(alloc, Bell::new())?;
+    let fifodir = open_with_bell(alloc, &bell)?;
+    let mut sender = new_sender(rt, &fifodir);
+    let waiter = fifodir.admit();
+    for _ in 0..1_100 {
+        let _ = sender.send(rt, &letters);
+    }
+    let heard = bell.rings();
+    fifodir.dismiss(waiter);
+    let _ = sender.send(rt, &letters);
+    sender.leave(rt);
+    Ok([heard, bell.rings()])
+}
+
+/// How often the bell of a fifodir has rung for somebody after a letter and the close of a publisher. So many came and went before
+/// it.
+fn rings_of_a_later_one<R: Abort + Wait + Enter>(
+    rt: &R,
+    alloc: Global,
+    before: u64,
+) -> Result<u64, Fail> {
+    let letters = word(alloc, "a")?;
+    let bell = Arc::new(alloc, Bell::new())?;
+    let fifodir = open_with_bell(alloc, &bell)?;
+    for _ in 0..before {
+        new_sender(rt, &fifodir).leave(rt);
+    }
+    let waiter = fifodir.admit();
+    let mut sender = new_sender(rt, &fifodir);
+    let _ = sender.send(rt, &letters);
+    let _ = sender.close(rt);
+    sender.leave(rt);
+    fifodir.dismiss(waiter);
+    Ok(bell.rings())
 }
 
 /// How often the bell of a fifodir has rung after an await in whose only pause a letter comes.
@@ -211,5 +250,18 @@ fn a_bell_rings_for_those_who_wait(rt: HostRuntime) -> Result<(), Fail> {
 fn who_has_waited_hears_no_bell(rt: HostRuntime) -> Result<(), Fail> {
     assert_eq!(rt; rings_for_each(&rt, rt.alloc())?, [0, 1, 1]);
     assert_eq!(rt; rings_of_an_await(&rt, rt.alloc())?, 1);
+    Ok(())
+}
+
+#[test]
+fn a_bell_rings_after_many_rings_and_publishers(rt: HostRuntime) -> Result<(), Fail> {
+    assert_eq!(rt; rings_of_a_long_wait(&rt, rt.alloc())?, [1_100, 1_100]);
+    for before in 0..40 {
+        assert_eq!(rt;
+            rings_of_a_later_one(&rt, rt.alloc(), before)?,
+            2,
+            "after {before} publishers"
+        );
+    }
     Ok(())
 }

@@ -1,6 +1,6 @@
 //! What a call leaves behind at a fifodir. A call that made a pass of its own besides, published or closed by it, and let it
 //! leave, would leave an event, a close, a number or an id that nobody asked for.
-use crate::tests::passes::{Shared, open, publisher, ticket};
+use crate::tests::passes::{Shared, next_id, open, publisher, ticket};
 use crate::tests::waits::open_post;
 use hub_fifodir::together::{send_both, send_on};
 use hub_fifodir::{Enter, Fifodir};
@@ -205,15 +205,13 @@ fn state_of<R: Abort + Wait + Enter>(rt: &R, fifodir: &Fifodir) -> State {
     let number = next.number();
     let status = fifodir.status(&mut next);
     fifodir.leave(rt, next);
-    let id = match fifodir.subscribe(rt) {
-        Ok(reader) => {
-            let id = reader.id();
-            fifodir.cancel(rt, reader);
-            Some(id)
-        }
-        Err(_) => None,
-    };
-    (status.number, status.closed, number, id, rings)
+    (
+        status.number,
+        status.closed,
+        number,
+        next_id(rt, fifodir),
+        rings,
+    )
 }
 
 fn left_behind<R: Abort + Threads + Wait + Enter + Sync>(

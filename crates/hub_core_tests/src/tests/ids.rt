@@ -9,7 +9,7 @@ use std::thread;
 use std::thread::Threads;
 
 /// How many ids and numbers a fifodir gives in all.
-const GIVEN: u64 = 3000;
+const GIVEN: u64 = 6000;
 
 type Given<E> = Result<(Vec<u64>, E), AllocError>;
 

@@ -207,6 +207,18 @@ pub(crate) fn new_reader<R: Abort + Wait + Enter>(rt: &R, fifodir: &Shared) -> R
     Reader::of(rt, fifodir).expect(rt, "a ticket")
 }
 
+/// The id of the fifodir's next ticket, which a closed one doesn't give.
+pub(crate) fn next_id<R: Wait + Enter>(rt: &R, fifodir: &Fifodir) -> Option<u64> {
+    match fifodir.subscribe(rt) {
+        Ok(reader) => {
+            let id = reader.id();
+            fifodir.cancel(rt, reader);
+            Some(id)
+        }
+        Err(_) => None,
+    }
+}
+
 impl Held for Reader {
     type Refusal = SubError;
 

@@ -41,11 +41,11 @@ static SIZES: [(&str, bool); 20] = [
     ("(?-u:.)", false),
 ];
 
-/// Whether a listener is made for the text, or none if the refusal is another than `Pattern`.
+/// Whether a listener is made for the text, or none if it is refused for want of memory.
 fn is_pattern(alloc: Global, text: &str) -> Option<bool> {
     match listener_for(alloc, text, Mode::Once) {
         Ok(_) => Some(true),
-        Err(ListenError::Pattern) => Some(false),
+        Err(ListenError::Pattern) | Err(ListenError::Large) => Some(false),
         Err(_) => None,
     }
 }

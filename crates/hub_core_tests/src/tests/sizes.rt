@@ -257,9 +257,30 @@ fn message_unlike(alloc: Global, limits: Limits) -> Result<Option<usize>, AllocE
     Ok(None)
 }
 
+/// How many events may be pending in the first record that isn't made.
+fn record_refused(alloc: Global) -> Option<u64> {
+    for waiting in 1..=MOST as u64 {
+        let Some(limits) = Limits::of(waiting, 1_000_000, 10) else {
+            return Some(waiting);
+        };
+        if Record::new(alloc, Kind::Plain, limits).is_err() {
+            return Some(waiting);
+        }
+    }
+    None
+}
+
+#[test]
+fn records_of_each_room(rt: HostRuntime) -> Result<(), Fail> {
+    assert_eq!(rt; record_refused(rt.alloc()), None);
+    Ok(())
+}
+
 #[test]
 fn replays_of_each_size(rt: HostRuntime) -> Result<(), Fail> {
     let limits = Limits::of(4096, 1_000_000, 2000).ok_or("no limits")?;
+    let many = messages(rt.alloc(), 10_000)?;
+    assert!(rt; runs_with_messages(rt.alloc(), limits, &many)?);
     assert_eq!(rt; run_unlike(rt.alloc(), limits)?, None);
     assert_eq!(rt; message_unlike(rt.alloc(), limits)?, None);
     Ok(())

@@ -15,7 +15,7 @@ use std::time::Duration;
 use std::{io, thread};
 
 /// How many sleep at once. One ring doesn't wake as many as the last by itself.
-static SLEEPERS: [u64; 3] = [1, 2, 12];
+static SLEEPERS: [u64; 4] = [1, 2, 12, 25];
 
 /// How many letters a message has that its publisher needs a while for.
 const LONG: usize = 1_000_000;

@@ -2,7 +2,7 @@
 //! made where no new ones are given.
 mod scene;
 
-use crate::tests::passes::{new_reader, new_sender, open_with};
+use crate::tests::passes::{Shared, new_reader, new_sender, next_id, open_with};
 use hub_fifodir::Enter;
 use hub_record::{Event, Kind, Policy};
 use scene::{Scene, Words};
@@ -23,6 +23,8 @@ enum State {
     Long,
     /// 40 publishers and 40 tickets came and went.
     Busy,
+    /// 2 more posts wait.
+    Three,
     /// 25 more posts wait.
     Awaited,
     /// 8 events are pending.
@@ -31,6 +33,8 @@ enum State {
     Evicted,
     /// 2 events are pending, and it is closed.
     Closed,
+    /// It is closed, and the ticket knows its end.
+    Ended,
     /// The service has failed.
     Failed,
 }
@@ -42,6 +46,8 @@ pub(crate) enum Call {
     PublishNothing,
     PublishTooMuch,
     PublishUnlawful,
+    TellDown,
+    TellUp,
     Close,
     CloseTwice,
     Take,
@@ -63,26 +69,30 @@ pub(crate) enum Call {
 type Left = (u64, u64, bool, u64, Option<u64>, u64, u64);
 
 /// What is there in each state.
-static STATES: [(State, Left); 9] = [
+static STATES: [(State, Left); 11] = [
     (State::Fresh, (1, 6, false, 2, Some(3), 1, 0)),
     (State::Wrapped, (21, 6, false, 2, Some(3), 21, 0)),
     (State::Long, (5_101, 6, false, 2, Some(3), 5_101, 0)),
     (State::Busy, (1, 6, false, 42, Some(43), 1, 0)),
+    (State::Three, (1, 6, false, 2, Some(5), 1, 0)),
     (State::Awaited, (1, 6, false, 2, Some(28), 1, 0)),
     (State::Full, (9, 6, false, 2, Some(3), 1, 0)),
     (State::Evicted, (10, 6, false, 2, Some(3), 1, 0)),
     (State::Closed, (3, 6, true, 2, None, 1, 0)),
+    (State::Ended, (3, 6, true, 2, None, 3, 0)),
     (State::Failed, (2, 14, false, 2, Some(3), 2, 0)),
 ];
 
 /// What each call changes of that, in a state where it has an effect: how many events it adds, whether it closes, how many
 /// events it takes at most, and how often it rings.
-static CALLS: [(Call, u64, bool, u64, u64); 18] = [
+static CALLS: [(Call, u64, bool, u64, u64); 20] = [
     (Call::Nothing, 0, false, 0, 0),
     (Call::Publish, 1, false, 0, 1),
     (Call::PublishNothing, 0, false, 0, 1),
     (Call::PublishTooMuch, 0, false, 0, 0),
     (Call::PublishUnlawful, 0, false, 0, 0),
+    (Call::TellDown, 0, false, 0, 1),
+    (Call::TellUp, 1, false, 0, 1),
     (Call::Close, 0, true, 0, 1),
     (Call::CloseTwice, 0, true, 0, 1),
     (Call::Take, 0, false, 4, 0),
@@ -97,6 +107,14 @@ static CALLS: [(Call, u64, bool, u64, u64); 18] = [
     (Call::SvWait, 0, false, 0, 0),
     (Call::SvListen, 0, false, 0, 0),
 ];
+
+/// The code of the flags after the letters that a call adds: `u` of a service that is told to be up, and `s` else.
+fn code_after(call: Call) -> u64 {
+    match call {
+        Call::TellUp => 5,
+        _ => 6,
+    }
+}
 
 /// What is there after the call: a closed one takes no message and isn't closed again, a full one takes no letter, and an
 /// evicted ticket takes nothing.
@@ -113,13 +131,21 @@ fn left_by(before: (State, Left), call: (Call, u64, bool, u64, u64)) -> Left {
     };
     (
         number.saturating_add(added),
-        if added > 0 { 6 } else { code },
+        if added > 0 { code_after(call.0) } else { code },
         closed || closes,
         next,
         if closes { None } else { id },
         taken.saturating_add(took),
         if refused { 0 } else { rings },
     )
+}
+
+/// So many publishers and tickets come and go.
+fn pass_by<R: Abort + Wait + Enter>(rt: &R, fifodir: &Shared, count: u64) {
+    for _ in 0..count {
+        new_sender(rt, fifodir).leave(rt);
+        new_reader(rt, fifodir).cancel(rt);
+    }
 }
 
 fn come_to<R: Abort + Wait + Enter>(rt: &R, scene: &mut Scene, words: &Words, state: State) {
@@ -129,12 +155,8 @@ fn come_to<R: Abort + Wait + Enter>(rt: &R, scene: &mut Scene, words: &Words, st
         State::Fresh => {}
         State::Wrapped => scene.pass_on(rt, &words.start, 20),
         State::Long => scene.pass_on(rt, &words.start, 5_100),
-        State::Busy => {
-            for _ in 0..40 {
-                new_sender(rt, &scene.fifodir).leave(rt);
-                new_reader(rt, &scene.fifodir).cancel(rt);
-            }
-        }
+        State::Busy => pass_by(rt, &scene.fifodir, 40),
+        State::Three => scene.post(rt, 2),
         State::Awaited => scene.post(rt, 25),
         State::Full => scene.send(rt, &words.many),
         State::Evicted => {
@@ -147,6 +169,11 @@ fn come_to<R: Abort + Wait + Enter>(rt: &R, scene: &mut Scene, words: &Words, st
             scene.send(rt, &words.start);
             scene.close(rt);
         }
+        State::Ended => {
+            scene.pass_on(rt, &words.start, 2);
+            scene.close(rt);
+            scene.take(rt, &mut [Event::FILLER; 4]);
+        }
         State::Failed => scene.pass_on(rt, &words.failed, 1),
     }
 }
@@ -158,6 +185,8 @@ fn does<R: Wait>(rt: &R, scene: &mut Scene, words: &Words, call: Call) {
         Call::PublishNothing => scene.send(rt, &[]),
         Call::PublishTooMuch => scene.send(rt, &words.too_many),
         Call::PublishUnlawful => scene.send(rt, &words.unlawful),
+        Call::TellDown => scene.tell(rt, hub_letters::State::Down),
+        Call::TellUp => scene.tell(rt, hub_letters::State::Up),
         Call::Close => scene.close(rt),
         Call::CloseTwice => {
             scene.close(rt);
@@ -173,11 +202,12 @@ fn does<R: Wait>(rt: &R, scene: &mut Scene, words: &Words, call: Call) {
     }
 }
 
-/// What is there after this call in this state.
+/// What is there after this call in this state. So many publishers and tickets came and went before those that make the call.
 fn left<R: Abort + Wait + Enter>(
     rt: &R,
     alloc: Global,
     words: &Words,
+    passes: u64,
     state: State,
     call: Call,
 ) -> Result<Left, Fail> {
@@ -187,6 +217,7 @@ fn left<R: Abort + Wait + Enter>(
         Policy::Hold
     };
     let fifodir = open_with(alloc, Kind::Service, (8, 10_000, 100), policy)?;
+    pass_by(rt, &fifodir, passes);
     let shared = Arc::try_clone(&fifodir)?;
     let mut scene = Scene::new(rt, alloc, shared);
     come_to(rt, &mut scene, words, state);
@@ -197,14 +228,7 @@ fn left<R: Abort + Wait + Enter>(
     let mut next = new_sender(rt, &fifodir);
     let (number, status) = (next.me.number(), next.status());
     next.leave(rt);
-    let id = match fifodir.subscribe(rt) {
-        Ok(reader) => {
-            let id = reader.id();
-            fifodir.cancel(rt, reader);
-            Some(id)
-        }
-        Err(_) => None,
-    };
+    let id = next_id(rt, &fifodir);
     scene.end(rt);
     Ok((
         status.number,
@@ -222,13 +246,32 @@ fn a_call_leaves_behind_what_it_says_in_each_state(rt: HostRuntime) -> Result<()
     let words = Words::new(rt.alloc())?;
     for before in STATES.iter() {
         for call in CALLS.iter() {
-            let found = left(&rt, rt.alloc(), &words, before.0, call.0)?;
+            let found = left(&rt, rt.alloc(), &words, 0, before.0, call.0)?;
             assert_eq!(rt;
                 found,
                 left_by(*before, *call),
                 "{:?} at {:?}",
                 call.0,
                 before.0
+            );
+        }
+    }
+    Ok(())
+}
+
+#[test]
+fn a_call_by_any_pass_leaves_behind_what_it_says(rt: HostRuntime) -> Result<(), Fail> {
+    let words = Words::new(rt.alloc())?;
+    for passes in 0..40u64 {
+        let (next, id) = (passes.saturating_add(2), passes.saturating_add(3));
+        let before = (State::Fresh, (1, 6, false, next, Some(id), 1, 0));
+        for call in CALLS.iter() {
+            let found = left(&rt, rt.alloc(), &words, passes, State::Fresh, call.0)?;
+            assert_eq!(rt;
+                found,
+                left_by(before, *call),
+                "{:?} behind {passes} passes",
+                call.0
             );
         }
     }

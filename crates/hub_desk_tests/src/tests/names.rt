@@ -50,6 +50,34 @@ fn names_are_listed_in_order(rt: HostRuntime) {
     run_each(&rt, &[IN_ORDER, KEPT]);
 }
 
+/// A name that another one begins with, or that begins with another one, is a name of its own.
+static FRONTS: &str = "
+    dir web 64 1000 -> ok
+    sub web1 -> no name
+    listen web1 once a -> no name
+    pub web1 a -> no name
+    status we -> no name
+    close w -> no name
+    svc db1 64 1000 1 -> ok
+    wait all up 0 db -> no name
+    wait any up 0 db1 db12 -> no name
+    dir web1 64 1000 -> ok
+    sub web1 -> ok 1
+    pub web1 ab -> ok 0
+    status web -> ok 0 0 open
+    take 1 9 -> got ab
+    names 0 -> names web db1 web1
+    dir a-name-of-29-bytes-and-3-more100 2 10 -> ok
+    sub a-name-of-29-bytes-and-3-more10 -> no name
+    sub a-name-of-29-bytes-and-3-more100 -> ok 2
+    listen a-name-of-29-bytes-and-3-more100 once a -> ok 3
+";
+
+#[test]
+fn a_front_is_another_name(rt: HostRuntime) {
+    run_each(&rt, &[FRONTS]);
+}
+
 /// All handles are held, and names need none.
 static NEEDS_NO_HANDLE: &str = "
     sub web -> no many
@@ -170,4 +198,24 @@ fn sessions_see_the_names_of_their_hub(rt: HostRuntime) {
     let mut third = session(&rt, &hub);
     run(&rt, &mut third, "names 0 -> names web db");
     third.release(&rt);
+}
+
+/// A name that another session made meanwhile is found at the next request, and not before.
+#[test]
+fn a_name_made_meanwhile_is_found(rt: HostRuntime) {
+    let hub = new_hub(&rt);
+    let mut first = session(&rt, &hub);
+    let mut second = session(&rt, &hub);
+    run(&rt, &mut first, "sub web -> no name\nnames 0 -> none");
+    run(&rt, &mut second, "dir web 2 100 -> ok\npub web ab -> ok 0");
+    run(&rt, &mut first, "dir web 64 1000 -> no exists");
+    run(
+        &rt,
+        &mut first,
+        "status web -> ok 2 0 open\nsub web -> ok 1",
+    );
+    run(&rt, &mut second, "pub web cde -> no full");
+    run(&rt, &mut first, "names 0 -> names web\nsub we -> no name");
+    second.release(&rt);
+    first.release(&rt);
 }

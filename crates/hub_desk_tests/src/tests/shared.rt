@@ -49,7 +49,7 @@ fn next_number<H: AllocGlobal + Abort + Wait + Enter>(
     hub: &Hub,
 ) -> Result<Option<u64>, Fail> {
     let web = name_of(rt, rt.alloc(), "web")?;
-    let found = hub.find(rt, &web)?.ok_or("found")?;
+    let found = hub.find(rt, &web).1?.ok_or("found")?;
     let Ok(publisher) = found.dir.publisher(rt) else {
         return Ok(None);
     };
@@ -74,7 +74,7 @@ fn next_of_each<H: AllocGlobal + Abort + Wait + Enter>(
     hub: &Hub,
 ) -> Result<(Option<u64>, Option<u64>), Fail> {
     let web = name_of(rt, rt.alloc(), "web")?;
-    let found = hub.find(rt, &web)?.ok_or("found")?;
+    let found = hub.find(rt, &web).1?.ok_or("found")?;
     Ok((next_id(rt, &found), next_number(rt, hub)?))
 }
 
@@ -129,7 +129,7 @@ fn kind_in<H: AllocGlobal + Abort + Wait>(
     text: &str,
 ) -> Result<Option<(Kind, bool)>, Fail> {
     let name = name_of(rt, rt.alloc(), text)?;
-    let found = hub.find(rt, &name)?;
+    let found = hub.find(rt, &name).1?;
     Ok(found.map(|found| (found.dir.kind(), found.notifies)))
 }
 
@@ -141,14 +141,17 @@ fn a_hub_finds_what_was_made_in_it(rt: HostRuntime) -> Result<(), Fail> {
     let db = name_of(&rt, rt.alloc(), "db")?;
     assert_eq!(rt; kind_in(&rt, &hub, "web")?, None);
     assert_eq!(rt;
-        hub.make_named(&rt, &web, Kind::Service, limits, true),
+        hub.make_named(&rt, &web, Kind::Service, limits, true).1,
         Ok(())
     );
     assert_eq!(rt; kind_in(&rt, &hub, "web")?, Some((Kind::Service, true)));
     assert_eq!(rt; kind_in(&rt, &hub, "db")?, None);
-    assert_eq!(rt; hub.make(&rt, db, Kind::Plain, limits, false), Ok(()));
+    assert_eq!(rt;
+        hub.make_named(&rt, &db, Kind::Plain, limits, false).1,
+        Ok(())
+    );
     assert_eq!(rt; kind_in(&rt, &hub, "db")?, Some((Kind::Plain, false)));
-    let again = hub.make_named(&rt, &web, Kind::Plain, limits, false);
+    let (_, again) = hub.make_named(&rt, &web, Kind::Plain, limits, false);
     assert_eq!(rt; again, Err(HubError::Exists));
     assert_eq!(rt; kind_in(&rt, &hub, "web")?, Some((Kind::Service, true)));
     for number in 1..4 {

@@ -36,7 +36,7 @@ const NAMES: &str = "names 0 -> names web db";
 const ONE_MORE: &str = "names 0 -> names web db log";
 
 /// Requests with their replies, and what others see of `web`, of `db` and of the names afterwards.
-static REQUESTS: [(&str, Seen, Seen, &str); 28] = [
+static REQUESTS: [(&str, Seen, Seen, &str); 31] = [
     ("dir log 64 1000 -> ok", WEB, DB, ONE_MORE),
     ("dir web 64 1000 -> no exists", WEB, DB, NAMES),
     ("svc log 64 1000 1 -> ok", WEB, DB, ONE_MORE),
@@ -61,6 +61,9 @@ static REQUESTS: [(&str, Seen, Seen, &str); 28] = [
     ("pub db cd -> ok 2", WEB, (4, Some(2), Some(2)), NAMES),
     ("pub web U -> no unlawful 0", WEB, DB, NAMES),
     ("pub gone a -> no name", WEB, DB, NAMES),
+    ("tell web up -> ok 1", (2, Some(2), Some(2)), DB, NAMES),
+    ("tell web down -> ok 1", WEB, DB, NAMES),
+    ("tell db up -> no kind", WEB, DB, NAMES),
     ("take 1 9 -> got s\ntake 1 9 -> none", WEB, DB, NAMES),
     ("take 2 9 -> no id", WEB, DB, NAMES),
     ("poll 2 -> hit ab\npoll 2 -> none", WEB, DB, NAMES),
@@ -89,7 +92,7 @@ fn seen<H: AllocGlobal + Abort + Wait + Enter>(
     text: &str,
 ) -> Result<Seen, Fail> {
     let name = name_of(rt, rt.alloc(), text)?;
-    let found = hub.find(rt, &name)?.ok_or("found")?;
+    let found = hub.find(rt, &name).1?.ok_or("found")?;
     let id = next_id(rt, &found);
     let Ok(mut publisher) = found.dir.publisher(rt) else {
         return Ok((0, id, None));

@@ -1,10 +1,17 @@
 //! The requests about a fifodir: make one, publish to it, close it, and report its status.
-ghost use Rattle.std.specs.Prelude.{Some, false, true};
+ghost use Rattle.std.specs.Prelude.{◌≡◌, ◌≢◌, Some, false, true};
+ghost use Rattle.hub_record.specs.Kept.{Represents};
+ghost use Rattle.hub_record.specs.World.{World, after_publish};
+ghost use Rattle.hub_local.specs.Replies.{publish_reply};
+ghost use Rattle.hub_requests.specs.Refusals.{reply_to_publish};
+ghost use Rattle.hub_requests.specs.declared.reply.Reply.TheVariants.{No};
+ghost use Rattle.hub_requests.specs.declared.reply.Refusal.TheVariants.{Memory};
 ghost use Rattle.hub_local.specs.DeskAnswers.{make_answer, refusal_to_make};
 ghost use Rattle.hub_local.specs.Representing.{CarriesOut, AsksWith, Unchanged};
-ghost use Rattle.hub_requests.specs.declared.request.Request.TheVariants.{Pub, Close, Status as Show};
+ghost use Rattle.hub_requests.specs.declared.request.Request.TheVariants.{Pub, Tell, Close, Status as Show};
 
 use crate::local_desk::{LocalDesk, LocalFifodir};
+use hub_letters::{Letter, State};
 use hub_record::{Closed, Kind, Letters, Limits, Record, Status};
 use hub_requests::{MOST_NAMES, Name, Refusal, Reply};
 
@@ -47,9 +54,21 @@ impl LocalDesk {
         let Some(fifodir) = self.fifodirs.get_mut(name) else {
             return Reply::No(Refusal::Name);
         };
-        match fifodir.kept.publish(PUBLISHER, letters.items()) {
-            Ok(first) => Reply::Number(first),
-            Err(error) => Reply::No(Refusal::from(error)),
+        fifodir.publish(letters.items())
+    }
+
+    pub(super) fn tell(&mut self, name: &Name, state: State) -> Reply
+        ensures { AsksWith false self.old (Tell name.now state) result self.new }
+    {
+        let Some(fifodir) = self.fifodirs.get_mut(name) else {
+            return Reply::No(Refusal::Name);
+        };
+        match fifodir.kept.kind() {
+            Kind::Plain => Reply::No(Refusal::Kind),
+            Kind::Service => {
+                let word = fifodir.kept.word(state);
+                fifodir.publish(word.letters())
+            }
         }
     }
 
@@ -77,5 +96,19 @@ impl LocalDesk {
             closed: fifodir.kept.closed(),
         };
         Reply::State(status)
+    }
+}
+
+impl LocalFifodir {
+    /// Publishes letters by the desk's publisher.
+    fn publish(&mut self, letters: &[Letter]) -> Reply
+        ensures reply { (w : World) → Represents self.old.kept w
+            → result ≡ reply_to_publish (publish_reply w letters.now) }
+        ensures after { (w : World) → Represents self.old.kept w
+            → Represents self.new.kept (after_publish w 1 letters.now (publish_reply w letters.now)) }
+        ensures reports { self.new.reports ≡ self.old.reports }
+        ensures real { result ≢ No Memory }
+    {
+        Reply::to_publish(self.kept.publish(PUBLISHER, letters))
     }
 }

@@ -42,7 +42,7 @@ impl LocalDesk {
                     held: None,
                 }),
             ),
-            Err(ListenError::Pattern) => Reply::No(Refusal::Pattern),
+            Err(ListenError::Pattern) | Err(ListenError::Large) => Reply::No(Refusal::Pattern),
             Err(ListenError::Memory) => Reply::No(Refusal::Memory),
         }
     }

@@ -1,5 +1,5 @@
 //! A call of a server in the same process.
-use hub_commands::{Enter, Fault, call, serve};
+use hub_commands::{Dialer, Enter, Fault, call, serve};
 use std::alloc::Global;
 use std::fs::Files;
 use std::net::Net;
@@ -24,14 +24,15 @@ where
 }
 
 /// Calls as soon as a server listens. Nothing of the input is read before.
-fn call_when_it_listens<H: Net + Wait + Clock>(
+fn call_when_it_listens<H: Net + Wait + Clock + Copy>(
     rt: &H,
     alloc: Global,
     mut input: &[u8],
     output: &mut Vec<u8>,
 ) -> Result<u64, Fault> {
+    let mut dialer = Dialer::new(*rt);
     for _ in 0..1_000 {
-        match call(rt, alloc, SOCKET, &mut input, output) {
+        match call(rt, alloc, &mut dialer, SOCKET, &mut input, output) {
             Err(Fault::Connect) => thread::sleep(rt, Duration::from_millis(10)),
             called => return called,
         }

@@ -40,7 +40,7 @@ impl Posts {
         ensures services { OnOk result (AreSeen fifodirs.new names.now false) }
         ensures opened { IfOk result (λ opened. ArePosts fifodirs.new want names.now
             (posts_of opened)) }
-        ensures refused { IfErr result (IsWaitRefused fifodirs.new names.now) }
+        ensures refused { IfErr result (IsWaitRefused hub.now fifodirs.new names.now) }
         ensures kept { KeepsAll hub.now fifodirs.old fifodirs.new }
     {
         let Ok(mut found) = Vec::with_capacity(alloc, names.len()) else {
@@ -98,7 +98,7 @@ fn find_each<H: Wait>(
     ensures seen { IfOk result (AreSeen fifodirs.new names.now) }
     ensures found { OnOk result (AreFound fifodirs.new names.now found.new.items) }
     ensures few { vec_len found.new ≤ length names.now }
-    ensures missing { IfErr result (IsUnseen fifodirs.new names.now) }
+    ensures missing { IfErr result (IsUnseen hub.now fifodirs.new names.now) }
     ensures kept { KeepsAll hub.now fifodirs.old fifodirs.new }
 {
     let mut plain = false;
@@ -122,7 +122,7 @@ fn open_each<H: Wait + Enter>(
 ) -> Result<(), Refusal>
     requires empty { vec_len posts.old ≡ 0 }
     requires fits { vec_len found ≤ vec_capacity posts.old }
-    ensures refused { IfErr result IsPostRefused }
+    ensures refused { IfErr result (IsPostRefused found.items) }
     ensures opened { OnOk result (AreOpened want found.items posts.new.items) }
     ensures few { vec_len posts.new ≤ vec_len found }
 {

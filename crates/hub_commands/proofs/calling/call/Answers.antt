@@ -1,22 +1,47 @@
-use Rattle.std.proofs.Common.{Err, None, rules}
+use Rattle.std.proofs.Common.{Ok, Err, inl, inr, refl}
 use Rattle.hub_commands.proofs.calling.call.Goals as goal
 
-pub returns-in_err-relay-clause-relayed : goal.returns-in_err-relay-clause-relayed
-returns-in_err-relay-clause-relayed g c = λ other. (
-  Err c.in_err-relay.field-0.0,
-  search rules,
+pub returns-in-Err : goal.returns-in-Err
+returns-in-Err g c = inl (c.in-Err.fault, refl, c.in-Err.ensures, refl, refl)
+
+pub returns-in-Ok-relay : goal.returns-in-Ok-relay
+returns-in-Ok-relay g c = inr (
+  Ok c.in-Ok-relay.count,
+  refl,
   record {
-    sent = _;
-    sends = _;
-    heard = _;
-    hears = _;
-    made = None;
-    makes = None;
+    receive = c.in-Ok.both.0;
+    receives = c.relay.new.receiver;
+    send = c.in-Ok.both.1;
+    sends = c.relay.new.sender;
+    connected = c.in-Ok.ensures;
+    finished = c.in-Ok-relay.ensures.finished;
+    stopped = tt;
+    memory = c.in-Ok-relay.ensures.memory;
+    reads = c.in-Ok-relay.ensures.reads;
+    input_faults = c.in-Ok-relay.ensures.input_faults;
+    output_faults = c.in-Ok-relay.ensures.output_faults;
+    send_faults = c.in-Ok-relay.ensures.send_faults;
+    receive_faults = c.in-Ok-relay.ensures.receive_faults;
+  },
+)
+
+pub returns : goal.returns
+returns g c = inr (
+  Err c.in-Err-relay.error,
+  refl,
+  record {
+    receive = c.in-Ok.both.0;
+    receives = c.relay.new.receiver;
+    send = c.in-Ok.both.1;
+    sends = c.relay.new.sender;
+    connected = c.in-Ok.ensures;
     finished = tt;
-    stopped = c.in_err-relay.ensures.stopped;
-    memory = λ e. let untouched = c.in_err-relay.ensures.memory e in (untouched.0, untouched.1);
-    reads = c.in_err-relay.ensures.reads;
-    input_faults = c.in_err-relay.ensures.input_faults;
-    output_faults = c.in_err-relay.ensures.output_faults;
+    stopped = c.in-Err-relay.ensures.stopped;
+    memory = c.in-Err-relay.ensures.memory;
+    reads = c.in-Err-relay.ensures.reads;
+    input_faults = c.in-Err-relay.ensures.input_faults;
+    output_faults = c.in-Err-relay.ensures.output_faults;
+    send_faults = c.in-Err-relay.ensures.send_faults;
+    receive_faults = c.in-Err-relay.ensures.receive_faults;
   },
 )

@@ -8,8 +8,8 @@ use crate::tests::passes::{Shared, publisher, ticket};
 use crate::tests::posts::end_all;
 use crate::tests::waits::open_post;
 use hub_fifodir::{Enter, Publisher, Ticket};
-use hub_letters::{Letter, Want};
-use hub_record::Event;
+use hub_letters::{Letter, State, Want};
+use hub_record::{Event, Kind};
 use hub_wait::{Go, Pause, Post, SLICE, Span, receive, svlisten, svwait};
 use std::alloc::Global;
 use std::process::Abort;
@@ -61,6 +61,16 @@ impl Scene {
 
     pub(crate) fn send<R: Wait>(&mut self, rt: &R, letters: &[Letter]) {
         let _ = self.fifodir.publish(rt, &mut self.one, letters);
+    }
+
+    /// Tells where the service is. A plain fifodir isn't told.
+    pub(crate) fn tell<R: Wait>(&mut self, rt: &R, state: State) {
+        match self.fifodir.kind() {
+            Kind::Service => {
+                let _ = self.fifodir.tell(rt, &mut self.one, state);
+            }
+            Kind::Plain => {}
+        }
     }
 
     pub(crate) fn take<R: Wait>(&mut self, rt: &R, out: &mut [Event]) {

@@ -1,4 +1,3 @@
-use Rattle.std.proofs.Common.{◌≡◌}
 use Rattle.hub_server.specs.Sessions.{IsEnded}
 use Rattle.hub_server.specs.Turns.{Fails}
 use Rattle.hub_server.proofs.serving.serve_session.Given as goal

@@ -4,6 +4,7 @@ use Rattle.hub_fifodir.specs.declared.views.Rules.{Rules}
 use Rattle.hub_fifodir.specs.declared.locked.Locked.{Locked}
 use Rattle.hub_fifodir.specs.Rule.{IsLive, IsBehind, book_of}
 use Rattle.hub_fifodir.proofs.Rests.{rests}
+use Rattle.hub_fifodir.proofs.Subscriptions.{may_refuse}
 use Rattle.hub_fifodir.proofs.Taking.{rests_as_ticket, is_new_taker, id_given}
 use Rattle.hub_fifodir.proofs.fifodir.Fifodir.subscribe.Goals as goal
 
@@ -28,13 +29,8 @@ rest_refused-requires-clause-gives g c = let t = c.lock-held in let h = t.ensure
 
 pub returns-in-Err-clause-refused : goal.returns-in-Err-clause-refused
 returns-in-Err-clause-refused g c = let t = c.lock-held in let h = t.ensures.holding.1 in let w = h.behind.world in
-    let ruled : t.new.seat.at.me.0.rules ≡ c.args.self.now.rules = ap (λ (v : View). v.rules) h.renews.is ∙ ap (λ (v : View). v.rules) c.enter-seat.ensures.view ∙ c.board-board.ensures.2 in (
-      w,
-      h.behind.for.for.world,
-      h.behind.kind ∙ ap (λ (r : Rules). r.kind) ruled,
-      h.behind.limits ∙ ap (λ (r : Rules). r.limits) ruled,
-      c.in-Err.ensures.reply w h.behind.for,
-    )
+    let ruled : t.new.seat.at.me.0.rules ≡ c.args.self.now.rules = ap (λ (v : View). v.rules) h.renews.is ∙ ap (λ (v : View). v.rules) c.enter-seat.ensures.view ∙ c.board-board.ensures.2 in
+    may_refuse w c.args.self.now.rules.limits c.in-Err.refusal h.behind.for.for.world (h.behind.limits ∙ ap (λ (r : Rules). r.limits) ruled) (c.in-Err.ensures.reply w h.behind.for)
 
 pub rest_refused-requires-clause-visitor : goal.rest_refused-requires-clause-visitor
 rest_refused-requires-clause-visitor g c = ap (λ (v : View). v.role) c.lock-held.ensures.holding.1.renews.is ∙ ap (λ (v : View). v.role) c.enter-seat.ensures.view

@@ -11,8 +11,8 @@ pub returns-clause-ok : goal.returns-clause-ok
 returns-clause-ok g c =
     let put = rw c.unwrap-replaced.ensures at c.insert.ensures.updates in
     let made = c.new-hearing.ensures in
-    adds_listener c.args.self.now _ _ _ _ _ c.new-hearing.result c.in_ok-has_room.ensures.ok
-    (subst (λ (s : Subscription). Begins c.args.name.now (arc_value c.args.dir) s) (sym made.subscription_is) c.in_ok-subscription.ensures)
+    adds_listener c.args.self.now _ _ _ _ _ c.new-hearing.result c.in_ok-has_room.ensures.ok c.in_ok-listener.ensures.read
+    (subst (λ (s : Subscription). Begins c.args.name.now (arc_value c.args.dir) s) (sym made.subscription_is) c.in_ok-subscription.ensures.ok)
     (made.listener_is ∙ c.in_ok-listener.ensures.ok) made.mode_is made.unheld refl refl put.1
     (λ other h. put.2 other h ∙ ap (lookup (nat_eq other)) c.reserve.ensures.entries)
 

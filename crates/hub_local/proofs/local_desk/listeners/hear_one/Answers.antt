@@ -27,7 +27,5 @@ returns-in-Ok-Hit c = λ w s st is.
     (c.match-hearing.letter, n.rest, c.in-Ok-Hit.field-0-0, n.first, (rw c.in-Ok-Hit.field-0-is at c.in-Ok-Hit.ensures), record { listener_is = refl; mode_is = refl; held_is = refl; represents = n.represents })
 
 pub returns-in-Err-Memory : goal.returns-in-Err-Memory
-returns-in-Err-Memory c = λ w s st is.
-    let n = next (goal.at.returns-in-Err-Memory c).After-feed w s st is in
-    let lacks = rw c.in-Err-Memory.field-0-is at c.in-Err-Memory.ensures in
-    (c.match-hearing.letter, n.rest, n.first, record { listener_is = lacks.1; mode_is = refl; held_is = refl; represents = n.represents })
+returns-in-Err-Memory c =
+    absurd (rw c.in-Err-Memory.field-0-is at c.in-Err-Memory.ensures)

@@ -13,7 +13,7 @@ none_of None e = refl
 none_of (Some x) e = absurd (true≢false e)
 
 pub returns-in-Ok-insert-clause-ok : goal.returns-in-Ok-insert-clause-ok
-returns-in-Ok-insert-clause-ok c =
+returns-in-Ok-insert-clause-ok g c =
     let made_now : Made = record { dir = c.in-Ok.dir; notifies = c.args.notifies } in
     let put = c.in-Ok-insert.ensures.updates in
     let made = c.in_ok-fifodir.ensures in (
@@ -23,7 +23,7 @@ returns-in-Ok-insert-clause-ok c =
     )
 
 pub returns-in-Ok-insert-clause-last : goal.returns-in-Ok-insert-clause-last
-returns-in-Ok-insert-clause-last c =
+returns-in-Ok-insert-clause-last g c =
     let is = c.in_ok-key.ensures in
     let free : get bytes_eq c.args.self.now.fifodirs c.in_ok-key.key ≡ None = none_of (get bytes_eq c.args.self.now.fifodirs c.in_ok-key.key)
     (ap (λ (name : List ℕ). is_some (get bytes_eq c.args.self.now.fifodirs name)) is ∙ sym c.contains_key.ensures ∙ c.if-contains_key.false) in

@@ -1,4 +1,5 @@
 use Rattle.std.proofs.Common.{refl, subst}
+use Rattle.std.specs.Arc.{arc_value}
 use Rattle.hub_names.specs.declared.hub.Hub.{Hub}
 use Rattle.hub_names.specs.Fifodirs.{KeepsAll}
 use Rattle.hub_shared.proofs.Handling.{subscribes_to}
@@ -7,5 +8,5 @@ use Rattle.hub_shared.proofs.shared_desk.SharedDesk.subscribe.Goals as goal
 pub returns-in-Ok : goal.returns-in-Ok
 returns-in-Ok g c =
     let kept = subst (λ (hub : Hub). KeepsAll hub c.args.self.now.fifodirs c.find.new.self) c.deref.ensures c.in-Ok.ensures.kept in
-    let given = subscribes_to c.find.new.self c.args.name.now c.in-Ok.found c.args.self.now.handles c.subscribe.new.self c.subscribe.result c.in-Ok.ensures.ok c.subscribe.ensures in
+    let given = subscribes_to (arc_value c.args.self.now.hub) c.find.new.self c.args.name.now c.in-Ok.found c.args.self.now.handles c.subscribe.new.self c.subscribe.result c.in-Ok.ensures.ok c.subscribe.ensures in
     record { hub = refl; pause = refl; client = refl; answers = (kept, given) }

@@ -39,3 +39,7 @@ returns-clause-seen g c =
 pub returns-clause-found : goal.returns-clause-found
 returns-clause-found g c =
     subst (λ (names : List (List ℕ)). AreFound c.loop-name.fifodirs names c.loop-name.found.items) (take_all c.loop-name.name-index c.args.names.now c.loop-name-test.false) c.loop-name.invariant.found
+
+pub returns-in_err-made-clause-kept : goal.returns-in_err-made-clause-kept
+returns-in_err-made-clause-kept g c =
+    KeepsAll-trans c.args.hub.now c.args.fifodirs.now c.loop-name.fifodirs c.find.new.self c.loop-name.invariant.kept c.find.ensures.kept
