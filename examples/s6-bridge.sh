@@ -112,7 +112,7 @@ ask() {
 # for, ftrig1:@ with 39 bytes in all. It is open for writing too, so that it never ends.
 subscribe() {
     local events=$service/event hidden stamp
-    [ -d "$events" ] || s6-mkfifodir "$events" || exit 1
+    [ -d "$events" ] || s6-mkfifodir "$events" || [ -d "$events" ] || exit 1 # (s6-supervise may make it too)
     stamp=$(echo | s6-tai64n | cut -c 1-25)
     hidden=$events/.ftrig1:$stamp.$$
     mkfifo -m 0622 "$hidden" || exit 1
@@ -149,7 +149,7 @@ look() {
     0:"up "*) stage=u ;;
     0:"down "*", ready "*) stage=s ;;
     0:"down "*) stage=d ;;
-    1:*) stage=x ;;
+    1:* | *": No such file or directory") stage=x ;; # no s6-supervise, or it is about to write its status
     *) fail "s6-svstat ended with status $status: $text" ;;
     esac
 }
