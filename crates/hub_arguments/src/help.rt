@@ -13,13 +13,13 @@ it for five seconds at most, and end the hub:
 
   ftrighub serve hub.socket --forever & export FTRIGHUB_SOCKET=hub.socket
   until ftrighub ask svc db 64 1000000 1 2>refused; do sleep 0.1; done
-  ftrighub ask pub db suU
+  ftrighub tell db ready
   ftrighub wait all ready --for 5s db
   kill $!; wait
 
-Who starts a service publishes letters in its fifodir (a list of events, named
-after the event directories of s6): s (a supervisor runs), u (up), U (ready),
-d (down), D (wholly down), O (failed, won't be restarted), x (the supervisor
+`tell` publishes letters in the service's fifodir (a list of events, named after
+the event directories of s6): s (a supervisor runs), u (up), U (ready), d
+(down), D (wholly down), O (failed, won't be restarted), x (the supervisor
 ended). Each subscriber gets every letter that is published after it
 subscribed, once and in order. A letter stays pending until the slowest
 subscriber has taken it. If too many are pending, `pub` gets `no full`, and you

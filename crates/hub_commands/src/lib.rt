@@ -23,10 +23,12 @@ mod lock;
 mod look;
 mod notes;
 mod notice;
+mod noting;
 mod place;
 mod running;
 mod serving;
 mod showing;
+mod telling;
 mod waiting;
 mod watching;
 
@@ -45,4 +47,5 @@ pub use notes::Notes;
 pub use running::run;
 pub use serving::{serve, tell_faults};
 pub use showing::show_status;
+pub use telling::tell_state;
 pub use waiting::wait_as_told;
