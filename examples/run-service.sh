@@ -27,7 +27,7 @@ reply=
 tell() {
     before=$reply
     "$ftrighub" ask svc "$name" 64 1000000000000 1 >/dev/null 2>&1
-    reply=$("$ftrighub" ask tell "$name" "$1" 2>&1) || [ "$reply" = "$before" ] || echo "run-service: $name: $reply" >&2
+    reply=$("$ftrighub" tell "$name" "$1" 2>&1) || [ "$reply" = "$before" ] || echo "run-service: $name: $reply" >&2
 }
 
 # report: tells that the program is up or ready, and again every five seconds, since a restarted hub is empty. TERM ends it, and
