@@ -26,7 +26,7 @@ reply=
 # tell STATE: says where the service is, at a hub that may not know it yet. If the hub says why not, so does a line, once.
 tell() {
     before=$reply
-    "$ftrighub" ask svc "$name" 64 1000000000000 1 >/dev/null 2>&1
+    "$ftrighub" make "$name" >/dev/null 2>&1
     reply=$("$ftrighub" tell "$name" "$1" 2>&1) || [ "$reply" = "$before" ] || echo "run-service: $name: $reply" >&2
 }
 

@@ -1,5 +1,29 @@
 //! The texts of `--help` of the subcommands that change something at a hub, in lines of at most 80 columns.
 
+/// The subcommand `make` in one line.
+pub const MAKE_ABOUT: &str = "Make services, or check those that are there";
+
+/// What `make` does.
+pub const MAKE_LINES: &str = "\
+Makes the fifodir (a list of events) of each service, in the order of the NAMEs.
+
+  ftrighub make --socket /run/hub.sock db web
+
+If a NAME is there already and is the same, it is as if it were made now. So
+each script that needs a service may make it. If what is there isn't the same,
+it stays as it is, and standard error says both:
+
+  db: is svc 64 1000 1, not svc 64 1000000000000 1 evict
+
+These are the fields of the requests svc and dir: see `ftrighub script --help`.
+Another refusal of the hub is such a line too, as `db: no many`. The other NAMEs
+are made nevertheless.
+
+Exit status: 0 each NAME is there as wanted, 3 one isn't. 2 the command line was
+refused. 1 an error while running, with a line on standard error: see
+`ftrighub ask --help`. It is `no answer` if the hub takes longer than 10 seconds
+to let it connect, or for one of the replies.";
+
 /// The subcommand `tell` in one line.
 pub const TELL_ABOUT: &str = "Say whether a service is off, down, up, ready or failed";
 

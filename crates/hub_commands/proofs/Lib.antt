@@ -6,3 +6,6 @@ pub mod Lookings
 pub mod Replied
 pub mod Doing
 pub mod Told
+pub mod Made
+pub mod Compared
+pub mod Makes

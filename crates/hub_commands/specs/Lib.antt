@@ -9,4 +9,5 @@ pub mod Looking
 pub mod Notes
 pub mod Asked
 pub mod Telling
+pub mod Making
 pub mod Running

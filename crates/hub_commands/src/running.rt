@@ -10,6 +10,7 @@ use crate::ending::{BadWords, Ending};
 use crate::fault::Fault;
 use crate::following::follow_as_told;
 use crate::living::serve_forever;
+use crate::making::make_fifodirs;
 use crate::serving::serve;
 use crate::showing::show_status;
 use crate::telling::tell_state;
@@ -88,6 +89,11 @@ where
         Plan::Status { socket, names } => {
             show_status(rt, alloc, dialer, socket, &names, output, notes)
         }
+        Plan::Make {
+            socket,
+            names,
+            shape,
+        } => make_fifodirs(rt, alloc, dialer, socket, &names, shape, notes),
         Plan::Tell {
             socket,
             name,

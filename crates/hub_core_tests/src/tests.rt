@@ -22,6 +22,7 @@ mod restarts;
 mod scenes;
 mod sizes;
 mod sleepers;
+mod speakers;
 mod states;
 mod threads;
 mod together;

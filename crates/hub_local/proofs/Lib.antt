@@ -9,10 +9,12 @@ pub mod Hearing
 pub mod AskingHolds
 pub mod AskingSubscriptions
 pub mod Posts
+pub mod AskingAbouts
 pub mod AskingServices
 mod UsedIds
 pub mod AskingPolls
 pub mod AskingAwaits
+pub mod AskingNexts
 pub mod AwaitLaws
 pub mod NamesLaws
 pub mod Running

@@ -68,6 +68,11 @@ holding_at d number = lookup (nat_eq number) (active d)
 abbrev pub without_holding : Handle → Handle
 without_holding h = record h { current = false }
 
+-- whether it is held for a listener
+abbrev pub is_listeners : Option Holding → Bool
+is_listeners None = false
+is_listeners (Some h) = is_some h.hearing
+
 -- with the handle of this number cancelled
 abbrev pub without_from : ℕ → List Handle → ℕ → List Handle
 without_from from [] number = []

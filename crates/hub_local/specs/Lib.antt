@@ -4,6 +4,7 @@ pub mod Polls
 pub mod Awaits
 pub mod Waits
 pub mod DeskAnswers
+pub mod RunAnswers
 pub mod Laws
 pub mod Hearings
 pub mod Representing

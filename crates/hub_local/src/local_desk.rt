@@ -16,6 +16,7 @@ mod fifodirs;
 mod laws;
 mod listeners;
 mod listings;
+mod nexts;
 mod subscriptions;
 mod waits;
 
@@ -127,6 +128,7 @@ impl Desk for LocalDesk {
             Request::Cancel { id } => self.cancel(*id),
             Request::Close { name } => self.close(name),
             Request::Status { name } => self.status(name),
+            Request::About { name } => self.about(name),
             Request::Listen {
                 name,
                 mode,
@@ -134,6 +136,7 @@ impl Desk for LocalDesk {
             } => self.listen(name, *mode, pattern),
             Request::Poll { id } => self.poll(*id),
             Request::Await { id, turns: _ } => self.look(*id),
+            Request::Next { id, turns: _ } => self.next(*id),
             Request::Wait {
                 span,
                 want,

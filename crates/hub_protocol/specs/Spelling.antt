@@ -195,9 +195,11 @@ form_of (request.Take id max) = says (codes "take") (Number id ∷ Number max �
 form_of (request.Cancel id) = says (codes "cancel") (Number id ∷ []) Nothing
 form_of (request.Close name) = says (codes "close") (Name name ∷ []) Nothing
 form_of (request.Status name) = says (codes "status") (Name name ∷ []) Nothing
+form_of (request.About name) = says (codes "about") (Name name ∷ []) Nothing
 form_of (request.Listen name mode pattern) = says (codes "listen") (Name name ∷ Mode mode ∷ []) (Pattern pattern)
 form_of (request.Poll id) = says (codes "poll") (Number id ∷ []) Nothing
 form_of (request.Await id turns) = says (codes "await") (Number id ∷ Number turns ∷ []) Nothing
+form_of (request.Next id turns) = says (codes "next") (Number id ∷ Number turns ∷ []) Nothing
 form_of (request.Wait s want turns names) = says (codes "wait") (Span s ∷ Want want ∷ Number turns ∷ []) (Names names)
 form_of (request.Names from) = says (codes "names") (Number from ∷ []) Nothing
 
@@ -266,11 +268,13 @@ request_by word a b c d last =
     else (if bytes_eq word (codes "cancel") then request.Cancel (number_in a)
     else (if bytes_eq word (codes "close") then request.Close (name_in a)
     else (if bytes_eq word (codes "status") then request.Status (name_in a)
+    else (if bytes_eq word (codes "about") then request.About (name_in a)
     else (if bytes_eq word (codes "listen") then request.Listen (name_in a) (mode_in b) (pattern_in last)
     else (if bytes_eq word (codes "poll") then request.Poll (number_in a)
     else (if bytes_eq word (codes "await") then request.Await (number_in a) (number_in b)
+    else (if bytes_eq word (codes "next") then request.Next (number_in a) (number_in b)
     else (if bytes_eq word (codes "wait") then request.Wait (span_in a) (want_in b) (number_in c) (names_in last)
-    else request.Names (number_in a)))))))))))))
+    else request.Names (number_in a)))))))))))))))
 
 -- the request of a form; any, if the form is that of none
 abbrev pub request_from : Form → Request

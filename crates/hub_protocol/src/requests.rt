@@ -179,17 +179,29 @@ macro_rules! read_last {
     (Evict $alloc:ident $last:ident) => { evict($last) };
 }
 
-// The request of the word, made of the fields and the end.
+// A request, made of the fields and the end.
+macro_rules! request {
+    ($alloc:ident $end:ident $request:ident { $($field:ident: $place:ident $kind:ident),* } $ending:ident $(($last:ident))?) => {
+        Ok(Request::$request {
+            $($field: read!($kind $alloc $place),)*
+            $($last: read_last!($ending $alloc $end),)?
+        })
+    };
+}
+
+// The request of the word. A word of the second part is matched by itself.
 macro_rules! made {
     (($alloc:ident, $said:ident, $fields:expr, $end:ident) ($a:ident $b:ident $c:ident $d:ident)
-     $($word:literal $request:ident { $($field:ident: $place:ident $kind:ident),* } $ending:ident $(($last:ident))?)*) => {{
+     $($word:literal $request:ident $read:tt $ending:ident $(($last:ident))?)*
+     ;
+     $($later:literal $other:ident $says:tt $ends:ident $(($behind:ident))?)*) => {{
         let ($a, $b, $c, $d) = $fields;
         match $said {
-            $($word => Ok(Request::$request {
-                $($field: read!($kind $alloc $place),)*
-                $($last: read_last!($ending $alloc $end),)?
-            }),)*
-            _ => unreachable!(),
+            $($word => request!($alloc $end $request $read $ending $(($last))?),)*
+            _ => match $said {
+                $($later => request!($alloc $end $other $says $ends $(($behind))?),)*
+                _ => unreachable!(),
+            },
         }
     }};
 }

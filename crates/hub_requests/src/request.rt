@@ -57,6 +57,10 @@ pub enum Request {
     Status {
         name: Name,
     },
+    /// Reports what a fifodir is, and how much is there: its subscriptions, its publishers and what is pending.
+    About {
+        name: Name,
+    },
     /// Subscribes a listener. From now on it hears all letters, and has one hit of the pattern or repeated ones, by its
     /// mode.
     Listen {
@@ -71,6 +75,12 @@ pub enum Request {
     /// Sleeps for at most `turns` turns (0 to 1,000,000) until the next `take` or `poll` of a handle has something to do. It
     /// takes nothing.
     Await {
+        id: u64,
+        turns: u64,
+    },
+    /// Takes what is pending for a subscription, at most as many events as a reply shows, or looks for a listener's next hit. If
+    /// there is none yet, it sleeps for at most `turns` turns (0 to 1,000,000) until there is.
+    Next {
         id: u64,
         turns: u64,
     },

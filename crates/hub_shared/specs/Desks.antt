@@ -11,7 +11,7 @@ use Rattle.hub_requests.specs.Room.{policy_of}
 use Rattle.hub_requests.specs.declared.reply.Reply.{Reply}
 use Rattle.hub_requests.specs.declared.reply.Reply.TheVariants.{No}
 use Rattle.hub_requests.specs.declared.request.Request.{Request}
-use Rattle.hub_requests.specs.declared.request.Request.TheVariants.{Dir, Svc, Sub, Pub, Tell, Close, Status, Listen, Wait, Names}
+use Rattle.hub_requests.specs.declared.request.Request.TheVariants.{Dir, Svc, Sub, Pub, Tell, Close, Status, About, Listen, Wait, Names}
 use Rattle.hub_names.specs.declared.hub.Hub.{Hub}
 use Rattle.hub_names.specs.declared.fifodirs.Fifodirs.{Fifodirs}
 use Rattle.hub_letters.specs.declared.mode.Mode.{Mode}
@@ -20,7 +20,7 @@ use Rattle.hub_names.specs.declared.joined.Joined.{Joined}
 use Rattle.hub_shared.specs.declared.shared_desk.SharedDesk.{SharedDesk}
 use Rattle.hub_names.specs.Speaking.{fifodir_of}
 use Rattle.hub_names.specs.Says.{says_published, says_closed, says_status}
-use Rattle.hub_names.specs.Fifodirs.{joined_at, AsksByName, TellsByName, IsMissing, KeepsAll, KeepsNone}
+use Rattle.hub_names.specs.Fifodirs.{joined_at, AsksByName, DescribesByName, TellsByName, IsMissing, KeepsAll, KeepsNone}
 use Rattle.hub_names.specs.Looks.{AsksNames}
 use Rattle.hub_names.specs.Changes.{MakesName}
 use Rattle.hub_handles.specs.Handles.{Subscribes, Listens, HoldsNone, given_of}
@@ -54,6 +54,7 @@ CarriesOut hub fs hs (Pub name letters) reply gs ks = AsksByName hub (says_publi
 CarriesOut hub fs hs (Tell name state) reply gs ks = TellsByName hub state fs name reply gs × (ks ≡ hs)
 CarriesOut hub fs hs (Close name) reply gs ks = AsksByName hub says_closed fs name reply gs × (ks ≡ hs)
 CarriesOut hub fs hs (Status name) reply gs ks = AsksByName hub says_status fs name reply gs × (ks ≡ hs)
+CarriesOut hub fs hs (About name) reply gs ks = DescribesByName hub fs name reply gs × (ks ≡ hs)
 CarriesOut hub fs hs (Listen name mode pattern) reply gs ks = KeepsAll hub fs gs × ListensTo hub gs name mode pattern hs reply ks
 CarriesOut hub fs hs (Wait span want turns names) reply gs ks = KeepsAll hub fs gs × (WaitsFor gs span want names reply ⊎ IsWaitRefusal hub gs names reply) × (ks ≡ hs)
 CarriesOut hub fs hs (Names from) reply gs ks = AsksNames hub fs from reply gs × (ks ≡ hs)

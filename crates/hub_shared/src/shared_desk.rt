@@ -153,6 +153,14 @@ impl<P: Pause + Copy> SharedDesk<P> {
         self.handles.await_more(rt, id, turns, &mut pause)
     }
 
+    fn next<H: Wait>(&mut self, rt: &H, id: u64, turns: u64) -> Reply
+        ensures { Asks self.old (asked.Next id turns) result self.new }
+    {
+        let client = self.client.as_ref();
+        let mut pause = ClientPause::new(self.pause, client);
+        self.handles.next(rt, id, turns, &mut pause)
+    }
+
     fn wait<H: Wait + Enter>(
         &mut self,
         rt: &H,
@@ -204,6 +212,7 @@ impl<P: Pause + Copy> Desk for SharedDesk<P> {
             Request::Cancel { id } => self.handles.cancel(rt, *id),
             Request::Close { name } => self.fifodirs.close(rt, &self.hub, name),
             Request::Status { name } => self.status(rt, name),
+            Request::About { name } => self.fifodirs.about(rt, &self.hub, name),
             Request::Listen {
                 name,
                 mode,
@@ -211,6 +220,7 @@ impl<P: Pause + Copy> Desk for SharedDesk<P> {
             } => self.listen(rt, name, *mode, pattern),
             Request::Poll { id } => self.handles.poll(rt, *id),
             Request::Await { id, turns } => self.await_more(rt, *id, *turns),
+            Request::Next { id, turns } => self.next(rt, *id, *turns),
             Request::Wait {
                 span,
                 want,

@@ -6,7 +6,7 @@ use Rattle.indexmap.specs.IndexMap.{get, keys}
 use Rattle.indexmap.proofs.CallerLemmas.{insert_entry-new}
 use Rattle.hub_fifodir.specs.Passes.{kind_of, limits_of}
 use Rattle.hub_names.specs.declared.hub.Made.{Made}
-use Rattle.hub_names.proofs.hub.Named.make.Goals as goal
+use Rattle.hub_names.proofs.hub.named.Named.make.Goals as goal
 
 none_of : {X : Type 0} (o : Option X) → is_some o ≡ false → o ≡ None
 none_of None e = refl
