@@ -7,7 +7,7 @@ _ftrighub_before() {
     for ((at = 2; at < COMP_CWORD; at++)); do
         case ${COMP_WORDS[at]} in
         --socket) socket=(--socket "${COMP_WORDS[++at]}") ;;
-        --for | --pattern | --waiting | --total) at=$((at + 1)) ;;
+        --for | --pattern) at=$((at + 1)) ;;
         -*) ;;
         *) place=$((place + 1)) ;;
         esac
@@ -34,7 +34,7 @@ _ftrighub() {
     _ftrighub_before
     case $command:${COMP_WORDS[COMP_CWORD - 1]} in
     *:--socket) command=FILES ;;
-    serve:--sessions | serve:--ready-fd | serve:--idle | wait:--for | follow:--pattern | make:--waiting | make:--total) return 0 ;;
+    serve:--sessions | serve:--ready-fd | serve:--idle | wait:--for | follow:--pattern) return 0 ;;
     serve:--mode) command=MODE ;;
     esac
     case $command:$place:$word in
@@ -44,15 +44,13 @@ _ftrighub() {
     call:*:-* | script:*:-*) words="-h --help" ;;
     ask:0:-*) words="-h --help --socket" ;;
     wait:*:-*) words="-h --help --socket --for" ;;
-    make:*:-*) words="-h --help --socket --plain --no-readiness --waiting --total --hold" ;;
-    tell:*:-* | status:*:-*) words="-h --help --socket" ;;
+    status:*:-*) words="-h --help --socket" ;;
     follow:*:-*) words="-h --help --socket --pattern --plain --once" ;;
-    :* | help:*) words="make tell wait status follow ask serve call script help" ;;
+    :* | help:*) words="wait status follow ask serve call script help" ;;
     wait:0:*) words="all any" ;;
     wait:1:*) words="up ready down finished restarted restarted-ready" ;;
-    tell:1:*) words="off down up ready failed" ;;
     ask:0:*) words=$(_ftrighub_words) ;;
-    ask:* | make:* | tell:* | wait:* | status:* | follow:*) words=$(_ftrighub_names) ;;
+    ask:* | wait:* | status:* | follow:*) words=$(_ftrighub_names) ;;
     FILES:* | serve:* | call:*)
         compopt -o filenames 2>/dev/null
         mapfile -t COMPREPLY < <(compgen -f -- "$word")

@@ -7,15 +7,12 @@
 
 mod asking;
 mod asking_help;
-mod changing;
-mod changing_help;
 mod command_line;
 mod help;
 mod options;
 mod serving;
 
 pub use asking::Wish;
-pub use changing::Shape;
 pub use command_line::{
     Plan, Start, begin, early_status, own_socket, own_words, read_words, status_of,
 };

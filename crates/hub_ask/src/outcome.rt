@@ -31,7 +31,6 @@ fn outcome_of(read: BorrowedReply<'_>) -> Outcome
         BorrowedReply::Done
         | BorrowedReply::Number(_)
         | BorrowedReply::State(_)
-        | BorrowedReply::About(_)
         | BorrowedReply::Got(_)
         | BorrowedReply::Hit(_)
         | BorrowedReply::Yes(_)

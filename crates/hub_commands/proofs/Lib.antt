@@ -3,9 +3,3 @@ pub mod Lines
 pub mod Requested
 pub mod Planned
 pub mod Lookings
-pub mod Replied
-pub mod Doing
-pub mod Told
-pub mod Made
-pub mod Compared
-pub mod Makes

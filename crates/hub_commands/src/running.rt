@@ -10,10 +10,8 @@ use crate::ending::{BadWords, Ending};
 use crate::fault::Fault;
 use crate::following::follow_as_told;
 use crate::living::serve_forever;
-use crate::making::make_fifodirs;
 use crate::serving::serve;
 use crate::showing::show_status;
-use crate::telling::tell_state;
 use crate::waiting::wait_as_told;
 use hub_arguments::{Plan, Start, begin, own_socket, own_words};
 use hub_io::{Sink, Source};
@@ -89,16 +87,6 @@ where
         Plan::Status { socket, names } => {
             show_status(rt, alloc, dialer, socket, &names, output, notes)
         }
-        Plan::Make {
-            socket,
-            names,
-            shape,
-        } => make_fifodirs(rt, alloc, dialer, socket, &names, shape, notes),
-        Plan::Tell {
-            socket,
-            name,
-            state,
-        } => tell_state(rt, alloc, dialer, socket, name, state, notes),
         Plan::Follow {
             socket,
             names,

@@ -22,7 +22,6 @@ mod restarts;
 mod scenes;
 mod sizes;
 mod sleepers;
-mod speakers;
 mod states;
 mod threads;
 mod together;

@@ -1,16 +1,14 @@
-mod abouts;
 mod awaits;
 mod desks;
 mod ended;
 mod listeners;
 mod names;
-mod nexts;
 mod no_memory;
 mod requests;
 mod rows;
 mod shared;
 mod sizes;
-mod states;
 mod traces;
 mod turns;
 mod waits;
+mod wills;

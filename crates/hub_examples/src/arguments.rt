@@ -15,8 +15,6 @@ pub fn socket_of<'a>(
             | Plan::ServeForever(HubOptions { socket, .. })
             | Plan::Call { socket }
             | Plan::Ask { socket, .. }
-            | Plan::Make { socket, .. }
-            | Plan::Tell { socket, .. }
             | Plan::Wait { socket, .. }
             | Plan::Status { socket, .. }
             | Plan::Follow { socket, .. },

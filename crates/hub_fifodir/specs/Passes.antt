@@ -29,11 +29,8 @@ use Rattle.hub_fifodir.specs.declared.ticket.Ticket.{Ticket}
 use Rattle.hub_fifodir.specs.declared.bell.Waiter.{Waiter}
 use Rattle.hub_fifodir.specs.declared.bell.Heard.{Heard}
 use Rattle.hub_fifodir.specs.declared.bell.Looked.{Looked}
-use Rattle.hub_fifodir.specs.declared.locked.Locked.{Locked}
-use Rattle.hub_fifodir.specs.declared.usage.Usage.{Usage}
-use Rattle.hub_fifodir.specs.Locks.{usage_of}
 use Rattle.hub_fifodir.specs.Events.{slice, is_closed}
-use Rattle.hub_fifodir.specs.Rule.{IsBehind, IsBounded, IsSound, book_of, sight}
+use Rattle.hub_fifodir.specs.Rule.{IsSound, sight}
 use Rattle.hub_fifodir.specs.Steps.{M, Grows, KnowsOwnClose, mine_of, got_of}
 
 -- ---- a fifodir
@@ -60,16 +57,6 @@ rings_heard h = h.rings
 
 abbrev pub rings_looked : Looked → ℕ
 rings_looked l = l.rings
-
--- The fifodir's lock once had this record, and these publishers, and so much was there. The record is sound, and of the fifodir's
--- kind and limits.
-pub record IsUsage (f : Fifodir) (usage : Usage) : Type 0 where
-  pub log : List Event
-  pub mark : ℕ
-  pub locked : Locked
-  pub behind : IsBehind (rules_of f) log mark locked
-  pub bounded : IsBounded (book_of locked)
-  pub is : usage ≡ usage_of locked behind.world
 
 -- ---- passes
 

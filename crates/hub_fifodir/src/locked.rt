@@ -1,15 +1,14 @@
 //! The value behind the lock.
-ghost use Rattle.std.specs.Prelude.{◌≡◌, ◌++◌, [], length, drop, IfOk, OnErr};
+ghost use Rattle.std.specs.Prelude.{◌≡◌, ◌++◌, [], length, drop, IfOk, OnErr, OnOk};
 ghost use Rattle.hub_letters.specs.States.{word_behind};
 ghost use Rattle.hub_record.specs.declared.Kind.TheVariants.{Service};
 ghost use Rattle.hub_record.specs.World.{World, empty_world, letters, last_publisher, SubscribeReply, after_subscribe, PublishReply, after_publish};
 ghost use Rattle.hub_record.specs.World.{take_reply, take_events, after_take};
 ghost use Rattle.hub_record.specs.World.{cancel_reply, after_cancel, close_reply, after_close};
-ghost use Rattle.hub_fifodir.specs.Locks.{RepresentsWorld, status_of, usage_of, numbers_of, given_by};
+ghost use Rattle.hub_fifodir.specs.Locks.{RepresentsWorld, status_of, numbers_of, given_by};
 ghost use Rattle.hub_fifodir.specs.Locks.{PublisherReply, IsAfterPublisher, HasLeft, KeepsPublishers, KeepsRecord, IsCounted};
 
 use crate::PassError;
-use crate::usage::Usage;
 use hub_letters::{Letter, State, Word};
 use hub_record::{
     Closed, Event, Kind, Limits, MOST_PASSES, NoId, PubError, Record, Status, SubError, Taken,
@@ -166,17 +165,6 @@ impl Locked {
             number: self.kept.end(),
             flags: self.kept.flags(),
             closed: self.kept.closed(),
-        }
-    }
-
-    /// How many subscriptions and publishers there are, and how many events are pending for the slowest subscription.
-    pub fn usage(&self) -> Usage
-        ensures { (w : World) → RepresentsWorld self.now w → result ≡ usage_of self.now w }
-    {
-        Usage {
-            subscriptions: self.kept.active() as u64,
-            publishers: self.active.len() as u64,
-            pending: self.kept.load(),
         }
     }
 

@@ -36,7 +36,8 @@ remains_on f p q r a b = record {
 
 published_on : (f : Fifodir) (p q r : Publisher) (message : List ℕ) (n : ℕ) → Remains f (publisher_view p) (publisher_view q) → mine q ≡ mine p → HasPublished q message n r → HasPublished p message n r
 published_on f p q r message n a still (unclosed, ends, own, (others, seen)) =
-    let before = a.seen.0 in (
+    let before = a.seen.0 in
+    (
       unclosed,
       ends,
       own ∙ ap (λ (m : List ℕ). m ++ message) still,
@@ -78,7 +79,7 @@ pub leads_on : (old now next : Fifodirs) (wills : List (List ℕ × Will)) (plac
 leads_on old now next wills place lost given one lt is carried leads = λ more new rest.
     let on : suc place ≡ place + 1 = omega arith in
     let cut : drop place wills ≡ given ∷ drop (place + 1) wills = drop-cons wills place given lt ∙ ap (λ (w : List ℕ × Will). w ∷ drop (suc place) wills) (get_or_from_slice_get wills place given given is)
-    ∙ ap (λ (n : ℕ). given ∷ drop n wills) on in
+        ∙ ap (λ (n : ℕ). given ∷ drop n wills) on in
     let here : AreCarriedOut now (given ∷ drop (place + 1) wills) (counted one + more) new = (next, one, more, carried, rest, refl) in
     let sum : lost + (counted one + more) ≡ (lost + counted one) + more = omega arith in
     subst (λ (n : ℕ). AreCarriedOut old wills n new) sum (leads (counted one + more) new (subst (λ (ws : List (List ℕ × Will)). AreCarriedOut now ws (counted one + more) new) (sym cut) here))

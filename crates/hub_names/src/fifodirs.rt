@@ -35,7 +35,7 @@ impl Fifodirs {
     ghost use Rattle.hub_names.specs.Looks.{AsksNames};
     ghost use Rattle.hub_names.specs.Lending.{LendsJoined};
     ghost use Rattle.hub_names.specs.Wills.{AreCarriedOut, IsCarriedOut, WillsByName, wills_after};
-    ghost use Rattle.hub_names.specs.Fifodirs.{AsksByName, DescribesByName, TellsByName, IsAsBefore, IsSilent, IsKeptAs, KeepsAll, KeepsNone, Joins, IsFinding, IsMissing, IsFound, joined_at};
+    ghost use Rattle.hub_names.specs.Fifodirs.{AsksByName, TellsByName, IsAsBefore, IsSilent, IsKeptAs, KeepsAll, KeepsNone, Joins, IsFinding, IsMissing, IsFound, joined_at};
 
     /// Those of a new session: it has found none.
     pub fn new(alloc: Global) -> Fifodirs
@@ -154,16 +154,6 @@ impl Fifodirs {
     {
         match self.joined(rt, hub, name) {
             Ok(joined) => joined.close(rt),
-            Err(refusal) => Reply::No(refusal),
-        }
-    }
-
-    /// Tells what the fifodir of this name is, and how much is there. It makes no publisher.
-    pub fn about<H: Wait + Enter>(&mut self, rt: &H, hub: &Hub, name: &Name) -> Reply
-        ensures { DescribesByName hub.now self.old name.now result self.new }
-    {
-        match self.joined(rt, hub, name) {
-            Ok(joined) => joined.about(rt),
             Err(refusal) => Reply::No(refusal),
         }
     }

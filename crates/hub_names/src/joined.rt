@@ -4,15 +4,15 @@ ghost use Rattle.std.specs.Arc.{arc_value};
 ghost use Rattle.hub_fifodir.specs.Passes.{IsPublisherOf, HasSoundSight, publisher_view};
 ghost use Rattle.hub_fifodir.specs.declared.publisher.Publisher.{Publisher};
 ghost use Rattle.hub_names.specs.Refusals.{refusal_of_pass};
-ghost use Rattle.hub_names.specs.Says.{about_of, says_closed, says_published, says_status};
+ghost use Rattle.hub_names.specs.Says.{says_closed, says_published, says_status};
 ghost use Rattle.hub_requests.specs.Wills.{wills_in};
 
 use crate::hub::{Found, Made};
 use crate::last_word::{is_lost, tell_as_last};
-use hub_fifodir::{Enter, Fifodir, PassError, Pause, Publisher, Usage};
+use hub_fifodir::{Enter, PassError, Pause, Publisher};
 use hub_letters::State;
 use hub_record::{Closed, Kind, Letters};
-use hub_requests::{About, Name, Refusal, Reply, Will, Wills};
+use hub_requests::{Name, Refusal, Reply, Will, Wills};
 use std::mem;
 use std::sync::Wait;
 
@@ -26,7 +26,7 @@ pub struct Joined {
 }
 
 impl Joined {
-    ghost use Rattle.hub_names.specs.Speaking.{AsksAsPublisher, Describes, IsSpeaker, Tells, fifodir_of, found_of, publisher_of};
+    ghost use Rattle.hub_names.specs.Speaking.{AsksAsPublisher, IsSpeaker, Tells, fifodir_of, found_of, publisher_of};
     ghost use Rattle.hub_names.specs.Wills.{MayTell, ReadiesForWill, wills_after};
 
     /// A fifodir that a session found, and at which it has no publisher yet.
@@ -171,14 +171,6 @@ impl Joined {
         }
     }
 
-    /// Tells what the fifodir is, and how much is there. It makes no publisher.
-    pub fn about<H: Wait + Enter>(&self, rt: &H) -> Reply
-        ensures { Describes self.now result self.now }
-    {
-        let usage = self.found.dir.usage(rt);
-        Reply::About(about_of(&self.found.dir, self.found.notifies, usage))
-    }
-
     /// Answers the status by the publisher that it keeps. None if it keeps none. It gets no `rt`, and so can't wait for the
     /// lock.
     pub fn status(&mut self) -> Option<Reply>
@@ -213,22 +205,6 @@ impl Joined {
         if let Some(publisher) = publisher {
             found.dir.leave(rt, publisher);
         }
-    }
-}
-
-fn about_of(dir: &Fifodir, notifies: bool, usage: Usage) -> About
-    ensures { result ≡ about_of dir.now notifies usage }
-{
-    let limits = dir.limits();
-    About {
-        kind: dir.kind(),
-        notifies,
-        waiting: limits.waiting,
-        total: limits.total,
-        policy: limits.policy,
-        subscriptions: usage.subscriptions,
-        publishers: usage.publishers,
-        pending: usage.pending,
     }
 }
 

@@ -7,7 +7,6 @@
 //! This crate has the vocabulary alone. The layers above read lines, write replies and implement the desks with it.
 #![tactic(auto)]
 
-mod about;
 mod bounds;
 mod desk;
 mod letters;
@@ -20,7 +19,6 @@ mod texts;
 mod will;
 mod wills;
 
-pub use about::About;
 pub use bounds::{
     LONGEST_NAME, LONGEST_REPLY, MOST_HANDLES, MOST_NAMES, MOST_NUMBERS, MOST_SERVICES, MOST_TAKEN,
     MOST_TURNS,

@@ -1,7 +1,6 @@
 mod calls;
 mod clients;
 mod crowd;
-mod dialers;
 mod doors;
 mod faults;
 mod gates;

@@ -30,6 +30,11 @@ static OWN: [(Fault, &str); 11] = [
     (Fault::Memory, "ftrighub: out of memory\n"),
 ];
 
+static OF_SERVING: [(ServeError, &str); 2] = [
+    (ServeError::Spawn, "ftrighub: cannot start a session\n"),
+    (ServeError::Memory, "ftrighub: out of memory\n"),
+];
+
 static OF_RELAYING: [(RelayError, &str); 7] = [
     (RelayError::Input, "ftrighub: read failed\n"),
     (RelayError::Output, "ftrighub: write failed\n"),
@@ -56,8 +61,9 @@ fn each_fault_has_its_line(rt: HostRuntime) {
     }
     let turns = Fault::from(FrontError::Turns);
     expect_line(&rt, rt.alloc(), turns, "ftrighub: too many reads\n");
-    let memory = Fault::from(ServeError::Memory);
-    expect_line(&rt, rt.alloc(), memory, "ftrighub: out of memory\n");
+    for (fault, line) in &OF_SERVING {
+        expect_line(&rt, rt.alloc(), Fault::from(*fault), line);
+    }
     for (fault, line) in &OF_RELAYING {
         expect_line(&rt, rt.alloc(), Fault::from(*fault), line);
     }

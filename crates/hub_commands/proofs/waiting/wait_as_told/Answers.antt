@@ -12,7 +12,7 @@ returns-in_err-outcome g c =
     let words = wait_words wish.span.now wish.want.now c.in-Some.turns (joined (λ name. name.now) names) in
     let is : bytes_of c.in-Some-2.line ≡ words = subst (λ it. IfSome it (λ line. bytes_of line ≡ words)) c.in-Some-2.is c.in_ok-line.ensures.line in
     waits_in_vain (λ name. name.now) (dialing g.D.Dial.reaches g.D.Receiver.Read.remaining g.D.Sender.Write.contents) c.args.dialer.now c.dial.new.self c.args.socket.now (bytes_of c.in-Some-2.line) wish.span.now wish.want.now c.in-Some.turns names wish.names.items _ _ _ _ c.in_err-outcome.field-0.0
-    c.in_ok-receiver.receiver c.wait_for.new.client.receiver c.in_ok-receiver.sender c.wait_for.new.client.sender wish.patience.now c.in-Some.ensures.some c.as_slice-names.ensures.value is c.in-Some-2.line.cut c.in-Some.ensures.few
+    c.in_ok-receiver.receiver c.wait_for.new.client.receiver c.in_ok-receiver.sender c.wait_for.new.client.sender c.as_slice-names.ensures.value is c.in-Some-2.line.cut c.in-Some.ensures.few
     c.from_residual-in_err-outcome.ensures.1 c.in_ok-receiver.ensures c.in_err-outcome.ensures.err
 
 pub returns : goal.returns
@@ -21,6 +21,6 @@ returns g c =
     let names = c.as_slice-names.result.now in
     let words = wait_words wish.span.now wish.want.now c.in-Some.turns (joined (λ name. name.now) names) in
     let is : bytes_of c.in-Some-2.line ≡ words = subst (λ it. IfSome it (λ line. bytes_of line ≡ words)) c.in-Some-2.is c.in_ok-line.ensures.line in
-    waits_so (λ name. name.now) (dialing g.D.Dial.reaches g.D.Receiver.Read.remaining g.D.Sender.Write.contents) c.args.dialer.now c.dial.new.self c.args.socket.now (bytes_of c.in-Some-2.line) wish.span.now wish.want.now c.in-Some.turns names wish.names.items _ _ _ c.status.result c.in_ok-outcome.outcome
-    c.in_ok-receiver.receiver c.wait_for.new.client.receiver c.in_ok-receiver.sender c.wait_for.new.client.sender wish.patience.now c.in-Some.ensures.some c.as_slice-names.ensures.value is c.in-Some-2.line.cut c.in-Some.ensures.few
+    waits_so (λ name. name.now) (dialing g.D.Dial.reaches g.D.Receiver.Read.remaining g.D.Sender.Write.contents) c.args.dialer.now c.dial.new.self c.args.socket.now (bytes_of c.in-Some-2.line) wish.span.now wish.want.now c.in-Some.turns names wish.names.items (Unit {0}) _ _ c.status.result c.in_ok-outcome.outcome
+    c.in_ok-receiver.receiver c.wait_for.new.client.receiver c.in_ok-receiver.sender c.wait_for.new.client.sender c.as_slice-names.ensures.value is c.in-Some-2.line.cut c.in-Some.ensures.few
     c.status.ensures c.in_ok-receiver.ensures c.in_ok-outcome.ensures.ok
