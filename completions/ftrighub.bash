@@ -44,13 +44,14 @@ _ftrighub() {
     call:*:-* | script:*:-*) words="-h --help" ;;
     ask:0:-*) words="-h --help --socket" ;;
     wait:*:-*) words="-h --help --socket --for" ;;
-    status:*:-*) words="-h --help --socket" ;;
+    tell:*:-* | status:*:-*) words="-h --help --socket" ;;
     follow:*:-*) words="-h --help --socket --pattern --plain --once" ;;
-    :* | help:*) words="wait status follow ask serve call script help" ;;
+    :* | help:*) words="tell wait status follow ask serve call script help" ;;
     wait:0:*) words="all any" ;;
     wait:1:*) words="up ready down finished restarted restarted-ready" ;;
+    tell:1:*) words="off down up ready failed" ;;
     ask:0:*) words=$(_ftrighub_words) ;;
-    ask:* | wait:* | status:* | follow:*) words=$(_ftrighub_names) ;;
+    ask:* | tell:* | wait:* | status:* | follow:*) words=$(_ftrighub_names) ;;
     FILES:* | serve:* | call:*)
         compopt -o filenames 2>/dev/null
         mapfile -t COMPREPLY < <(compgen -f -- "$word")

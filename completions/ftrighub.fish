@@ -16,6 +16,7 @@ function __ftrighub_words
 end
 
 complete -c ftrighub -f
+complete -c ftrighub -n __fish_use_subcommand -a tell -d 'Say whether a service is off, down, up, ready or failed'
 complete -c ftrighub -n __fish_use_subcommand -a wait -d "Wait until services reach a state, and report those that don't"
 complete -c ftrighub -n __fish_use_subcommand -a status -d 'Show the state of services, in a table'
 complete -c ftrighub -n __fish_use_subcommand -a follow -d 'Print events as they arrive'
@@ -31,13 +32,14 @@ complete -c ftrighub -n '__fish_seen_subcommand_from serve' -l forever -d 'Run u
 complete -c ftrighub -n '__fish_seen_subcommand_from serve' -l ready-fd -x -d 'With --forever: write a newline to D once it listens'
 complete -c ftrighub -n '__fish_seen_subcommand_from serve' -l idle -x -d 'With --forever: end sessions idle for SECONDS'
 complete -c ftrighub -n '__fish_seen_subcommand_from serve' -l mode -x -a '0600 0620 0622 0660 0666' -d 'With --forever: mode of the socket file'
-complete -c ftrighub -n '__fish_seen_subcommand_from ask wait status follow' -l socket -r -F -d 'Socket of the hub (or else FTRIGHUB_SOCKET has it)'
+complete -c ftrighub -n '__fish_seen_subcommand_from ask tell wait status follow' -l socket -r -F -d 'Socket of the hub (or else FTRIGHUB_SOCKET has it)'
 complete -c ftrighub -n '__fish_seen_subcommand_from wait' -l for -x -d 'Time limit, such as 500ms, 5s or 2m'
 complete -c ftrighub -n '__fish_seen_subcommand_from wait' -a 'all any up ready down finished restarted restarted-ready'
+complete -c ftrighub -n '__fish_seen_subcommand_from tell' -a 'off down up ready failed'
 complete -c ftrighub -n '__fish_seen_subcommand_from ask' -a '(__ftrighub_words)'
-complete -c ftrighub -n '__fish_seen_subcommand_from wait status follow ask' -a '(__ftrighub_names)'
+complete -c ftrighub -n '__fish_seen_subcommand_from tell wait status follow ask' -a '(__ftrighub_names)'
 complete -c ftrighub -n '__fish_seen_subcommand_from follow' -l pattern -x -d 'Write the hits of this pattern, and not each letter'
 complete -c ftrighub -n '__fish_seen_subcommand_from follow' -l plain -d 'Write the letters alone'
 complete -c ftrighub -n '__fish_seen_subcommand_from follow' -l once -d 'End with the first letter, or the first hit'
 complete -c ftrighub -n '__fish_seen_subcommand_from serve call; and not __fish_seen_subcommand_from help' -F
-complete -c ftrighub -n '__fish_seen_subcommand_from help' -a 'wait status follow ask serve call script help'
+complete -c ftrighub -n '__fish_seen_subcommand_from help' -a 'tell wait status follow ask serve call script help'

@@ -4,8 +4,9 @@
 #     examples/s6-bridge.sh SERVICEDIR SOCKET [NAME]
 #
 # NAME is the service's name at the hub, or SERVICEDIR's last part if it isn't given. The bridge takes one of the hub's
-# sessions. FTRIGHUB in the environment is the program, or else `ftrighub` on the path. The bridge runs until it is killed; if the
-# hub ends, it connects to the next hub at SOCKET. See docs/manual/s6-bridge.md, or `man ftrighub-s6-bridge`.
+# sessions. FTRIGHUB in the environment is the program, or else `ftrighub` on the path. READY_FD is a descriptor that gets a
+# newline once the hub has the service, if it is given. The bridge runs until it is killed; if the hub ends, it connects to the
+# next hub at SOCKET. See docs/manual/s6-bridge.md, or `man ftrighub-s6-bridge`.
 set -u
 [ $# -eq 2 ] || [ $# -eq 3 ] || {
     echo "usage: s6-bridge.sh SERVICEDIR SOCKET [NAME]" >&2
@@ -21,6 +22,7 @@ name=${3:-$(basename "$service")}
     exit 2
 }
 command -v "$ftrighub" >/dev/null || { echo "s6-bridge: can't run $ftrighub; FTRIGHUB may name the program" >&2; exit 1; }
+{ read -r parent <"/proc/$PPID/comm"; } 2>/dev/null || parent=
 reports=0
 [ ! -f "$service/notification-fd" ] || reports=1
 pipe=
@@ -62,6 +64,12 @@ fail() {
     exit 1
 }
 
+# is_orphan: whether the s6-supervise that started this bridge has ended. The next one starts a bridge of its own.
+is_orphan() {
+    local fields
+    [ "$parent" = s6-supervise ] && read -r -a fields <"/proc/$$/stat" && [ "${fields[3]}" != "$PPID" ]
+}
+
 # disconnect: lets go of a session that has ended.
 disconnect() {
     exec 4>&- 5<&-
@@ -75,20 +83,19 @@ disconnect() {
 connect() {
     local said=
     work=$(mktemp -d) && mkfifo "$work/lines" "$work/replies" || exit 1
-    while true; do
+    until is_orphan; do
         # shellcheck disable=SC2094 # both ends of a pipe
         exec 4<>"$work/lines" 6<>"$work/replies" 5<"$work/replies"
         "$ftrighub" call "$socket" <"$work/lines" >&6 2>/dev/null 3>&- 4>&- 5<&- 6>&- &
         session=$!
         exec 6>&-
-        ask "status $name" && break
+        ask "status $name" && rm -rf "$work" && work= && return
         disconnect
         [ -n "$said" ] || tell "no hub answers at $socket; trying again"
         said=yes
         sleep 0.5
     done
-    rm -rf "$work"
-    work=
+    fail "its s6-supervise has ended"
 }
 
 # ask LINE: sends a request, and leaves the reply in $reply. While the hub has no room or no memory for it, it tries again, and
@@ -105,7 +112,7 @@ ask() {
 # for, ftrig1:@ with 39 bytes in all. It is open for writing too, so that it never ends.
 subscribe() {
     local events=$service/event hidden stamp
-    [ -d "$events" ] || s6-mkfifodir "$events" || exit 1
+    [ -d "$events" ] || s6-mkfifodir "$events" || [ -d "$events" ] || exit 1 # (s6-supervise may make it too)
     stamp=$(echo | s6-tai64n | cut -c 1-25)
     hidden=$events/.ftrig1:$stamp.$$
     mkfifo -m 0622 "$hidden" || exit 1
@@ -142,7 +149,7 @@ look() {
     0:"up "*) stage=u ;;
     0:"down "*", ready "*) stage=s ;;
     0:"down "*) stage=d ;;
-    1:*) stage=x ;;
+    1:* | *": No such file or directory") stage=x ;; # no s6-supervise, or it is about to write its status
     *) fail "s6-svstat ended with status $status: $text" ;;
     esac
 }
@@ -272,7 +279,19 @@ begin() {
 
 # follow: carries letter after letter, until the session has ended.
 follow() {
-    while if next; then carry; else check; fi; do :; done
+    until is_orphan; do
+        if next; then carry; else check; fi || return
+    done
+    fail "its s6-supervise has ended"
+}
+
+# notify: says that the hub has the service, and the first time also to READY_FD.
+notify() {
+    tell "subscribed"
+    [ -n "${READY_FD-}" ] || return 0
+    echo >&"$READY_FD" || exit 1
+    exec {READY_FD}>&-
+    READY_FD=
 }
 
 # The bridge subscribes, then looks, then carries.
@@ -280,7 +299,7 @@ subscribe
 while true; do
     connect
     if begin && settle; then
-        tell "subscribed"
+        notify
         follow
     fi
     disconnect

@@ -5,9 +5,9 @@ use crate::asking_help::{
     WAIT_LINES,
 };
 use crate::command_line::Plan;
-use crate::options::{SOCKET, flag, socket_in, valued};
+use crate::options::{Made, NAMES, PLAIN, Read, asking, flag, operands, socket_in, valued, values};
 use clap::{Arg, ArgMatches, Command};
-use std::alloc::{AllocError, Global};
+use std::alloc::Global;
 
 const WORDS: &str = "words";
 
@@ -17,11 +17,7 @@ const WANT: &str = "want";
 
 const PATIENCE: &str = "for";
 
-const NAMES: &str = "names";
-
 const PATTERN: &str = "pattern";
-
-const PLAIN: &str = "plain";
 
 const ONCE: &str = "once";
 
@@ -47,42 +43,6 @@ pub struct Wish<'a> {
     pub patience: &'a str,
     /// The services.
     pub names: Vec<&'a str>,
-}
-
-/// A command, unless memory runs out.
-type Made<'a> = Result<Command<'a>, AllocError>;
-
-/// The option for the path of the socket. It isn't needed if the environment has a path.
-fn path<'a>(alloc: Global, known: Option<&'a str>) -> Arg<'a> {
-    let argument = valued(alloc, SOCKET, "PATH").help(
-        "Socket of the hub (or else FTRIGHUB_SOCKET has it)",
-    );
-    match known {
-        Some(socket) => argument.default_value(socket).hide_default_value(true),
-        None => argument.required(true),
-    }
-}
-
-/// A subcommand that asks the hub of a socket, with its text and the lines behind its options.
-fn asking<'a>(
-    alloc: Global,
-    known: Option<&'a str>,
-    word: &'a str,
-    texts: (&'a str, &'a str),
-) -> Made<'a> {
-    let (about, lines) = texts;
-    Command::new(alloc, word)
-        .about(about)
-        .after_help(lines)
-        .arg(path(alloc, known))
-}
-
-/// One or more values behind the options.
-fn operands<'a>(alloc: Global, id: &'a str, value: &'a str) -> Arg<'a> {
-    Arg::new(alloc, id)
-        .value_name(value)
-        .required(true)
-        .num_args(1..)
 }
 
 pub(crate) fn ask_command<'a>(alloc: Global, known: Option<&'a str>) -> Made<'a> {
@@ -132,16 +92,6 @@ pub(crate) fn follow_command<'a>(alloc: Global, known: Option<&'a str>) -> Made<
         .arg(plain)?
         .arg(once)?
         .arg(operands(alloc, NAMES, "NAME").help("Names of fifodirs"))
-}
-
-/// What the words ask for, unless memory runs out.
-type Read<'a> = Result<Plan<'a>, AllocError>;
-
-/// The values of an argument.
-fn values<'a>(alloc: Global, found: &ArgMatches<'a>, id: &str) -> Result<Vec<&'a str>, AllocError> {
-    let mut values = Vec::new(alloc);
-    values.extend_from_slice(found.get_strs(id).unwrap_or(&[]))?;
-    Ok(values)
 }
 
 pub(crate) fn ask_plan<'a>(alloc: Global, found: &ArgMatches<'a>) -> Read<'a> {

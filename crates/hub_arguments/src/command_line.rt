@@ -7,6 +7,7 @@ use crate::asking::{
     Wish, ask_command, ask_plan, follow_command, follow_plan, status_command, status_plan,
     wait_command, wait_plan,
 };
+use crate::changing::{tell_command, tell_plan};
 use crate::help::{ABOUT, EXIT, LONG_ABOUT};
 use crate::serving::{
     HubOptions, call_command, call_plan, script_command, serve_command, serve_plan,
@@ -14,6 +15,7 @@ use crate::serving::{
 use clap::error::ErrorKind;
 use clap::{Command, Error};
 use hub_io::FrontError;
+use hub_letters::State;
 use std::alloc::{AllocError, AllocGlobal, Global};
 use std::env::VarError;
 use std::rt::Runtime;
@@ -65,6 +67,12 @@ pub enum Plan<'a> {
         is_plain: bool,
         is_once: bool,
     },
+    /// Says where a service of the hub at the socket is.
+    Tell {
+        socket: &'a str,
+        name: &'a str,
+        state: State,
+    },
 }
 
 fn program<'a>(alloc: Global) -> Command<'a> {
@@ -83,6 +91,7 @@ fn command<'a>(
     known: Option<&'a str>,
 ) -> Result<Command<'a>, AllocError> {
     program(alloc)
+        .subcommand(tell_command(alloc, known)?)?
         .subcommand(wait_command(alloc, known)?)?
         .subcommand(status_command(alloc, known)?)?
         .subcommand(follow_command(alloc, known)?)?
@@ -106,6 +115,7 @@ pub fn read_words<'a>(
         Some(("serve", found)) => serve_plan(found),
         Some(("call", found)) => call_plan(found),
         Some(("ask", found)) => ask_plan(alloc, found)?,
+        Some(("tell", found)) => tell_plan(found),
         Some(("wait", found)) => wait_plan(alloc, found)?,
         Some(("status", found)) => status_plan(alloc, found)?,
         Some(("follow", found)) => follow_plan(alloc, found)?,

@@ -13,13 +13,13 @@ it for five seconds at most, and end the hub:
 
   ftrighub serve hub.socket --forever & export FTRIGHUB_SOCKET=hub.socket
   until ftrighub ask svc db 64 1000000 1 2>refused; do sleep 0.1; done
-  ftrighub ask pub db suU
+  ftrighub tell db ready
   ftrighub wait all ready --for 5s db
   kill $!; wait
 
-Who starts a service publishes letters in its fifodir (a list of events, named
-after the event directories of s6): s (a supervisor runs), u (up), U (ready),
-d (down), D (wholly down), O (failed, won't be restarted), x (the supervisor
+`tell` publishes letters in the service's fifodir (a list of events, named after
+the event directories of s6): s (a supervisor runs), u (up), U (ready), d
+(down), D (wholly down), O (failed, won't be restarted), x (the supervisor
 ended). Each subscriber gets every letter that is published after it
 subscribed, once and in order. A letter stays pending until the slowest
 subscriber has taken it. If too many are pending, `pub` gets `no full`, and you
@@ -59,10 +59,6 @@ separated by exactly one space. Each request below has an example and its reply.
                  letters that bring it there are published, or none if it is
                  there; the reply has the number of the first event
                  tell db ready                 ok 0
-  will N STATE   what a service is told when this session ends, however it ends,
-                 if nobody else has published there since: off, down or failed,
-                 or none to take it back
-                 will db down                  ok
   status N       the number of events, the sum of the state's flags (up 1,
                  settled 2, supervised 4, failed 8), and open or closed
                  status web                    ok 2 0 open
@@ -105,7 +101,7 @@ A line that can't be carried out gets `no` and one word, and changes nothing:
                  out of range
   name, id       there is no such fifodir; no such handle
   exists         there is a fifodir with this name
-  kind           a wait, tell or will for a fifodir that isn't a service's
+  kind           a wait or a tell for a fifodir that isn't a service's
   unlawful I     the letter at I (the first has 0) isn't in the lawful order
   full           too many events would be pending: retry
   spent          the fifodir has accepted all the events that it ever will

@@ -7,6 +7,8 @@
 
 mod asking;
 mod asking_help;
+mod changing;
+mod changing_help;
 mod command_line;
 mod help;
 mod options;

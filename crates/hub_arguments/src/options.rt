@@ -1,10 +1,23 @@
-//! What the subcommands share: the socket's name among the arguments, and the two kinds of options.
+//! What the subcommands share: their options, and how a subcommand that asks a hub begins.
 
-use clap::{Arg, ArgAction, ArgMatches};
-use std::alloc::Global;
+use crate::command_line::Plan;
+use clap::{Arg, ArgAction, ArgMatches, Command};
+use std::alloc::{AllocError, Global};
 
 /// The name of the socket among the arguments.
 pub(crate) const SOCKET: &str = "socket";
+
+/// The name of the fifodirs or services.
+pub(crate) const NAMES: &str = "names";
+
+/// The word of an option that two subcommands have.
+pub(crate) const PLAIN: &str = "plain";
+
+/// A command, unless memory runs out.
+pub(crate) type Made<'a> = Result<Command<'a>, AllocError>;
+
+/// What the words ask for, unless memory runs out.
+pub(crate) type Read<'a> = Result<Plan<'a>, AllocError>;
 
 /// The option `--WORD VALUE`.
 pub(crate) fn valued<'a>(alloc: Global, word: &'a str, value: &'a str) -> Arg<'a> {
@@ -16,7 +29,51 @@ pub(crate) fn flag<'a>(alloc: Global, word: &'a str) -> Arg<'a> {
     Arg::new(alloc, word).long(word).action(ArgAction::SetTrue)
 }
 
+/// The option for the path of the socket. It isn't needed if the environment has a path.
+fn path<'a>(alloc: Global, known: Option<&'a str>) -> Arg<'a> {
+    let argument = valued(alloc, SOCKET, "PATH").help(
+        "Socket of the hub (or else FTRIGHUB_SOCKET has it)",
+    );
+    match known {
+        Some(socket) => argument.default_value(socket).hide_default_value(true),
+        None => argument.required(true),
+    }
+}
+
+/// A subcommand that asks the hub of a socket, with its text and the lines behind its options.
+pub(crate) fn asking<'a>(
+    alloc: Global,
+    known: Option<&'a str>,
+    word: &'a str,
+    texts: (&'a str, &'a str),
+) -> Made<'a> {
+    let (about, lines) = texts;
+    Command::new(alloc, word)
+        .about(about)
+        .after_help(lines)
+        .arg(path(alloc, known))
+}
+
+/// One or more values behind the options.
+pub(crate) fn operands<'a>(alloc: Global, id: &'a str, value: &'a str) -> Arg<'a> {
+    Arg::new(alloc, id)
+        .value_name(value)
+        .required(true)
+        .num_args(1..)
+}
+
 /// The socket that the words name.
 pub(crate) fn socket_in<'a>(found: &ArgMatches<'a>) -> &'a str {
     found.get_str(SOCKET).unwrap_or("")
+}
+
+/// The values of an argument.
+pub(crate) fn values<'a>(
+    alloc: Global,
+    found: &ArgMatches<'a>,
+    id: &str,
+) -> Result<Vec<&'a str>, AllocError> {
+    let mut values = Vec::new(alloc);
+    values.extend_from_slice(found.get_strs(id).unwrap_or(&[]))?;
+    Ok(values)
 }

@@ -3,3 +3,6 @@ pub mod Lines
 pub mod Requested
 pub mod Planned
 pub mod Lookings
+pub mod Replied
+pub mod Doing
+pub mod Told

@@ -6,4 +6,7 @@ pub mod Endings
 pub mod Dialing
 pub mod Asking
 pub mod Looking
+pub mod Notes
+pub mod Asked
+pub mod Telling
 pub mod Running

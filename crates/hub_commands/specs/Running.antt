@@ -10,6 +10,7 @@ use Rattle.hub_commands.specs.BadWords.{follow_breaks}
 use Rattle.hub_commands.specs.Calls.{Calling, IsCall}
 use Rattle.hub_commands.specs.Dialing.{Dialing}
 use Rattle.hub_commands.specs.Looking.{FollowsAsTold, ShowsStatus}
+use Rattle.hub_commands.specs.Telling.{TellsAsTold}
 use Rattle.hub_commands.specs.declared.ending.BadWords.TheVariants as bad
 use Rattle.hub_commands.specs.declared.ending.Ending.{Ending}
 use Rattle.hub_commands.specs.declared.ending.Ending.TheVariants.{Refused, Stopped, Failed}
@@ -93,6 +94,9 @@ CarriesOut d c r w n old new (plan.Follow socket names pattern is_plain is_once)
     (record { is_hit = is_some pattern; is_plain = is_plain; is_once = is_once }) (AreBegun (λ word. word.now) pattern is_plain) (map (λ name. name.now) names.items)
     ((new.output ≡ old.output) × (new.notes ≡ old.notes)) (w.contents old.output) (w.contents new.output) result
     × (new.input ≡ old.input)
+CarriesOut d c r w n old new (plan.Tell socket name state) result =
+    TellsAsTold d old.dialer new.dialer socket.now n old.notes new.notes name.now state result
+    × (new.input ≡ old.input) × (new.output ≡ old.output)
 
 -- How the program ends without a plan: its words ask for a text, are none or are refused, or there was a fault before.
 abbrev pub EndsEarly : Result ℕ Ending → Type 0

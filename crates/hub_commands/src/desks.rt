@@ -7,7 +7,6 @@ ghost use Rattle.hub_server.specs.Reports.{IsReport};
 ghost use Rattle.hub_shared.specs.Desks.{IsNewDesk};
 ghost use Rattle.hub_shared.specs.declared.shared_desk.SharedDesk.{SharedDesk};
 
-use crate::lost_wills::LostWills;
 use hub_front::{Enter, Stay, serve_within};
 use hub_io::{Client, FrontError, MAX_READS, Sink, Source};
 use hub_requests::Desk;
@@ -24,7 +23,6 @@ pub(crate) struct HubDesks<P: Pause + Copy> {
     pub(crate) hub: Arc<Hub, Global>,
     pub(crate) pause: P,
     pub(crate) stay: Stay,
-    pub(crate) lost: LostWills,
 }
 
 impl<P: Pause + Copy> HubDesks<P> {
@@ -52,12 +50,10 @@ impl<P: Pause + Copy> Desks for HubDesks<P> {
 
     fn share(&self) -> Result<HubDesks<P>, AllocError> {
         let hub = Arc::try_clone(&self.hub)?;
-        let lost = self.lost.share()?;
         Ok(HubDesks {
             hub,
             pause: self.pause,
             stay: self.stay,
-            lost,
         })
     }
 
@@ -72,7 +68,6 @@ impl<P: Pause + Copy> Desks for HubDesks<P> {
             return Err(FrontError::Memory);
         };
         let served = serve_within(rt, alloc, self.stay, &mut desk, reader, writer);
-        self.lost.add(desk.lost_wills());
         desk.release(rt);
         served
     }
@@ -109,12 +104,6 @@ where
         (λ last. StopsEarly G.gives sessions gate.old last error) gate.new) }
 {
     let stay = Stay::Short;
-    let lost = LostWills::new(alloc)?;
-    let desks = HubDesks {
-        hub,
-        pause,
-        stay,
-        lost,
-    };
+    let desks = HubDesks { hub, pause, stay };
     serve_each(rt, alloc, &desks, gate, sessions)
 }

@@ -23,6 +23,8 @@ pub enum BadWords {
     Word,
     /// A name has a line feed.
     Name,
+    /// A text isn't a name that a fifodir may have.
+    NotName,
     /// A duration is none that a wait may have.
     Duration,
 }
@@ -37,6 +39,7 @@ impl fmt::Display for BadWords {
             BadWords::NotText => f.write_str("an argument is not UTF-8"),
             BadWords::Word => f.write_str("a word has a line feed"),
             BadWords::Name => f.write_str("a name has a line feed"),
+            BadWords::NotName => f.write_str("a name has 1 to 32 letters, digits, _, . or -"),
             BadWords::Duration => {
                 f.write_str("a duration is a number with ms, s or m, up to 1000000ms")
             }

@@ -42,9 +42,6 @@ pub enum Fault {
     Idle { number: u64 },
     /// So many sessions of `serve --forever` stopped besides, and aren't told one by one.
     More { sessions: u64 },
-    /// So many wills of sessions of `serve --forever` couldn't be carried out: their fifodirs had no room for a minute, or take no
-    /// more events.
-    Wills { wills: u64 },
     /// The relay of `call` stopped.
     Relay(RelayError),
     /// A request of `ask` has no outcome.
@@ -71,7 +68,6 @@ impl fmt::Display for Fault {
             Fault::Session { number, fault } => write!(f, "session {number}: {fault}"),
             Fault::Idle { number } => write!(f, "session {number}: idle"),
             Fault::More { sessions } => write!(f, "{sessions} more sessions stopped"),
-            Fault::Wills { wills } => write!(f, "{wills} wills not carried out"),
             Fault::Relay(fault) => write!(f, "{fault}"),
             Fault::Ask(fault) => write!(f, "{fault}"),
         }

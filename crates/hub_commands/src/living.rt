@@ -6,7 +6,6 @@ ghost use Rattle.hub_commands.specs.Faults.{line_if, pending_lines};
 
 use crate::desks::HubDesks;
 use crate::fault::Fault;
-use crate::lost_wills::LostWills;
 use crate::notice::Notice;
 use crate::place::{InPlace, Place, take_place};
 use crate::watching::{Pending, Watcher};
@@ -71,13 +70,7 @@ where
     };
     let pause = Patience::new(*rt);
     let stay = Stay::Long;
-    let lost = LostWills::new(alloc)?;
-    let desks = HubDesks {
-        hub,
-        pause,
-        stay,
-        lost: lost.share()?,
-    };
+    let desks = HubDesks { hub, pause, stay };
     let watcher = Watcher::new(alloc, *rt)?;
     let idle = options.idle.map(Duration::from_secs);
     let listener = place.listen(rt, options.mode)?;
@@ -87,7 +80,7 @@ where
     if let Some(notice) = notice {
         notice.give(rt, &there)?;
     }
-    watch(rt, alloc, place, &there, &watcher, &lost, faults)
+    watch(rt, alloc, place, &there, &watcher, faults)
 }
 
 // Tells the faults of sessions, and keeps the socket in its place. It returns only if the socket is lost.
@@ -97,7 +90,6 @@ fn watch<H, F>(
     place: &Place<'_>,
     there: &InPlace,
     watcher: &Watcher<H>,
-    lost: &LostWills,
     faults: &mut F,
 ) -> Result<(), Fault>
 where
@@ -107,7 +99,6 @@ where
     'seconds: for _ in rt.forever() {
         let pending = watcher.take(rt);
         let _: io::Result<()> = tell_pending(alloc, pending, faults);
-        let _: io::Result<()> = tell_if(alloc, lost.take(), faults);
         if place.keep(rt, there)? {
             let _: io::Result<()> = Fault::Restored.tell(alloc, faults);
         }

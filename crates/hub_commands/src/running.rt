@@ -12,6 +12,7 @@ use crate::following::follow_as_told;
 use crate::living::serve_forever;
 use crate::serving::serve;
 use crate::showing::show_status;
+use crate::telling::tell_state;
 use crate::waiting::wait_as_told;
 use hub_arguments::{Plan, Start, begin, own_socket, own_words};
 use hub_io::{Sink, Source};
@@ -87,6 +88,11 @@ where
         Plan::Status { socket, names } => {
             show_status(rt, alloc, dialer, socket, &names, output, notes)
         }
+        Plan::Tell {
+            socket,
+            name,
+            state,
+        } => tell_state(rt, alloc, dialer, socket, name, state, notes),
         Plan::Follow {
             socket,
             names,

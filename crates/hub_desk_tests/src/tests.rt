@@ -11,4 +11,3 @@ mod sizes;
 mod traces;
 mod turns;
 mod waits;
-mod wills;

@@ -15,6 +15,7 @@ pub fn socket_of<'a>(
             | Plan::ServeForever(HubOptions { socket, .. })
             | Plan::Call { socket }
             | Plan::Ask { socket, .. }
+            | Plan::Tell { socket, .. }
             | Plan::Wait { socket, .. }
             | Plan::Status { socket, .. }
             | Plan::Follow { socket, .. },

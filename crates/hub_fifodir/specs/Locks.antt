@@ -17,15 +17,10 @@ numbers_of b = b.active.keys
 abbrev pub given_by : Locked → ℕ
 given_by b = b.given
 
--- no more numbers are current than were given, and no more were given than may be
-abbrev pub IsCounted : Locked → Type 0
-IsCounted b = (length b.active.keys ≤ b.given) × (b.given ≤ b.ids)
-
--- its record represents for the world, and its numbers are counted
+-- its record represents for the world
 pub record RepresentsWorld (b : Locked) (w : World) : Type 0 where
   pub for : Represents b.kept.value w
   pub ids : b.ids ≡ w.limits.ids
-  pub counted : IsCounted b
 
 -- the status of a world's record
 abbrev pub status_of : World → Status

@@ -17,9 +17,7 @@ use Rattle.hub_record.specs.declared.SubError.{SubError}
 use Rattle.hub_record.specs.declared.PubError.TheVariants as post
 use Rattle.hub_record.specs.declared.SubError.TheVariants as sub
 use Rattle.hub_record.specs.declared.limits.TheConstants.{MOST_PASSES}
-use Rattle.hub_record.specs.World.{letters, as_events, last_publisher, is_slow, evicts, IsLawfulIn, IsUnlawfulIn}
-use Rattle.hub_fifodir.specs.declared.PassError.{PassError}
-use Rattle.hub_fifodir.specs.declared.PassError.TheVariants as pass
+use Rattle.hub_record.specs.World.{letters, as_events, is_slow, evicts, IsLawfulIn, IsUnlawfulIn}
 use Rattle.hub_fifodir.specs.declared.views.Rules.{Rules}
 use Rattle.hub_fifodir.specs.declared.views.Sight.{Sight}
 use Rattle.hub_fifodir.specs.declared.views.Role.{Role}
@@ -201,14 +199,6 @@ word_told state n p = word_behind state (letters (take n (seen_by p)))
 abbrev pub word_to_tell : State → Publisher → List ℕ
 word_to_tell state p = word_behind state (letters (seen_by p))
 
--- the last event that a publisher has seen is its own
-abbrev pub IsLast : Publisher → Type 0
-IsLast p = last_publisher (seen_by p) ≡ Some (publisher_number p)
-
--- the last of the first n events that a publisher has seen is its own
-abbrev pub WasLast : ℕ → Publisher → Type 0
-WasLast n p = last_publisher (take n (seen_by p)) ≡ Some (publisher_number p)
-
 -- a ticket begins at the end of what it has seen
 abbrev pub HasSubscribed : Ticket → Type 0
 HasSubscribed t = (ticket_mark t ≡ length (ticket_seen t)) × (ticket_next t ≡ ticket_mark t) × (got t ≡ [])
@@ -218,15 +208,6 @@ HasSubscribed t = (ticket_mark t ≡ length (ticket_seen t)) × (ticket_next t �
 abbrev pub MayRefuseBy : Limits → SubError → Type 0
 MayRefuseBy limits sub.Many = MOST_PASSES ≤ limits.ids
 MayRefuseBy limits e = Unit {0}
-
--- The same of publishers, whose numbers are as many as the ids that may be given.
-abbrev pub MayRefuseNumber : Limits → PassError → Type 0
-MayRefuseNumber limits pass.Many = MOST_PASSES ≤ limits.ids
-MayRefuseNumber limits e = Unit {0}
-
--- why there is no publisher
-abbrev pub MayRefusePublisher : Fifodir → PassError → Type 0
-MayRefusePublisher f e = MayRefuseNumber (limits_of f) e
 
 -- why there is no ticket
 abbrev pub MayRefuseTicket : Fifodir → SubError → Type 0

@@ -2,11 +2,11 @@
 ghost use Rattle.std.specs.Prelude.{◌≡◌, ◌++◌, [], length, drop, IfOk, OnErr, OnOk};
 ghost use Rattle.hub_letters.specs.States.{word_behind};
 ghost use Rattle.hub_record.specs.declared.Kind.TheVariants.{Service};
-ghost use Rattle.hub_record.specs.World.{World, empty_world, letters, last_publisher, SubscribeReply, after_subscribe, PublishReply, after_publish};
+ghost use Rattle.hub_record.specs.World.{World, empty_world, letters, SubscribeReply, after_subscribe, PublishReply, after_publish};
 ghost use Rattle.hub_record.specs.World.{take_reply, take_events, after_take};
 ghost use Rattle.hub_record.specs.World.{cancel_reply, after_cancel, close_reply, after_close};
 ghost use Rattle.hub_fifodir.specs.Locks.{RepresentsWorld, status_of, numbers_of, given_by};
-ghost use Rattle.hub_fifodir.specs.Locks.{PublisherReply, IsAfterPublisher, HasLeft, KeepsPublishers, KeepsRecord, IsCounted};
+ghost use Rattle.hub_fifodir.specs.Locks.{PublisherReply, IsAfterPublisher, HasLeft, KeepsPublishers, KeepsRecord};
 
 use crate::PassError;
 use hub_letters::{Letter, State, Word};
@@ -48,7 +48,6 @@ impl Locked {
     pub fn publisher(&mut self) -> Result<u64, PassError>
         ensures reply { PublisherReply self.old result }
         ensures after { IsAfterPublisher self.old result self.new }
-        ensures counted { IsCounted self.old → IsCounted self.new }
         ensures record { KeepsRecord self.old self.new }
     {
         if self.active.len() >= MOST_PASSES {
@@ -101,13 +100,6 @@ impl Locked {
         self.kept.word(state)
     }
 
-    /// The number of the publisher of the last event. None if there is no event.
-    pub fn last_publisher(&self) -> Option<u64>
-        ensures { (w : World) → RepresentsWorld self.now w → result ≡ last_publisher w.events }
-    {
-        self.kept.last_publisher()
-    }
-
     /// Takes what is pending behind a cursor, as far as it fits. An error says that the id has no cursor.
     #[tactic(auto, using(crate::proofs::Boxes::same_if_refused))]
     pub fn take_into(&mut self, id: u64, out: &mut [Event]) -> Result<Taken, NoId>
@@ -139,7 +131,6 @@ impl Locked {
     /// Ends a publisher. If it isn't current, nothing changes.
     pub fn leave(&mut self, number: u64)
         ensures left { HasLeft self.old number self.new }
-        ensures counted { IsCounted self.old → IsCounted self.new }
         ensures record { KeepsRecord self.old self.new }
     {
         self.active.shift_remove(&number);

@@ -4,7 +4,6 @@ pub mod Worlds
 pub mod Holdings
 pub mod Asking
 pub mod AskingFifodirs
-pub mod Willed
 pub mod Takings
 pub mod Hearing
 pub mod AskingHolds

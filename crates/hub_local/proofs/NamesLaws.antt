@@ -13,12 +13,8 @@ use Rattle.hub_record.specs.declared.limits.Limits.{Limits}
 use Rattle.hub_record.specs.declared.SubError.{SubError}
 use Rattle.hub_record.specs.declared.PubError.{PubError}
 use Rattle.hub_record.specs.declared.Closed.{Closed}
-use Rattle.hub_local.specs.DeskAnswers.{own_refusal, request_answer, answer_by, in_world, for_holding, for_hearing, make_answer, subscribe_answer, publish_answer, close_answer, new_hearing}
-use Rattle.hub_local.specs.Ends.{after_one, after_wills, told_in, told_last, word_in}
+use Rattle.hub_local.specs.DeskAnswers.{own_refusal, request_answer, answer_by, in_world, for_holding, for_hearing, make_answer, subscribe_answer, publish_answer, close_answer, new_hearing, word_in}
 use Rattle.hub_local.specs.Desks.{Desk, Answer, Fifodir, names_in, world_of, with_world, holding_at, end_in, without_held, without_all, active}
-use Rattle.hub_letters.specs.declared.state.State.{State}
-use Rattle.hub_requests.specs.Wills.{state_of}
-use Rattle.hub_requests.specs.declared.will.Will.{Will}
 use Rattle.hub_local.specs.Laws.{NamesStay, NamesOutliveTheEnd, name_made}
 use Rattle.hub_local.specs.Polls.{hear_answer, heard_on, heard_to_hit, ended_by, taken_from, to_hear}
 use Rattle.hub_listen.specs.Hit.{hit_length}
@@ -54,20 +50,6 @@ names_in-without_held fs h = names_in-end_in fs h (world_of fs h.name)
 names_in-without_all : (fs : List Fifodir) (hs : List Holding) → names_in (without_all fs hs) ≡ names_in fs
 names_in-without_all fs [] = refl
 names_in-without_all fs (h ∷ hs) = names_in-without_all (without_held fs h) hs ∙ names_in-without_held fs h
-
--- ---- the wills
-
-names_in-told_in : (fs : List Fifodir) (name : List ℕ) (state : State) (o : Option World) → names_in (told_in fs name state o) ≡ names_in fs
-names_in-told_in fs name state None = refl
-names_in-told_in fs name state (Some w) = names_in-with_world fs name (told_last state w)
-
-names_in-after_one : (fs : List Fifodir) (name : List ℕ) (o : Option State) → names_in (after_one fs name o) ≡ names_in fs
-names_in-after_one fs name None = refl
-names_in-after_one fs name (Some state) = names_in-told_in fs name state (world_of fs name)
-
-names_in-after_wills : (fs : List Fifodir) (wills : List (List ℕ × Will)) → names_in (after_wills fs wills) ≡ names_in fs
-names_in-after_wills fs [] = refl
-names_in-after_wills fs (given ∷ rest) = names_in-after_wills (after_one fs given.0 (state_of given.1)) rest ∙ names_in-after_one fs given.0 (state_of given.1)
 
 -- ---- the posts of a wait
 
@@ -143,7 +125,7 @@ made_last d name kind reports None None named done none = sym (ap (λ (l : List 
 made_last d name kind reports None (Some limits) named done none =
     map-append (λ (f : Fifodir). f.name) d.fifodirs _ ∙ sym (ap (λ (l : List (List ℕ)). names_in d.fifodirs ++ l) done)
 
--- the last arm is for a request whose answer leaves the fifodirs as they are
+-- the last arm is for a request whose answer is the desk as it is
 pub names_stay : NamesStay
 names_stay d read (Dir name waiting total evict) = made_last d name _ _ _ _ (name_made (Dir name waiting total evict)) refl (λ refusal. refl)
 names_stay d read (Svc name waiting total notifies evict) = made_last d name _ _ _ _ (name_made (Svc name waiting total notifies evict)) refl (λ refusal. refl)
@@ -163,4 +145,4 @@ names_stay d read (Wait span want turns names) =
 names_stay d read request = answer_stays d (own_refusal d read request) (request_answer d request) refl
 
 pub names_outlive_the_end : NamesOutliveTheEnd
-names_outlive_the_end d = names_in-after_wills (without_all d.fifodirs (values_of (active d))) d.wills ∙ names_in-without_all d.fifodirs (values_of (active d))
+names_outlive_the_end d = names_in-without_all d.fifodirs (values_of (active d))

@@ -3,6 +3,8 @@ use Rattle.std.specs.Prelude.{ℕ, ◌≡◌, ◌+◌, Bool, true, false, if◌t
 use Rattle.std.specs.List.{list_all}
 use Rattle.hub_letters.specs.declared.mode.TheConstants.{MOST_GATHERED}
 use Rattle.hub_letters.specs.Flags.{flags_of}
+use Rattle.hub_letters.specs.States.{word_behind}
+use Rattle.hub_letters.specs.declared.state.State as states
 use Rattle.hub_listen.specs.Hit.{IsPattern}
 use Rattle.hub_listen.specs.Listening.{new_listening}
 use Rattle.hub_letters.specs.declared.mode.Mode.{Mode}
@@ -23,18 +25,15 @@ use Rattle.hub_requests.specs.declared.bounds.TheConstants.{MOST_NAMES}
 use Rattle.hub_local.specs.Desks.{Desk, Answer, names_in, world_of, reports_of, with_world, active, holding_at, without_handle, refusal_answer}
 use Rattle.hub_local.specs.Polls.{poll_answer, LeftByPoll}
 use Rattle.hub_local.specs.Awaits.{await_answer}
-use Rattle.hub_local.specs.Ends.{word_in}
 use Rattle.hub_local.specs.Replies.{subscribe_reply, publish_reply}
 use Rattle.hub_requests.specs.Refusals.{refusal_of_sub, refusal_of_pub}
 use Rattle.hub_requests.specs.Listings.{names_reply}
 use Rattle.hub_requests.specs.Room.{policy_of, refusal_of_handle}
-use Rattle.hub_requests.specs.Wills.{with_will}
-use Rattle.hub_requests.specs.declared.will.Will.{Will}
 use Rattle.hub_local.specs.Waits.{wait_answer, LeftByWait}
 use Rattle.hub_local.specs.declared.local_desk.LocalListener.{LocalListener}
 use Rattle.hub_local.specs.declared.local_desk.Holding.{Holding}
 use Rattle.hub_requests.specs.declared.request.Request.{Request}
-use Rattle.hub_requests.specs.declared.request.Request.TheVariants.{Dir, Svc, Sub, Pub, Tell, Will as Leave, Take, Cancel, Close, Status, Listen, Poll, Await, Wait, Names}
+use Rattle.hub_requests.specs.declared.request.Request.TheVariants.{Dir, Svc, Sub, Pub, Tell, Take, Cancel, Close, Status, Listen, Poll, Await, Wait, Names}
 use Rattle.hub_requests.specs.declared.reply.Reply.{Reply}
 use Rattle.hub_requests.specs.declared.reply.Reply.TheVariants.{Done, Number, State, Got, Nothing, End, Evicted, No}
 use Rattle.hub_requests.specs.declared.reply.Refusal.{Refusal}
@@ -106,7 +105,6 @@ own_refusal d read (Svc name waiting total notifies evict) = refusal_to_make d n
 own_refusal d read (Sub name) = refusal_to_hold d name
 own_refusal d read (Pub name letters) = refusal_by_name d name
 own_refusal d read (Tell name state) = refusal_to_tell (world_of d.fifodirs name)
-own_refusal d read (Leave name will) = refusal_to_tell (world_of d.fifodirs name)
 own_refusal d read (Take id max) = refusal_to_take (holding_at d id)
 own_refusal d read (Cancel id) = refusal_by_handle (holding_at d id)
 own_refusal d read (Close name) = refusal_by_name d name
@@ -151,7 +149,7 @@ abbrev pub subscribe_answer : Desk → List ℕ → Option LocalListener → Wor
 subscribe_answer d name hearing w (Err error) = refusal_answer d (refusal_of_sub error)
 subscribe_answer d name hearing w (Ok given) = record {
   reply = Number (length d.handles + 1);
-  desk = record d {
+  desk = record {
     fifodirs = with_world d.fifodirs name (after_subscribe w (Ok given));
     handles = d.handles ++ record { holding = record { name = name; id = given.0; hearing = hearing }; current = true } ∷ [];
   };
@@ -165,9 +163,9 @@ abbrev pub publish_answer : Desk → List ℕ → List ℕ → World → Result 
 publish_answer d name message w (Err error) = refusal_answer d (refusal_of_pub error)
 publish_answer d name message w (Ok first) = answered_with (Number first) d name (after_publish w 1 message (Ok first))
 
--- the service has a will, in the place of an earlier one
-abbrev pub will_answer : Desk → List ℕ → Will → Answer
-will_answer d name will = record { reply = Done; desk = record d { wills = with_will d.wills name will } }
+-- the letters that bring the service to a state
+abbrev pub word_in : states.State → World → List ℕ
+word_in state w = word_behind state (letters w.events)
 
 abbrev pub take_shown : List ℕ → Result Taken NoId → Reply
 take_shown letters (Ok (taken.Got count)) = Got letters
@@ -200,7 +198,6 @@ request_answer d (Svc name waiting total notifies evict) = make_answer d name Se
 request_answer d (Sub name) = in_world d (λ w. subscribe_answer d name None w (subscribe_reply w)) (world_of d.fifodirs name)
 request_answer d (Pub name message) = in_world d (λ w. publish_answer d name message w (publish_reply w message)) (world_of d.fifodirs name)
 request_answer d (Tell name state) = in_world d (λ w. publish_answer d name (word_in state w) w (publish_reply w (word_in state w))) (world_of d.fifodirs name)
-request_answer d (Leave name will) = will_answer d name will
 request_answer d (Take id max) = for_holding d (λ h. in_world d (took d max h) (world_of d.fifodirs h.name)) (holding_at d id)
 request_answer d (Cancel id) = for_holding d (cancel_answer d id) (holding_at d id)
 request_answer d (Close name) = in_world d (λ w. close_answer d name w (close_reply w)) (world_of d.fifodirs name)

@@ -1,6 +1,5 @@
 pub mod Replies
 pub mod Desks
-pub mod Ends
 pub mod Polls
 pub mod Awaits
 pub mod Waits

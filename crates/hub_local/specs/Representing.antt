@@ -3,12 +3,10 @@ use Rattle.std.specs.Prelude.{ℕ, ◌≡◌, ◌≢◌, Bool, true, false, List
 use Rattle.hub_record.specs.Kept.{Kept, Represents}
 use Rattle.hub_record.specs.World.{World, subscription_in}
 use Rattle.hub_listen.specs.Hit.{IsPattern}
-use Rattle.hub_local.specs.Desks.{Fifodir, Desk, IsDesk, Answer, active}
-use Rattle.hub_local.specs.Ends.{desk_after_end}
+use Rattle.hub_local.specs.Desks.{Fifodir, Desk, IsDesk, Answer, active, desk_after_end}
 use Rattle.hub_local.specs.DeskAnswers.{own_refusal, request_answer, answer_by, LeftBy, pattern_in, patterns_in, AreReads, answers, desk_after}
 use Rattle.hub_local.specs.declared.local_desk.LocalFifodir.{LocalFifodir}
 use Rattle.hub_local.specs.declared.local_desk.Holding.{Holding}
-use Rattle.hub_requests.specs.declared.will.Will.{Will}
 use Rattle.hub_requests.specs.declared.request.Request.{Request}
 use Rattle.hub_requests.specs.declared.request.Request.TheVariants.{Pub, Tell, Cancel, Close, Status, Await}
 use Rattle.hub_requests.specs.declared.reply.Reply.{Reply}
@@ -17,12 +15,11 @@ use Rattle.hub_requests.specs.declared.reply.Refusal.{Refusal}
 use Rattle.hub_requests.specs.declared.reply.Refusal.TheVariants.{Memory}
 
 -- what a contract sees of a `LocalDesk`: the fifodirs by name in the order in which they were made, what the current
--- handles hold by number, how many handles were given, and the wills by name
+-- handles hold by number, and how many handles were given
 pub record Local : Type 0 where
   pub fifodirs : List (List ℕ × LocalFifodir)
   pub holdings : List (ℕ × Holding)
   pub given : ℕ
-  pub wills : List (List ℕ × Will)
 
 pub record IsKept (entry : List ℕ × LocalFifodir) (fifodir : Fifodir) : Type 0 where
   pub name : entry.0 ≡ fifodir.name
@@ -40,7 +37,6 @@ pub record RepresentsDesk (local : Local) (desk : Desk) : Type 0 where
   pub fifodirs : AreKept local.fifodirs desk.fifodirs
   pub holdings : local.holdings ≡ active desk
   pub given : local.given ≡ length desk.handles
-  pub wills : local.wills ≡ desk.wills
   pub is_desk : IsDesk desk
 
 -- every `LocalDesk` represents for some desk

@@ -2,11 +2,10 @@
 ghost use Rattle.std.specs.Prelude.{IfOk};
 
 use crate::local_desk::subscriptions::release_all;
-use crate::local_desk::wills::carry_out;
 use hub_letters::Letter;
 use hub_listen::{Listener, Mode};
 use hub_record::{Enter, Kind, Record};
-use hub_requests::{Desk, Name, Reply, Request, Wills, limits};
+use hub_requests::{Desk, Name, Reply, Request, limits};
 use indexmap::IndexMap;
 use std::alloc::{AllocError, Global};
 use std::marker::Model;
@@ -19,7 +18,6 @@ mod listeners;
 mod listings;
 mod subscriptions;
 mod waits;
-mod wills;
 
 /// A fifodir that only this desk uses.
 #[derive(Drop)]
@@ -58,12 +56,9 @@ pub struct LocalDesk {
     holdings: IndexMap<u64, Holding>,
     /// How many handles were given so far.
     given: u64,
-    /// What it has to tell at its end.
-    wills: Wills,
 }
 
 impl Model for LocalDesk {
-    ghost use Rattle.hub_requests.specs.Wills.{wills_in};
     ghost use Rattle.hub_local.specs.Representing.{Local, RepresentsSome};
 
     ghost Value = { Local };
@@ -72,14 +67,12 @@ impl Model for LocalDesk {
       fifodirs = d.fifodirs.entries;
       holdings = d.holdings.entries;
       given = d.given;
-      wills = wills_in d.wills;
     } };
 
     ghost invariant = { λ d. RepresentsSome (record {
       fifodirs = d.fifodirs.entries;
       holdings = d.holdings.entries;
       given = d.given;
-      wills = wills_in d.wills;
     }) };
 }
 
@@ -96,7 +89,6 @@ impl LocalDesk {
             fifodirs: IndexMap::new(alloc),
             holdings: IndexMap::new(alloc),
             given: 0,
-            wills: Wills::new(alloc),
         })
     }
 }
@@ -131,7 +123,6 @@ impl Desk for LocalDesk {
             Request::Sub { name } => self.subscribe(name),
             Request::Pub { name, letters } => self.publish(name, letters),
             Request::Tell { name, state } => self.tell(name, *state),
-            Request::Will { name, state } => self.will(name, *state),
             Request::Take { id, max } => self.take(*id, *max),
             Request::Cancel { id } => self.cancel(*id),
             Request::Close { name } => self.close(name),
@@ -156,7 +147,5 @@ impl Desk for LocalDesk {
     fn end<H: Wait>(&mut self, _rt: &H) {
         release_all(&mut self.fifodirs, &self.holdings);
         self.holdings.clear();
-        carry_out(&mut self.fifodirs, &self.wills);
-        self.wills.clear();
     }
 }

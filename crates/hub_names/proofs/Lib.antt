@@ -1,4 +1,3 @@
 pub mod Speakers
 pub mod KeptFifodirs
 mod Changes
-pub mod LastWords

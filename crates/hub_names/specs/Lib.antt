@@ -6,4 +6,3 @@ pub mod Fifodirs
 pub mod Looks
 pub mod Changes
 pub mod Lending
-pub mod Wills

@@ -5,14 +5,12 @@ ghost use Rattle.hub_fifodir.specs.Passes.{IsPublisherOf, HasSoundSight, publish
 ghost use Rattle.hub_fifodir.specs.declared.publisher.Publisher.{Publisher};
 ghost use Rattle.hub_names.specs.Refusals.{refusal_of_pass};
 ghost use Rattle.hub_names.specs.Says.{says_closed, says_published, says_status};
-ghost use Rattle.hub_requests.specs.Wills.{wills_in};
 
 use crate::hub::{Found, Made};
-use crate::last_word::{is_lost, tell_as_last};
-use hub_fifodir::{Enter, PassError, Pause, Publisher};
+use hub_fifodir::{Enter, PassError, Publisher};
 use hub_letters::State;
 use hub_record::{Closed, Kind, Letters};
-use hub_requests::{Name, Refusal, Reply, Will, Wills};
+use hub_requests::{Refusal, Reply};
 use std::mem;
 use std::sync::Wait;
 
@@ -27,7 +25,6 @@ pub struct Joined {
 
 impl Joined {
     ghost use Rattle.hub_names.specs.Speaking.{AsksAsPublisher, IsSpeaker, Tells, fifodir_of, found_of, publisher_of};
-    ghost use Rattle.hub_names.specs.Wills.{MayTell, ReadiesForWill, wills_after};
 
     /// A fifodir that a session found, and at which it has no publisher yet.
     pub fn new(found: Found) -> Joined
@@ -109,50 +106,6 @@ impl Joined {
         let told = self.found.dir.tell(rt, &mut publisher, state);
         self.keep(publisher);
         Reply::to_publish(told)
-    }
-
-    /// Gives the service a will, which its publisher is to carry out: the one that it keeps, or a new one, which it keeps from then
-    /// on. A plain fifodir gets neither.
-    pub fn will<H: Wait + Enter>(
-        &mut self,
-        rt: &H,
-        wills: &mut Wills,
-        name: &Name,
-        will: Will,
-    ) -> Reply
-        ensures readies { ReadiesForWill self.old result self.new }
-        ensures given { wills_in wills.new
-            ≡ wills_after name.now will result (wills_in wills.old) }
-    {
-        let Kind::Service = self.found.dir.kind() else {
-            return Reply::No(Refusal::Kind);
-        };
-        let Ok(key) = wills.room_for(name) else {
-            return Reply::No(Refusal::Memory);
-        };
-        let publisher = match self.speaker(rt) {
-            Ok(publisher) => publisher,
-            Err(error) => return Reply::No(refusal_of_pass(error)),
-        };
-        self.keep(publisher);
-        wills.put(key, will);
-        Reply::Done
-    }
-
-    /// Tells where the service is, if its last event is the publisher's own. Returns whether this was refused, though the fifodir
-    /// is open.
-    pub fn carry_out<H: Wait, P: Pause + Copy>(&mut self, rt: &H, state: State, pause: P) -> bool
-        ensures { MayTell state self.old result self.new }
-    {
-        let Kind::Service = self.found.dir.kind() else {
-            return false;
-        };
-        let Some(mut publisher) = self.publisher.take() else {
-            return false;
-        };
-        let told = tell_as_last(rt, &self.found.dir, &mut publisher, state, pause);
-        self.keep(publisher);
-        is_lost(told)
     }
 
     /// Closes the fifodir by the publisher that it keeps, or by a new one, which it keeps from then on.

@@ -11,7 +11,6 @@
 mod fifodirs;
 mod hub;
 mod joined;
-mod last_word;
 
 pub use fifodirs::Fifodirs;
 pub use hub::{Found, Hub, HubError, Made, NamesChange, NamesLook};

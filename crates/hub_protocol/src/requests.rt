@@ -1,7 +1,7 @@
 //! The request of a line.
 ghost use Rattle.std.specs.Prelude.{◌≡◌, ◌∷◌, [], length, IfOk};
 ghost use Rattle.hub_protocol.specs.Spelling as spelled;
-ghost use Rattle.hub_protocol.specs.Spelling.{EndsSoundly, IsName, IsPatternText, IsForm, IsSound, AreLetters, AreNames, evict_in, fields_of, flag_in, form_of, letters_in, mode_in, name_in, names_in, number_in, pattern_in, span_in, state_in, want_in, will_in};
+ghost use Rattle.hub_protocol.specs.Spelling.{EndsSoundly, IsName, IsPatternText, IsForm, IsSound, AreLetters, AreNames, evict_in, fields_of, flag_in, form_of, letters_in, mode_in, name_in, names_in, number_in, pattern_in, span_in, state_in, want_in};
 ghost use Rattle.hub_protocol.specs.Table.{IsWord};
 ghost use Rattle.hub_protocol.specs.declared.table.TheConstants.{MOST_FIELDS};
 ghost use Rattle.hub_protocol.specs.Lines.{AreAllSound, AreWithinKinds, IsMadeOf, field_shown, form_shown, last_shown};
@@ -10,7 +10,7 @@ use crate::line::{Field, Last, Line};
 use crate::table::forms;
 use hub_letters::{Letter, Mode, Span, State, Want};
 use hub_record::Letters;
-use hub_requests::{Name, Names, PatternText, Request, Will};
+use hub_requests::{Name, Names, PatternText, Request};
 use std::alloc::{AllocError, Global};
 
 fn name_of(alloc: Global, text: &[u8]) -> Result<Name, AllocError>
@@ -122,15 +122,6 @@ fn state(field: Field<'_>) -> State
     }
 }
 
-fn will(field: Field<'_>) -> Will
-    ensures { result ≡ will_in (field_shown field.entry) }
-{
-    match field {
-        Field::Will(will) => will,
-        _ => Will::None,
-    }
-}
-
 fn names(alloc: Global, last: Last<'_>) -> Result<Names, AllocError>
     requires { EndsSoundly (last_shown last) }
     ensures { IfOk result (λ names. names ≡ names_in (last_shown last.entry)) }
@@ -177,7 +168,6 @@ macro_rules! read {
     (SPAN $alloc:ident $field:ident) => { span($field) };
     (WANT $alloc:ident $field:ident) => { want($field) };
     (STATE $alloc:ident $field:ident) => { state($field) };
-    (WILL $alloc:ident $field:ident) => { will($field) };
     (REPORTS $alloc:ident $field:ident) => { flag($field) };
     ($number:ident $alloc:ident $field:ident) => { number($field) };
 }

@@ -24,8 +24,6 @@ pub enum Kind {
     Want,
     /// Where a service may be told to be.
     State,
-    /// Where it may be told to be when the session ends, or `none`.
-    Will,
 }
 
 /// What ends a line behind its fields.
@@ -66,8 +64,6 @@ const WANT: Kind = Kind::Want;
 
 const STATE: Kind = Kind::State;
 
-const WILL: Kind = Kind::Will;
-
 const TURNS: Kind = Kind::Number(0, MOST_TURNS);
 
 /// The most fields that a row has.
@@ -84,7 +80,6 @@ macro_rules! forms {
             b"sub" Sub { name: a NAME } Nothing
             b"pub" Pub { name: a NAME, letters: b LETTERS } Nothing
             b"tell" Tell { name: a NAME, state: b STATE } Nothing
-            b"will" Will { name: a NAME, state: b WILL } Nothing
             b"take" Take { id: a ANY, max: b MAX } Nothing
             b"cancel" Cancel { id: a ANY } Nothing
             b"close" Close { name: a NAME } Nothing

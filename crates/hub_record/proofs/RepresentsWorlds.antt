@@ -94,7 +94,6 @@ represents_with r h w subs s i end events given cursors = record {
   closed = s.closed;
   stage = s.stage;
   flags = s.flags;
-  last = s.last;
   end = end ∙ s.end;
   events = events;
   given = given;

@@ -2,4 +2,3 @@ pub mod NextHandle
 pub mod NumbersText
 pub mod NamesText
 pub mod FittingNames
-mod AbsentNames

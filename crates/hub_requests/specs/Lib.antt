@@ -4,4 +4,3 @@ pub mod Texts
 pub mod Listings
 pub mod Refusals
 pub mod Room
-pub mod Wills

@@ -16,8 +16,6 @@ mod reply;
 mod request;
 mod room;
 mod texts;
-mod will;
-mod wills;
 
 pub use bounds::{
     LONGEST_NAME, LONGEST_REPLY, MOST_HANDLES, MOST_NAMES, MOST_NUMBERS, MOST_SERVICES, MOST_TAKEN,
@@ -32,5 +30,3 @@ pub use reply::{Refusal, Reply};
 pub use request::Request;
 pub use room::{limits, refusal_of_handle};
 pub use texts::{Excerpt, Names, Numbers, PatternText};
-pub use will::Will;
-pub use wills::Wills;

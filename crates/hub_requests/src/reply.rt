@@ -53,7 +53,7 @@ pub enum Refusal {
     Name,
     /// A fifodir has this name already.
     Exists,
-    /// A `wait`, a `tell` or a `will` names a plain fifodir, and needs a service's.
+    /// A `wait` or a `tell` names a plain fifodir, and needs a service's.
     Kind,
     /// This session has no handle with this number, or it isn't of the sort that the request needs.
     Id,

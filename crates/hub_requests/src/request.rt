@@ -2,7 +2,6 @@
 
 use crate::name::Name;
 use crate::texts::{Names, PatternText};
-use crate::will::Will;
 use hub_letters::{Mode, Span, State, Want};
 use hub_record::Letters;
 
@@ -40,12 +39,6 @@ pub enum Request {
     Tell {
         name: Name,
         state: State,
-    },
-    /// Has a service told this state when the session ends, however it ends, if the last event is the session's own then. A
-    /// later will for the same name takes an earlier one's place.
-    Will {
-        name: Name,
-        state: Will,
     },
     /// Takes at most `max` events (1 to 256) that are pending for a subscription.
     Take {

@@ -11,7 +11,7 @@ use hub_io::Client;
 use hub_letters::{Mode, Span, Want};
 use hub_names::{Fifodirs, Hub};
 use hub_record::Kind;
-use hub_requests::{Desk, Name, Names, PatternText, Refusal, Reply, Request, Will, Wills, limits};
+use hub_requests::{Desk, Name, Names, PatternText, Refusal, Reply, Request, limits};
 use hub_wait::Pause;
 use std::alloc::{AllocError, Global};
 use std::sync::{Arc, Wait};
@@ -36,13 +36,10 @@ pub struct SharedDesk<P: Pause + Copy> {
     client: Option<Client>,
     fifodirs: Fifodirs,
     handles: Handles,
-    wills: Wills,
-    /// How many wills its last end couldn't carry out.
-    lost: u64,
 }
 
 impl<P: Pause + Copy> SharedDesk<P> {
-    ghost use Rattle.hub_shared.specs.Desks.{Asks, IsNewDesk, Watches, lost_by};
+    ghost use Rattle.hub_shared.specs.Desks.{Asks, IsNewDesk, Watches};
 
     /// A session that has found no fifodir and has no handle.
     pub fn new(alloc: Global, hub: Arc<Hub, Global>, pause: P) -> Result<SharedDesk<P>, AllocError>
@@ -56,8 +53,6 @@ impl<P: Pause + Copy> SharedDesk<P> {
             client: None,
             fifodirs: Fifodirs::new(alloc),
             handles,
-            wills: Wills::new(alloc),
-            lost: 0,
         })
     }
 
@@ -69,16 +64,8 @@ impl<P: Pause + Copy> SharedDesk<P> {
         self.client = client;
     }
 
-    /// How many wills its last end couldn't carry out, at fifodirs that had no room for a minute, or take no more events.
-    pub fn lost_wills(&self) -> u64
-        ensures { result ≡ lost_by self.now }
-    {
-        self.lost
-    }
-
     /// Ends all that the session still holds, and frees the desk.
-    pub fn release<H: Wait>(mut self, rt: &H) {
-        self.end(rt);
+    pub fn release<H: Wait>(self, rt: &H) {
         let SharedDesk {
             alloc: _,
             hub: _,
@@ -86,8 +73,6 @@ impl<P: Pause + Copy> SharedDesk<P> {
             client: _,
             fifodirs,
             handles,
-            wills: _,
-            lost: _,
         } = self;
         handles.release(rt);
         fifodirs.release(rt);
@@ -149,13 +134,6 @@ impl<P: Pause + Copy> SharedDesk<P> {
             Ok(found) => self.handles.listen(rt, name, found.dir, mode, pattern),
             Err(refusal) => Reply::No(refusal),
         }
-    }
-
-    fn will<H: Wait + Enter>(&mut self, rt: &H, name: &Name, will: Will) -> Reply
-        ensures { Asks self.old (asked.Will name.now will) result self.new }
-    {
-        self.fifodirs
-            .will(rt, &self.hub, &mut self.wills, name, will)
     }
 
     /// Waits for the lock only if the session has no publisher there yet.
@@ -222,7 +200,6 @@ impl<P: Pause + Copy> Desk for SharedDesk<P> {
             Request::Sub { name } => self.subscribe(rt, name),
             Request::Pub { name, letters } => self.fifodirs.publish(rt, &self.hub, name, letters),
             Request::Tell { name, state } => self.fifodirs.tell(rt, &self.hub, name, *state),
-            Request::Will { name, state } => self.will(rt, name, *state),
             Request::Take { id, max } => self.handles.take(rt, *id, *max),
             Request::Cancel { id } => self.handles.cancel(rt, *id),
             Request::Close { name } => self.fifodirs.close(rt, &self.hub, name),
@@ -246,8 +223,6 @@ impl<P: Pause + Copy> Desk for SharedDesk<P> {
 
     fn end<H: Wait>(&mut self, rt: &H) {
         self.handles.end(rt);
-        self.lost = self.fifodirs.carry_out(rt, &self.wills, self.pause);
-        self.wills.clear();
         self.fifodirs.leave(rt);
     }
 }

@@ -25,6 +25,8 @@ static HELP: &str = "
     ftrighub wait --help
     ftrighub status --help
     ftrighub follow --help
+    ftrighub tell --help
+    ftrighub tell -h
 ";
 
 /// These are refused.
@@ -80,6 +82,15 @@ static WRONG: &str = "
     ftrighub follow db
     ftrighub follow --socket s --pattern db
     ftrighub follow --socket s --once=yes db
+    ftrighub tell
+    ftrighub tell db ready
+    ftrighub tell --socket s
+    ftrighub tell --socket s db
+    ftrighub tell --socket s db ready web
+    ftrighub tell --socket s db away
+    ftrighub tell --socket s db Ready
+    ftrighub tell --socket s db finished
+    ftrighub tell --socket s db ready --plain
 ";
 
 /// These are plans.
@@ -100,6 +111,8 @@ static RUN: &str = "
     ftrighub status db web --socket s
     ftrighub follow --socket s db
     ftrighub follow db web --once --plain --socket s --pattern u
+    ftrighub tell --socket s db ready
+    ftrighub tell db off --socket s
 ";
 
 fn expect_status(
@@ -125,7 +138,7 @@ fn early_statuses(rt: HostRuntime) -> Result<(), Fail> {
 }
 
 /// The plans of these words, and of these beside a socket that the environment has.
-static PLANS: [(&str, Option<&str>, &str); 18] = [
+static PLANS: [(&str, Option<&str>, &str); 23] = [
     ("ftrighub script", None, "Script"),
     (
         "ftrighub serve /run/hub.sock",
@@ -207,6 +220,31 @@ static PLANS: [(&str, Option<&str>, &str); 18] = [
         "ftrighub follow --once web --pattern ^u$ db --plain",
         Some("t"),
         "Follow { socket: \"t\", names: [\"web\", \"db\"], pattern: Some(\"^u$\"), is_plain: true, is_once: true }",
+    ),
+    (
+        "ftrighub tell db off",
+        Some("t"),
+        "Tell { socket: \"t\", name: \"db\", state: Off }",
+    ),
+    (
+        "ftrighub tell db down",
+        Some("t"),
+        "Tell { socket: \"t\", name: \"db\", state: Down }",
+    ),
+    (
+        "ftrighub tell db up",
+        Some("t"),
+        "Tell { socket: \"t\", name: \"db\", state: Up }",
+    ),
+    (
+        "ftrighub tell db ready",
+        Some("t"),
+        "Tell { socket: \"t\", name: \"db\", state: Ready }",
+    ),
+    (
+        "ftrighub tell db failed",
+        Some("t"),
+        "Tell { socket: \"t\", name: \"db\", state: Failed }",
     ),
 ];
 

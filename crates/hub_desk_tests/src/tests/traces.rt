@@ -36,7 +36,7 @@ const NAMES: &str = "names 0 -> names web db";
 const ONE_MORE: &str = "names 0 -> names web db log";
 
 /// Requests with their replies, and what others see of `web`, of `db` and of the names afterwards.
-static REQUESTS: [(&str, Seen, Seen, &str); 33] = [
+static REQUESTS: [(&str, Seen, Seen, &str); 31] = [
     ("dir log 64 1000 -> ok", WEB, DB, ONE_MORE),
     ("dir web 64 1000 -> no exists", WEB, DB, NAMES),
     ("svc log 64 1000 1 -> ok", WEB, DB, ONE_MORE),
@@ -64,8 +64,6 @@ static REQUESTS: [(&str, Seen, Seen, &str); 33] = [
     ("tell web up -> ok 1", (2, Some(2), Some(2)), DB, NAMES),
     ("tell web down -> ok 1", WEB, DB, NAMES),
     ("tell db up -> no kind", WEB, DB, NAMES),
-    ("will web down -> ok", WEB, DB, NAMES),
-    ("will db off -> no kind", WEB, DB, NAMES),
     ("take 1 9 -> got s\ntake 1 9 -> none", WEB, DB, NAMES),
     ("take 2 9 -> no id", WEB, DB, NAMES),
     ("poll 2 -> hit ab\npoll 2 -> none", WEB, DB, NAMES),

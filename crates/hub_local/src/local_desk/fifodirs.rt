@@ -16,7 +16,7 @@ use hub_record::{Closed, Kind, Letters, Limits, Record, Status};
 use hub_requests::{MOST_NAMES, Name, Refusal, Reply};
 
 /// The publisher's number in a desk's own records.
-pub(super) const PUBLISHER: u64 = 1;
+const PUBLISHER: u64 = 1;
 
 impl LocalDesk {
     pub(super) fn make(
@@ -101,7 +101,7 @@ impl LocalDesk {
 
 impl LocalFifodir {
     /// Publishes letters by the desk's publisher.
-    pub(super) fn publish(&mut self, letters: &[Letter]) -> Reply
+    fn publish(&mut self, letters: &[Letter]) -> Reply
         ensures reply { (w : World) → Represents self.old.kept w
             → result ≡ reply_to_publish (publish_reply w letters.now) }
         ensures after { (w : World) → Represents self.old.kept w

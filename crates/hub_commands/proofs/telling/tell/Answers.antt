@@ -1,0 +1,10 @@
+use Rattle.hub_commands.proofs.Replied.{refused_by}
+use Rattle.hub_commands.proofs.Told.{is_refusal}
+use Rattle.hub_commands.proofs.telling.tell.Goals as goal
+
+pub returns-in-Some-Err-clause-ok : goal.returns-in-Some-Err-clause-ok
+returns-in-Some-Err-clause-ok g c = (
+  c.in-Some-Err.refusal,
+  refused_by _ _ _ _ _ _ _ _ c.args.request.now _ c.args.name.now c.as_bytes.result.now c.reply.result c.in-Some-Err.refusal c.reply.ensures
+      (is_refusal c.reply.result c.in-Some-Err.refusal (cc)) c.in_ok-heard.ensures.ok c.as_bytes.ensures.value c.in_ok-note_refusal-in-Some-Err.ensures.ok,
+)
