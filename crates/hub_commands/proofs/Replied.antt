@@ -1,31 +1,20 @@
 -- What a reply to a request shows.
-use Rattle.std.proofs.Common.{◌≡◌, ℕ, List, Option, refl, ap, ◌∙◌, subst}
+use Rattle.std.proofs.Common.{◌≡◌, ℕ, List, Option, refl, subst}
 use Rattle.hub_ask.specs.Asking.{IsAnswered}
-use Rattle.hub_look.specs.Streams.{IsReplied, IsToldTo}
+use Rattle.hub_look.specs.Streams.{IsToldTo}
 use Rattle.hub_look.specs.Tables.{note_of}
 use Rattle.hub_look.proofs.Refusals.{no_shown}
-use Rattle.hub_protocol.specs.Replies.{IsOfHub, IsShown, Shows}
+use Rattle.hub_look.proofs.Takes.{replied_by}
+use Rattle.hub_protocol.specs.Replies.{IsShown, Shows}
 use Rattle.hub_protocol.specs.Spelling.{form_of, spelling}
 use Rattle.hub_protocol.specs.declared.replies.BorrowedReply.{BorrowedReply}
 use Rattle.hub_protocol.specs.declared.replies.BorrowedReply.TheVariants as shown
-use Rattle.hub_requests.specs.Texts.{text_of}
 use Rattle.hub_requests.specs.declared.request.Request.{Request}
 use Rattle.hub_requests.specs.declared.reply.Reply.{Reply}
 use Rattle.hub_requests.specs.declared.reply.Reply.TheVariants as reply
 use Rattle.hub_requests.specs.declared.reply.Refusal.{Refusal}
 use Rattle.hub_commands.specs.Asked.{IsRefused}
 use Rattle.hub_commands.specs.Notes.{reason_of}
-
--- it was sent once, and this is the reply
-replied_by : (sent sends had has noted : Option (List ℕ)) (faults : Option ℕ) (asked : Request) (text : List ℕ) (read : BorrowedReply) (it : Reply) (h : IsShown text read)
-    → h.reply ≡ it → IsAnswered sent sends had has (spelling (form_of asked)) text
-    → IsReplied (record { sent = sent; had = had; noted = noted; faults = faults }) (record { sent = sends; had = has; noted = noted; faults = faults }) asked it
-replied_by sent sends had has noted faults asked text read it h same answered = record {
-  of_hub = subst IsOfHub same h.of_hub;
-  answered = subst (IsAnswered sent sends had has (spelling (form_of asked))) (h.spelled ∙ ap text_of same) answered;
-  noted = refl;
-  faults = refl;
-}
 
 -- it was refused, and that was noted
 pub refused_by : (sent sends had has noted notes : Option (List ℕ)) (faults failed : Option ℕ) (asked : Request) (text name bytes : List ℕ) (read : BorrowedReply) (refusal : Refusal) (h : IsShown text read)

@@ -21,7 +21,6 @@ use Rattle.hub_commands.specs.Notes.{reason_of}
 use Rattle.hub_commands.specs.declared.ending.BadWords.{BadWords}
 use Rattle.hub_commands.specs.declared.ending.Ending.{Ending}
 use Rattle.hub_commands.specs.declared.ending.Ending.TheVariants.{Refused, Stopped, Failed}
-use Rattle.hub_commands.specs.declared.fault.Fault.{Fault}
 use Rattle.hub_commands.specs.declared.fault.Fault.TheVariants.{Memory, Ask}
 
 -- ---- one request

@@ -43,7 +43,7 @@ evicted_shown reply.Evicted h = refl
 evicted_shown it h = absurd h
 
 -- the reply to a request, by what was shown of it
-replied_by : (sent sends had has noted : Option (List ℕ)) (faults : Option ℕ) (asked : Request) (text : List ℕ) (read : BorrowedReply) (it : Reply) (h : IsShown text read)
+pub replied_by : (sent sends had has noted : Option (List ℕ)) (faults : Option ℕ) (asked : Request) (text : List ℕ) (read : BorrowedReply) (it : Reply) (h : IsShown text read)
     → h.reply ≡ it → IsAnswered sent sends had has (spelling (form_of asked)) text
     → IsReplied (record { sent = sent; had = had; noted = noted; faults = faults }) (record { sent = sends; had = has; noted = noted; faults = faults }) asked it
 replied_by sent sends had has noted faults asked text read it h same answered = record {
