@@ -7,7 +7,7 @@ _ftrighub_before() {
     for ((at = 2; at < COMP_CWORD; at++)); do
         case ${COMP_WORDS[at]} in
         --socket) socket=(--socket "${COMP_WORDS[++at]}") ;;
-        --for | --pattern) at=$((at + 1)) ;;
+        --for | --pattern | --tell | --waiting | --total) at=$((at + 1)) ;;
         -*) ;;
         *) place=$((place + 1)) ;;
         esac
@@ -33,25 +33,29 @@ _ftrighub() {
     ((COMP_CWORD == 1)) || command=${COMP_WORDS[1]}
     _ftrighub_before
     case $command:${COMP_WORDS[COMP_CWORD - 1]} in
-    *:--socket) command=FILES ;;
-    serve:--sessions | serve:--ready-fd | serve:--idle | wait:--for | follow:--pattern) return 0 ;;
+    *:--socket | serve:--setup) command=FILES ;;
+    serve:--sessions | serve:--ready-fd | serve:--idle | wait:--for | follow:--pattern | make:--waiting | make:--total) return 0 ;;
     serve:--mode) command=MODE ;;
+    hold:--tell) command=STATE ;;
     esac
     case $command:$place:$word in
     MODE:*) words="0600 0620 0622 0660 0666" ;;
     :*:-*) words="-h --help -V --version" ;;
-    serve:*:-*) words="-h --help --forever --idle --mode --ready-fd --sessions" ;;
+    serve:*:-*) words="-h --help --forever --idle --mode --ready-fd --sessions --setup" ;;
     call:*:-* | script:*:-*) words="-h --help" ;;
     ask:0:-*) words="-h --help --socket" ;;
     wait:*:-*) words="-h --help --socket --for" ;;
+    make:*:-*) words="-h --help --socket --plain --no-readiness --waiting --total --hold" ;;
     tell:*:-* | status:*:-*) words="-h --help --socket" ;;
+    hold:*:-*) words="-h --help --socket --tell" ;;
     follow:*:-*) words="-h --help --socket --pattern --plain --once" ;;
-    :* | help:*) words="tell wait status follow ask serve call script help" ;;
+    :* | help:*) words="make tell hold wait status follow ask serve call script help" ;;
     wait:0:*) words="all any" ;;
     wait:1:*) words="up ready down finished restarted restarted-ready" ;;
-    tell:1:*) words="off down up ready failed" ;;
+    tell:1:* | STATE:*) words="off down up ready failed" ;;
+    hold:1:*) words="off down failed" ;;
     ask:0:*) words=$(_ftrighub_words) ;;
-    ask:* | tell:* | wait:* | status:* | follow:*) words=$(_ftrighub_names) ;;
+    ask:* | make:* | tell:* | hold:* | wait:* | status:* | follow:*) words=$(_ftrighub_names) ;;
     FILES:* | serve:* | call:*)
         compopt -o filenames 2>/dev/null
         mapfile -t COMPREPLY < <(compgen -f -- "$word")

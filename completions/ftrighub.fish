@@ -16,7 +16,9 @@ function __ftrighub_words
 end
 
 complete -c ftrighub -f
+complete -c ftrighub -n __fish_use_subcommand -a make -d 'Make services, or check those that are there'
 complete -c ftrighub -n __fish_use_subcommand -a tell -d 'Say whether a service is off, down, up, ready or failed'
+complete -c ftrighub -n __fish_use_subcommand -a hold -d 'Say where a service is, and what it is once this command has ended'
 complete -c ftrighub -n __fish_use_subcommand -a wait -d "Wait until services reach a state, and report those that don't"
 complete -c ftrighub -n __fish_use_subcommand -a status -d 'Show the state of services, in a table'
 complete -c ftrighub -n __fish_use_subcommand -a follow -d 'Print events as they arrive'
@@ -31,15 +33,23 @@ complete -c ftrighub -n '__fish_seen_subcommand_from serve' -l sessions -x -d 'H
 complete -c ftrighub -n '__fish_seen_subcommand_from serve' -l forever -d 'Run until stopped; N is then 1 to 1024, or else 64'
 complete -c ftrighub -n '__fish_seen_subcommand_from serve' -l ready-fd -x -d 'With --forever: write a newline to D once it listens'
 complete -c ftrighub -n '__fish_seen_subcommand_from serve' -l idle -x -d 'With --forever: end sessions idle for SECONDS'
+complete -c ftrighub -n '__fish_seen_subcommand_from serve' -l setup -r -F -d 'With --forever: carry out the lines of FILE first'
 complete -c ftrighub -n '__fish_seen_subcommand_from serve' -l mode -x -a '0600 0620 0622 0660 0666' -d 'With --forever: mode of the socket file'
-complete -c ftrighub -n '__fish_seen_subcommand_from ask tell wait status follow' -l socket -r -F -d 'Socket of the hub (or else FTRIGHUB_SOCKET has it)'
+complete -c ftrighub -n '__fish_seen_subcommand_from ask make tell hold wait status follow' -l socket -r -F -d 'Socket of the hub (or else FTRIGHUB_SOCKET has it)'
 complete -c ftrighub -n '__fish_seen_subcommand_from wait' -l for -x -d 'Time limit, such as 500ms, 5s or 2m'
 complete -c ftrighub -n '__fish_seen_subcommand_from wait' -a 'all any up ready down finished restarted restarted-ready'
+complete -c ftrighub -n '__fish_seen_subcommand_from make' -l plain -d 'Make plain fifodirs, which take any letters'
+complete -c ftrighub -n '__fish_seen_subcommand_from make' -l no-readiness -d "The services don't report that they are ready"
+complete -c ftrighub -n '__fish_seen_subcommand_from make' -l waiting -x -d 'How many events may be pending, 1 to 4096'
+complete -c ftrighub -n '__fish_seen_subcommand_from make' -l total -x -d 'How many in all, from 1 to 10^12'
+complete -c ftrighub -n '__fish_seen_subcommand_from make' -l hold -d 'Refuse what has no room, and evict no subscriber'
 complete -c ftrighub -n '__fish_seen_subcommand_from tell' -a 'off down up ready failed'
+complete -c ftrighub -n '__fish_seen_subcommand_from hold' -l tell -x -a 'off down up ready failed' -d 'Where it is now, to be told at the beginning'
+complete -c ftrighub -n '__fish_seen_subcommand_from hold' -a 'off down failed'
 complete -c ftrighub -n '__fish_seen_subcommand_from ask' -a '(__ftrighub_words)'
-complete -c ftrighub -n '__fish_seen_subcommand_from tell wait status follow ask' -a '(__ftrighub_names)'
+complete -c ftrighub -n '__fish_seen_subcommand_from make tell hold wait status follow ask' -a '(__ftrighub_names)'
 complete -c ftrighub -n '__fish_seen_subcommand_from follow' -l pattern -x -d 'Write the hits of this pattern, and not each letter'
 complete -c ftrighub -n '__fish_seen_subcommand_from follow' -l plain -d 'Write the letters alone'
 complete -c ftrighub -n '__fish_seen_subcommand_from follow' -l once -d 'End with the first letter, or the first hit'
 complete -c ftrighub -n '__fish_seen_subcommand_from serve call; and not __fish_seen_subcommand_from help' -F
-complete -c ftrighub -n '__fish_seen_subcommand_from help' -a 'tell wait status follow ask serve call script help'
+complete -c ftrighub -n '__fish_seen_subcommand_from help' -a 'make tell hold wait status follow ask serve call script help'

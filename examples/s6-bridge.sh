@@ -5,8 +5,9 @@
 #
 # NAME is the service's name at the hub, or SERVICEDIR's last part if it isn't given. The bridge takes one of the hub's
 # sessions. FTRIGHUB in the environment is the program, or else `ftrighub` on the path. READY_FD is a descriptor that gets a
-# newline once the hub has the service, if it is given. The bridge runs until it is killed; if the hub ends, it connects to the
-# next hub at SOCKET. See docs/manual/s6-bridge.md, or `man ftrighub-s6-bridge`.
+# newline once the hub has the service, if it is given. The bridge runs until it is killed, and then the hub says that the service
+# is down and not supervised. If the hub ends, the bridge connects to the next hub at SOCKET. See docs/manual/s6-bridge.md, or
+# `man ftrighub-s6-bridge`.
 set -u
 [ $# -eq 2 ] || [ $# -eq 3 ] || {
     echo "usage: s6-bridge.sh SERVICEDIR SOCKET [NAME]" >&2
@@ -30,7 +31,8 @@ work=
 session=
 count=0  # how many events the hub has, as far as this bridge knows
 seen=    # letters that were read, and that the hub may not have
-failed=  # O if the service failed for good, as far as this bridge has read
+failed=? # O if the service failed for good, as far as this bridge has read, or ? before it has read anything of that
+anew=    # yes until this session of the hub has settled
 told=    # letters that the look had already, and that may still come
 letter=
 quiet=0
@@ -181,7 +183,16 @@ settle() {
     word=${ways[$known$stage]-}
     # It fell and is back: the least letters don't say so.
     [[ $stage == x || $seen != *[sdD]* || $word == *[sdD]* ]] || word=${ways[x$stage]}
-    [[ $stage == x || -z $failed || ($word != *[su]* && $((code & 8)) -ne 0) ]] || word+=O
+    # The hub carries out a will only where the last letter is this session's own.
+    [[ -z $anew || -n $word || $stage != [uU] ]] || word=${ways[x$stage]}
+    anew=
+    local fails=$failed
+    if [ "$failed" = '?' ]; then
+        # What the hub knew of a service that is wholly down still holds.
+        fails=
+        [[ $stage != s || $((code & 8)) -eq 0 ]] || fails=O
+    fi
+    [[ $stage == x || -z $fails || ($word != *[su]* && $((code & 8)) -ne 0) ]] || word+=O
     count=$number
     if [ -n "$word" ]; then
         ask "pub $name $word" || return
@@ -192,24 +203,12 @@ settle() {
     quiet=0
     told=uUdD
     [ "$word" != s ] || told+=s
-    [[ $known$word != *u ]] || agree
 }
 
 # settle_anew WHY: does so once more, since the hub isn't as the bridge has left it, and says what it published.
 settle_anew() {
     settle || return
     tell "$1; looked again, and published ${word:-nothing}"
-}
-
-# agree: if the hub had the service already, it has to report readiness as this one does. That shows as soon as it is up
-# and not ready.
-agree() {
-    [ -z "$agreed" ] || return 0
-    ask "wait all ready 0 $name" || return
-    case $reports:$reply in
-    0:yes* | 1:late | 1:never) agreed=yes ;;
-    0:late | 0:never | 1:yes*) fail "the hub has a service of this name with another R, not $reports" ;;
-    esac
 }
 
 # carry: publishes $letter. It fails if the session has ended.
@@ -236,7 +235,6 @@ carry() {
     case $reply in
     "ok $count")
         count=$((count + 1))
-        [ "$letter" != u ] || agree
         ;;
     ok\ *) settle_anew "somebody else publishes at this service" ;;
     'no unlawful 0') [[ $had == *"$letter"* ]] || settle_anew "the hub refused the letter $letter, which can't follow" ;;
@@ -261,20 +259,27 @@ check() {
     if next; then carry; else settle_anew "s6 sent no letter for a change"; fi
 }
 
-# begin: makes the service at the hub. It fails if the session has ended. The service evicts clients that don't take their
-# letters: one of them would else keep the bridge, and with it every wait, from the letters that follow.
+# begin: makes the service at the hub, and leaves a will for it: if this session ends, nobody knows how the service is. It fails if
+# the session has ended. The service evicts clients that don't take their letters: one of them would else keep the bridge, and with
+# it every wait, from the letters that follow.
 begin() {
-    agreed=yes
+    anew=yes
     ask "svc $name 4096 1000000000000 $reports evict" || return
     case $reply in
     ok) ;;
     'no exists')
-        agreed=
-        ask "wait any up 0 $name" || return
-        [ "$reply" != 'no kind' ] || fail "the hub has a fifodir of this name that is no service's"
+        ask "about $name" || return
+        case $reply in
+        "ok svc $reports "*) ;;
+        'ok svc '*) fail "the hub has a service of this name with another R, not $reports" ;;
+        'ok dir '*) fail "the hub has a fifodir of this name that is no service's" ;;
+        *) fail "about: $reply" ;;
+        esac
         ;;
     *) fail "$reply" ;;
     esac
+    ask "will $name off" || return
+    [ "$reply" = ok ] || fail "will: $reply"
 }
 
 # follow: carries letter after letter, until the session has ended.

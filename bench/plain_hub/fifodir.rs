@@ -1,7 +1,7 @@
 //! One fifodir: its events that wait, where each subscription is, and what the letters say of a service.
 
 use crate::reply::Refusal;
-use crate::request::{Service, Want};
+use crate::request::{Service, State, Want};
 use std::collections::{HashMap, HashSet, VecDeque};
 
 #[derive(Clone, Copy, Default)]
@@ -37,6 +37,20 @@ pub struct Fifodir {
     cursors: HashMap<u64, u64>,
     evicted: HashSet<u64>,
     given: u64,
+    /// The sessions that are its publishers, and the one that published the last event.
+    publishers: HashSet<u64>,
+    last: Option<u64>,
+}
+
+/// What a fifodir is, and how much is there.
+pub struct About {
+    pub service: Option<Service>,
+    pub waiting: u64,
+    pub total: u64,
+    pub evicts: bool,
+    pub subscriptions: usize,
+    pub publishers: usize,
+    pub pending: u64,
 }
 
 impl Fifodir {
@@ -54,6 +68,8 @@ impl Fifodir {
             cursors: HashMap::new(),
             evicted: HashSet::new(),
             given: 0,
+            publishers: HashSet::new(),
+            last: None,
         }
     }
 
@@ -74,7 +90,73 @@ impl Fifodir {
         Ok(self.given)
     }
 
-    pub fn publish(&mut self, letters: &str) -> Result<u64, Refusal> {
+    pub fn close(&mut self) -> Result<(), Refusal> {
+        if self.closed {
+            return Err(Refusal::Word("closed"));
+        }
+        self.closed = true;
+        Ok(())
+    }
+
+    /// Makes a session a publisher.
+    pub fn join(&mut self, session: u64) {
+        self.publishers.insert(session);
+    }
+
+    pub fn leave(&mut self, session: u64) {
+        self.publishers.remove(&session);
+    }
+
+    pub fn is_last(&self, session: u64) -> bool {
+        self.last == Some(session)
+    }
+
+    pub fn about(&self) -> About {
+        About {
+            service: self.service,
+            waiting: self.waiting,
+            total: self.total,
+            evicts: self.evicts,
+            subscriptions: self.cursors.len(),
+            publishers: self.publishers.len(),
+            pending: self.cursors.values().map(|next| self.number() - next).max().unwrap_or(0),
+        }
+    }
+
+    /// Publishes what brings the service to the state.
+    pub fn tell(&mut self, session: u64, state: State) -> Result<u64, Refusal> {
+        self.publish(session, self.letters_to(state))
+    }
+
+    /// The letters after which the state holds: none where it holds already.
+    fn letters_to(&self, state: State) -> &'static str {
+        let failed = self.flags.failed;
+        match (state, self.stage) {
+            (State::Up, Stage::Off) => "su",
+            (State::Up, Stage::Idle) => "u",
+            (State::Up, Stage::Ending) => "Du",
+            (State::Ready, Stage::Off) => "suU",
+            (State::Ready, Stage::Idle) => "uU",
+            (State::Ready, Stage::Starting) => "U",
+            (State::Ready, Stage::Ending) => "DuU",
+            (State::Down, Stage::Off) => "s",
+            (State::Down, Stage::Starting | Stage::Ready) => "dD",
+            (State::Down, Stage::Ending) => "D",
+            (State::Failed, Stage::Off) => "sO",
+            (State::Failed, Stage::Idle) if !failed => "O",
+            (State::Failed, Stage::Starting | Stage::Ready) if failed => "dD",
+            (State::Failed, Stage::Starting | Stage::Ready) => "dDO",
+            (State::Failed, Stage::Ending) if failed => "D",
+            (State::Failed, Stage::Ending) => "DO",
+            (State::Off, Stage::Off) if self.flags.up => "sx",
+            (State::Off, Stage::Idle) => "x",
+            (State::Off, Stage::Starting | Stage::Ready) => "dDx",
+            (State::Off, Stage::Ending) => "Dx",
+            _ => "",
+        }
+    }
+
+    pub fn publish(&mut self, session: u64, letters: &str) -> Result<u64, Refusal> {
         if self.closed {
             return Err(Refusal::Word("closed"));
         }
@@ -92,6 +174,9 @@ impl Fifodir {
         let held = if self.evicts { 0 } else { self.events.len() as u64 };
         if !self.cursors.is_empty() && held + count > self.waiting {
             return Err(Refusal::Word("full"));
+        }
+        if count > 0 {
+            self.last = Some(session);
         }
         self.events.extend(letters.bytes());
         self.stage = stage;

@@ -1,15 +1,11 @@
-//! Requests to replies.
+//! The fifodirs, by their names.
 
 use crate::fifodir::Fifodir;
-use crate::pattern::Pattern;
 use crate::reply::{Refusal, Reply};
-use crate::request::{Request, Want};
+use crate::request::Want;
 use std::collections::HashMap;
 
 const MOST_NAMES: usize = 256;
-const MOST_HANDLES: usize = 256;
-const MOST_NUMBERS: u64 = 1_000_000;
-const MOST_LETTERS: usize = 4096;
 const LONGEST_REPLY: usize = 4101;
 
 #[derive(Default)]
@@ -17,64 +13,53 @@ pub struct Hub {
     fifodirs: HashMap<String, Fifodir>,
     /// In the order in which they were made.
     names: Vec<String>,
-    handles: HashMap<u64, Handle>,
-    given: u64,
-}
-
-/// A subscription of a fifodir, and its listener where it has one.
-struct Handle {
-    name: String,
-    id: u64,
-    listener: Option<Listener>,
-}
-
-struct Listener {
-    pattern: Pattern,
-    once: bool,
-    letters: String,
+    /// Whether its sessions are publishers.
+    has_publishers: bool,
 }
 
 impl Hub {
-    pub fn ask(&mut self, request: Request) -> Reply {
-        self.answer(request).unwrap_or_else(Reply::No)
+    pub fn new(has_publishers: bool) -> Hub {
+        Hub { has_publishers, ..Hub::default() }
     }
 
-    fn answer(&mut self, request: Request) -> Result<Reply, Refusal> {
-        match request {
-            Request::Make { name, waiting, total, service, evict } => {
-                if self.fifodirs.contains_key(name) {
-                    return Err(Refusal::Word("exists"));
-                }
-                if self.fifodirs.len() >= MOST_NAMES {
-                    return Err(Refusal::Word("many"));
-                }
-                let fifodir = Fifodir::new(service, waiting, total, evict);
-                self.fifodirs.insert(name.to_string(), fifodir);
-                self.names.push(name.to_string());
-                Ok(Reply::Done)
-            }
-            Request::Sub { name } => self.subscribe(name, None),
-            Request::Pub { name, letters } => {
-                Ok(Reply::Number(self.find(name)?.publish(letters)?))
-            }
-            Request::Take { id, max } => self.take(id, max),
-            Request::Cancel { id } => self.cancel(id),
-            Request::Close { name } => self.close(name),
-            Request::Status { name } => {
-                let found = self.find(name)?;
-                let (number, code) = (found.number(), found.flags.code());
-                Ok(Reply::State { number, code, closed: found.closed })
-            }
-            Request::Listen { name, once, pattern } => self.subscribe(name, Some((once, pattern))),
-            Request::Poll { id } => self.poll(id),
-            Request::Await { id } => self.has_something(id),
-            Request::Wait { all, want, names } => self.wait(all, want, &names),
-            Request::Names { from } => Ok(self.list(from)),
+    pub fn make(&mut self, name: &str, fifodir: Fifodir) -> Result<(), Refusal> {
+        if self.fifodirs.contains_key(name) {
+            return Err(Refusal::Word("exists"));
         }
+        if self.fifodirs.len() >= MOST_NAMES {
+            return Err(Refusal::Word("many"));
+        }
+        self.fifodirs.insert(name.to_string(), fifodir);
+        self.names.push(name.to_string());
+        Ok(())
+    }
+
+    pub fn find(&mut self, name: &str) -> Result<&mut Fifodir, Refusal> {
+        self.fifodirs.get_mut(name).ok_or(Refusal::Word("name"))
+    }
+
+    pub fn find_service(&mut self, name: &str) -> Result<&mut Fifodir, Refusal> {
+        let found = self.find(name)?;
+        if found.service.is_some() { Ok(found) } else { Err(Refusal::Word("kind")) }
+    }
+
+    /// The fifodir, of which the session is a publisher from now on.
+    pub fn find_for(&mut self, session: u64, name: &str) -> Result<&mut Fifodir, Refusal> {
+        let counts = self.has_publishers;
+        let found = self.find(name)?;
+        if counts {
+            found.join(session);
+        }
+        Ok(found)
+    }
+
+    /// Takes a session from the publishers of all fifodirs.
+    pub fn leave(&mut self, session: u64) {
+        self.fifodirs.values_mut().for_each(|fifodir| fifodir.leave(session));
     }
 
     /// As many names as fit, each with a space before it.
-    fn list(&self, from: u64) -> Reply {
+    pub fn list(&self, from: u64) -> Reply {
         let mut listed = String::new();
         for name in self.names.iter().skip(from as usize) {
             if "names\n".len() + listed.len() + 1 + name.len() > LONGEST_REPLY {
@@ -86,97 +71,15 @@ impl Hub {
         if listed.is_empty() { Reply::Nothing } else { Reply::Names(listed) }
     }
 
-    fn find(&mut self, name: &str) -> Result<&mut Fifodir, Refusal> {
-        self.fifodirs.get_mut(name).ok_or(Refusal::Word("name"))
-    }
-
-    fn subscribe(&mut self, name: &str, listen: Option<(bool, &str)>) -> Result<Reply, Refusal> {
-        let fifodir = self.fifodirs.get_mut(name).ok_or(Refusal::Word("name"))?;
-        if self.handles.len() >= MOST_HANDLES {
-            return Err(Refusal::Word("many"));
-        }
-        if self.given >= MOST_NUMBERS {
-            return Err(Refusal::Word("spent"));
-        }
-        let listener = match listen {
-            Some((once, text)) => {
-                let pattern = Pattern::of(text).ok_or(Refusal::Word("pattern"))?;
-                Some(Listener { pattern, once, letters: String::new() })
-            }
-            None => None,
-        };
-        let id = fifodir.subscribe()?;
-        self.given += 1;
-        self.handles.insert(self.given, Handle { name: name.to_string(), id, listener });
-        Ok(Reply::Number(self.given))
-    }
-
-    fn take(&mut self, id: u64, max: usize) -> Result<Reply, Refusal> {
-        let handle = self.handles.get(&id).ok_or(Refusal::Word("id"))?;
-        if handle.listener.is_some() {
-            return Err(Refusal::Word("id"));
-        }
-        let fifodir = self.fifodirs.get_mut(&handle.name).ok_or(Refusal::Word("name"))?;
-        let letters = fifodir.take(handle.id, max);
-        Ok(if letters.is_empty() { idle(fifodir, handle.id) } else { Reply::Got(letters) })
-    }
-
-    fn cancel(&mut self, id: u64) -> Result<Reply, Refusal> {
-        let handle = self.handles.remove(&id).ok_or(Refusal::Word("id"))?;
-        self.find(&handle.name)?.cancel(handle.id);
-        Ok(Reply::Done)
-    }
-
-    fn close(&mut self, name: &str) -> Result<Reply, Refusal> {
-        let fifodir = self.find(name)?;
-        if fifodir.closed {
-            return Err(Refusal::Word("closed"));
-        }
-        fifodir.closed = true;
-        Ok(Reply::Done)
-    }
-
-    fn poll(&mut self, id: u64) -> Result<Reply, Refusal> {
-        let handle = self.handles.get_mut(&id).ok_or(Refusal::Word("id"))?;
-        let listener = handle.listener.as_mut().ok_or(Refusal::Word("id"))?;
-        let fifodir = self.fifodirs.get_mut(&handle.name).ok_or(Refusal::Word("name"))?;
-        if listener.letters.len() >= MOST_LETTERS {
-            return Err(Refusal::Word("overlong"));
-        }
-        while listener.letters.len() < MOST_LETTERS {
-            let letter = fifodir.take(handle.id, 1);
-            if letter.is_empty() {
-                return Ok(idle(fifodir, handle.id));
-            }
-            listener.letters.push_str(&letter);
-            if listener.pattern.is_found_in(&listener.letters) {
-                let hit = std::mem::take(&mut listener.letters);
-                if listener.once {
-                    self.cancel(id)?;
-                }
-                return Ok(Reply::Hit(hit));
-            }
-        }
-        Ok(Reply::Nothing)
-    }
-
-    /// One client has nobody to wait for here either. No listener holds a letter.
-    fn has_something(&self, id: u64) -> Result<Reply, Refusal> {
-        let handle = self.handles.get(&id).ok_or(Refusal::Word("id"))?;
-        let fifodir = self.fifodirs.get(&handle.name).ok_or(Refusal::Word("name"))?;
-        let comes = fifodir.closed || fifodir.is_evicted(handle.id) || fifodir.has_pending(handle.id);
-        Ok(if comes { Reply::Done } else { Reply::Late })
-    }
-
-    /// One client has nobody to wait for, so the answer is that of the services as they are.
-    fn wait(&mut self, all: bool, want: Want, names: &[&str]) -> Result<Reply, Refusal> {
+    /// Nobody publishes meanwhile, so the answer is that of the services as they are.
+    pub fn wait(&mut self, all: bool, want: Want, names: &[&str]) -> Result<Reply, Refusal> {
         let mut met = Vec::new();
         let mut hopeless = Vec::new();
         for name in names {
             self.find(name)?;
         }
-        if names.iter().any(|name| self.fifodirs[*name].service.is_none()) {
-            return Err(Refusal::Word("kind"));
+        for name in names {
+            self.find_service(name)?;
         }
         for name in names {
             let fifodir = self.find(name)?;
@@ -194,14 +97,5 @@ impl Hub {
             false if hopeless.iter().all(|hopeless| *hopeless) => Reply::Never,
             _ => Reply::Late,
         })
-    }
-}
-
-/// The reply for a subscription that has no event to take.
-fn idle(fifodir: &Fifodir, id: u64) -> Reply {
-    match (fifodir.is_evicted(id), fifodir.closed) {
-        (true, _) => Reply::Evicted,
-        (false, true) => Reply::End,
-        (false, false) => Reply::Nothing,
     }
 }

@@ -1,5 +1,6 @@
 //! What a request is answered, and how that is written.
 
+use crate::fifodir::About;
 use std::fmt;
 
 pub enum Reply {
@@ -15,6 +16,7 @@ pub enum Reply {
     Never,
     Late,
     Names(String),
+    About(About),
     No(Refusal),
 }
 
@@ -49,8 +51,21 @@ impl fmt::Display for Reply {
             Reply::Never => write!(f, "never"),
             Reply::Late => write!(f, "late"),
             Reply::Names(names) => write!(f, "names{names}"),
+            Reply::About(about) => write!(f, "ok {about}"),
             Reply::No(refusal) => write!(f, "no {refusal}"),
         }
+    }
+}
+
+impl fmt::Display for About {
+    fn fmt(&self, f: &mut fmt::Formatter<'_>) -> fmt::Result {
+        let (kind, reports) = match self.service {
+            Some(service) => ("svc", service.notifies as u8),
+            None => ("dir", 0),
+        };
+        let policy = if self.evicts { "evict" } else { "hold" };
+        write!(f, "{kind} {reports} {} {} {policy} ", self.waiting, self.total)?;
+        write!(f, "{} {} {}", self.subscriptions, self.publishers, self.pending)
     }
 }
 

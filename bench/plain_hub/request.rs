@@ -4,18 +4,77 @@ use crate::reply::Refusal;
 use std::ops::RangeInclusive;
 
 pub enum Request<'a> {
-    Make { name: &'a str, waiting: u64, total: u64, service: Option<Service>, evict: bool },
-    Sub { name: &'a str },
-    Pub { name: &'a str, letters: &'a str },
-    Take { id: u64, max: usize },
-    Cancel { id: u64 },
-    Close { name: &'a str },
-    Status { name: &'a str },
-    Listen { name: &'a str, once: bool, pattern: &'a str },
-    Poll { id: u64 },
-    Await { id: u64 },
-    Wait { all: bool, want: Want, names: Vec<&'a str> },
-    Names { from: u64 },
+    Make {
+        name: &'a str,
+        waiting: u64,
+        total: u64,
+        service: Option<Service>,
+        evict: bool,
+    },
+    Sub {
+        name: &'a str,
+    },
+    Pub {
+        name: &'a str,
+        letters: &'a str,
+    },
+    Take {
+        id: u64,
+        max: usize,
+    },
+    Cancel {
+        id: u64,
+    },
+    Close {
+        name: &'a str,
+    },
+    Status {
+        name: &'a str,
+    },
+    Listen {
+        name: &'a str,
+        once: bool,
+        pattern: &'a str,
+    },
+    Poll {
+        id: u64,
+    },
+    Await {
+        id: u64,
+    },
+    Wait {
+        all: bool,
+        want: Want,
+        names: Vec<&'a str>,
+    },
+    Names {
+        from: u64,
+    },
+    Next {
+        id: u64,
+    },
+    Tell {
+        name: &'a str,
+        state: State,
+    },
+    /// None takes it back.
+    Will {
+        name: &'a str,
+        state: Option<State>,
+    },
+    About {
+        name: &'a str,
+    },
+}
+
+/// Where a service is told to be.
+#[derive(Clone, Copy)]
+pub enum State {
+    Off,
+    Down,
+    Up,
+    Ready,
+    Failed,
 }
 
 /// What is known of a service: whether it reports readiness.
@@ -34,9 +93,9 @@ pub enum Want {
 }
 
 const MOST_EVENTS: u64 = 1_000_000_000_000;
-const WORDS: [&str; 13] = [
-    "dir", "svc", "sub", "pub", "take", "cancel", "close", "status", "listen", "poll", "await", "wait",
-    "names",
+const WORDS: [&str; 17] = [
+    "dir", "svc", "sub", "pub", "take", "cancel", "close", "status", "listen", "poll", "await",
+    "wait", "names", "next", "tell", "will", "about",
 ];
 
 /// The request that a line spells.
@@ -62,7 +121,9 @@ pub fn parse(line: &[u8]) -> Result<Request<'_>, Refusal> {
         ("svc", [n, w, t, r]) => make(n, w, t, Some(r), false),
         ("svc", [n, w, t, r, "evict"]) => make(n, w, t, Some(r), true),
         ("sub", [n]) => Ok(Request::Sub { name: name(n)? }),
-        ("pub", [n, letters]) if !letters.is_empty() => Ok(Request::Pub { name: name(n)?, letters }),
+        ("pub", [n, letters]) if !letters.is_empty() => {
+            Ok(Request::Pub { name: name(n)?, letters })
+        }
         ("take", [id, max]) => {
             let (id, max) = (numeral(id)?, numeral(max)?);
             Ok(Request::Take { id, max: within(max, 1..=256)? as usize })
@@ -76,6 +137,17 @@ pub fn parse(line: &[u8]) -> Result<Request<'_>, Refusal> {
             within(turns, 0..=1_000_000)?;
             Ok(Request::Await { id })
         }
+        ("next", [id, turns]) => {
+            let (id, turns) = (numeral(id)?, numeral(turns)?);
+            within(turns, 0..=1_000_000)?;
+            Ok(Request::Next { id })
+        }
+        ("tell", [n, text]) => {
+            let state = state(text).ok_or(Refusal::Word("form"))?;
+            Ok(Request::Tell { name: name(n)?, state })
+        }
+        ("will", [n, text]) => Ok(Request::Will { name: name(n)?, state: will(text)? }),
+        ("about", [n]) => Ok(Request::About { name: name(n)? }),
         ("names", [from]) => Ok(Request::Names { from: numeral(from)? }),
         ("wait", [span, want, turns, names @ ..]) => wait(span, want, turns, names),
         _ => Err(Refusal::Word("form")),
@@ -142,6 +214,26 @@ fn wait<'a>(
     let names = names.iter().map(|n| name(n)).collect::<Result<_, _>>()?;
     within(turns, 0..=1_000_000)?;
     Ok(Request::Wait { all, want, names })
+}
+
+fn state(field: &str) -> Option<State> {
+    match field {
+        "off" => Some(State::Off),
+        "down" => Some(State::Down),
+        "up" => Some(State::Up),
+        "ready" => Some(State::Ready),
+        "failed" => Some(State::Failed),
+        _ => None,
+    }
+}
+
+/// A will is that a service is told a state in which it isn't up, or none.
+fn will(field: &str) -> Result<Option<State>, Refusal> {
+    match (field, state(field)) {
+        ("none", _) => Ok(None),
+        (_, Some(state @ (State::Off | State::Down | State::Failed))) => Ok(Some(state)),
+        _ => Err(Refusal::Word("form")),
+    }
 }
 
 fn name(field: &str) -> Result<&str, Refusal> {

@@ -4,7 +4,8 @@ of what it saw. What a reply has to be whatever the others do is looked at here.
 import time
 from collections import Counter, defaultdict
 
-from hubs import Client
+from hubs import Client, seen_by
+from soaks.model import code_after, told
 
 # Fifodirs that hold publishers up, and fifodirs that evict; services of both kinds, and whether they report readiness.
 PLAIN = {"p0": "4096 1000000000000", "p1": "64 1000000000000", "p2": "4096 1000000000000 evict", "p3": "64 1000000000000 evict"}
@@ -17,6 +18,7 @@ ROOM, TOTAL = 16, 200
 # What a listener waits for: the end of a message whose number ends in 0.
 PATTERN = r"0\.*;"
 WANTS = ("up", "ready", "down", "finished", "restarted", "restarted-ready")
+STATES, WILLS = ("off", "down", "up", "ready", "failed"), ("off", "down", "failed")
 NEXT_LETTERS = {"s": "u", "u": "Ud", "U": "d", "d": "D", "D": "u", "x": ""}
 
 
@@ -29,7 +31,7 @@ class Log:
     """What a client saw."""
 
     def __init__(self):
-        self.requests = self.sessions = self.taken = 0
+        self.requests = self.sessions = self.taken = self.tells = self.wills = 0
         self.faults, self.stretches, self.hits, self.waits, self.listings, self.statuses = [], [], [], [], [], []
         self.messages = defaultdict(list)
         self.made, self.closed = Counter(), Counter()
@@ -125,50 +127,98 @@ class Publisher(Role):
 
 
 class Supervisor(Role):
-    """Publishes the letters of a service, and now and then one that isn't lawful. It is the service's only publisher."""
+    """Publishes the letters of a service, and now and then one that isn't lawful, or tells where the service is. It is the service's only
+    publisher, and leaves it a will."""
 
     def serve(self):
-        name, stage = f"s{self.at}", "x"
+        name, will = f"s{self.at}", self.dice.choice(("none", *WILLS))
+        self.full = [] if SERVICES[name].endswith("evict") else ["no full"]
+        self.stage, self.code = "x", int(self.ask(f"status {name}")[0].split()[2])
+        # The code alone doesn't show the stage, so it begins with `s`, which may always follow.
+        while self.publish(name, ["s"], *self.full):
+            time.sleep(0.001)
+        self.add("s")
+        for state in ("failed", will):
+            self.log.is_one_of("will", self.ask(f"will {name} {state}")[0], "ok")
         while self.goes_on(one_in=300):
-            text, last = self.letters(stage)
-            if self.dice.random() < 0.1:
-                unlawful = self.dice.choice([it for it in "uUdD" if it not in NEXT_LETTERS[last]])
-                line = f"pub {name} {text}{unlawful}"
-                self.log.is_one_of(line, self.ask(line)[0], f"no unlawful {len(text)}")
-            elif not self.publish(name, [text], *["no full"] * (not SERVICES[name].endswith("evict"))):
-                stage = last
+            self.tell(name) if self.dice.random() < 0.3 else self.send(name)
             time.sleep(self.dice.random() / 100)
+        if will != "none":
+            self.end_with(name, will)
+
+    def add(self, letters):
+        """Keeps what the letters say."""
+        for letter in letters:
+            self.code = code_after(self.code, letter)
+            self.stage = self.stage if letter == "O" else letter
+
+    def tell(self, name):
+        """Tells where the service is: what that publishes is the message."""
+        state = self.dice.choice(STATES)
+        word = told(state, self.stage, self.code)
+        (reply,) = self.ask(f"tell {name} {state}")
+        if reply.startswith("ok "):
+            self.log.keep(name, int(reply[3:]), [word] if word else [])
+            self.log.tells += 1
+            self.add(word)
+        else:
+            self.log.is_one_of(f"tell {name} {state}", reply, *self.full)
+
+    def end_with(self, name, state):
+        """Ends the session. Its will is the last message, which a next session sees once it has found room."""
+        number, word = self.number(name), told(state, self.stage, self.code)
+        self.client.close()
+        self.client = Client(self.path)
+        if word:
+            is_told = seen_by(lambda: self.number(name) > number)
+            self.log.is_one_of(f"a will {state} of {name}", "told" if is_told else "not told", "told")
+            self.log.keep(name, number, [word])
+            self.log.wills += 1
+
+    def send(self, name):
+        """Publishes some letters."""
+        text = self.letters(self.stage)
+        if self.dice.random() < 0.1:
+            last = (text.replace("O", "") or self.stage)[-1]
+            unlawful = self.dice.choice([it for it in "uUdD" if it not in NEXT_LETTERS[last]])
+            line = f"pub {name} {text}{unlawful}"
+            self.log.is_one_of(line, self.ask(line)[0], f"no unlawful {len(text)}")
+        elif not self.publish(name, [text], *self.full):
+            self.add(text)
 
     def letters(self, stage):
-        """Some lawful letters after the stage, and the stage after them."""
+        """Some lawful letters after the stage."""
         text = ""
         for _ in range(self.dice.randrange(1, 5)):
             often = NEXT_LETTERS[stage] * 8
             letter = self.dice.choice(often + "sxO") if often else "s"
             text += letter
             stage = stage if letter == "O" else letter
-        return text, stage
+        return text
 
 
 class Hearer(Role):
     """Hears a fifodir that is no service, by a handle."""
 
     def hear(self, begin, ask, word, *nothing):
-        """Begins, and asks behind each await until it may end or is evicted. The requests have NAME for the fifodir, and HANDLE. A reply has
-        this word before what came, and `nothing` is what both say if nothing did. Returns the name, the numbers of events before and after
+        """Begins, and asks behind each await, or by a next, until it may end or is evicted. The requests have NAME for the fifodir, and HANDLE.
+        A reply has this word before what came, and `nothing` is what both say if nothing did. Returns the name, the numbers of events before and after
         it began, and what came, and then the handle, and whether it was evicted."""
         name = self.dice.choice(list(PLAIN))
         before = self.number(name)
         handle = self.subscribe(begin.replace("NAME", name))
         heard = name, before, self.number(name), []
         while self.goes_on(one_in=2_000):
-            woken, reply = self.ask(f"await {handle} 100", ask.replace("HANDLE", str(handle)))
+            if self.dice.random() < 0.5:
+                woken, reply = "next", self.ask(f"next {handle} 100")[0]
+            else:
+                woken, reply = self.ask(f"await {handle} 100", ask.replace("HANDLE", str(handle)))
             if reply.startswith(f"{word} "):
                 heard[3].append(reply[len(word) + 1 :])
             elif reply == "evicted" and PLAIN[name].endswith("evict"):
                 return heard, handle, True
             else:
-                self.log.is_one_of(f"await, {ask}", f"{woken}, {reply}", *nothing)
+                self.log.is_one_of(f"await, {ask}", f"{woken}, {reply}", "next, late", *nothing)
         return heard, handle, False
 
 
@@ -255,7 +305,15 @@ class Visitor(Role):
         self.log.listings.append((place, reply.split()[1:]))
 
     def look(self):
-        self.number(self.dice.choice(list(PLAIN) + list(SERVICES)))
+        name = self.dice.choice(list(PLAIN) + list(SERVICES))
+        self.number(name)
+        (reply,) = self.ask(f"about {name}")
+        kind, *made = ("svc", *SERVICES[name].split()) if name in SERVICES else ("dir", *PLAIN[name].split())
+        reports = made.pop(2) if kind == "svc" else "0"
+        front = f"ok {kind} {reports} {made[0]} {made[1]} {made[2] if made[2:] else 'hold'} "
+        more = reply.removeprefix(front).split()
+        is_right = reply.startswith(front) and len(more) == 3 and 1 <= int(more[1]) <= sum(ROLES.values()) + 1 and int(more[2]) <= int(made[0])
+        self.log.is_one_of(f"about {name}: {reply}", is_right, True)
 
 
 # How many there are of each role.

@@ -1,13 +1,14 @@
 """A hub at full load: 64 sessions of all words, of clients that come and go. It is judged from outside, tenth by tenth of the
 run, when all clients of a tenth have left:
 
-- A `pub` that is accepted names the number of its message. These messages fill the fifodir's numbers without gap or overlap,
+- A `pub` that is accepted names the number of its message, and so does a `tell`. A will is the last message of its session. These fill the fifodir's numbers without gap or overlap,
   over all publishers, up to the number that `status` shows. So they make the fifodir's record.
-- What a subscription took is one stretch of the record, which begins between the numbers that `status` showed before and after
+- What a subscription took, by `take` or `next`, is one stretch of the record, which begins between the numbers that `status` showed before and after
   the `sub`. So are the hits of a listener together, and each hit is the least prefix with a match.
 - A `yes` names numbers that the services had during the wait, at which each was as wanted, by its letters so far; a restarted
   service fell before. A `never` had a service that failed for good, and a `late` one that wasn't as wanted.
 - Each `status` of a service shows the code of so many letters.
+- Each `about` shows what was made, no more events pending than may be, and a publisher for no more than each session.
 - Each `names` is a piece of the list of names, which only grows. Of those who make a name just one gets `ok`, and so does one of
   those who close it.
 - Each handle is the next number. After an `await` that is `ok`, a `take` has something. Each refusal is one that may be there.
@@ -114,7 +115,7 @@ class Books:
     def count(self, logs):
         for log in logs:
             messages = [text for its in log.messages.values() for _, text in its]
-            self.totals += Counter(requests=log.requests, sessions=log.sessions, taken=log.taken, waits=len(log.waits),
+            self.totals += Counter(requests=log.requests, sessions=log.sessions, taken=log.taken, waits=len(log.waits), tells=log.tells, wills=log.wills,
                                    hits=sum(len(it[3]) for it in log.hits), letters=sum(map(len, messages)))
 
 
@@ -157,8 +158,8 @@ def check(program, folder, report, seconds):
                   flush=True)
     took, totals = time.monotonic() - begun, books.totals
     print(f"soak: {totals['requests']} requests of {totals['sessions']} sessions in {seconds} s of load, {totals['letters']} letters "
-          f"published, {totals['taken']} taken, {totals['hits']} hits, {totals['waits']} waits; the hub used "
-          f"{hub.processor_time() - used:.0f} s of processor time in {took:.0f} s", flush=True)
+          f"published, {totals['taken']} taken, {totals['hits']} hits, {totals['waits']} waits, {totals['tells']} states and "
+          f"{totals['wills']} wills told; the hub used {hub.processor_time() - used:.0f} s of processor time in {took:.0f} s", flush=True)
     print(f"soak: KiB of memory after each tenth: {memory}", flush=True)
     report.at_most("load: KiB of memory more than after the first tenth", max(memory) - memory[0],
                    MORE_MEMORY if seconds >= 60 else ROUGHLY)

@@ -19,6 +19,20 @@ def code_after(code, letter):
     return code
 
 
+# What a `tell` publishes where a service's last letter but `O` is this one. Before any letter it is as behind `x`.
+TELLS = {"up": {"x": "su", "s": "u", "D": "u", "d": "Du"}, "ready": {"x": "suU", "s": "uU", "D": "uU", "u": "U", "d": "DuU"},
+         "down": {"x": "s", "u": "dD", "U": "dD", "d": "D"}, "failed": {"x": "sO", "s": "O", "D": "O", "u": "dDO", "U": "dDO", "d": "DO"},
+         "off": {"s": "x", "D": "x", "u": "dDx", "U": "dDx", "d": "Dx"}}
+
+
+def told(state, last, code):
+    """What a `tell` of this state publishes, or a will: nothing if it holds already. `last` is the last letter but `O`."""
+    if (state, last) == ("off", "x") and code & UP:
+        return "sx"
+    word = TELLS[state].get(last, "")
+    return word.removesuffix("O") if last != "x" and code & FAILED else word
+
+
 def is_met(want, code, reports):
     """Whether a service with this code is in the wanted state. What fell is not looked at here."""
     up, settled = bool(code & UP), bool(code & SETTLED)

@@ -21,9 +21,9 @@ The session ends with the reply, and its subscriptions with it. Without
 Exit status: 0 the reply is ok, got, hit, yes or names; 3 no; 4 never; 5 late;
 6 none, end or evicted. 2 the command line was refused. 1 an error while
 running, with a line on standard error: `cannot connect`, `no answer` (no reply
-within 10 seconds, and the time of the wait or await itself), `send failed`,
-`receive failed`, `connection ended`, `unknown reply` (it isn't a hub), `write
-failed`, `too many reads`, `out of memory`.";
+within 10 seconds, and the time of the wait, await or next itself), `send
+failed`, `receive failed`, `connection ended`, `unknown reply` (it isn't a hub),
+`write failed`, `too many reads`, `out of memory`.";
 
 /// The subcommand `wait` in one line.
 pub const WAIT_ABOUT: &str = "Wait until services reach a state, and report those that don't";

@@ -1,17 +1,61 @@
-//! The subcommands that change something at a hub.
+//! The subcommands that change something at a hub: they make fifodirs, say where a service is, and leave a will for it.
 
-use crate::changing_help::{TELL_ABOUT, TELL_LINES};
+use crate::changing_help::{
+    HOLD_ABOUT, HOLD_LINES, MAKE_ABOUT, MAKE_LINES, TELL_ABOUT, TELL_LINES,
+};
 use crate::command_line::Plan;
-use crate::options::{Made, asking, socket_in};
-use clap::{Arg, ArgMatches};
+use crate::options::{Made, NAMES, PLAIN, Read, asking, flag, operands, socket_in, valued, values};
+use clap::{Arg, ArgMatches, value_parser};
 use hub_letters::State;
+use hub_record::{Kind, Policy};
+use hub_requests::Will;
 use std::alloc::Global;
 
 const NAME: &str = "name";
 
 const STATE: &str = "state";
 
+const TELL: &str = "tell";
+
+const WILL: &str = "will";
+
+const NO_READINESS: &str = "no-readiness";
+
+const WAITING: &str = "waiting";
+
+const TOTAL: &str = "total";
+
+const HOLD: &str = "hold";
+
 static STATES: [&str; 5] = ["off", "down", "up", "ready", "failed"];
+
+static WILLS: [&str; 3] = ["off", "down", "failed"];
+
+/// What fifodirs are to be.
+#[derive(Clone, Copy, Debug, PartialEq, Eq)]
+pub struct Shape {
+    /// Whether it takes any letters, or those of a service in their lawful order.
+    pub kind: Kind,
+    /// Whether it is a service's, and the service reports its readiness.
+    pub notifies: bool,
+    /// How many events may be pending for a subscription.
+    pub waiting: u64,
+    /// How many events it takes in its life.
+    pub total: u64,
+    /// What happens if more events would be pending than may be.
+    pub policy: Policy,
+}
+
+/// What is held of a service.
+#[derive(Clone, Copy, Debug, PartialEq, Eq)]
+pub struct Hold<'a> {
+    /// The service.
+    pub name: &'a str,
+    /// Where it is to be told to be when the session ends.
+    pub will: Will,
+    /// Where it is said to be at the beginning, if that is said.
+    pub told: Option<State>,
+}
 
 pub(crate) fn tell_command<'a>(alloc: Global, known: Option<&'a str>) -> Made<'a> {
     let name = Arg::new(alloc, NAME)
@@ -26,6 +70,52 @@ pub(crate) fn tell_command<'a>(alloc: Global, known: Option<&'a str>) -> Made<'a
     asking(alloc, known, "tell", (TELL_ABOUT, TELL_LINES))?
         .arg(name)?
         .arg(state)
+}
+
+pub(crate) fn hold_command<'a>(alloc: Global, known: Option<&'a str>) -> Made<'a> {
+    let told = valued(alloc, TELL, "STATE")
+        .help("Where it is now, to be told at the beginning")
+        .value_parser(STATES.as_slice());
+    let name = Arg::new(alloc, NAME)
+        .value_name("NAME")
+        .help("Name of the service")
+        .required(true);
+    let will = Arg::new(alloc, WILL)
+        .value_name("WILL")
+        .help("Where it is when this command has ended")
+        .value_parser(WILLS.as_slice())
+        .default_value("down");
+    asking(alloc, known, "hold", (HOLD_ABOUT, HOLD_LINES))?
+        .arg(told)?
+        .arg(name)?
+        .arg(will)
+}
+
+fn waiting<'a>(alloc: Global) -> Arg<'a> {
+    valued(alloc, WAITING, "N")
+        .help("How many events may be pending, 1 to 4096")
+        .value_parser(value_parser!(u64).range(1..4097))
+        .default_value("64")
+}
+
+fn total<'a>(alloc: Global) -> Arg<'a> {
+    valued(alloc, TOTAL, "N")
+        .help("How many in all, from 1 to 10^12")
+        .value_parser(value_parser!(u64).range(1..1_000_000_000_001))
+        .default_value("1000000000000")
+}
+
+pub(crate) fn make_command<'a>(alloc: Global, known: Option<&'a str>) -> Made<'a> {
+    let plain = flag(alloc, PLAIN).help("Make plain fifodirs, which take any letters");
+    let unready = flag(alloc, NO_READINESS).help("The services don't report that they are ready");
+    let hold = flag(alloc, HOLD).help("Refuse what has no room, and evict no subscriber");
+    asking(alloc, known, "make", (MAKE_ABOUT, MAKE_LINES))?
+        .arg(plain)?
+        .arg(unready)?
+        .arg(waiting(alloc))?
+        .arg(total(alloc))?
+        .arg(hold)?
+        .arg(operands(alloc, NAMES, "NAME").help("Names of what is made"))
 }
 
 // The state of this word, which is one of `STATES`.
@@ -45,4 +135,48 @@ pub(crate) fn tell_plan<'a>(found: &ArgMatches<'a>) -> Plan<'a> {
         name: found.get_str(NAME).unwrap_or(""),
         state: state_of(found.get_str(STATE).unwrap_or("")),
     }
+}
+
+// The will of this word, which is one of `WILLS`.
+fn will_of(word: &str) -> Will {
+    match word {
+        "off" => Will::Off,
+        "failed" => Will::Failed,
+        _ => Will::Down,
+    }
+}
+
+pub(crate) fn hold_plan<'a>(found: &ArgMatches<'a>) -> Plan<'a> {
+    let hold = Hold {
+        name: found.get_str(NAME).unwrap_or(""),
+        will: will_of(found.get_str(WILL).unwrap_or("")),
+        told: found.get_str(TELL).map(state_of),
+    };
+    Plan::Hold {
+        socket: socket_in(found),
+        hold,
+    }
+}
+
+fn shape_in(found: &ArgMatches<'_>) -> Shape {
+    let is_plain = found.get_flag(PLAIN);
+    Shape {
+        kind: if is_plain { Kind::Plain } else { Kind::Service },
+        notifies: !is_plain && !found.get_flag(NO_READINESS),
+        waiting: found.get_one::<u64>(WAITING).unwrap_or(64),
+        total: found.get_one::<u64>(TOTAL).unwrap_or(1_000_000_000_000),
+        policy: if found.get_flag(HOLD) {
+            Policy::Hold
+        } else {
+            Policy::Evict
+        },
+    }
+}
+
+pub(crate) fn make_plan<'a>(alloc: Global, found: &ArgMatches<'a>) -> Read<'a> {
+    Ok(Plan::Make {
+        socket: socket_in(found),
+        names: values(alloc, found, NAMES)?,
+        shape: shape_in(found),
+    })
 }

@@ -1,5 +1,8 @@
 //! Reads the words of the command line.
-ghost use Rattle.std.specs.Prelude.{◌≡◌, ◌⊎◌, ℕ, codes, IfOk, IfSome};
+ghost use Rattle.std.specs.Prelude.{◌≡◌, ◌≢◌, ◌⊎◌, ℕ, codes, IfErr, IfOk, IfSome};
+ghost use Rattle.clap.specs.Words.{kind_of};
+ghost use Rattle.clap.specs.declared.error.ErrorKind.TheVariants as kind;
+ghost use Rattle.hub_arguments.specs.Environment.{IsTaken};
 ghost use Rattle.hub_arguments.specs.Words.{BeginsWith};
 ghost use Rattle.hub_arguments.specs.declared.command_line.Start.TheVariants.{End};
 
@@ -7,7 +10,9 @@ use crate::asking::{
     Wish, ask_command, ask_plan, follow_command, follow_plan, status_command, status_plan,
     wait_command, wait_plan,
 };
-use crate::changing::{tell_command, tell_plan};
+use crate::changing::{
+    Hold, Shape, hold_command, hold_plan, make_command, make_plan, tell_command, tell_plan,
+};
 use crate::help::{ABOUT, EXIT, LONG_ABOUT};
 use crate::serving::{
     HubOptions, call_command, call_plan, script_command, serve_command, serve_plan,
@@ -73,6 +78,18 @@ pub enum Plan<'a> {
         name: &'a str,
         state: State,
     },
+    /// Leaves a will for a service of the hub at the socket, and tells its state if that is said. Then it stays connected until
+    /// standard input ends.
+    Hold {
+        socket: &'a str,
+        hold: Hold<'a>,
+    },
+    /// Makes fifodirs of this shape at the hub at the socket, one for each name, or sees that they are there.
+    Make {
+        socket: &'a str,
+        names: Vec<&'a str>,
+        shape: Shape,
+    },
 }
 
 fn program<'a>(alloc: Global) -> Command<'a> {
@@ -91,7 +108,9 @@ fn command<'a>(
     known: Option<&'a str>,
 ) -> Result<Command<'a>, AllocError> {
     program(alloc)
+        .subcommand(make_command(alloc, known)?)?
         .subcommand(tell_command(alloc, known)?)?
+        .subcommand(hold_command(alloc, known)?)?
         .subcommand(wait_command(alloc, known)?)?
         .subcommand(status_command(alloc, known)?)?
         .subcommand(follow_command(alloc, known)?)?
@@ -115,7 +134,9 @@ pub fn read_words<'a>(
         Some(("serve", found)) => serve_plan(found),
         Some(("call", found)) => call_plan(found),
         Some(("ask", found)) => ask_plan(alloc, found)?,
+        Some(("make", found)) => make_plan(alloc, found)?,
         Some(("tell", found)) => tell_plan(found),
+        Some(("hold", found)) => hold_plan(found),
         Some(("wait", found)) => wait_plan(alloc, found)?,
         Some(("status", found)) => status_plan(alloc, found)?,
         Some(("follow", found)) => follow_plan(alloc, found)?,
@@ -134,14 +155,23 @@ pub enum Start<'a> {
 
 /// The exit status for words that run nothing: 2 if they were refused, 0 if they ask for help or the version.
 pub fn status_of(error: &Error) -> u8
-    ensures { (result ≡ 0) ⊎ (result ≡ 2) }
+    ensures shown { (kind_of error.now ≡ kind.DisplayHelp)
+        ⊎ (kind_of error.now ≡ kind.DisplayVersion) → result ≡ 0 }
+    ensures refused { kind_of error.now ≢ kind.DisplayHelp
+        → kind_of error.now ≢ kind.DisplayVersion → result ≡ 2 }
+    ensures either { (result ≡ 0) ⊎ (result ≡ 2) }
 {
     if error.use_stderr() { 2 } else { 0 }
 }
 
 // The same, unless the words couldn't be read for want of memory.
 fn status_with_memory(error: &Error) -> Result<u8, AllocError>
-    ensures { IfOk result (λ status. (status ≡ 0) ⊎ (status ≡ 2)) }
+    ensures memory { IfErr result (λ _. kind_of error.now ≡ kind.OutOfMemory) }
+    ensures shown { IfOk result (λ status. (kind_of error.now ≡ kind.DisplayHelp)
+        ⊎ (kind_of error.now ≡ kind.DisplayVersion) → status ≡ 0) }
+    ensures refused { IfOk result (λ status. kind_of error.now ≢ kind.DisplayHelp
+        → kind_of error.now ≢ kind.DisplayVersion → status ≡ 2) }
+    ensures either { IfOk result (λ status. (status ≡ 0) ⊎ (status ≡ 2)) }
 {
     if error.kind() == ErrorKind::OutOfMemory {
         return Err(AllocError);
@@ -179,7 +209,14 @@ pub fn own_words<H: Runtime + AllocGlobal>(rt: &H, alloc: Global) -> io::Result<
 
 /// The path of the socket that the environment has under `FTRIGHUB_SOCKET`. A path that is empty or not UTF-8 is none.
 pub fn own_socket<H: Runtime + AllocGlobal>(rt: &H) -> Result<Option<String>, AllocError> {
-    match env::var(rt, "FTRIGHUB_SOCKET") {
+    path_taken(env::var(rt, "FTRIGHUB_SOCKET"))
+}
+
+// The path that is taken, if this was found.
+fn path_taken(found: Result<String, VarError>) -> Result<Option<String>, AllocError>
+    ensures { IsTaken (λ path. path.bytes.items) found result }
+{
+    match found {
         Ok(path) if !path.is_empty() => Ok(Some(path)),
         Err(VarError::OutOfMemory) => Err(AllocError),
         Ok(_) | Err(VarError::NotPresent | VarError::NotUnicode) => Ok(None),

@@ -12,7 +12,7 @@ These lines start a hub, make the service db, say that it is ready, wait for
 it for five seconds at most, and end the hub:
 
   ftrighub serve hub.socket --forever & export FTRIGHUB_SOCKET=hub.socket
-  until ftrighub ask svc db 64 1000000 1 2>refused; do sleep 0.1; done
+  until ftrighub make db 2>refused; do sleep 0.1; done
   ftrighub tell db ready
   ftrighub wait all ready --for 5s db
   kill $!; wait
@@ -59,9 +59,17 @@ separated by exactly one space. Each request below has an example and its reply.
                  letters that bring it there are published, or none if it is
                  there; the reply has the number of the first event
                  tell db ready                 ok 0
+  will N STATE   what a service is told when this session ends, however it ends,
+                 if nobody else has published there since: off, down or failed,
+                 or none to take it back
+                 will db down                  ok
   status N       the number of events, the sum of the state's flags (up 1,
                  settled 2, supervised 4, failed 8), and open or closed
                  status web                    ok 2 0 open
+  about N        what a fifodir is: dir or svc, R (0 for a dir), W, T, and hold
+                 or evict; then how many subscriptions and publishers it has,
+                 and how many events are pending for its slowest subscription
+                 about log                     ok dir 0 64 1000 evict 0 0 0
   wait SPAN WANT TURNS N1 .. Nk
                  wait until all or any (SPAN) of 1 to 32 services are up, ready,
                  down, finished, restarted or restarted-ready (WANT), for at
@@ -83,6 +91,10 @@ separated by exactly one space. Each request below has an example and its reply.
   await ID TURNS sleep until the next take or poll of a handle has something to
                  do, for at most TURNS turns; it takes nothing
                  await 1 5000                  ok, or late
+  next ID TURNS  await, and then take at most 4096, or poll until it isn't none,
+                 in one request, for at most TURNS turns
+                 next 1 5000                   got ab, or hit suU, or end,
+                                               evicted or late
   cancel ID      end a subscription or a listener
                  cancel 1                      ok
   close N        accept no more events and subscriptions; what is pending may
@@ -101,7 +113,7 @@ A line that can't be carried out gets `no` and one word, and changes nothing:
                  out of range
   name, id       there is no such fifodir; no such handle
   exists         there is a fifodir with this name
-  kind           a wait or a tell for a fifodir that isn't a service's
+  kind           a wait, tell or will for a fifodir that isn't a service's
   unlawful I     the letter at I (the first has 0) isn't in the lawful order
   full           too many events would be pending: retry
   spent          the fifodir has accepted all the events that it ever will
@@ -113,9 +125,9 @@ A line that can't be carried out gets `no` and one word, and changes nothing:
 
 The session goes on after a refusal.
 
-In `script` nothing can change during a wait or an await, so each answers
-immediately. In a session of `serve` it sleeps until something changes, for
-about a millisecond a turn, but this isn't promised.
+In `script` nothing can change during a wait, an await or a next, so each
+answers immediately. In a session of `serve` it sleeps until something changes,
+for about a millisecond a turn, but this isn't promised.
 
 Exit status: 0 all went well, 1 an error while running (one line on standard
 error), 2 the command line was refused.";
@@ -137,7 +149,16 @@ somebody removes it. A client that disconnects ends its session, with its
 subscriptions and waits; the fifodirs stay as long as the hub. With
 --idle SECONDS a client is disconnected if it sends no whole line for so many
 seconds while its session waits for one, or takes no whole reply. The time of a
-wait or an await doesn't count.
+wait, an await or a next doesn't count.
+
+With --setup FILE the hub first carries out the request lines of FILE, such as
+these. So no client finds a service missing.
+
+  # a line like this one, or an empty one, is passed over
+  svc db 64 1000000000000 1 evict
+
+The handles that these lines ask for are released before a client can connect.
+If a line is refused, the hub ends.
 
 Without --forever it accepts N connections, serves all of them at the same time,
 and ends when all have ended: N is the number of calls that a script makes.
@@ -154,10 +175,11 @@ hub: each sees the fifodirs that another one makes.
 
 Exit status: 0 all went well, 2 the command line was refused, 1 an error while
 running, with a line on standard error: `cannot listen`, `another server listens
-there`, `socket file lost`, `cannot notify`, `cannot accept`, `cannot start a
-session`, `out of memory`. A session that stopped gets a line such as
-`session 2: read failed` (or write failed, too many reads, out of memory, idle):
-at once with --forever, and otherwise at the end.";
+there`, `socket file lost`, `cannot notify`, `cannot read the setup`, `cannot
+accept`, `cannot start a session`, `out of memory`. A line of a setup that was
+refused is told as in `setup line 3: no form`. A session that stopped gets a
+line such as `session 2: read failed` (or write failed, too many reads, out of
+memory, idle): at once with --forever, and otherwise at the end.";
 
 /// The subcommand `call` in one line.
 pub const CALL_ABOUT: &str = "Send the request lines of standard input to a hub";

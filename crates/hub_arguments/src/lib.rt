@@ -15,6 +15,7 @@ mod options;
 mod serving;
 
 pub use asking::Wish;
+pub use changing::{Hold, Shape};
 pub use command_line::{
     Plan, Start, begin, early_status, own_socket, own_words, read_words, status_of,
 };

@@ -1,4 +1,9 @@
 //! The subcommands that serve sessions, and `call`, which reaches them.
+ghost use Rattle.std.specs.Prelude.{◌≡◌, ℕ, ◌<◌, ◌^◌, Some};
+ghost use Rattle.std.specs.Option.{SomeIff};
+ghost use Rattle.std.specs.Str.Parse.{IsNumeral, digits_value, without_leading_plus};
+ghost use Rattle.hub_arguments.specs.Ranges.{IsInRange, kept_in};
+ghost use Rattle.hub_arguments.specs.declared.serving.TheConstants.{MOST_CLIENTS, MOST_CONNECTIONS, MOST_DESCRIPTOR, MOST_IDLE};
 
 use crate::command_line::Plan;
 use crate::help::{CALL_ABOUT, CALL_LINES, SCRIPT_ABOUT, SCRIPT_LINES, SERVE_ABOUT, SERVE_LINES};
@@ -16,8 +21,21 @@ const MODE: &str = "mode";
 
 const IDLE: &str = "idle";
 
+const SETUP: &str = "setup";
+
 /// The modes that a socket may be given: those who may connect need the right to write.
 static MODES: [&str; 5] = ["0600", "0620", "0622", "0660", "0666"];
+
+/// The most connections of a `serve` that ends.
+const MOST_CONNECTIONS: u64 = 64;
+
+/// The most clients at the same time of one that doesn't.
+const MOST_CLIENTS: u64 = 1_024;
+
+const MOST_DESCRIPTOR: u64 = 65_535;
+
+/// The most seconds that a session may be idle.
+const MOST_IDLE: u64 = 1_000_000;
 
 /// How a hub is served without end.
 #[derive(Clone, Copy, Debug, PartialEq, Eq)]
@@ -33,6 +51,11 @@ pub struct HubOptions<'a> {
     /// How many seconds a session may be idle: its client sends no whole line, or takes no whole reply, while the session waits for
     /// it. None: without end.
     pub idle: Option<u64>,
+    /// The path of the file whose lines are carried out before the hub listens. None: there is none.
+    pub setup: Option<&'a str>,
+    ghost sessions_are: { IsInRange 1 MOST_CLIENTS sessions },
+    ghost ready_is: { (d : ℕ) → ready ≡ Some d → IsInRange 0 MOST_DESCRIPTOR d },
+    ghost idle_is: { (seconds : ℕ) → idle ≡ Some seconds → IsInRange 1 MOST_IDLE seconds },
 }
 
 fn socket<'a>(alloc: Global) -> Arg<'a> {
@@ -83,6 +106,12 @@ fn idle<'a>(alloc: Global) -> Result<Arg<'a>, AllocError> {
         .requires_arg(FOREVER)
 }
 
+fn setup<'a>(alloc: Global) -> Result<Arg<'a>, AllocError> {
+    valued(alloc, SETUP, "FILE")
+        .help("With --forever: carry out the lines of FILE first")
+        .requires_arg(FOREVER)
+}
+
 pub(crate) fn script_command<'a>(alloc: Global) -> Command<'a> {
     Command::new(alloc, "script")
         .about(SCRIPT_ABOUT)
@@ -101,7 +130,8 @@ pub(crate) fn serve_command<'a>(
         .arg(forever(alloc))?
         .arg(ready(alloc)?)?
         .arg(mode(alloc)?)?
-        .arg(idle(alloc)?)
+        .arg(idle(alloc)?)?
+        .arg(setup(alloc)?)
 }
 
 pub(crate) fn call_command<'a>(alloc: Global) -> Result<Command<'a>, AllocError> {
@@ -111,22 +141,60 @@ pub(crate) fn call_command<'a>(alloc: Global) -> Result<Command<'a>, AllocError>
         .arg(socket(alloc))
 }
 
+// The number that was found, if it is in range.
+fn within(found: Option<u64>, least: u64, most: u64) -> Option<u64>
+    ensures { result ≡ kept_in least most found }
+{
+    match found {
+        Some(number) if least <= number && number <= most => Some(number),
+        _ => None,
+    }
+}
+
+// The mode that these octal digits write.
+fn mode_of(digits: &str) -> Option<u32>
+    ensures { SomeIff result (IsNumeral 8 (without_leading_plus digits.now)
+        × (digits_value 8 (without_leading_plus digits.now) < 2 ^ 32))
+        (digits_value 8 (without_leading_plus digits.now)) }
+{
+    u32::from_str_radix(digits, 8).ok()
+}
+
+// The clients at the same time of a `serve` that doesn't end, if this number was found.
+fn clients(found: Option<u64>) -> u64
+    ensures { IsInRange 1 MOST_CLIENTS result }
+{
+    match within(found, 1, MOST_CLIENTS) {
+        Some(number) => number,
+        None => 64,
+    }
+}
+
+// The connections of a `serve` that ends, if this number was found.
+fn connections(found: Option<u64>) -> u64
+    ensures { IsInRange 1 MOST_CONNECTIONS result }
+{
+    match within(found, 1, MOST_CONNECTIONS) {
+        Some(number) => number,
+        None => 1,
+    }
+}
+
 /// What the words of a `serve` ask for.
 pub(crate) fn serve_plan<'a>(found: &ArgMatches<'a>) -> Plan<'a> {
     if !found.get_flag(FOREVER) {
         return Plan::Serve {
             socket: socket_in(found),
-            sessions: found.get_one::<u64>(SESSIONS).unwrap_or(1),
+            sessions: connections(found.get_one::<u64>(SESSIONS)),
         };
     }
     Plan::ServeForever(HubOptions {
         socket: socket_in(found),
-        sessions: found.get_one::<u64>(SESSIONS).unwrap_or(64),
-        mode: found
-            .get_str(MODE)
-            .and_then(|it| u32::from_str_radix(it, 8).ok()),
-        ready: found.get_one::<u64>(READY),
-        idle: found.get_one::<u64>(IDLE),
+        sessions: clients(found.get_one::<u64>(SESSIONS)),
+        mode: found.get_str(MODE).and_then(|digits| mode_of(digits)),
+        ready: within(found.get_one::<u64>(READY), 0, MOST_DESCRIPTOR),
+        idle: within(found.get_one::<u64>(IDLE), 1, MOST_IDLE),
+        setup: found.get_str(SETUP),
     })
 }
 

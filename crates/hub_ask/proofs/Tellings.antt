@@ -31,6 +31,7 @@ same_outcome : (read : BorrowedReply) (it : Reply) → Shows read it → outcome
 same_outcome shown.Done reply.Done h = refl
 same_outcome (shown.Number n) (reply.Number m) h = refl
 same_outcome (shown.State s) (reply.State t) h = refl
+same_outcome (shown.About about) (reply.About other) h = refl
 same_outcome (shown.Got text) (reply.Got letters) h = refl
 same_outcome (shown.Hit text) (reply.Hit letters) h = refl
 same_outcome shown.Nothing reply.Nothing h = refl

@@ -2,7 +2,7 @@
 use Rattle.std.specs.Prelude.{◌≡◌, ◌⊎◌, ℕ, ◌*◌, List, [], ◌++◌, codes}
 use Rattle.std.specs.Str.Parse.{AllDigits, IsNumeral, digits_value}
 use Rattle.hub_requests.specs.declared.request.Request.{Request}
-use Rattle.hub_requests.specs.declared.request.Request.TheVariants.{Wait, Await}
+use Rattle.hub_requests.specs.declared.request.Request.TheVariants.{Wait, Await, Next}
 use Rattle.hub_protocol.specs.Reading.{Spells}
 
 -- a unit of durations, and how many turns one of it has
@@ -29,10 +29,11 @@ pub record AreParts (text number : List ℕ) (each : ℕ) : Type 0 where
   pub split : text ≡ number ++ unit
   pub only : (digits other : List ℕ) (turns : ℕ) → IsUnit other turns → AllDigits 10 digits → text ≡ digits ++ other → (digits ≡ number) × (turns ≡ each)
 
--- those of a wait or an await
+-- those of a wait, an await or a next
 abbrev pub turns_of_request : Request → ℕ
 turns_of_request (Wait span want turns names) = turns
 turns_of_request (Await id turns) = turns
+turns_of_request (Next id turns) = turns
 turns_of_request other = 0
 
 -- the line spells a request with so many turns

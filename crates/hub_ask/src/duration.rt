@@ -55,12 +55,13 @@ pub fn turns_of(text: &str) -> Option<u64>
     Some(turns)
 }
 
-/// For how many turns a hub may sleep before it answers this request: those of a `wait` or an `await`, and else none.
+/// For how many turns a hub may sleep before it answers this request: those of a `wait`, an `await` or a `next`, else none.
 pub fn turns_of_request(request: &Request) -> u64
     ensures { result ≡ turns_of_request request.now }
 {
     match request {
-        Request::Wait { turns, .. } | Request::Await { turns, .. } => *turns,
+        Request::Wait { turns, .. } | Request::Await { turns, .. } | Request::Next { turns, .. } =>
+            *turns,
         _ => 0,
     }
 }

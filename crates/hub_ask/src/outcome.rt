@@ -31,6 +31,7 @@ fn outcome_of(read: BorrowedReply<'_>) -> Outcome
         BorrowedReply::Done
         | BorrowedReply::Number(_)
         | BorrowedReply::State(_)
+        | BorrowedReply::About(_)
         | BorrowedReply::Got(_)
         | BorrowedReply::Hit(_)
         | BorrowedReply::Yes(_)

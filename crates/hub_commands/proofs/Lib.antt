@@ -1,4 +1,5 @@
 pub mod Results
+pub mod CarriedOut
 pub mod Lines
 pub mod Requested
 pub mod Planned
@@ -6,3 +7,8 @@ pub mod Lookings
 pub mod Replied
 pub mod Doing
 pub mod Told
+pub mod Held
+pub mod Made
+pub mod Shapes
+pub mod Compared
+pub mod Makes

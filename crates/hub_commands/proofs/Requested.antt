@@ -1,6 +1,7 @@
 -- A request that came to nothing.
-use Rattle.std.proofs.Common.{◌≡◌, ℕ, ◌+◌, ◌≤◌, List, Option, Result, Ok, Err, IsErrAnd, false, inr, refl, sym, subst}
+use Rattle.std.proofs.Common.{◌≡◌, ℕ, ◌+◌, ◌≤◌, List, Option, Result, Ok, Err, IsErrAnd, false, inl, inr, refl, sym, subst}
 use Rattle.hub_ask.specs.Asking.{HasNoReply}
+use Rattle.hub_ask.specs.Durations.{SpellsDuration}
 use Rattle.hub_ask.specs.Lines.{joined}
 use Rattle.hub_ask.specs.Outcomes.{Tells, TellsOfWait, status_of}
 use Rattle.hub_ask.specs.Waiting.{AsksAbout, IsWaited, wait_words}
@@ -10,11 +11,12 @@ use Rattle.hub_ask.specs.declared.fault.AskError.{AskError}
 use Rattle.hub_ask.specs.declared.outcome.Outcome.{Outcome}
 use Rattle.hub_ask.specs.declared.waiting.TheConstants.{GRACE}
 use Rattle.hub_client.specs.Passing.{has_lf}
-use Rattle.hub_commands.specs.Asking.{Asks, Waits, Ends, Going}
+use Rattle.hub_commands.specs.Asking.{Asks, Waits, WaitsFor, Ends, Going}
 use Rattle.hub_commands.specs.Dialing.{Dialing, OverOne}
 use Rattle.hub_commands.specs.declared.ending.BadWords.{BadWords}
 use Rattle.hub_commands.specs.declared.ending.Ending.{Ending}
 use Rattle.hub_commands.specs.declared.ending.Ending.TheVariants.{Failed}
+use Rattle.hub_commands.specs.declared.fault.Fault.{Fault}
 use Rattle.hub_commands.specs.declared.fault.Fault.TheVariants.{Ask}
 
 -- what went over the connection that was made
@@ -50,25 +52,38 @@ asks_in_vain d old new socket line words turns untouched held holds result error
 -- an error of `wait`
 pub waits_in_vain : {D SR SW Name : Type 0} (text : Name → List ℕ) (d : Dialing D SR SW) (old new : D) (socket line span want : List ℕ)
     (turns : ℕ) (names all : List Name) (untouched : Type 0)
-    (held holds : Option (List ℕ)) (result : Result ℕ Ending) (error : AskError) (receive receives : SR) (send sends : SW)
-    → names ≡ all → line ≡ wait_words span want turns (joined text names) → has_lf line ≡ false → turns ≤ MOST_TURNS
+    (held holds : Option (List ℕ)) (result : Result ℕ Ending) (error : AskError) (receive receives : SR) (send sends : SW) (duration : List ℕ)
+    → SpellsDuration duration turns → names ≡ all → line ≡ wait_words span want turns (joined text names) → has_lf line ≡ false → turns ≤ MOST_TURNS
     → IsErrAnd result (λ it. it ≡ Failed (Ask error)) → d.reaches old socket (turns + GRACE) (Ok (receive, send)) new
     → HasNoReply TellsOfWait (d.contents send) (d.contents sends) (d.remaining receive) (d.remaining receives) held holds line error
-    → (n : ℕ) × (n ≤ MOST_TURNS) × Waits d old new socket (wait_words span want n (joined text all)) (AsksAbout want text all) n untouched held holds result
-waits_in_vain text d old new socket line span want turns names all untouched held holds result error receive receives send sends same is_line cut few is reached over =
+    → WaitsFor d old new socket duration (λ n. wait_words span want n (joined text all)) (AsksAbout want text all) untouched held holds result
+waits_in_vain text d old new socket line span want turns names all untouched held holds result error receive receives send sends duration spells same is_line cut few is reached over =
     let vain : Waits d old new socket line (AsksAbout want text names) turns untouched held holds result = ends_with_error d old new socket (turns + GRACE) line _ untouched _ (λ error sent sends had has. HasNoReply TellsOfWait sent sends had has held holds line error) result error is cut (over_one d old new socket (turns + GRACE) _ receive receives send sends reached over) in
     let so = subst (λ it. Waits d old new socket it (AsksAbout want text names) turns untouched held holds result) is_line vain in
-    (turns, few, subst (λ it. Waits d old new socket (wait_words span want turns (joined text it)) (AsksAbout want text it) turns untouched held holds result) same so)
+    inr (turns, spells, few, subst (λ it. Waits d old new socket (wait_words span want turns (joined text it)) (AsksAbout want text it) turns untouched held holds result) same so)
+
+-- a `wait` that reaches no hub
+pub waits_nowhere : {D SR SW Name : Type 0} (text : Name → List ℕ) (d : Dialing D SR SW) (old new : D) (socket line span want : List ℕ)
+    (turns : ℕ) (names all : List Name) (untouched : Type 0) (held holds : Option (List ℕ)) (result : Result ℕ Ending) (fault : Fault) (duration : List ℕ)
+    → SpellsDuration duration turns → names ≡ all → line ≡ wait_words span want turns (joined text names) → has_lf line ≡ false → turns ≤ MOST_TURNS
+    → IsErrAnd result (λ it. it ≡ Failed fault) → d.reaches old socket (turns + GRACE) (Err fault) new → untouched
+    → WaitsFor d old new socket duration (λ n. wait_words span want n (joined text all)) (AsksAbout want text all) untouched held holds result
+waits_nowhere text d old new socket line span want turns names all untouched held holds (Ok status) fault duration spells same is_line cut few is reached kept = absurd is
+waits_nowhere text d old new socket line span want turns names all untouched held holds (Err ending) fault duration spells same is_line cut few is reached kept =
+    let nowhere : Waits d old new socket line (AsksAbout want text names) turns untouched held holds (Err (Failed fault)) = inr (inl (cut, reached, kept)) in
+    let so = subst (λ it. Waits d old new socket it (AsksAbout want text names) turns untouched held holds (Err (Failed fault))) is_line nowhere in
+    let all_of = subst (λ it. Waits d old new socket (wait_words span want turns (joined text it)) (AsksAbout want text it) turns untouched held holds (Err (Failed fault))) same so in
+    inr (turns, spells, few, subst (λ it. Waits d old new socket (wait_words span want turns (joined text all)) (AsksAbout want text all) turns untouched held holds (Err it)) (sym is) all_of)
 
 -- a wait that has an outcome
 pub waits_so : {D SR SW Name : Type 0} (text : Name → List ℕ) (d : Dialing D SR SW) (old new : D) (socket line span want : List ℕ)
     (turns : ℕ) (names all : List Name) (untouched : Type 0) (held holds : Option (List ℕ)) (status : ℕ) (outcome : Outcome)
-    (receive receives : SR) (send sends : SW)
-    → names ≡ all → line ≡ wait_words span want turns (joined text names) → has_lf line ≡ false → turns ≤ MOST_TURNS
+    (receive receives : SR) (send sends : SW) (duration : List ℕ)
+    → SpellsDuration duration turns → names ≡ all → line ≡ wait_words span want turns (joined text names) → has_lf line ≡ false → turns ≤ MOST_TURNS
     → status ≡ status_of outcome → d.reaches old socket (turns + GRACE) (Ok (receive, send)) new
     → IsWaited (d.contents send) (d.contents sends) (d.remaining receive) (d.remaining receives) held holds line (AsksAbout want text names) outcome
-    → (n : ℕ) × (n ≤ MOST_TURNS) × Waits d old new socket (wait_words span want n (joined text all)) (AsksAbout want text all) n untouched held holds (Ok status)
-waits_so text d old new socket line span want turns names all untouched held holds status outcome receive receives send sends same is_line cut few is reached over =
+    → WaitsFor d old new socket duration (λ n. wait_words span want n (joined text all)) (AsksAbout want text all) untouched held holds (Ok status)
+waits_so text d old new socket line span want turns names all untouched held holds status outcome receive receives send sends duration spells same is_line cut few is reached over =
     let well : Waits d old new socket line (AsksAbout want text names) turns untouched held holds (Ok status) = (
       cut,
       outcome,
@@ -76,4 +91,4 @@ waits_so text d old new socket line span want turns names all untouched held hol
       over_one d old new socket (turns + GRACE) _ receive receives send sends reached over,
     ) in
     let so = subst (λ it. Waits d old new socket it (AsksAbout want text names) turns untouched held holds (Ok status)) is_line well in
-    (turns, few, subst (λ it. Waits d old new socket (wait_words span want turns (joined text it)) (AsksAbout want text it) turns untouched held holds (Ok status)) same so)
+    inr (turns, spells, few, subst (λ it. Waits d old new socket (wait_words span want turns (joined text it)) (AsksAbout want text it) turns untouched held holds (Ok status)) same so)

@@ -1,5 +1,5 @@
 -- How a `tell` ends.
-use Rattle.std.proofs.Common.{◌≡◌, ℕ, List, Some, Result, Ok, Err, IsErrAnd, false, subst}
+use Rattle.std.proofs.Common.{◌≡◌, ℕ, List, None, Some, Result, Ok, Err, IsErrAnd, false, subst}
 use Rattle.hub_ask.specs.Outcomes.{status_of}
 use Rattle.hub_ask.specs.declared.client.Client.{Client}
 use Rattle.hub_ask.specs.declared.exchanging.TheConstants.{ANSWER}
@@ -11,9 +11,12 @@ use Rattle.hub_protocol.specs.declared.replies.BorrowedReply.{BorrowedReply}
 use Rattle.hub_protocol.specs.declared.replies.BorrowedReply.TheVariants as shown
 use Rattle.hub_requests.specs.declared.request.Request.TheVariants as request
 use Rattle.hub_requests.specs.declared.reply.Refusal.{Refusal}
+use Rattle.hub_requests.specs.declared.reply.Reply.{Reply}
+use Rattle.hub_requests.specs.declared.reply.Reply.TheVariants as reply
+use Rattle.hub_protocol.specs.Replies.{Shows}
 use Rattle.hub_server.specs.Sessions.{Writing}
 use Rattle.hub_commands.specs.Dialing.{Dialing}
-use Rattle.hub_commands.specs.Telling.{FailsToTell, IsTold, RefusesName, TellsAsTold, verdict_of}
+use Rattle.hub_commands.specs.Telling.{FailsToTell, IsTold, RefusesName, RepliesToTell, TellsAsTold, verdict_of}
 use Rattle.hub_commands.specs.declared.ending.Ending.{Ending}
 use Rattle.hub_commands.specs.declared.ending.Ending.TheVariants.{Failed}
 use Rattle.hub_commands.specs.declared.fault.Fault.TheVariants.{Ask}
@@ -24,6 +27,14 @@ pub is_refusal : (read : BorrowedReply) (refusal : Refusal) → verdict_of read 
 is_refusal (shown.No other) refusal is = cc is
 is_refusal (shown.Number n) refusal is = absurd (cc is)
 is_refusal read refusal is = absurd (cc is)
+
+-- no such reply is left without a verdict
+pub none_to_tell : (read : BorrowedReply) (it : Reply) → verdict_of read ≡ None → Shows read it → RepliesToTell it → ⊥
+none_to_tell (shown.Number n) it none shows h = cc none
+none_to_tell (shown.No refusal) it none shows h = cc none
+none_to_tell read (reply.Number n) none shows h = shows
+none_to_tell read (reply.No refusal) none shows h = shows
+none_to_tell read it none shows h = h
 
 -- it has an outcome
 pub tells_so : {D SR SW F : Type 0} (d : Dialing D SR SW) (old new : D) (socket : List ℕ) (n : Writing F) (notes note : F) (name named : List ℕ) (state : State)

@@ -1,6 +1,7 @@
 -- What the subcommands do that send one request.
-use Rattle.std.specs.Prelude.{◌≡◌, ◌⊎◌, ℕ, ◌+◌, ◌≤◌, ⊤, true, false, List, Option, Result, Ok, Err}
+use Rattle.std.specs.Prelude.{◌≡◌, ◌⊎◌, ℕ, ◌+◌, ◌<◌, ◌≤◌, true, false, List, Option, Result, Ok, Err}
 use Rattle.hub_ask.specs.Asking.{HasReply, HasNoReply}
+use Rattle.hub_ask.specs.Durations.{SpellsDuration}
 use Rattle.hub_ask.specs.Outcomes.{Tells, TellsOfWait, status_of}
 use Rattle.hub_ask.specs.Waiting.{Asking, IsWaited}
 use Rattle.hub_ask.specs.declared.duration.TheConstants.{MOST_TURNS}
@@ -55,9 +56,8 @@ Asks d old new socket line untouched held holds result = (turns : ℕ) × (turns
     (λ outcome sent sends had has. HasReply Tells sent sends had has held holds line outcome)
     (λ error sent sends had has. HasNoReply Tells sent sends had has held holds line error) result
 
--- `wait` refuses a duration, or a line with an LF in it
+-- if its duration is one, `wait` refuses only a line with an LF in it
 abbrev pub WaitRefuses : (line : List ℕ) → BadWords → Type 0
-WaitRefuses line bad.Duration = ⊤
 WaitRefuses line bad.Name = has_lf line ≡ true
 WaitRefuses line other = ⊥
 
@@ -68,3 +68,15 @@ Waits d old new socket line asks turns untouched held holds result = Ends
     d old new socket (turns + GRACE) line (WaitRefuses line) untouched
     (λ outcome sent sends had has. IsWaited sent sends had has held holds line asks outcome)
     (λ error sent sends had has. HasNoReply TellsOfWait sent sends had has held holds line error) result
+
+-- no wait may take so long, or it is no duration
+abbrev pub IsNoPatience : (duration : List ℕ) → Type 0
+IsNoPatience duration = (turns : ℕ) → SpellsDuration duration turns → MOST_TURNS < turns
+
+-- `wait` for as long as the duration says, by the line for so many turns. A duration that a wait can't have is refused, and
+-- nothing is touched.
+abbrev pub WaitsFor : {D SR SW : Type 0} → Dialing D SR SW → (old new : D) → (socket duration : List ℕ) → (line : ℕ → List ℕ)
+    → (asks : Asking) → (untouched : Type 0) → (held holds : Option (List ℕ)) → Result ℕ Ending → Type 0
+WaitsFor d old new socket duration line asks untouched held holds result =
+    (IsNoPatience duration × (result ≡ Err (Refused bad.Duration)) × (new ≡ old) × untouched)
+    ⊎ ((turns : ℕ) × SpellsDuration duration turns × (turns ≤ MOST_TURNS) × Waits d old new socket (line turns) asks turns untouched held holds result)

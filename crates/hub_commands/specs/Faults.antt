@@ -3,8 +3,9 @@ use Rattle.std.specs.Prelude.{ℕ, zero, suc, Option, None, Some, flat_map, List
 use Rattle.std.specs.Fmt.{decimal}
 use Rattle.hub_ask.specs.Faults.{ask_text}
 use Rattle.hub_client.specs.Faults.{relay_text}
+use Rattle.hub_commands.specs.Setup.{refused_text}
 use Rattle.hub_commands.specs.declared.fault.Fault.{Fault}
-use Rattle.hub_commands.specs.declared.fault.Fault.TheVariants.{Listen, Taken, Notify, Restored, Lost, Accept, Connect, Memory, Script, Serve, Session, Idle, More, Relay, Ask}
+use Rattle.hub_commands.specs.declared.fault.Fault.TheVariants.{Listen, Taken, Notify, Setup, SetupLine, Restored, Lost, Accept, Connect, Memory, Script, Serve, Session, Idle, More, Wills, Relay, Ask}
 use Rattle.hub_commands.specs.declared.watching.Pending.{Pending}
 use Rattle.hub_io.specs.Faults.{fault_text}
 use Rattle.hub_io.specs.declared.fault.FrontError.{FrontError}
@@ -16,6 +17,8 @@ abbrev pub text_of : Fault → List ℕ
 text_of Listen = codes "cannot listen"
 text_of Taken = codes "another server listens there"
 text_of Notify = codes "cannot notify"
+text_of Setup = codes "cannot read the setup"
+text_of (SetupLine line) = refused_text line
 text_of Restored = codes "socket file restored"
 text_of Lost = codes "socket file lost"
 text_of Accept = codes "cannot accept"
@@ -26,6 +29,7 @@ text_of (Serve fault) = serve_text fault
 text_of (Session number fault) = codes "session " ++ decimal number ++ codes ": " ++ fault_text fault
 text_of (Idle number) = codes "session " ++ decimal number ++ codes ": idle"
 text_of (More sessions) = decimal sessions ++ codes " more sessions stopped"
+text_of (Wills wills) = decimal wills ++ codes " wills not carried out"
 text_of (Relay fault) = relay_text fault
 text_of (Ask fault) = ask_text fault
 
@@ -68,6 +72,11 @@ fault_if_stopped number (Err fault) false = Some (Session number fault)
 abbrev pub rest_of : (sessions : ℕ) → Option Fault
 rest_of zero = None
 rest_of (suc sessions) = Some (More (suc sessions))
+
+-- the fault that counts the wills that weren't carried out
+abbrev pub fault_of_wills : (wills : ℕ) → Option Fault
+fault_of_wills zero = None
+fault_of_wills (suc wills) = Some (Wills (suc wills))
 
 -- the lines of the faults that are pending, and the one of the rest
 abbrev pub pending_lines : Pending → List ℕ

@@ -1,6 +1,7 @@
 pub mod Faults
 pub mod Calls
 pub mod Serving
+pub mod Setup
 pub mod BadWords
 pub mod Endings
 pub mod Dialing
@@ -9,4 +10,6 @@ pub mod Looking
 pub mod Notes
 pub mod Asked
 pub mod Telling
+pub mod Making
+pub mod Holding
 pub mod Running

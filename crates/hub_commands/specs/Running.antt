@@ -1,15 +1,16 @@
 -- What the program does with a plan.
-use Rattle.std.specs.Prelude.{◌≡◌, ◌⊎◌, ℕ, ◌≤◌, List, All, IsOk, IfOk, IfErr, is_some, map, false, Result, Ok, Err}
+use Rattle.std.specs.Prelude.{◌≡◌, ◌⊎◌, ℕ, List, All, IsOk, IfOk, IfErr, is_some, map, false, Result, Ok, Err}
 use Rattle.hub_arguments.specs.declared.command_line.Plan.{Plan}
 use Rattle.hub_arguments.specs.declared.command_line.Plan.TheVariants as plan
 use Rattle.hub_ask.specs.Lines.{joined}
 use Rattle.hub_ask.specs.Waiting.{AsksAbout, wait_words}
-use Rattle.hub_ask.specs.declared.duration.TheConstants.{MOST_TURNS}
-use Rattle.hub_commands.specs.Asking.{Asks, Waits}
+use Rattle.hub_commands.specs.Asking.{Asks, WaitsFor}
 use Rattle.hub_commands.specs.BadWords.{follow_breaks}
 use Rattle.hub_commands.specs.Calls.{Calling, IsCall}
 use Rattle.hub_commands.specs.Dialing.{Dialing}
+use Rattle.hub_commands.specs.Holding.{HoldsAsTold}
 use Rattle.hub_commands.specs.Looking.{FollowsAsTold, ShowsStatus}
+use Rattle.hub_commands.specs.Making.{MakesAsTold}
 use Rattle.hub_commands.specs.Telling.{TellsAsTold}
 use Rattle.hub_commands.specs.declared.ending.BadWords.TheVariants as bad
 use Rattle.hub_commands.specs.declared.ending.Ending.{Ending}
@@ -80,10 +81,10 @@ CarriesOut d c r w n old new (plan.Ask socket words) result =
     (w.contents old.output) (w.contents new.output) result
     × (new.input ≡ old.input) × (new.notes ≡ old.notes)
 CarriesOut d c r w n old new (plan.Wait socket wish) result =
-    ((turns : ℕ) × (turns ≤ MOST_TURNS) × Waits d old.dialer new.dialer socket.now
-    (wait_words wish.span.now wish.want.now turns (joined (λ name. name.now) wish.names.items))
-    (AsksAbout wish.want.now (λ name. name.now) wish.names.items) turns
-    ((new.output ≡ old.output) × (new.notes ≡ old.notes)) (w.contents old.output) (w.contents new.output) result)
+    WaitsFor d old.dialer new.dialer socket.now wish.patience.now
+    (λ turns. wait_words wish.span.now wish.want.now turns (joined (λ name. name.now) wish.names.items))
+    (AsksAbout wish.want.now (λ name. name.now) wish.names.items)
+    ((new.output ≡ old.output) × (new.notes ≡ old.notes)) (w.contents old.output) (w.contents new.output) result
     × (new.input ≡ old.input)
 CarriesOut d c r w n old new (plan.Status socket names) result =
     ShowsStatus d old.dialer new.dialer socket.now n old.notes new.notes (λ name. name.now) names.items
@@ -96,6 +97,12 @@ CarriesOut d c r w n old new (plan.Follow socket names pattern is_plain is_once)
     × (new.input ≡ old.input)
 CarriesOut d c r w n old new (plan.Tell socket name state) result =
     TellsAsTold d old.dialer new.dialer socket.now n old.notes new.notes name.now state result
+    × (new.input ≡ old.input) × (new.output ≡ old.output)
+CarriesOut d c r w n old new (plan.Hold socket hold) result =
+    HoldsAsTold d old.dialer new.dialer socket.now n old.notes new.notes r old.input new.input hold.name.now hold.will hold.told result
+    × (new.output ≡ old.output)
+CarriesOut d c r w n old new (plan.Make socket names shape) result =
+    MakesAsTold d old.dialer new.dialer socket.now n old.notes new.notes (λ name. name.now) names.items shape result
     × (new.input ≡ old.input) × (new.output ≡ old.output)
 
 -- How the program ends without a plan: its words ask for a text, are none or are refused, or there was a fault before.

@@ -4,6 +4,7 @@ ghost use Rattle.hub_ask.specs.declared.fault.AskError.TheVariants as ask;
 ghost use Rattle.hub_commands.specs.declared.fault.Fault.TheVariants as fault;
 
 use crate::fault::Fault;
+use crate::tie::Connection;
 use hub_ask::{AskError, Bounded, Deadline, Timed, halves};
 use std::io::ErrorKind;
 use std::net::Net;
@@ -58,8 +59,36 @@ pub fn connect<H: Net + Clock + Copy>(
 {
     let deadline = Deadline::after(rt, millis);
     let connection = connect_by(rt, socket, &deadline)?;
-    match halves(*rt, &connection, deadline) {
+    split(rt, &connection, deadline)
+}
+
+// The two halves of the connection.
+fn split<H: Clock + Copy>(
+    rt: &H,
+    connection: &UnixStream,
+    deadline: Deadline,
+) -> Result<(Bounded<Timed<H>>, Timed<H>), Fault>
+    ensures { IfErr result (λ it. it ≡ fault.Connect) }
+{
+    match halves(*rt, connection, deadline) {
         Ok(both) => Ok(both),
+        Err(_) => Err(Fault::Connect),
+    }
+}
+
+/// Connects as [`connect`] does, and returns besides what sees whether the server ends the connection. That is a clone too.
+pub(crate) fn connect_tied<H: Net + Clock + Copy>(
+    rt: &H,
+    socket: &str,
+    millis: u64,
+) -> Result<((Bounded<Timed<H>>, Timed<H>), Connection), Fault>
+    ensures { IfErr result (λ it. (it ≡ fault.Connect) ⊎ (it ≡ fault.Ask ask.NoAnswer)) }
+{
+    let deadline = Deadline::after(rt, millis);
+    let tied = connect_by(rt, socket, &deadline)?;
+    let both = split(rt, &tied, deadline)?;
+    match tied.try_clone() {
+        Ok(clone) => Ok((both, Connection::new(clone))),
         Err(_) => Err(Fault::Connect),
     }
 }

@@ -2,11 +2,16 @@
 ghost use Rattle.std.specs.Prelude.{◌≤◌, IfOk, IfErr, vec_len};
 ghost use Rattle.std.specs.Arc.{arc_value};
 ghost use Rattle.hub_front.specs.Serving.{most_reads};
+ghost use Rattle.hub_io.specs.Lines.{lines_of};
+ghost use Rattle.hub_commands.specs.Setup.{IsSetUp};
 ghost use Rattle.hub_server.specs.Gates.{StopsEarly, ThenCloses};
 ghost use Rattle.hub_server.specs.Reports.{IsReport};
 ghost use Rattle.hub_shared.specs.Desks.{IsNewDesk};
 ghost use Rattle.hub_shared.specs.declared.shared_desk.SharedDesk.{SharedDesk};
 
+use crate::fault::Fault;
+use crate::lost_wills::LostWills;
+use crate::setup::set_up;
 use hub_front::{Enter, Stay, serve_within};
 use hub_io::{Client, FrontError, MAX_READS, Sink, Source};
 use hub_requests::Desk;
@@ -23,6 +28,8 @@ pub(crate) struct HubDesks<P: Pause + Copy> {
     pub(crate) hub: Arc<Hub, Global>,
     pub(crate) pause: P,
     pub(crate) stay: Stay,
+    /// Where wills are counted that weren't carried out, if somebody tells how many they are.
+    pub(crate) lost: Option<LostWills>,
 }
 
 impl<P: Pause + Copy> HubDesks<P> {
@@ -34,6 +41,32 @@ impl<P: Pause + Copy> HubDesks<P> {
         let mut desk = SharedDesk::new(alloc, hub, self.pause)?;
         desk.watch(client);
         Ok(desk)
+    }
+
+    // Carries out the lines of a setup, by a session of its own.
+    pub(crate) fn set_up<H: Wait + Enter>(
+        &self,
+        rt: &H,
+        alloc: Global,
+        text: Vec<u8>,
+    ) -> Result<(), Fault>
+        ensures { IsSetUp (IsNewDesk (arc_value self.now.hub) self.now.pause)
+            ⟦<SharedDesk<P> as Desk>⟧.asks ⟦<SharedDesk<P> as Desk>⟧.ends
+            (lines_of text.items) result }
+    {
+        let mut own = self.open(alloc, None)?;
+        let done = set_up(rt, alloc, &mut own, &text);
+        self.count_lost(&own);
+        own.release(rt);
+        done?;
+        Ok(())
+    }
+
+    // Counts the wills that the desk's end couldn't carry out.
+    fn count_lost(&self, desk: &SharedDesk<P>) {
+        if let Some(lost) = &self.lost {
+            lost.add(desk.lost_wills());
+        }
     }
 }
 
@@ -50,10 +83,15 @@ impl<P: Pause + Copy> Desks for HubDesks<P> {
 
     fn share(&self) -> Result<HubDesks<P>, AllocError> {
         let hub = Arc::try_clone(&self.hub)?;
+        let lost = match &self.lost {
+            Some(lost) => Some(lost.share()?),
+            None => None,
+        };
         Ok(HubDesks {
             hub,
             pause: self.pause,
             stay: self.stay,
+            lost,
         })
     }
 
@@ -68,6 +106,7 @@ impl<P: Pause + Copy> Desks for HubDesks<P> {
             return Err(FrontError::Memory);
         };
         let served = serve_within(rt, alloc, self.stay, &mut desk, reader, writer);
+        self.count_lost(&desk);
         desk.release(rt);
         served
     }
@@ -104,6 +143,11 @@ where
         (λ last. StopsEarly G.gives sessions gate.old last error) gate.new) }
 {
     let stay = Stay::Short;
-    let desks = HubDesks { hub, pause, stay };
+    let desks = HubDesks {
+        hub,
+        pause,
+        stay,
+        lost: None,
+    };
     serve_each(rt, alloc, &desks, gate, sessions)
 }

@@ -1,11 +1,12 @@
 //! How a hub is reached.
-ghost use Rattle.std.specs.Prelude.{◌≡◌, ◌⊎◌, ℕ, List, Result, IfErr};
+ghost use Rattle.std.specs.Prelude.{◌≡◌, ◌⊎◌, ℕ, List, Result, Ok, Err, IfOk, IfErr};
 ghost use Rattle.hub_ask.specs.declared.fault.AskError.TheVariants as ask;
 ghost use Rattle.hub_commands.specs.declared.fault.Fault.{Fault as fault_of};
 ghost use Rattle.hub_commands.specs.declared.fault.Fault.TheVariants as fault;
 
-use crate::connecting::{connect, connection_at};
+use crate::connecting::{connect, connect_tied, connection_at};
 use crate::fault::Fault;
+use crate::tie::{Connection, Tie};
 use hub_ask::{Bounded, Replies, Requests, Timed};
 use hub_io::{Sink, Source};
 use std::net::Net;
@@ -28,6 +29,18 @@ pub trait Dial {
     /// call began.
     fn dial(&mut self, socket: &str, millis: u64) -> Result<(Self::Receiver, Self::Sender), Fault>
         ensures { reaches self.old socket.now millis result self.new };
+
+    /// What sees whether a hub still has its end of a connection.
+    type Tie: Tie + Drop;
+
+    /// Connects as `dial` does. The connection stays open for as long as one of the three is kept.
+    fn tie(
+        &mut self,
+        socket: &str,
+        millis: u64,
+    ) -> Result<((Self::Receiver, Self::Sender), Self::Tie), Fault>
+        ensures ok { IfOk result (λ it. reaches self.old socket.now millis (Ok it.0) self.new) }
+        ensures err { IfErr result (λ it. reaches self.old socket.now millis (Err it) self.new) };
 
     /// The half of a connection of a call for a hub's replies.
     type Incoming: Source + Drop;
@@ -67,6 +80,16 @@ impl<H: Net + Clock + Copy> Dial for Dialer<H> {
 
     fn dial(&mut self, socket: &str, millis: u64) -> Result<(Bounded<Timed<H>>, Timed<H>), Fault> {
         connect(&self.rt, socket, millis)
+    }
+
+    type Tie = Connection;
+
+    fn tie(
+        &mut self,
+        socket: &str,
+        millis: u64,
+    ) -> Result<((Bounded<Timed<H>>, Timed<H>), Connection), Fault> {
+        connect_tied(&self.rt, socket, millis)
     }
 
     type Incoming = UnixStream;

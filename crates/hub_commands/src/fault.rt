@@ -4,6 +4,7 @@ ghost use Rattle.std.specs.Io.KnownBytes.{Appends};
 ghost use Rattle.hub_commands.specs.Faults.{line_of};
 ghost use Rattle.hub_commands.specs.declared.fault.Fault.TheVariants as fault;
 
+use crate::setup::RefusedLine;
 use hub_ask::AskError;
 use hub_client::RelayError;
 use hub_io::FrontError;
@@ -22,6 +23,10 @@ pub enum Fault {
     Taken,
     /// The descriptor that is told when the hub listens couldn't be written to.
     Notify,
+    /// The file of the setup couldn't be read, or is too large.
+    Setup,
+    /// A line of the setup was refused.
+    SetupLine(RefusedLine),
     /// The socket's file was removed, and is back.
     Restored,
     /// Another file is in the place of the socket, or its file couldn't be put back.
@@ -42,6 +47,9 @@ pub enum Fault {
     Idle { number: u64 },
     /// So many sessions of `serve --forever` stopped besides, and aren't told one by one.
     More { sessions: u64 },
+    /// So many wills of sessions of `serve --forever` couldn't be carried out: their fifodirs had no room for a minute, or take no
+    /// more events.
+    Wills { wills: u64 },
     /// The relay of `call` stopped.
     Relay(RelayError),
     /// A request of `ask` has no outcome.
@@ -58,6 +66,8 @@ impl fmt::Display for Fault {
             Fault::Listen => f.write_str("cannot listen"),
             Fault::Taken => f.write_str("another server listens there"),
             Fault::Notify => f.write_str("cannot notify"),
+            Fault::Setup => f.write_str("cannot read the setup"),
+            Fault::SetupLine(line) => write!(f, "{line}"),
             Fault::Restored => f.write_str("socket file restored"),
             Fault::Lost => f.write_str("socket file lost"),
             Fault::Accept => f.write_str("cannot accept"),
@@ -68,6 +78,7 @@ impl fmt::Display for Fault {
             Fault::Session { number, fault } => write!(f, "session {number}: {fault}"),
             Fault::Idle { number } => write!(f, "session {number}: idle"),
             Fault::More { sessions } => write!(f, "{sessions} more sessions stopped"),
+            Fault::Wills { wills } => write!(f, "{wills} wills not carried out"),
             Fault::Relay(fault) => write!(f, "{fault}"),
             Fault::Ask(fault) => write!(f, "{fault}"),
         }
@@ -94,6 +105,14 @@ impl From<AllocError> for Fault {
 
     fn from(_error: AllocError) -> Fault {
         Fault::Memory
+    }
+}
+
+impl From<RefusedLine> for Fault {
+    ghost from_gives = { λ error it. it ≡ fault.SetupLine error };
+
+    fn from(error: RefusedLine) -> Fault {
+        Fault::SetupLine(error)
     }
 }
 

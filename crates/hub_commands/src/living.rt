@@ -6,8 +6,10 @@ ghost use Rattle.hub_commands.specs.Faults.{line_if, pending_lines};
 
 use crate::desks::HubDesks;
 use crate::fault::Fault;
+use crate::lost_wills::LostWills;
 use crate::notice::Notice;
 use crate::place::{InPlace, Place, take_place};
+use crate::setup::read_setup;
 use crate::watching::{Pending, Watcher};
 use hub_arguments::HubOptions;
 use hub_front::{Enter, Stay};
@@ -24,13 +26,14 @@ use std::thread::Threads;
 use std::time::Duration;
 use std::{io, thread};
 
-/// Serves sessions at the socket for as long as the program runs, over one hub. So many threads each accept a connection, serve
-/// its session, and accept the next one. The faults of sessions are told as they come, a few lines a second and the number of
-/// the rest. If the socket's file is removed, it is put back.
+/// Serves sessions at the socket for as long as the program runs, over one hub, which has carried out the lines of the setup before. So
+/// many threads each accept a connection, serve its session, and accept the next one. The faults of sessions are told as they come, a
+/// few lines a second and the number of the rest. If the socket's file is removed, it is put back.
 ///
 /// It returns only if it couldn't begin, and then nobody could connect unless it is `Notify`: `Taken` if another server listens
-/// at the socket, `Listen`, `Notify` if the descriptor isn't open or couldn't be written to, `Memory`, or `Serve` if a thread
-/// couldn't be started. Or it returns `Lost`, if another file is in the socket's place, or its file can't be put back.
+/// at the socket, `Listen`, `Notify` if the descriptor isn't open or couldn't be written to, `Setup` if the file of the setup couldn't
+/// be read, `SetupLine` if a line of it was refused, `Memory`, or `Serve` if a thread couldn't be started. Or it returns `Lost`, if
+/// another file is in the socket's place, or its file can't be put back.
 pub fn serve_forever<H, F>(
     rt: &H,
     alloc: Global,
@@ -45,8 +48,9 @@ where
         Some(descriptor) => Some(Notice::at(descriptor)?),
         None => None,
     };
+    let setup = read_setup(rt, alloc, options.setup)?;
     let mut place = take_place(rt, alloc, options.socket)?;
-    let ended = serve_at(rt, alloc, &mut place, options, notice, faults);
+    let ended = serve_at(rt, alloc, &mut place, options, setup, notice, faults);
     place.leave(rt);
     ended
 }
@@ -58,6 +62,7 @@ fn serve_at<H, F>(
     alloc: Global,
     place: &mut Place<'_>,
     options: HubOptions<'_>,
+    setup: Vec<u8>,
     notice: Option<Notice>,
     faults: &mut F,
 ) -> Result<(), Fault>
@@ -70,7 +75,14 @@ where
     };
     let pause = Patience::new(*rt);
     let stay = Stay::Long;
-    let desks = HubDesks { hub, pause, stay };
+    let lost = LostWills::new(alloc)?;
+    let desks = HubDesks {
+        hub,
+        pause,
+        stay,
+        lost: Some(lost.share()?),
+    };
+    desks.set_up(rt, alloc, setup)?;
     let watcher = Watcher::new(alloc, *rt)?;
     let idle = options.idle.map(Duration::from_secs);
     let listener = place.listen(rt, options.mode)?;
@@ -80,7 +92,7 @@ where
     if let Some(notice) = notice {
         notice.give(rt, &there)?;
     }
-    watch(rt, alloc, place, &there, &watcher, faults)
+    watch(rt, alloc, place, &there, &watcher, &lost, faults)
 }
 
 // Tells the faults of sessions, and keeps the socket in its place. It returns only if the socket is lost.
@@ -90,6 +102,7 @@ fn watch<H, F>(
     place: &Place<'_>,
     there: &InPlace,
     watcher: &Watcher<H>,
+    lost: &LostWills,
     faults: &mut F,
 ) -> Result<(), Fault>
 where
@@ -99,6 +112,7 @@ where
     'seconds: for _ in rt.forever() {
         let pending = watcher.take(rt);
         let _: io::Result<()> = tell_pending(alloc, pending, faults);
+        let _: io::Result<()> = tell_if(alloc, lost.take(), faults);
         if place.keep(rt, there)? {
             let _: io::Result<()> = Fault::Restored.tell(alloc, faults);
         }

@@ -26,6 +26,24 @@ fn write_line<F: Sink>(line: &[u8], notes: &mut F)
     let _: Result<(), FrontError> = write_whole(notes, line);
 }
 
+/// Writes a line on this name.
+pub(crate) fn note<F: Sink>(
+    alloc: Global,
+    name: &[u8],
+    what: &[u8],
+    notes: &mut F,
+) -> Result<(), AllocError>
+    ensures ok { OnOk result (IsToldTo (F.contents notes.old) (F.contents notes.new)
+        (F.faults notes.old) (F.faults notes.new) (note_of name.now what.now)) }
+    ensures err { OnErr result (notes.new ≡ notes.old) }
+{
+    let mut line = begun(alloc, name)?;
+    line.extend_from_slice(what)?;
+    line.push(b'\n')?;
+    write_line(&line, notes);
+    Ok(())
+}
+
 // Puts why a hub refuses something of a service behind these bytes, and an LF.
 fn put_reason(refusal: Refusal, line: &mut Vec<u8>) -> Result<(), AllocError>
     ensures { OnOk result (line.new.items ≡ line.old.items ++ (reason_of refusal ++ 10 ∷ [])) }

@@ -9,7 +9,9 @@ use crate::dialing::Dial;
 use crate::ending::{BadWords, Ending};
 use crate::fault::Fault;
 use crate::following::follow_as_told;
+use crate::holding::hold_as_told;
 use crate::living::serve_forever;
+use crate::making::make_fifodirs;
 use crate::serving::serve;
 use crate::showing::show_status;
 use crate::telling::tell_state;
@@ -88,11 +90,17 @@ where
         Plan::Status { socket, names } => {
             show_status(rt, alloc, dialer, socket, &names, output, notes)
         }
+        Plan::Make {
+            socket,
+            names,
+            shape,
+        } => make_fifodirs(rt, alloc, dialer, socket, &names, shape, notes),
         Plan::Tell {
             socket,
             name,
             state,
         } => tell_state(rt, alloc, dialer, socket, name, state, notes),
+        Plan::Hold { socket, hold } => hold_as_told(rt, alloc, dialer, socket, hold, input, notes),
         Plan::Follow {
             socket,
             names,

@@ -27,8 +27,8 @@ fn verdict_of(read: BorrowedReply<'_>) -> Option<Result<(), Refusal>>
     }
 }
 
-// Sends the request, and returns how it went. A refusal is noted under this name.
-fn tell<H: Wait, SR: Replies, SW: Requests, F: Sink>(
+/// Sends the request, and returns how it went. A refusal is noted under this name.
+pub(crate) fn tell<H: Wait, SR: Replies, SW: Requests, F: Sink>(
     rt: &H,
     alloc: Global,
     name: &str,

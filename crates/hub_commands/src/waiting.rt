@@ -1,9 +1,8 @@
 //! The subcommand `wait`: one wait for services.
-ghost use Rattle.std.specs.Prelude.{◌≡◌, ℕ, ◌≤◌};
+ghost use Rattle.std.specs.Prelude.{◌≡◌};
 ghost use Rattle.hub_ask.specs.Lines.{joined};
 ghost use Rattle.hub_ask.specs.Waiting.{AsksAbout, wait_words};
-ghost use Rattle.hub_ask.specs.declared.duration.TheConstants.{MOST_TURNS};
-ghost use Rattle.hub_commands.specs.Asking.{Waits};
+ghost use Rattle.hub_commands.specs.Asking.{WaitsFor};
 ghost use Rattle.hub_commands.specs.Dialing.{dialing};
 
 use crate::dialing::Dial;
@@ -27,13 +26,13 @@ pub fn wait_as_told<H: Wait, D: Dial, W: Sink, F: Write>(
     notes: &mut F,
 ) -> Result<u8, Ending>
     // If the words are refused, no connection is made, and nothing is written. Else one connection is made, over which the line of
-    // the wait goes, and then at most the questions about its services. The reply is written, and has the status.
-    ensures { (turns : ℕ) × (turns ≤ MOST_TURNS) × Waits
-        (dialing D.reaches D.Receiver.remaining D.Sender.contents)
-        dialer.old dialer.new socket.now
-        (wait_words wish.now.span.now wish.now.want.now turns
+    // the wait goes, for as many turns as the duration says, and then at most the questions about its services. The reply is
+    // written, and has the status.
+    ensures { WaitsFor (dialing D.reaches D.Receiver.remaining D.Sender.contents)
+        dialer.old dialer.new socket.now wish.now.patience.now
+        (λ turns. wait_words wish.now.span.now wish.now.want.now turns
         (joined (λ name. name.now) wish.now.names.items))
-        (AsksAbout wish.now.want.now (λ name. name.now) wish.now.names.items) turns
+        (AsksAbout wish.now.want.now (λ name. name.now) wish.now.names.items)
         ((output.new ≡ output.old) × (notes.new ≡ notes.old))
         (W.contents output.old) (W.contents output.new) result }
 {

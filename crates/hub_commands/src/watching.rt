@@ -170,7 +170,7 @@ impl<C: Clock + Copy, R: Source + Timed, W: Sink + Timed> Journal<R, W> for Watc
         self.fail(rt, Fault::Accept);
     }
 
-    fn unstarted<H: Wait>(&mut self, rt: &H) {
-        self.fail(rt, Fault::Serve(ServeError::Spawn));
+    fn unstarted<H: Wait>(&mut self, rt: &H, why: ServeError) {
+        self.fail(rt, Fault::Serve(why));
     }
 }

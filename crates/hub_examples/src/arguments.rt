@@ -15,7 +15,9 @@ pub fn socket_of<'a>(
             | Plan::ServeForever(HubOptions { socket, .. })
             | Plan::Call { socket }
             | Plan::Ask { socket, .. }
+            | Plan::Make { socket, .. }
             | Plan::Tell { socket, .. }
+            | Plan::Hold { socket, .. }
             | Plan::Wait { socket, .. }
             | Plan::Status { socket, .. }
             | Plan::Follow { socket, .. },

@@ -1,6 +1,8 @@
 -- What a publisher's call shows, once its message was added or refused: m0 is before the lock, m1 with it, and m3 after it.
-use Rattle.std.proofs.Common.{◌≡◌, ◌≢◌, ℕ, true, ◌+◌, ◌<◌, List, ◌++◌, length, take, Result, Ok, Err, IfOk, IfErr, OnErr, OnOk, sym, ap, ◌∙◌, subst, arith, length-append}
+use Rattle.std.proofs.Common.{◌≡◌, ◌≢◌, ℕ, Bool, true, false, not, nat_eq, ◌+◌, ◌<◌, List, ◌++◌, length, take, Option, Some, None, Result, Ok, Err, IfOk, IfErr, OnErr, OnOk, refl, sym, ap, ◌∙◌, subst, inl, inr, arith, length-append}
+use Rattle.std.specs.Option.{option_eq}
 use Rattle.std.proofs.Math.Seq.{take-append_seam}
+use Rattle.std.proofs.lemmas.Bool.{cases_Bool, eqb-true, eq-eqb}
 use Rattle.hub_letters.specs.declared.state.State.{State}
 use Rattle.hub_letters.specs.States.{word_behind, is_at_end}
 use Rattle.hub_letters.proofs.Told.{brings}
@@ -8,7 +10,7 @@ use Rattle.hub_record.specs.declared.Event.{Event}
 use Rattle.hub_record.specs.declared.Kind.{Kind}
 use Rattle.hub_record.specs.declared.Kind.TheVariants.{Service}
 use Rattle.hub_record.specs.declared.PubError.{PubError}
-use Rattle.hub_record.specs.World.{World, letters, as_events, IsLawfulIn}
+use Rattle.hub_record.specs.World.{World, letters, as_events, last_publisher, IsLawfulIn}
 use Rattle.hub_fifodir.specs.Locks.{RepresentsWorld}
 use Rattle.hub_record.proofs.Keeps.{length_stamped}
 use Rattle.hub_record.proofs.Publishing.{letters_after}
@@ -58,6 +60,10 @@ pub rules_now : (m1 m3 : M) (n : ℕ) (message : List ℕ) (r : Result ℕ PubEr
 rules_now m1 m3 n message (Ok first) a = a.2
 rules_now m1 m3 n message (Err e) a = a.0
 
+-- what was seen before the message
+seen_before : (m1 m3 : M) (n : ℕ) (message : List ℕ) (first : ℕ) → HasAdded m1 n message (Ok first) m3 → take first m3.0.sight.seen ≡ m1.0.sight.seen
+seen_before m1 m3 n message first a = (λ i. take (a.1 i) (a.3 i).seen) ∙ take-append_seam m1.0.sight.seen (as_events n message)
+
 -- ---- the message is the word for a state
 
 module _ (m0 m1 m3 : M) (n : ℕ) (b : Locked) (w : IsWriter m0 n) (h : Locks book_of IsBehind IsSound m0.0 m1.0 b) (state : State) (message : List ℕ)
@@ -65,8 +71,7 @@ module _ (m0 m1 m3 : M) (n : ℕ) (b : Locked) (w : IsWriter m0 n) (h : Locks bo
   pub told : (r : Result ℕ PubError) → HasAdded m1 n message r m3
       → IfOk r (λ first. IsPublished m0 m3 n (word_behind state (letters (take first m3.0.sight.seen))) first)
   told (Ok first) a =
-      let seen : take first m3.0.sight.seen ≡ m1.0.sight.seen = (λ i. take (a.1 i) (a.3 i).seen) ∙ take-append_seam m1.0.sight.seen (as_events n message) in
-      subst (λ (x : List ℕ). IsPublished m0 m3 n x first) (is ∙ ap (λ (l : List Event). word_behind state (letters l)) (sym seen))
+      subst (λ (x : List ℕ). IsPublished m0 m3 n x first) (is ∙ ap (λ (l : List Event). word_behind state (letters l)) (sym (seen_before m1 m3 n message first a)))
       (published m0 m1 m3 n b w h message (Ok first) a)
   told (Err e) a = tt
 
@@ -88,3 +93,30 @@ module _ (m0 m1 m3 : M) (n : ℕ) (b : Locked) (w : IsWriter m0 n) (h : Locks bo
 pub word_seen : (m0 m1 : M) (b : Locked) (h : Locks book_of IsBehind IsSound m0.0 m1.0 b) (state : State) (message : List ℕ)
     → ((w : World) → RepresentsWorld b w → message ≡ word_behind state (letters w.events)) → message ≡ word_behind state (letters m1.0.sight.seen)
 word_seen m0 m1 b h state message e = e h.behind.world h.behind.for ∙ ap (λ (l : List Event). word_behind state (letters l)) h.behind.events
+
+-- ---- the last event was the publisher's own
+
+module _ (m1 m3 : M) (n : ℕ) (message : List ℕ) (own : last_publisher m1.0.sight.seen ≡ Some n) where
+  pub was_last : (r : Result ℕ PubError) → HasAdded m1 n message r m3 → IfOk r (λ first. last_publisher (take first m3.0.sight.seen) ≡ Some n)
+  was_last (Ok first) a = ap last_publisher (seen_before m1 m3 n message first a) ∙ own
+  was_last (Err e) a = tt
+
+  pub still_last : (mine : List ℕ) (r : Result ℕ PubError) → HasAdded m1 n message r m3 → OnErr r (mine_of m3.0.role ≡ mine) → OnErr r ((last_publisher m3.0.sight.seen ≡ Some n) × (mine_of m3.0.role ≡ mine))
+  still_last mine (Ok first) a same = tt
+  still_last mine (Err e) a same = (ap (λ (s : Sight). last_publisher s.seen) a.1 ∙ own, same)
+
+-- the last publisher of the record is that of what was seen of it
+pub last_seen : (m0 m1 : M) (b : Locked) (h : Locks book_of IsBehind IsSound m0.0 m1.0 b) (last : Option ℕ) → ((w : World) → RepresentsWorld b w → last ≡ last_publisher w.events) → last ≡ last_publisher m1.0.sight.seen
+last_seen m0 m1 b h last e = e h.behind.world h.behind.for ∙ ap last_publisher h.behind.events
+
+-- what a comparison of the last publisher with a number says
+pub own_by : (last : Option ℕ) (n : ℕ) (differs : Bool) → differs ≡ not (option_eq nat_eq last (Some n)) → differs ≡ false → last ≡ Some n
+own_by None n differs e f = absurd (let k : true ≡ false = sym e ∙ f in cc)
+own_by (Some p) n differs e f = elim (cases_Bool (nat_eq p n)) [
+  | inl same ↦ ap Some (eqb-true p n same)
+  | inr other ↦ (let k : true ≡ false = sym (e ∙ ap not other) ∙ f in cc)
+]
+
+pub other_by : (last : Option ℕ) (n : ℕ) (differs : Bool) → differs ≡ not (option_eq nat_eq last (Some n)) → differs ≡ true → last ≡ Some n → ⊥
+other_by last n differs e t own =
+    let k : true ≡ false = sym t ∙ e ∙ ap (λ (o : Option ℕ). not (option_eq nat_eq o (Some n))) own ∙ ap not (eq-eqb n n refl) in cc

@@ -1,16 +1,20 @@
 -- The ways in which a seat releases the lock, from what the call on the locked value ensures.
-use Rattle.std.proofs.Common.{◌≡◌, ℕ, suc, ◌+◌, ◌<◌, ◌≤◌, nat_eq, cond, true, false, List, [], length, Some, sym, refl, ap, ◌∙◌, subst, inl, inr, arith}
+use Rattle.std.proofs.Common.{◌≡◌, ℕ, suc, ◌+◌, ◌<◌, ◌≤◌, nat_eq, cond, true, false, List, [], length, Some, Err, sym, refl, ap, ◌∙◌, subst, inl, inr, arith}
 use Rattle.std.proofs.lemmas.Bool.{ne_eqb, eq-eqb}
 use mathlib.Core.Logic.{dite}
 use native.Mathlib.Decide.{ℕ_discrete}
 use Rattle.hub_record.specs.declared.Event.{Event}
-use Rattle.hub_record.specs.World.{World, Subscription, subscription_in, found_from, with_changed, moved_on, count_to_take, as_cancelled, new_subscription, after_subscribe, after_take, after_take_for, after_cancel, after_cancel_for}
+use Rattle.hub_record.specs.declared.limits.Limits.{Limits}
+use Rattle.hub_record.specs.World.{World, Subscription}
 use Rattle.hub_record.specs.Kept.{Kept, Represents}
+use Rattle.hub_fifodir.specs.declared.PassError.{PassError}
+use Rattle.hub_fifodir.specs.declared.PassError.TheVariants as pass
 use Rattle.hub_fifodir.specs.declared.views.Book.{Book}
 use Rattle.hub_fifodir.specs.declared.views.Role.{Role}
 use Rattle.hub_fifodir.specs.declared.views.Role.TheVariants.{Visitor}
 use Rattle.hub_fifodir.specs.declared.locked.Locked.{Locked}
-use Rattle.hub_fifodir.specs.Locks.{RepresentsWorld, is_current, KeepsPublishers, KeepsRecord, HasLeft}
+use Rattle.hub_fifodir.specs.Locks.{RepresentsWorld, IsCounted, is_current, KeepsPublishers, KeepsRecord, HasLeft, PublisherReply}
+use Rattle.hub_fifodir.specs.Passes.{MayRefuseNumber}
 use Rattle.hub_fifodir.specs.Rule.{IsLive, IsGiven, IsBounded, cursor_of, book_of, IsBehind}
 use Rattle.hub_fifodir.specs.Steps.{M, Changes, Gives, IsFresh, view_at_rest, writer, as_gone}
 use Rattle.hub_fifodir.proofs.Subscriptions.{cursor_given}
@@ -23,8 +27,8 @@ pub bounded_after : (b : Locked) (w : World) → RepresentsWorld b w → ((n : �
 bounded_after b w h low = record { cursors = λ i next at. cursor_given b.kept.value w i next h.for at; active = low }
 
 -- with the same record
-pub still_represents : (b b' : Locked) (w : World) → KeepsRecord b b' → RepresentsWorld b w → RepresentsWorld b' w
-still_represents b b' w same h = record { for = subst (λ (r : Kept). Represents r w) (sym same.0) h.for; ids = same.1 ∙ h.ids }
+pub still_represents : (b b' : Locked) (w : World) → KeepsRecord b b' → (IsCounted b → IsCounted b') → RepresentsWorld b w → RepresentsWorld b' w
+still_represents b b' w same count h = record { for = subst (λ (r : Kept). Represents r w) (sym same.0) h.for; ids = same.1 ∙ h.ids; counted = count h.counted }
 
 -- ---- as before
 
@@ -61,10 +65,10 @@ same_book b b' w w' h h' same others =
 
 pub rests_as_publisher : (m : M) (b b' : Locked) (n : ℕ) → m.0.role ≡ Visitor → m.0.held ≡ Some (book_of b) → IsBounded (book_of b) → IsFresh (book_of b) m.0.sight
     → n ≡ b.given + 1 → ((x : ℕ) → is_current b'.active.keys x ≡ cond (nat_eq n x) true (is_current b.active.keys x)) → b'.given ≡ n
-    → IsBehind m.0.rules m.0.sight.seen m.0.sight.closed b → KeepsRecord b b' → Gives m b' (view_at_rest m.0 (writer b'.given []))
-rests_as_publisher m b b' n role held low fresh next joined count behind keeps =
+    → IsBehind m.0.rules m.0.sight.seen m.0.sight.closed b → KeepsRecord b b' → (IsCounted b → IsCounted b') → Gives m b' (view_at_rest m.0 (writer b'.given []))
+rests_as_publisher m b b' n role held low fresh next joined count behind keeps counted =
     let k : Book = book_of b in let n' : ℕ = b'.given in let up : n' ≡ b.given + 1 = count ∙ next in
-    let is_current' = still_represents b b' behind.world keeps behind.for in
+    let is_current' = still_represents b b' behind.world keeps counted behind.for in
     let cursors : b'.kept.value.cursors ≡ b.kept.value.cursors = is_current'.for.cursors ∙ sym behind.for.for.cursors in
     let ids : b'.kept.value.given ≡ b.kept.value.given = is_current'.for.given ∙ sym behind.for.for.given in
     let all : (x : ℕ) → is_current b'.active.keys x ≡ cond (nat_eq n' x) true (is_current b.active.keys x) = λ x. joined x ∙ ap (λ (y : ℕ). cond (nat_eq y x) true (is_current b.active.keys x)) (sym count) in (
@@ -104,10 +108,10 @@ rests_as_publisher m b b' n role held low fresh next joined count behind keeps =
 -- ---- a publisher leaves
 
 pub rests_left : (m : M) (b b' : Locked) (n : ℕ) (mine : List ℕ) → m.0.role ≡ writer n mine → m.0.held ≡ Some (book_of b) → IsBounded (book_of b) → IsBehind m.0.rules m.0.sight.seen m.0.sight.closed b
-    → HasLeft b n b' → KeepsRecord b b' → Gives m b' (view_at_rest m.0 (as_gone m.0.role))
-rests_left m b b' n mine role held low behind left keeps =
+    → HasLeft b n b' → KeepsRecord b b' → (IsCounted b → IsCounted b') → Gives m b' (view_at_rest m.0 (as_gone m.0.role))
+rests_left m b b' n mine role held low behind left keeps counted =
     let k : Book = book_of b in
-    let is_current' = still_represents b b' behind.world keeps behind.for in
+    let is_current' = still_represents b b' behind.world keeps counted behind.for in
     let cursors : b'.kept.value.cursors ≡ b.kept.value.cursors = is_current'.for.cursors ∙ sym behind.for.for.cursors in
     let ids : b'.kept.value.given ≡ b.kept.value.given = is_current'.for.given ∙ sym behind.for.for.given in
     let numbers : b'.given ≡ b.given = left.1 in
@@ -145,3 +149,11 @@ rests_left m b b' n mine role held low behind left keeps =
         };
       },
     )
+
+-- ---- why there is no publisher
+
+pub may_refuse_number : (b : Locked) (w : World) (limits : Limits) (e : PassError) → RepresentsWorld b w → w.limits ≡ limits → PublisherReply b (Err e) → MayRefuseNumber limits e
+may_refuse_number b w limits pass.Many h is reply =
+    let ids = h.ids in let most = h.counted.0 in let within = h.counted.1 in let same = ap (λ (l : Limits). l.ids) is in
+    omega arith
+may_refuse_number b w limits e h is reply = tt

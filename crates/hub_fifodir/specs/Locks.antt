@@ -4,11 +4,12 @@ use Rattle.std.specs.List.{list_any}
 use Rattle.hub_letters.specs.Flags.{flags_of}
 use Rattle.hub_record.specs.declared.limits.TheConstants.{MOST_PASSES}
 use Rattle.hub_record.specs.declared.Status.{Status}
-use Rattle.hub_record.specs.World.{World, letters}
+use Rattle.hub_record.specs.World.{World, active, letters, load}
 use Rattle.hub_record.specs.Kept.{Represents}
 use Rattle.hub_fifodir.specs.declared.PassError.{PassError}
 use Rattle.hub_fifodir.specs.declared.PassError.TheVariants as pass
 use Rattle.hub_fifodir.specs.declared.locked.Locked.{Locked}
+use Rattle.hub_fifodir.specs.declared.usage.Usage.{Usage}
 
 -- the numbers of the current publishers, and how many numbers were given
 abbrev pub numbers_of : Locked → List ℕ
@@ -17,14 +18,23 @@ numbers_of b = b.active.keys
 abbrev pub given_by : Locked → ℕ
 given_by b = b.given
 
--- its record represents for the world
+-- no more numbers are current than were given, and no more were given than may be
+abbrev pub IsCounted : Locked → Type 0
+IsCounted b = (length b.active.keys ≤ b.given) × (b.given ≤ b.ids)
+
+-- its record represents for the world, and its numbers are counted
 pub record RepresentsWorld (b : Locked) (w : World) : Type 0 where
   pub for : Represents b.kept.value w
   pub ids : b.ids ≡ w.limits.ids
+  pub counted : IsCounted b
 
 -- the status of a world's record
 abbrev pub status_of : World → Status
 status_of w = record { number = length w.events; flags = flags_of (letters w.events); closed = w.closed }
+
+-- how much there is: active subscriptions, current publishers, and events that are pending for the slowest subscription
+abbrev pub usage_of : Locked → World → Usage
+usage_of b w = record { subscriptions = length (active w); publishers = length (numbers_of b); pending = load w }
 
 -- the record is the same
 abbrev pub KeepsRecord : Locked → Locked → Type 0

@@ -17,7 +17,9 @@ use Rattle.hub_record.specs.declared.SubError.{SubError}
 use Rattle.hub_record.specs.declared.PubError.TheVariants as post
 use Rattle.hub_record.specs.declared.SubError.TheVariants as sub
 use Rattle.hub_record.specs.declared.limits.TheConstants.{MOST_PASSES}
-use Rattle.hub_record.specs.World.{letters, as_events, is_slow, evicts, IsLawfulIn, IsUnlawfulIn}
+use Rattle.hub_record.specs.World.{letters, as_events, last_publisher, is_slow, evicts, IsLawfulIn, IsUnlawfulIn}
+use Rattle.hub_fifodir.specs.declared.PassError.{PassError}
+use Rattle.hub_fifodir.specs.declared.PassError.TheVariants as pass
 use Rattle.hub_fifodir.specs.declared.views.Rules.{Rules}
 use Rattle.hub_fifodir.specs.declared.views.Sight.{Sight}
 use Rattle.hub_fifodir.specs.declared.views.Role.{Role}
@@ -27,8 +29,11 @@ use Rattle.hub_fifodir.specs.declared.ticket.Ticket.{Ticket}
 use Rattle.hub_fifodir.specs.declared.bell.Waiter.{Waiter}
 use Rattle.hub_fifodir.specs.declared.bell.Heard.{Heard}
 use Rattle.hub_fifodir.specs.declared.bell.Looked.{Looked}
+use Rattle.hub_fifodir.specs.declared.locked.Locked.{Locked}
+use Rattle.hub_fifodir.specs.declared.usage.Usage.{Usage}
+use Rattle.hub_fifodir.specs.Locks.{usage_of}
 use Rattle.hub_fifodir.specs.Events.{slice, is_closed}
-use Rattle.hub_fifodir.specs.Rule.{IsSound, sight}
+use Rattle.hub_fifodir.specs.Rule.{IsBehind, IsBounded, IsSound, book_of, sight}
 use Rattle.hub_fifodir.specs.Steps.{M, Grows, KnowsOwnClose, mine_of, got_of}
 
 -- ---- a fifodir
@@ -55,6 +60,16 @@ rings_heard h = h.rings
 
 abbrev pub rings_looked : Looked → ℕ
 rings_looked l = l.rings
+
+-- The fifodir's lock once had this record, and these publishers, and so much was there. The record is sound, and of the fifodir's
+-- kind and limits.
+pub record IsUsage (f : Fifodir) (usage : Usage) : Type 0 where
+  pub log : List Event
+  pub mark : ℕ
+  pub locked : Locked
+  pub behind : IsBehind (rules_of f) log mark locked
+  pub bounded : IsBounded (book_of locked)
+  pub is : usage ≡ usage_of locked behind.world
 
 -- ---- passes
 
@@ -199,6 +214,14 @@ word_told state n p = word_behind state (letters (take n (seen_by p)))
 abbrev pub word_to_tell : State → Publisher → List ℕ
 word_to_tell state p = word_behind state (letters (seen_by p))
 
+-- the last event that a publisher has seen is its own
+abbrev pub IsLast : Publisher → Type 0
+IsLast p = last_publisher (seen_by p) ≡ Some (publisher_number p)
+
+-- the last of the first n events that a publisher has seen is its own
+abbrev pub WasLast : ℕ → Publisher → Type 0
+WasLast n p = last_publisher (take n (seen_by p)) ≡ Some (publisher_number p)
+
 -- a ticket begins at the end of what it has seen
 abbrev pub HasSubscribed : Ticket → Type 0
 HasSubscribed t = (ticket_mark t ≡ length (ticket_seen t)) × (ticket_next t ≡ ticket_mark t) × (got t ≡ [])
@@ -208,6 +231,15 @@ HasSubscribed t = (ticket_mark t ≡ length (ticket_seen t)) × (ticket_next t �
 abbrev pub MayRefuseBy : Limits → SubError → Type 0
 MayRefuseBy limits sub.Many = MOST_PASSES ≤ limits.ids
 MayRefuseBy limits e = Unit {0}
+
+-- The same of publishers, whose numbers are as many as the ids that may be given.
+abbrev pub MayRefuseNumber : Limits → PassError → Type 0
+MayRefuseNumber limits pass.Many = MOST_PASSES ≤ limits.ids
+MayRefuseNumber limits e = Unit {0}
+
+-- why there is no publisher
+abbrev pub MayRefusePublisher : Fifodir → PassError → Type 0
+MayRefusePublisher f e = MayRefuseNumber (limits_of f) e
 
 -- why there is no ticket
 abbrev pub MayRefuseTicket : Fifodir → SubError → Type 0

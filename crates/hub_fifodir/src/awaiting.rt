@@ -1,5 +1,5 @@
 //! Waits for the next change of a fifodir, by a ticket.
-ghost use Rattle.std.specs.Prelude.{◌≡◌, MatchBool};
+ghost use Rattle.std.specs.Prelude.{◌≤◌, MatchBool};
 ghost use Rattle.hub_fifodir.specs.Passes.{IsTicketOf, IsStatusOf, OnlyLooks, Remains, HasMore, IsQuiet, ticket_sight, ticket_view};
 
 use crate::fifodir::Fifodir;
@@ -34,13 +34,34 @@ impl Fifodir {
         ensures looks { OnlyLooks (ticket_view me.old) (ticket_view me.new) }
         ensures more { MatchBool result (HasMore me.new) (IsQuiet me.new) }
     {
+        let mut left = turns;
+        self.await_within(rt, me, &mut left, pause)
+    }
+
+    /// The same for a wait of several awaits, which has so many turns left in all. It leaves those that it didn't use, and none if
+    /// the pause has expired.
+    pub fn await_within<R: Wait, P: Pause>(
+        &self,
+        rt: &R,
+        me: &mut Ticket,
+        left: &mut u64,
+        pause: &mut P,
+    ) -> bool
+        requires { IsTicketOf self.now me.old }
+        ensures remains { Remains self.now (ticket_view me.old) (ticket_view me.new) }
+        ensures looks { OnlyLooks (ticket_view me.old) (ticket_view me.new) }
+        ensures more { MatchBool result (HasMore me.new) (IsQuiet me.new) }
+        ensures bounded { left.new ≤ left.old }
+    {
         let waiter = self.admit();
-        for turn in 0..turns {
+        'turns: while *left > 0 {
             let (status, looked) = self.look(me, self.hear(&waiter));
-            if is_news(status, me)
-                || pause.pause_at(rt, self.bell(), looked, turns - turn) == Go::Expired
-            {
+            if is_news(status, me) {
                 break;
+            }
+            match pause.pause_at(rt, self.bell(), looked, *left) {
+                Go::Again => *left -= 1,
+                Go::Expired => *left = 0,
             }
         }
         self.dismiss(waiter);

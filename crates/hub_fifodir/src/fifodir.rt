@@ -70,6 +70,13 @@ impl Fifodir {
         self.rules.kind
     }
 
+    /// How much its record may hold, and what gives way.
+    pub fn limits(&self) -> Limits
+        ensures { result ≡ limits_of self.now }
+    {
+        self.rules.limits
+    }
+
     pub(crate) fn board(&self) -> &Board
         ensures { (result.now.table_id ≡ table_of self.now) × IsSized result.now.table_id
             × (result.now.key ≡ rules_of self.now) }

@@ -3,7 +3,8 @@
 //! Publishers add messages and tickets take events, each call under the one lock. A publisher or a ticket is a *pass*.
 //! What a pass knows is its seen list: the record at the moment of its latest step. Contracts speak only of seen lists,
 //! since other threads may change the record at any time. Two passes that meet have seen the same list.
-//! Only `publisher` and `subscribe` make passes. They ask for a runtime that is [`Enter`], and the other calls don't.
+//! Only `publisher` and `subscribe` make passes. They ask for a runtime that is [`Enter`], as `usage` does, which makes none. The
+//! other calls don't.
 //!
 //! A ticket gets every event from its mark on. If the slowest ticket leaves no room, the policy says what gives way. With Hold,
 //! `publish` is refused as `Full`, nothing is lost, and the publisher retries. With Evict the ticket is evicted, and each take
@@ -29,6 +30,7 @@ mod rule;
 mod steps;
 mod ticket;
 pub mod together;
+mod usage;
 mod views;
 pub mod word;
 
@@ -41,6 +43,7 @@ pub use pause::{Go, Pause};
 pub use publisher::Publisher;
 use thiserror::Error;
 pub use ticket::Ticket;
+pub use usage::Usage;
 
 /// Why there is no new publisher. If several reasons hold, the first in this order is reported.
 #[derive(Clone, Copy, Debug, PartialEq, Eq, Hash, Error)]

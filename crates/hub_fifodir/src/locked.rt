@@ -1,14 +1,15 @@
 //! The value behind the lock.
-ghost use Rattle.std.specs.Prelude.{◌≡◌, ◌++◌, [], length, drop, IfOk, OnErr, OnOk};
+ghost use Rattle.std.specs.Prelude.{◌≡◌, ◌++◌, [], length, drop, IfOk, OnErr};
 ghost use Rattle.hub_letters.specs.States.{word_behind};
 ghost use Rattle.hub_record.specs.declared.Kind.TheVariants.{Service};
-ghost use Rattle.hub_record.specs.World.{World, empty_world, letters, SubscribeReply, after_subscribe, PublishReply, after_publish};
+ghost use Rattle.hub_record.specs.World.{World, empty_world, letters, last_publisher, SubscribeReply, after_subscribe, PublishReply, after_publish};
 ghost use Rattle.hub_record.specs.World.{take_reply, take_events, after_take};
 ghost use Rattle.hub_record.specs.World.{cancel_reply, after_cancel, close_reply, after_close};
-ghost use Rattle.hub_fifodir.specs.Locks.{RepresentsWorld, status_of, numbers_of, given_by};
-ghost use Rattle.hub_fifodir.specs.Locks.{PublisherReply, IsAfterPublisher, HasLeft, KeepsPublishers, KeepsRecord};
+ghost use Rattle.hub_fifodir.specs.Locks.{RepresentsWorld, status_of, usage_of, numbers_of, given_by};
+ghost use Rattle.hub_fifodir.specs.Locks.{PublisherReply, IsAfterPublisher, HasLeft, KeepsPublishers, KeepsRecord, IsCounted};
 
 use crate::PassError;
+use crate::usage::Usage;
 use hub_letters::{Letter, State, Word};
 use hub_record::{
     Closed, Event, Kind, Limits, MOST_PASSES, NoId, PubError, Record, Status, SubError, Taken,
@@ -48,6 +49,7 @@ impl Locked {
     pub fn publisher(&mut self) -> Result<u64, PassError>
         ensures reply { PublisherReply self.old result }
         ensures after { IsAfterPublisher self.old result self.new }
+        ensures counted { IsCounted self.old → IsCounted self.new }
         ensures record { KeepsRecord self.old self.new }
     {
         if self.active.len() >= MOST_PASSES {
@@ -100,6 +102,13 @@ impl Locked {
         self.kept.word(state)
     }
 
+    /// The number of the publisher of the last event. None if there is no event.
+    pub fn last_publisher(&self) -> Option<u64>
+        ensures { (w : World) → RepresentsWorld self.now w → result ≡ last_publisher w.events }
+    {
+        self.kept.last_publisher()
+    }
+
     /// Takes what is pending behind a cursor, as far as it fits. An error says that the id has no cursor.
     #[tactic(auto, using(crate::proofs::Boxes::same_if_refused))]
     pub fn take_into(&mut self, id: u64, out: &mut [Event]) -> Result<Taken, NoId>
@@ -131,6 +140,7 @@ impl Locked {
     /// Ends a publisher. If it isn't current, nothing changes.
     pub fn leave(&mut self, number: u64)
         ensures left { HasLeft self.old number self.new }
+        ensures counted { IsCounted self.old → IsCounted self.new }
         ensures record { KeepsRecord self.old self.new }
     {
         self.active.shift_remove(&number);
@@ -156,6 +166,17 @@ impl Locked {
             number: self.kept.end(),
             flags: self.kept.flags(),
             closed: self.kept.closed(),
+        }
+    }
+
+    /// How many subscriptions and publishers there are, and how many events are pending for the slowest subscription.
+    pub fn usage(&self) -> Usage
+        ensures { (w : World) → RepresentsWorld self.now w → result ≡ usage_of self.now w }
+    {
+        Usage {
+            subscriptions: self.kept.active() as u64,
+            publishers: self.active.len() as u64,
+            pending: self.kept.load(),
         }
     }
 

@@ -22,4 +22,10 @@ pub trait Pause {
     fn pause_at<R: Wait>(&mut self, rt: &R, _bell: &Bell, _looked: Looked, _left: u64) -> Go {
         self.pause(rt)
     }
+
+    /// The same between two tries of a call that was refused, for one that is tried so many times more. A pause by the clock ends
+    /// the tries after the time of all turns.
+    fn pause_for<R: Wait>(&mut self, rt: &R, _left: u64) -> Go {
+        self.pause(rt)
+    }
 }

@@ -1,5 +1,5 @@
 //! Publishers, and the calls of a fifodir that take one.
-ghost use Rattle.std.specs.Prelude.{◌≡◌, ◌≢◌, ◌<◌, [], true, IfOk, IfErr, OnErr, OnOk};
+ghost use Rattle.std.specs.Prelude.{◌≡◌, ◌≢◌, ◌<◌, [], true, IfOk, IfErr, IfNone, IfSome, OnErr, OnOk};
 ghost use Rattle.hub_letters.specs.States.{is_at_end};
 ghost use Rattle.hub_record.specs.World.{letters};
 ghost use Rattle.hub_record.specs.declared.Kind.TheVariants.{Service};
@@ -37,12 +37,14 @@ impl Publisher {
 impl Fifodir {
     ghost use Rattle.hub_fifodir.specs.Passes.{IsPublisherOf, Remains, HasSoundSight, publisher_number, publisher_view};
     ghost use Rattle.hub_fifodir.specs.Passes.{table_of, kind_of, closed_mark, mine, seen_by, KnewOwnClose, HasPublished, IsRefusedAt};
-    ghost use Rattle.hub_fifodir.specs.Passes.{HasAdded, word_told, word_to_tell};
+    ghost use Rattle.hub_fifodir.specs.Passes.{HasAdded, word_told, word_to_tell, IsLast, WasLast, MayRefusePublisher};
 
     /// A new publisher, which has published nothing. A closed fifodir gives publishers too.
     pub fn publisher<R: Wait + Enter>(&self, rt: &R) -> Result<Publisher, PassError>
-        ensures { IfOk result (λ p. IsPublisherOf self.now p × HasSoundSight (publisher_view p)
+        ensures ok { IfOk result (λ p. IsPublisherOf self.now p
+            × HasSoundSight (publisher_view p)
             × (mine p ≡ []) × (closed_mark p ≢ publisher_number p)) }
+        ensures refused { IfErr result (MayRefusePublisher self.now) }
     {
         let board = self.board();
         let mut seat = steps::enter(rt, board);
@@ -92,6 +94,38 @@ impl Fifodir {
         let held = self.lock(rt, &mut me.seat);
         let word = held.locked.word(state);
         self.add(me.number, &mut me.seat, held, word.letters())
+    }
+
+    /// Tells where the service is, as `tell` does, if its last event is this publisher's. None if another one published since, or
+    /// if there is no event: whoever published last speaks for the service. It looks and publishes in one step under the lock.
+    pub fn tell_as_last<R: Wait>(
+        &self,
+        rt: &R,
+        me: &mut Publisher,
+        state: State,
+    ) -> Option<Result<u64, PubError>>
+        requires of { IsPublisherOf self.now me.old }
+        requires service { kind_of self.now ≡ Service }
+        ensures remains { Remains self.now (publisher_view me.old) (publisher_view me.new) }
+        ensures own { KnewOwnClose me.old me.new }
+        ensures last { IfSome result (λ told. IfOk told (λ n. WasLast n me.new)) }
+        ensures ok { IfSome result (λ told. IfOk told (λ n. HasPublished me.old
+            (word_told state n me.new) n me.new)) }
+        ensures there { IfSome result (λ told. OnOk told (is_at_end state
+            (letters (seen_by me.new)) ≡ true)) }
+        ensures err { IfSome result (λ told. OnErr told (IsLast me.new
+            × (mine me.new ≡ mine me.old))) }
+        ensures refused { IfSome result (λ told. IfErr told (λ e. IsRefusedAt me.new
+            (word_to_tell state me.new) e)) }
+        ensures none { IfNone result ((IsLast me.new → ⊥) × (mine me.new ≡ mine me.old)) }
+    {
+        let held = self.lock(rt, &mut me.seat);
+        if held.locked.last_publisher() != Some(me.number) {
+            steps::rest(self.board(), &mut me.seat, held);
+            return None;
+        }
+        let word = held.locked.word(state);
+        Some(self.add(me.number, &mut me.seat, held, word.letters()))
     }
 
     // Adds a message of this publisher, whose seat has the lock, and releases the lock.

@@ -178,7 +178,7 @@ pub(crate) fn rest_gone(board: &Board, mut seat: Seat, held: Held<'_>)
     let Undropped { at: _ } = seat;
 }
 
-// Releases the lock, and ends the seat of a visitor, which was refused what it came for.
+// Releases the lock, and ends the seat of a visitor, which gets no pass: it was refused one, or asked for none.
 pub(crate) fn rest_refused(board: &Board, mut seat: Seat, held: Held<'_>)
     requires table { (seat.at.table_id ≡ board.now.table_id) × IsSized board.now.table_id }
     requires held { seat.at.me.1 ≡ (0, None) ∷ [] }

@@ -100,7 +100,7 @@ pub none_held : (held : Option ℕ) → is_some held ≡ false → held ≡ None
 none_held None e = refl
 none_held (Some letter) e = absurd (let k : ⊥ = cc in k)
 
-hears_on : (a b c : SessionListener) (fed more : List ℕ) (heard : Feed) → Hears a fed (Ok Quiet) b → Hears b more (Ok heard) c
+pub hears_on : (a b c : SessionListener) (fed more : List ℕ) (heard : Feed) → Hears a fed (Ok Quiet) b → Hears b more (Ok heard) c
     → Hears a (fed ++ more) (counted_from (length fed) (Ok heard)) c
 hears_on a b c fed more heard p q = record {
   comes = comes_on a b c fed more p.comes q.comes;

@@ -4,7 +4,7 @@ use Rattle.std.specs.Prelude.{if◌then◌else◌}
 use Rattle.std.specs.Map.{lookup}
 use Rattle.std.proofs.lemmas.Bool.{cases_Bool, eqb-true}
 use Rattle.hub_requests.specs.declared.request.Request.{Request}
-use Rattle.hub_requests.specs.declared.request.Request.TheVariants.{Take, Cancel, Poll, Await}
+use Rattle.hub_requests.specs.declared.request.Request.TheVariants.{Take, Cancel, Poll, Await, Next}
 use Rattle.hub_requests.specs.declared.reply.Reply.{Reply}
 use Rattle.hub_requests.specs.declared.reply.Reply.TheVariants as answer
 use Rattle.hub_handles.specs.declared.handles.Handles.{Handles}
@@ -14,8 +14,9 @@ use Rattle.hub_handles.specs.Taking.{IsSameTicket, Takes}
 use Rattle.hub_handles.specs.Hearings.{Polls, ends_by, subscription_in}
 use Rattle.hub_handles.specs.Handles.{Cancels, IsStill, ListenerSteps, PollsAt, SubscriptionSteps, TakesAt, left_by, listener_of, subscription_of}
 use Rattle.hub_handles.specs.Awaiting.{AwaitsAt}
+use Rattle.hub_handles.specs.Nexts.{PollsOn, TakesWaiting, TellsAt}
 use Rattle.hub_handles.specs.Requests.{AsksHandle, HadTicket, KeepsTickets}
-use Rattle.hub_handles.proofs.Looks.{same_ticket}
+use Rattle.hub_handles.proofs.Looks.{same_ticket, same_ticket_through}
 
 is_one : {A : Type 0} (a b : A) → Some a ≡ Some b → a ≡ b
 is_one a b e = cc
@@ -95,6 +96,19 @@ await_keeps old new id reply (inl t) = subscription_keeps _ (λ before after ste
 await_keeps old new id reply (inr (inl t)) = listener_keeps _ Some (λ before after step. step.0.looked.same) is_one old new id t
 await_keeps old new id reply (inr (inr u)) = still_keeps old new u.still
 
+takes_waiting_same : (before after : Subscription) (reply : Reply) → TakesWaiting before reply after → IsSameTicket before after
+takes_waiting_same before after reply t = same_ticket_through before t.looked after t.looks.same (taken_same _ t.looked after reply t.takes)
+
+polls_on_same : (before after : SessionListener) (reply : Reply) → PollsOn before reply after → IsSameTicket before.subscription after.subscription
+polls_on_same before after reply p =
+    same_ticket_through before.subscription p.polled.subscription after.subscription p.quietly.1.comes.ticket (polled_same p.polled after reply p.polls)
+
+next_keeps : (old new : Handles) (id : ℕ) (reply : Reply) → TellsAt old id reply new → KeepsTickets old new
+next_keeps old new id reply (inl t) = subscription_keeps _ (λ before after takes. takes_waiting_same before after reply takes) old new id t
+next_keeps old new id reply (inr (inl t)) =
+    listener_keeps _ (left_by reply) (λ before after polls. polls_on_same before after reply polls) (λ after h. is_left_if (ends_by after.mode reply) after h) old new id t
+next_keeps old new id reply (inr (inr u)) = still_keeps old new u.still
+
 cancel_keeps : (old new : Handles) (id : ℕ) (reply : Reply) → Cancels old id reply new → KeepsTickets old new
 cancel_keeps old new id reply c = record {
   subscriptions = changed_at (λ s. s) (subscription_of old) (subscription_of new) id None c.gone (λ s is. absurd (not_there s is)) (λ other e. (c.others other e).0);
@@ -110,4 +124,5 @@ keeps_tickets old new (Take id max) reply asks = take_keeps old new id max reply
 keeps_tickets old new (Cancel id) reply asks = cancel_keeps old new id reply asks
 keeps_tickets old new (Poll id) reply asks = poll_keeps old new id reply asks
 keeps_tickets old new (Await id turns) reply asks = await_keeps old new id reply asks
+keeps_tickets old new (Next id turns) reply asks = next_keeps old new id asks.told asks.tells
 keeps_tickets old new request reply asks = absurd asks

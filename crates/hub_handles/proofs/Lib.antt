@@ -1,4 +1,5 @@
 pub mod Numbering
 pub mod Looks
 pub mod Hearings
+pub mod Nexts
 pub mod Keeping

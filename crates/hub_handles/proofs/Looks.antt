@@ -1,5 +1,5 @@
 -- Looks at the front word by a subscription's ticket, and takes after them.
-use Rattle.std.proofs.Common.{◌≡◌, ℕ, ◌+◌, ◌-◌, ◌<◌, min, ◌++◌, length, refl, Option, None, Some, subst, ap, sym, ◌∙◌}
+use Rattle.std.proofs.Common.{◌≡◌, ℕ, ◌+◌, ◌++◌, refl, Option, None, Some, subst, ap, ◌∙◌}
 use Rattle.hub_requests.specs.declared.reply.Reply.{Reply}
 use Rattle.hub_requests.specs.declared.reply.Reply.TheVariants as answer
 use Rattle.hub_record.specs.declared.Taken.{Taken}

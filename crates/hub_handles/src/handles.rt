@@ -9,6 +9,8 @@ ghost use Rattle.hub_requests.specs.Ranges.{IsTake};
 ghost use Rattle.hub_requests.specs.declared.reply.Reply.TheVariants.{Done, Late};
 ghost use Rattle.hub_requests.specs.declared.reply.Refusal.TheVariants as no;
 
+mod nexts;
+
 use crate::room::Room;
 use crate::session_listener::SessionListener;
 use crate::subscription::Subscription;

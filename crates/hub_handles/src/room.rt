@@ -21,8 +21,9 @@ impl Room {
     }
 }
 
+/// Room for so many events.
 // (A size that is a parameter keeps the proof from writing the events out.)
-fn fillers(alloc: Global, size: usize) -> Result<Vec<Event>, AllocError>
+pub fn fillers(alloc: Global, size: usize) -> Result<Vec<Event>, AllocError>
     ensures { IfOk result (λ events. vec_len events ≡ size) }
 {
     vec![in alloc; Event::FILLER; size]

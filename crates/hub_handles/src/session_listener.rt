@@ -3,6 +3,8 @@ ghost use Rattle.std.specs.Prelude.{◌≡◌, ◌≤◌, ◌<◌, [], Ok, lengt
 ghost use Rattle.hub_listen.specs.declared.feed.Feed.TheVariants.{Quiet};
 ghost use Rattle.hub_letters.specs.declared.mode.Mode.TheVariants.{Repeat};
 
+mod nexts;
+
 use crate::subscription::Subscription;
 use hub_fifodir::Pause;
 use hub_letters::{Letter, MOST_GATHERED};

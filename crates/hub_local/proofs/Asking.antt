@@ -95,8 +95,8 @@ answers_like {old} {new} {needs} {own} {own'} {done} {done'} {left} {reply} same
 
 -- ---- the same fifodirs and handles
 
-pub same_parts : (a b : Local) → a.fifodirs ≡ b.fifodirs → a.holdings ≡ b.holdings → a.given ≡ b.given → a ≡ b
-same_parts a b fifodirs holdings given = λ i. record { fifodirs = fifodirs i; holdings = holdings i; given = given i }
+pub same_parts : (a b : Local) → a.fifodirs ≡ b.fifodirs → a.holdings ≡ b.holdings → a.given ≡ b.given → a.wills ≡ b.wills → a ≡ b
+same_parts a b fifodirs holdings given wills = λ i. record { fifodirs = fifodirs i; holdings = holdings i; given = given i; wills = wills i }
 
 pub represents_same : (old new : Local) (d : Desk) → new ≡ old → RepresentsDesk old d → RepresentsDesk new d
 represents_same old new d e st = subst (λ (z : Local). RepresentsDesk z d) (sym e) st
@@ -109,11 +109,12 @@ pub record Replaces (old new : Local) (name : List ℕ) (r : LocalFifodir) (kept
   pub fifodirs : new.fifodirs ≡ set_value (bytes_eq name) old.fifodirs (record { kept = kept; reports = r.reports })
   pub holdings : new.holdings ≡ old.holdings
   pub given : new.given ≡ old.given
+  pub wills : new.wills ≡ old.wills
 
 pub replaces : (before old new : Local) (name : List ℕ) (r : LocalFifodir) (kept : Kept) → before ≡ old → Some r ≡ lookup (bytes_eq name) before.fifodirs
-    → new.fifodirs ≡ set_value (bytes_eq name) before.fifodirs (record { kept = kept; reports = r.reports }) → new.holdings ≡ before.holdings → new.given ≡ before.given → Replaces old new name r kept
-replaces before old new name r kept same was fifodirs holdings given =
-    subst (λ (z : Local). Replaces z new name r kept) same (record { was = sym was; fifodirs = fifodirs; holdings = holdings; given = given })
+    → new.fifodirs ≡ set_value (bytes_eq name) before.fifodirs (record { kept = kept; reports = r.reports }) → new.holdings ≡ before.holdings → new.given ≡ before.given → new.wills ≡ before.wills → Replaces old new name r kept
+replaces before old new name r kept same was fifodirs holdings given wills =
+    subst (λ (z : Local). Replaces z new name r kept) same (record { was = sym was; fifodirs = fifodirs; holdings = holdings; given = given; wills = wills })
 
 module _ (old new : Local) (name : List ℕ) (r : LocalFifodir) (kept : Kept) (put : Replaces old new name r kept) (d : Desk) (st : RepresentsDesk old d) where
   -- the world under the name
@@ -126,6 +127,7 @@ module _ (old new : Local) (name : List ℕ) (r : LocalFifodir) (kept : Kept) (p
     fifodirs = subst (λ (es : List (List ℕ × LocalFifodir)). AreKept es (with_world d.fifodirs name w')) (sym put.fifodirs) (kept_set name old.fifodirs d.fifodirs r (record { kept = kept; reports = r.reports }) w' st.fifodirs put.was refl represents);
     holdings = put.holdings ∙ st.holdings;
     given = put.given ∙ st.given;
+    wills = put.wills ∙ st.wills;
     is_desk = record { held = held_still d.fifodirs (with_world d.fifodirs name w') (λ h. held_in_changed d.fifodirs name w w' is h (λ _. keep h.id)) _ st.is_desk.held; apart = st.is_desk.apart; go_on = st.is_desk.go_on };
   }
 
@@ -135,6 +137,7 @@ module _ (old new : Local) (name : List ℕ) (r : LocalFifodir) (kept : Kept) (p
     fifodirs = subst (λ (es : List (List ℕ × LocalFifodir)). AreKept es d.fifodirs) (sym put.fifodirs) (kept_still name old.fifodirs d.fifodirs r (record { kept = kept; reports = r.reports }) w st.fifodirs put.was is refl represents);
     holdings = put.holdings ∙ st.holdings;
     given = put.given ∙ st.given;
+    wills = put.wills ∙ st.wills;
     is_desk = st.is_desk;
   }
 

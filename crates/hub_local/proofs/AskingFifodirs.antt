@@ -59,8 +59,8 @@ module _ (old : Local) (name : List ℕ) (kind : Kind) (reports : Option Bool) (
     make_lacks new same = by_lacking old new true _ _ _ _ refl refl (λ d st. still_lacking new d (refusal_to_make d name) (may_make d st) (represents_same old new d same st))
 
     pub make_done : (new : Local) (kept : Kept) → Represents kept (empty_world kind limits)
-        → new.fifodirs ≡ old.fifodirs ++ (name, record { kept = kept; reports = reports }) ∷ [] → new.holdings ≡ old.holdings → new.given ≡ old.given → Makes Done new
-    make_done new kept represents fifodirs holdings given = by_carrying old new true _ _ _ Done (λ (e : Done ≡ No no.Memory). cc) (λ d st.
+        → new.fifodirs ≡ old.fifodirs ++ (name, record { kept = kept; reports = reports }) ∷ [] → new.holdings ≡ old.holdings → new.given ≡ old.given → new.wills ≡ old.wills → Makes Done new
+    make_done new kept represents fifodirs holdings given wills = by_carrying old new true _ _ _ Done (λ (e : Done ≡ No no.Memory). cc) (λ d st.
         let f : Fifodir = record { name = name; reports = reports; world = empty_world kind limits } in
         let more = d.fifodirs ++ f ∷ [] in record {
           answer = make_answer d name kind reports (Some limits);
@@ -72,6 +72,7 @@ module _ (old : Local) (name : List ℕ) (kind : Kind) (reports : Option Bool) (
                 (kept_push old.fifodirs d.fifodirs _ f st.fifodirs (record { name = refl; reports = refl; world = represents }));
             holdings = holdings ∙ st.holdings;
             given = given ∙ st.given;
+            wills = wills ∙ st.wills;
             is_desk = record { held = held_still d.fifodirs more (held_with_more d.fifodirs f) _ st.is_desk.held; apart = st.is_desk.apart; go_on = st.is_desk.go_on };
           };
         })

@@ -108,9 +108,9 @@ module _ (old new : Local) (name : List ℕ) (hearing : Option LocalListener) (m
   Begun begun = (model : List Fifodir) (w : World) → AreKept old.fifodirs model → world_of model name ≡ Some w → Begins name w model begun new.fifodirs
 
   pub hold_done : GoesOn hearing → (begun : List ℕ × ℕ) → Begun (Ok begun)
-      → new.holdings ≡ old.holdings ++ (old.given + 1, record { name = name; id = begun.1; hearing = hearing }) ∷ [] → new.given ≡ old.given + 1
+      → new.holdings ≡ old.holdings ++ (old.given + 1, record { name = name; id = begun.1; hearing = hearing }) ∷ [] → new.given ≡ old.given + 1 → new.wills ≡ old.wills
       → Holds (Number (old.given + 1)) new
-  hold_done goes_on begun begins holdings number = by_carrying old new true _ _ _ _ (λ e. cc) (λ d st.
+  hold_done goes_on begun begins holdings number wills = by_carrying old new true _ _ _ _ (λ e. cc) (λ d st.
       let t = unrefused_world d name (may d st) in
       let w = t.0 in
       let b = begins d.fifodirs w st.fifodirs t.1 in
@@ -132,6 +132,7 @@ module _ (old new : Local) (name : List ℕ) (hearing : Option LocalListener) (m
           fifodirs = subst (λ (r : Result (ℕ × ℕ) SubError). AreKept new.fifodirs (with_world d.fifodirs name (after_subscribe w r))) b.said b.kept;
           holdings = holdings ∙ ap (λ (es : List (ℕ × Holding)). es ++ (old.given + 1, h) ∷ []) st.holdings ∙ sym was_active;
           given = number ∙ same ∙ sym (length_push d.handles _);
+          wills = wills ∙ st.wills;
           is_desk = record {
             held = subst (AreHeld fs) (sym was_active) (held_push fs (active d) (old.given + 1, h) still there_now);
             apart = subst AreApart (sym was_active) (apart_push d.fifodirs (active d) (old.given + 1, h) st.is_desk.apart st.is_desk.held
@@ -141,12 +142,13 @@ module _ (old new : Local) (name : List ℕ) (hearing : Option LocalListener) (m
         };
       })
 
-  module _ (refusal : Refusal) (begins : Begun (Err refusal)) (holdings : new.holdings ≡ old.holdings) (given : new.given ≡ old.given) where
+  module _ (refusal : Refusal) (begins : Begun (Err refusal)) (holdings : new.holdings ≡ old.holdings) (given : new.given ≡ old.given) (wills : new.wills ≡ old.wills) where
     represents_after : (d : Desk) → RepresentsDesk old d → RepresentsDesk new d
     represents_after d st = (let t = unrefused_world d name (may d st) in record {
       fifodirs = (begins d.fifodirs t.0 st.fifodirs t.1).0;
       holdings = holdings ∙ st.holdings;
       given = given ∙ st.given;
+      wills = wills ∙ st.wills;
       is_desk = st.is_desk;
     })
 

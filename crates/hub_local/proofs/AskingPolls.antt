@@ -38,17 +38,18 @@ pub record Rehears (old new : Local) (n : ℕ) (h : Holding) (hearing : LocalLis
   pub fifodirs : new.fifodirs ≡ set_value (bytes_eq h.name) old.fifodirs (record { kept = kept; reports = r.reports })
   pub holdings : new.holdings ≡ set_value (nat_eq n) old.holdings (record h { hearing = Some hearing })
   pub given : new.given ≡ old.given
+  pub wills : new.wills ≡ old.wills
 
 module _ (old new : Local) (n : ℕ) (h : Holding) (was : Some h ≡ lookup (nat_eq n) old.holdings) (hearing : LocalListener) (r : LocalFifodir) (kept : Kept) (put : Rehears old new n h hearing r kept) (d : Desk) (st : RepresentsDesk old d) where
-  replaced : Replaces old (record { fifodirs = new.fifodirs; holdings = old.holdings; given = old.given }) h.name r kept
-  replaced = record { was = put.was; fifodirs = put.fifodirs; holdings = refl; given = refl }
+  replaced : Replaces old (record old { fifodirs = new.fifodirs }) h.name r kept
+  replaced = record { was = put.was; fifodirs = put.fifodirs; holdings = refl; given = refl; wills = refl }
 
   is_held : holding_at d n ≡ Some h
   is_held = sym (was ∙ ap (lookup (nat_eq n)) st.holdings)
 
   -- the world and the subscription that it hears
   pub world_heard : (w : World) × (world_of d.fifodirs h.name ≡ Some w) × Represents r.kept w
-  world_heard = world_there old (record { fifodirs = new.fifodirs; holdings = old.holdings; given = old.given }) h.name r kept replaced d st
+  world_heard = world_there old (record old { fifodirs = new.fifodirs }) h.name r kept replaced d st
 
   pub found_heard : (w : World) → world_of d.fifodirs h.name ≡ Some w → (s : Subscription) × (subscription_in w h.id ≡ Some s)
   found_heard w there = let s = held_at d.fifodirs (active d) n h st.is_desk.held is_held in has_found (subscription_in w h.id) (simp there at s)
@@ -57,11 +58,12 @@ module _ (old new : Local) (n : ℕ) (h : Holding) (was : Some h ≡ lookup (nat
   represents_heard w m there represents goes_on =
       let other : Holding = record h { hearing = Some hearing } in
       let fs = with_world d.fifodirs h.name (after_take w h.id m) in
-      let mid = represents_replaced old (record { fifodirs = new.fifodirs; holdings = old.holdings; given = old.given }) h.name r kept replaced d st w (after_take w h.id m) there represents (taken_still w h.id m) in
+      let mid = represents_replaced old (record old { fifodirs = new.fifodirs }) h.name r kept replaced d st w (after_take w h.id m) there represents (taken_still w h.id m) in
       let set = active-with 1 d.handles n h other is_held in record {
         fifodirs = mid.fifodirs;
         holdings = put.holdings ∙ ap (λ (es : List (ℕ × Holding)). set_value (nat_eq n) es other) st.holdings ∙ sym set;
         given = put.given ∙ st.given ∙ sym (length-with 1 d.handles n other);
+        wills = put.wills ∙ st.wills;
         is_desk = record {
           held = subst (AreHeld fs) (sym set) (held_set fs (active d) n other mid.is_desk.held (held_at fs (active d) n h mid.is_desk.held is_held));
           apart = subst AreApart (sym set) (apart_set h other refl refl (active d) n is_held st.is_desk.apart);

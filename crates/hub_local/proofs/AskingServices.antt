@@ -155,7 +155,7 @@ module _ (old new : Local) (span : Span) (want : Want) (names : List (List ℕ))
     })
 
     -- `mid` has the posts, and in `new` they are ended
-    module _ (mid : List (List ℕ × LocalFifodir)) (posts : List LocalPost) (holdings : new.holdings ≡ old.holdings) (given : new.given ≡ old.given)
+    module _ (mid : List (List ℕ × LocalFifodir)) (posts : List LocalPost) (holdings : new.holdings ≡ old.holdings) (given : new.given ≡ old.given) (wills : new.wills ≡ old.wills)
         (back : (fs : List Fifodir) → AreKept mid fs → AreKept new.fifodirs (without_posts fs names posts)) where
       represents_left : (d : Desk) → RepresentsDesk old d → (now : List Fifodir) → AreKept mid now → (count : ℕ) → opening_of want d.fifodirs (take count names) ≡ so_far now posts
           → RepresentsDesk new (record d { fifodirs = without_posts now names posts })
@@ -163,6 +163,7 @@ module _ (old new : Local) (span : Span) (want : Want) (names : List (List ℕ))
         fifodirs = back now kept;
         holdings = holdings ∙ st.holdings;
         given = given ∙ st.given;
+        wills = wills ∙ st.wills;
         is_desk = record {
           held = held_still d.fifodirs (without_posts now names posts) (λ g s.
               let b = beside_opened want (take count names) (drop count names) d.fifodirs now [] posts g s e in

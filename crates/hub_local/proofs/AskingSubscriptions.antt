@@ -8,11 +8,13 @@ use Rattle.hub_record.specs.declared.Taken.TheVariants as taken
 use Rattle.hub_record.specs.Kept.{Kept, Represents}
 use Rattle.hub_record.specs.World.{World, Subscription, letters, subscription_in, after_cancel, moved_on, take_reply, take_events, after_take, after_take_for}
 use Rattle.hub_local.specs.DeskAnswers.{in_world, for_holding, refusal_to_take, take_shown, took, cancel_answer}
-use Rattle.hub_local.specs.Desks.{Desk, Fifodir, active, holding_at, world_of, subscription_of, AreHeld, AreApart, AllGoOn, end_in, without_held, without_all, desk_after_end}
+use Rattle.hub_local.specs.Desks.{Desk, Fifodir, active, holding_at, world_of, subscription_of, AreHeld, AreApart, AllGoOn, end_in, without_held, without_all}
+use Rattle.hub_local.specs.Ends.{after_wills, desk_after_end}
 use Rattle.hub_local.specs.Representing.{Local, AreKept, RepresentsDesk, HasSubscription, AsksWith, Ended}
 use Rattle.hub_local.specs.declared.local_desk.Holding.{Holding}
 use Rattle.hub_local.specs.declared.local_desk.LocalFifodir.{LocalFifodir}
 use Rattle.hub_requests.specs.declared.request.Request.TheVariants.{Take, Cancel}
+use Rattle.hub_requests.specs.declared.will.Will.{Will}
 use Rattle.hub_requests.specs.declared.reply.Reply.{Reply}
 use Rattle.hub_requests.specs.declared.reply.Reply.TheVariants.{Done, No}
 use Rattle.hub_requests.specs.declared.reply.Refusal.TheVariants as no
@@ -46,8 +48,8 @@ cancel_unheld old new n none same = by_refusing old new false _ _ _ _ no.Id refl
     (λ d st. (let e : holding_at d n ≡ None = sym (none ∙ ap (lookup (nat_eq n)) st.holdings) in simp e)) (λ d st. represents_same old new d same st)
 
 pub cancel_done : (old new : Local) (n : ℕ) (h : Holding) → Some h ≡ lookup (nat_eq n) old.holdings → new.holdings ≡ remove_entry (nat_eq n) old.holdings
-    → ((fs : List Fifodir) → AreKept old.fifodirs fs → AreKept new.fifodirs (without_held fs h)) → new.given ≡ old.given → AsksWith false old (Cancel n) Done new
-cancel_done old new n h was holdings fifodirs given = by_carrying old new false _ _ _ Done (λ (e : Done ≡ No no.Memory). cc) (λ d st.
+    → ((fs : List Fifodir) → AreKept old.fifodirs fs → AreKept new.fifodirs (without_held fs h)) → new.given ≡ old.given → new.wills ≡ old.wills → AsksWith false old (Cancel n) Done new
+cancel_done old new n h was holdings fifodirs given wills = by_carrying old new false _ _ _ Done (λ (e : Done ≡ No no.Memory). cc) (λ d st.
     let e : holding_at d n ≡ Some h = sym (was ∙ ap (lookup (nat_eq n)) st.holdings) in
     let less = active-without 1 d.handles n h e in
     let left = remove_entry (nat_eq n) (active d) in record {
@@ -59,6 +61,7 @@ cancel_done old new n h was holdings fifodirs given = by_carrying old new false 
         fifodirs = fifodirs d.fifodirs st.fifodirs;
         holdings = holdings ∙ ap (remove_entry (nat_eq n)) st.holdings ∙ sym less;
         given = given ∙ st.given ∙ sym (length-without 1 d.handles n);
+        wills = wills ∙ st.wills;
         is_desk = record {
           held = subst (AreHeld (without_held d.fifodirs h)) (sym less)
               (held_removed d.fifodirs (without_held d.fifodirs h) n h (held_beside_cancelled d.fifodirs h) (active d) st.is_desk.apart st.is_desk.held e);
@@ -117,17 +120,19 @@ module _ (old new : Local) (n max : ℕ) (h : Holding) (was : Some h ≡ lookup 
 
 -- ---- the end of a session
 
-pub session_ended : (old new : Local) → new.holdings ≡ [] → new.given ≡ old.given
-    → ((fs : List Fifodir) → AreKept old.fifodirs fs → AreKept new.fifodirs (without_all fs (values_of old.holdings))) → (d : Desk) → RepresentsDesk old d → RepresentsDesk new (desk_after_end d)
-session_ended old new none given released d st =
+pub session_ended : (old new : Local) → new.holdings ≡ [] → new.given ≡ old.given → new.wills ≡ []
+    → ((fs : List Fifodir) → AreKept old.fifodirs fs → AreKept new.fifodirs (after_wills (without_all fs (values_of old.holdings)) old.wills)) → (d : Desk) → RepresentsDesk old d → RepresentsDesk new (desk_after_end d)
+session_ended old new none given forgotten left_so d st =
     let gone = active-dropped 1 d.handles in
-    let left = without_all d.fifodirs (values_of (active d)) in record {
-      fifodirs = subst (λ (es : List (ℕ × Holding)). AreKept new.fifodirs (without_all d.fifodirs (values_of es))) st.holdings (released d.fifodirs st.fifodirs);
+    let left = after_wills (without_all d.fifodirs (values_of (active d))) d.wills in record {
+      fifodirs = subst (λ (ws : List (List ℕ × Will)). AreKept new.fifodirs (after_wills (without_all d.fifodirs (values_of (active d))) ws)) st.wills
+          (subst (λ (es : List (ℕ × Holding)). AreKept new.fifodirs (after_wills (without_all d.fifodirs (values_of es)) old.wills)) st.holdings (left_so d.fifodirs st.fifodirs));
       holdings = none ∙ sym gone;
       given = given ∙ st.given ∙ sym (length-dropped d.handles);
+      wills = forgotten;
       is_desk = record { held = subst (AreHeld left) (sym gone) tt; apart = subst AreApart (sym gone) tt; go_on = subst AllGoOn (sym gone) tt };
     }
 
-pub session_ends : (before old new : Local) → before ≡ old → new.holdings ≡ [] → new.given ≡ before.given
-    → ((fs : List Fifodir) → AreKept before.fifodirs fs → AreKept new.fifodirs (without_all fs (values_of before.holdings))) → Ended old new
-session_ends before old new same none given released = subst (λ (z : Local). Ended z new) same (record { represents = session_ended before new none given released })
+pub session_ends : (before old new : Local) → before ≡ old → new.holdings ≡ [] → new.given ≡ before.given → new.wills ≡ []
+    → ((fs : List Fifodir) → AreKept before.fifodirs fs → AreKept new.fifodirs (after_wills (without_all fs (values_of before.holdings)) before.wills)) → Ended old new
+session_ends before old new same none given forgotten left_so = subst (λ (z : Local). Ended z new) same (record { represents = session_ended before new none given forgotten left_so })

@@ -5,6 +5,7 @@ use Rattle.std.specs.Str.{bytes_eq}
 use Rattle.std.proofs.lemmas.Bool.{cases_Bool}
 use Rattle.std.proofs.lemmas.List.{map-append}
 use Rattle.hub_letters.specs.declared.mode.Mode.{Mode}
+use Rattle.hub_letters.specs.declared.mode.TheConstants.{MOST_GATHERED}
 use Rattle.hub_letters.specs.declared.mode.Mode.TheVariants.{Once, Repeat}
 use Rattle.hub_letters.specs.declared.want.Want.{Want}
 use Rattle.hub_record.specs.World.{World, after_cancel, after_subscribe, after_publish, after_take, after_close}
@@ -13,8 +14,12 @@ use Rattle.hub_record.specs.declared.limits.Limits.{Limits}
 use Rattle.hub_record.specs.declared.SubError.{SubError}
 use Rattle.hub_record.specs.declared.PubError.{PubError}
 use Rattle.hub_record.specs.declared.Closed.{Closed}
-use Rattle.hub_local.specs.DeskAnswers.{own_refusal, request_answer, answer_by, in_world, for_holding, for_hearing, make_answer, subscribe_answer, publish_answer, close_answer, new_hearing, word_in}
+use Rattle.hub_local.specs.DeskAnswers.{own_refusal, request_answer, answer_by, in_world, for_holding, for_hearing, is_none, poll_told, polled_at, refusal_to_poll, taken_at, told_next, make_answer, subscribe_answer, publish_answer, close_answer, new_hearing}
+use Rattle.hub_local.specs.Ends.{after_one, after_wills, told_in, told_last, word_in}
 use Rattle.hub_local.specs.Desks.{Desk, Answer, Fifodir, names_in, world_of, with_world, holding_at, end_in, without_held, without_all, active}
+use Rattle.hub_letters.specs.declared.state.State.{State}
+use Rattle.hub_requests.specs.Wills.{state_of}
+use Rattle.hub_requests.specs.declared.will.Will.{Will}
 use Rattle.hub_local.specs.Laws.{NamesStay, NamesOutliveTheEnd, name_made}
 use Rattle.hub_local.specs.Polls.{hear_answer, heard_on, heard_to_hit, ended_by, taken_from, to_hear}
 use Rattle.hub_listen.specs.Hit.{hit_length}
@@ -24,7 +29,7 @@ use Rattle.hub_local.specs.Waits.{Opening, so_far, opened_by, opened_in, with_po
 use Rattle.hub_local.specs.declared.local_desk.Holding.{Holding}
 use Rattle.hub_local.specs.declared.local_desk.LocalListener.{LocalListener}
 use Rattle.hub_local.specs.declared.local_desk.waits.LocalPost.{LocalPost}
-use Rattle.hub_requests.specs.declared.request.Request.TheVariants.{Dir, Svc, Sub, Pub, Tell, Take, Cancel, Close, Status, Listen, Poll, Await, Wait}
+use Rattle.hub_requests.specs.declared.request.Request.TheVariants.{Dir, Svc, Sub, Pub, Tell, Take, Cancel, Close, Status, About, Listen, Poll, Await, Next, Wait}
 use Rattle.hub_requests.specs.declared.reply.Reply.{Reply}
 use Rattle.hub_requests.specs.declared.reply.Reply.TheVariants.{Done, No}
 use Rattle.hub_requests.specs.declared.reply.Refusal.{Refusal}
@@ -50,6 +55,20 @@ names_in-without_held fs h = names_in-end_in fs h (world_of fs h.name)
 names_in-without_all : (fs : List Fifodir) (hs : List Holding) → names_in (without_all fs hs) ≡ names_in fs
 names_in-without_all fs [] = refl
 names_in-without_all fs (h ∷ hs) = names_in-without_all (without_held fs h) hs ∙ names_in-without_held fs h
+
+-- ---- the wills
+
+names_in-told_in : (fs : List Fifodir) (name : List ℕ) (state : State) (o : Option World) → names_in (told_in fs name state o) ≡ names_in fs
+names_in-told_in fs name state None = refl
+names_in-told_in fs name state (Some w) = names_in-with_world fs name (told_last state w)
+
+names_in-after_one : (fs : List Fifodir) (name : List ℕ) (o : Option State) → names_in (after_one fs name o) ≡ names_in fs
+names_in-after_one fs name None = refl
+names_in-after_one fs name (Some state) = names_in-told_in fs name state (world_of fs name)
+
+names_in-after_wills : (fs : List Fifodir) (wills : List (List ℕ × Will)) → names_in (after_wills fs wills) ≡ names_in fs
+names_in-after_wills fs [] = refl
+names_in-after_wills fs (given ∷ rest) = names_in-after_wills (after_one fs given.0 (state_of given.1)) rest ∙ names_in-after_one fs given.0 (state_of given.1)
 
 -- ---- the posts of a wait
 
@@ -116,6 +135,23 @@ answer_stays : (d : Desk) (own : Option Refusal) (done : Answer) → names_in do
 answer_stays d (Some refusal) done h = sym (append-nil (names_in d.fifodirs))
 answer_stays d None done h = h ∙ sym (append-nil (names_in d.fifodirs))
 
+taken_stays : (d : Desk) (id max : ℕ) → names_in (taken_at d id max).desk.fifodirs ≡ names_in d.fifodirs
+taken_stays d id max = for_holding_stays d _ (holding_at d id) (λ h. in_world_stays d _ (world_of d.fifodirs h.name) (λ w. names_in-with_world d.fifodirs h.name (after_take w h.id max)))
+
+polled_stays : (d : Desk) (id : ℕ) → names_in (polled_at d id).desk.fifodirs ≡ names_in d.fifodirs
+polled_stays d id = for_holding_stays d _ (holding_at d id) (λ h. for_hearing_stays d _ h.hearing (λ g.
+    in_world_stays d _ (world_of d.fifodirs h.name) (λ w. heard_stays d id h g w (to_hear g w h.id) (hit_length g.listener.pattern g.listener.gathered (to_hear g w h.id)))))
+
+told_stays : (d : Desk) (id : ℕ) → names_in (poll_told d id).desk.fifodirs ≡ names_in d.fifodirs
+told_stays d id = answer_stays d (refusal_to_poll (holding_at d id)) (polled_at d id) (polled_stays d id) ∙ append-nil (names_in d.fifodirs)
+
+next_stays : (d : Desk) (id : ℕ) (o : Option LocalListener) → names_in (told_next d id o).desk.fifodirs ≡ names_in d.fifodirs
+next_stays d id None = taken_stays d id MOST_GATHERED
+next_stays d id (Some g) = elim (cases_Bool (is_none (poll_told d id).reply)) [
+  | inl t ↦ simp t (told_stays (poll_told d id).desk id ∙ told_stays d id)
+  | inr t ↦ simp t (told_stays d id)
+]
+
 -- a fifodir is made, or it isn't
 made_last : (d : Desk) (name : List ℕ) (kind : Kind) (reports : Option Bool) (own : Option Refusal) (limits : Option Limits) (named : Reply → List (List ℕ))
     → named Done ≡ name ∷ [] → ((refusal : Refusal) → named (No refusal) ≡ [])
@@ -125,24 +161,25 @@ made_last d name kind reports None None named done none = sym (ap (λ (l : List 
 made_last d name kind reports None (Some limits) named done none =
     map-append (λ (f : Fifodir). f.name) d.fifodirs _ ∙ sym (ap (λ (l : List (List ℕ)). names_in d.fifodirs ++ l) done)
 
--- the last arm is for a request whose answer is the desk as it is
+-- the last arm is for a request whose answer leaves the fifodirs as they are
 pub names_stay : NamesStay
 names_stay d read (Dir name waiting total evict) = made_last d name _ _ _ _ (name_made (Dir name waiting total evict)) refl (λ refusal. refl)
 names_stay d read (Svc name waiting total notifies evict) = made_last d name _ _ _ _ (name_made (Svc name waiting total notifies evict)) refl (λ refusal. refl)
 names_stay d read (Sub name) = answer_stays d _ _ (in_world_stays d _ (world_of d.fifodirs name) (λ w. subscribed_stays d name None w (subscribe_reply w)))
 names_stay d read (Pub name message) = answer_stays d _ _ (in_world_stays d _ (world_of d.fifodirs name) (λ w. published_stays d name message w (publish_reply w message)))
 names_stay d read (Tell name state) = answer_stays d _ _ (in_world_stays d _ (world_of d.fifodirs name) (λ w. published_stays d name (word_in state w) w (publish_reply w (word_in state w))))
-names_stay d read (Take id max) = answer_stays d _ _ (for_holding_stays d _ (holding_at d id) (λ h. in_world_stays d _ (world_of d.fifodirs h.name) (λ w. names_in-with_world d.fifodirs h.name (after_take w h.id max))))
+names_stay d read (Take id max) = answer_stays d _ _ (taken_stays d id max)
 names_stay d read (Cancel id) = answer_stays d _ _ (for_holding_stays d _ (holding_at d id) (λ h. names_in-without_held d.fifodirs h))
 names_stay d read (Close name) = answer_stays d _ _ (in_world_stays d _ (world_of d.fifodirs name) (λ w. closed_stays d name w (close_reply w)))
 names_stay d read (Status name) = answer_stays d _ _ (in_world_stays d _ (world_of d.fifodirs name) (λ w. refl))
+names_stay d read (About name) = answer_stays d _ _ (in_world_stays d _ (world_of d.fifodirs name) (λ w. refl))
 names_stay d read (Listen name mode pattern) = answer_stays d _ _ (in_world_stays d _ (world_of d.fifodirs name) (λ w. subscribed_stays d name (Some (new_hearing pattern mode)) w (subscribe_reply w)))
-names_stay d read (Poll id) = answer_stays d _ _ (for_holding_stays d _ (holding_at d id) (λ h. for_hearing_stays d _ h.hearing (λ g.
-    in_world_stays d _ (world_of d.fifodirs h.name) (λ w. heard_stays d id h g w (to_hear g w h.id) (hit_length g.listener.pattern g.listener.gathered (to_hear g w h.id))))))
+names_stay d read (Poll id) = answer_stays d _ _ (polled_stays d id)
 names_stay d read (Await id turns) = answer_stays d _ _ (for_holding_stays d _ (holding_at d id) (λ h. in_world_stays d _ (world_of d.fifodirs h.name) (λ w. refl)))
+names_stay d read (Next id turns) = answer_stays d _ _ (for_holding_stays d _ (holding_at d id) (λ h. next_stays d id h.hearing))
 names_stay d read (Wait span want turns names) =
     answer_stays d _ _ (without_posts_stays (opening_of want d.fifodirs names).fifodirs names (opening_of want d.fifodirs names).posts ∙ opening_stays want (so_far d.fifodirs []) names)
 names_stay d read request = answer_stays d (own_refusal d read request) (request_answer d request) refl
 
 pub names_outlive_the_end : NamesOutliveTheEnd
-names_outlive_the_end d = names_in-without_all d.fifodirs (values_of (active d))
+names_outlive_the_end d = names_in-after_wills (without_all d.fifodirs (values_of (active d))) d.wills ∙ names_in-without_all d.fifodirs (values_of (active d))

@@ -1,7 +1,8 @@
 -- Runs of a desk.
 use Rattle.std.proofs.Common.{◌≡◌, ◌≢◌, ℕ, Bool, true, false, List, [], ◌∷◌, ◌++◌, Option, None, Some, option_to_list, refl, sym, ap, subst, ◌∙◌}
 use Rattle.std.proofs.lemmas.List.Elements.{All-head, All-tail}
-use Rattle.hub_local.specs.DeskAnswers.{answer, answer_to, answers, desk_after, pattern_in, first_read, later_reads, AreReads}
+use Rattle.hub_local.specs.DeskAnswers.{answer}
+use Rattle.hub_local.specs.RunAnswers.{answer_to, answers, desk_after, pattern_in, first_read, later_reads, AreReads}
 use Rattle.hub_local.specs.Representing.{RepresentsDesk, RunsAnswer, IsReadAs, over, asked}
 use Rattle.hub_requests.specs.declared.reply.Reply.{Reply}
 use Rattle.hub_requests.specs.declared.reply.Reply.TheVariants.{No}

@@ -1,16 +1,15 @@
 -- What a desk answers to requests, and what it is afterwards.
-use Rattle.std.specs.Prelude.{ℕ, ◌≡◌, ◌+◌, Bool, true, false, if◌then◌else◌, List, [], ◌∷◌, ◌++◌, length, drop, nat_le, Option, Some, None, option_to_list, is_some, Result, Ok, Err}
+use Rattle.std.specs.Prelude.{ℕ, ◌≡◌, ◌⊎◌, ◌+◌, Bool, true, false, if◌then◌else◌, List, [], ◌∷◌, ◌++◌, length, nat_le, Option, Some, None, is_some, unwrap_or, Result, Ok, Err}
 use Rattle.std.specs.List.{list_all}
 use Rattle.hub_letters.specs.declared.mode.TheConstants.{MOST_GATHERED}
 use Rattle.hub_letters.specs.Flags.{flags_of}
-use Rattle.hub_letters.specs.States.{word_behind}
-use Rattle.hub_letters.specs.declared.state.State as states
 use Rattle.hub_listen.specs.Hit.{IsPattern}
 use Rattle.hub_listen.specs.Listening.{new_listening}
 use Rattle.hub_letters.specs.declared.mode.Mode.{Mode}
 use Rattle.hub_letters.specs.declared.mode.Mode.TheVariants.{Repeat}
 use Rattle.hub_record.specs.declared.limits.TheConstants.{MOST_IDS}
 use Rattle.hub_record.specs.World.{World, empty_world, letters, after_subscribe, after_publish, take_reply, take_events, after_take, close_reply, after_close}
+use Rattle.hub_record.specs.World as worlds
 use Rattle.hub_record.specs.declared.Kind.{Kind}
 use Rattle.hub_record.specs.declared.Kind.TheVariants.{Plain, Service}
 use Rattle.hub_record.specs.declared.limits.Limits.{Limits}
@@ -25,16 +24,22 @@ use Rattle.hub_requests.specs.declared.bounds.TheConstants.{MOST_NAMES}
 use Rattle.hub_local.specs.Desks.{Desk, Answer, names_in, world_of, reports_of, with_world, active, holding_at, without_handle, refusal_answer}
 use Rattle.hub_local.specs.Polls.{poll_answer, LeftByPoll}
 use Rattle.hub_local.specs.Awaits.{await_answer}
+use Rattle.hub_local.specs.Ends.{word_in}
 use Rattle.hub_local.specs.Replies.{subscribe_reply, publish_reply}
 use Rattle.hub_requests.specs.Refusals.{refusal_of_sub, refusal_of_pub}
 use Rattle.hub_requests.specs.Listings.{names_reply}
+use Rattle.hub_requests.specs.Lateness.{or_late}
 use Rattle.hub_requests.specs.Room.{policy_of, refusal_of_handle}
+use Rattle.hub_requests.specs.Wills.{with_will}
+use Rattle.hub_requests.specs.declared.will.Will.{Will}
 use Rattle.hub_local.specs.Waits.{wait_answer, LeftByWait}
 use Rattle.hub_local.specs.declared.local_desk.LocalListener.{LocalListener}
 use Rattle.hub_local.specs.declared.local_desk.Holding.{Holding}
 use Rattle.hub_requests.specs.declared.request.Request.{Request}
-use Rattle.hub_requests.specs.declared.request.Request.TheVariants.{Dir, Svc, Sub, Pub, Tell, Take, Cancel, Close, Status, Listen, Poll, Await, Wait, Names}
+use Rattle.hub_requests.specs.declared.request.Request.TheVariants.{Dir, Svc, Sub, Pub, Tell, Will as Leave, Take, Cancel, Close, Status, About, Listen, Poll, Await, Next, Wait, Names}
+use Rattle.hub_requests.specs.declared.about.About as abouts
 use Rattle.hub_requests.specs.declared.reply.Reply.{Reply}
+use Rattle.hub_requests.specs.declared.reply.Reply.TheVariants as said
 use Rattle.hub_requests.specs.declared.reply.Reply.TheVariants.{Done, Number, State, Got, Nothing, End, Evicted, No}
 use Rattle.hub_requests.specs.declared.reply.Refusal.{Refusal}
 use Rattle.hub_requests.specs.declared.reply.Refusal.TheVariants as no
@@ -86,6 +91,15 @@ abbrev pub refusal_to_poll : Option Holding → Option Refusal
 refusal_to_poll None = Some no.Id
 refusal_to_poll (Some h) = refusal_to_hear h.hearing
 
+-- a next needs a handle of either sort, and a listener's only if a poll of it isn't refused
+abbrev pub refusal_by_hearing : Option LocalListener → Option Refusal
+refusal_by_hearing None = None
+refusal_by_hearing (Some hearing) = refusal_to_hear (Some hearing)
+
+abbrev pub refusal_to_next : Option Holding → Option Refusal
+refusal_to_next None = Some no.Id
+refusal_to_next (Some h) = refusal_by_hearing h.hearing
+
 -- a cancel and an await need a handle of either sort
 abbrev pub refusal_by_handle : Option Holding → Option Refusal
 refusal_by_handle None = Some no.Id
@@ -105,13 +119,16 @@ own_refusal d read (Svc name waiting total notifies evict) = refusal_to_make d n
 own_refusal d read (Sub name) = refusal_to_hold d name
 own_refusal d read (Pub name letters) = refusal_by_name d name
 own_refusal d read (Tell name state) = refusal_to_tell (world_of d.fifodirs name)
+own_refusal d read (Leave name will) = refusal_to_tell (world_of d.fifodirs name)
 own_refusal d read (Take id max) = refusal_to_take (holding_at d id)
 own_refusal d read (Cancel id) = refusal_by_handle (holding_at d id)
 own_refusal d read (Close name) = refusal_by_name d name
 own_refusal d read (Status name) = refusal_by_name d name
+own_refusal d read (About name) = refusal_by_name d name
 own_refusal d read (Listen name mode pattern) = refusal_to_listen read (refusal_to_hold d name)
 own_refusal d read (Poll id) = refusal_to_poll (holding_at d id)
 own_refusal d read (Await id turns) = refusal_by_handle (holding_at d id)
+own_refusal d read (Next id turns) = refusal_to_next (holding_at d id)
 own_refusal d read (Wait span want turns names) = refusal_to_wait d names
 own_refusal d read (Names from) = None
 
@@ -149,7 +166,7 @@ abbrev pub subscribe_answer : Desk → List ℕ → Option LocalListener → Wor
 subscribe_answer d name hearing w (Err error) = refusal_answer d (refusal_of_sub error)
 subscribe_answer d name hearing w (Ok given) = record {
   reply = Number (length d.handles + 1);
-  desk = record {
+  desk = record d {
     fifodirs = with_world d.fifodirs name (after_subscribe w (Ok given));
     handles = d.handles ++ record { holding = record { name = name; id = given.0; hearing = hearing }; current = true } ∷ [];
   };
@@ -163,9 +180,9 @@ abbrev pub publish_answer : Desk → List ℕ → List ℕ → World → Result 
 publish_answer d name message w (Err error) = refusal_answer d (refusal_of_pub error)
 publish_answer d name message w (Ok first) = answered_with (Number first) d name (after_publish w 1 message (Ok first))
 
--- the letters that bring the service to a state
-abbrev pub word_in : states.State → World → List ℕ
-word_in state w = word_behind state (letters w.events)
+-- the service has a will, in the place of an earlier one
+abbrev pub will_answer : Desk → List ℕ → Will → Answer
+will_answer d name will = record { reply = Done; desk = record d { wills = with_will d.wills name will } }
 
 abbrev pub take_shown : List ℕ → Result Taken NoId → Reply
 take_shown letters (Ok (taken.Got count)) = Got letters
@@ -187,9 +204,56 @@ close_answer d name w (Ok done) = answered_with Done d name (after_close w)
 abbrev pub status_answer : Desk → World → Answer
 status_answer d w = record { reply = State (record { number = length w.events; flags = flags_of (letters w.events); closed = w.closed }); desk = d }
 
+-- what the fifodir is, and how much is there; the desk's own publisher isn't counted
+abbrev pub about_in : Option Bool → World → abouts.About
+about_in reports w = record {
+  kind = w.kind;
+  notifies = unwrap_or reports false;
+  waiting = w.limits.waiting;
+  total = w.limits.total;
+  policy = w.limits.policy;
+  subscriptions = length (worlds.active w);
+  publishers = 0;
+  pending = worlds.load w;
+}
+
+abbrev pub about_answer : Desk → Option Bool → World → Answer
+about_answer d reports w = record { reply = said.About (about_in reports w); desk = d }
+
 -- nothing changes
 abbrev pub names_answer : Desk → ℕ → Answer
 names_answer d from = record { reply = names_reply (names_in d.fifodirs) from; desk = d }
+
+abbrev pub answer_by : Desk → Option Refusal → Answer → Answer
+answer_by d (Some refusal) done = refusal_answer d refusal
+answer_by d None done = done
+
+abbrev pub taken_at : Desk → ℕ → ℕ → Answer
+taken_at d id max = for_holding d (λ h. in_world d (took d max h) (world_of d.fifodirs h.name)) (holding_at d id)
+
+abbrev pub polled_at : Desk → ℕ → Answer
+polled_at d id = for_holding d (λ h. for_hearing d (λ g. in_world d (poll_answer d id h g) (world_of d.fifodirs h.name)) h.hearing) (holding_at d id)
+
+-- the whole answer to a poll
+abbrev pub poll_told : Desk → ℕ → Answer
+poll_told d id = answer_by d (refusal_to_poll (holding_at d id)) (polled_at d id)
+
+abbrev pub is_none : Reply → Bool
+is_none Nothing = true
+is_none reply = false
+
+-- The handle is polled again while the answer is `none`. No letter comes meanwhile, so a third poll would say what the second says.
+abbrev pub polled_again : ℕ → Answer → Answer
+polled_again id first = if is_none first.reply then poll_told first.desk id else first
+
+-- a take of as many events as a reply shows, or polls
+abbrev pub told_next : Desk → ℕ → Option LocalListener → Answer
+told_next d id None = taken_at d id MOST_GATHERED
+told_next d id (Some hearing) = polled_again id (poll_told d id)
+
+-- nothing is waited for
+abbrev pub in_time : Answer → Answer
+in_time a = record { reply = or_late a.reply; desk = a.desk }
 
 -- what is done with a request that the desk itself doesn't refuse
 abbrev pub request_answer : Desk → Request → Answer
@@ -198,67 +262,31 @@ request_answer d (Svc name waiting total notifies evict) = make_answer d name Se
 request_answer d (Sub name) = in_world d (λ w. subscribe_answer d name None w (subscribe_reply w)) (world_of d.fifodirs name)
 request_answer d (Pub name message) = in_world d (λ w. publish_answer d name message w (publish_reply w message)) (world_of d.fifodirs name)
 request_answer d (Tell name state) = in_world d (λ w. publish_answer d name (word_in state w) w (publish_reply w (word_in state w))) (world_of d.fifodirs name)
-request_answer d (Take id max) = for_holding d (λ h. in_world d (took d max h) (world_of d.fifodirs h.name)) (holding_at d id)
+request_answer d (Leave name will) = will_answer d name will
+request_answer d (Take id max) = taken_at d id max
 request_answer d (Cancel id) = for_holding d (cancel_answer d id) (holding_at d id)
 request_answer d (Close name) = in_world d (λ w. close_answer d name w (close_reply w)) (world_of d.fifodirs name)
 request_answer d (Status name) = in_world d (status_answer d) (world_of d.fifodirs name)
+request_answer d (About name) = in_world d (about_answer d (reports_of d.fifodirs name)) (world_of d.fifodirs name)
 request_answer d (Listen name mode pattern) = in_world d (λ w. subscribe_answer d name (Some (new_hearing pattern mode)) w (subscribe_reply w)) (world_of d.fifodirs name)
-request_answer d (Poll id) = for_holding d (λ h. for_hearing d (λ g. in_world d (poll_answer d id h g) (world_of d.fifodirs h.name)) h.hearing) (holding_at d id)
+request_answer d (Poll id) = polled_at d id
 request_answer d (Await id turns) = for_holding d (λ h. in_world d (await_answer d h) (world_of d.fifodirs h.name)) (holding_at d id)
+request_answer d (Next id turns) = for_holding d (λ h. in_time (told_next d id h.hearing)) (holding_at d id)
 request_answer d (Wait span want turns names) = wait_answer d span want names
 request_answer d (Names from) = names_answer d from
 
 -- ---- answers
 
-abbrev pub answer_by : Desk → Option Refusal → Answer → Answer
-answer_by d (Some refusal) done = refusal_answer d refusal
-answer_by d None done = done
-
 abbrev pub answer : Desk → Bool → Request → Answer
 answer d read request = answer_by d (own_refusal d read request) (request_answer d request)
 
--- what may be left if memory ran out: an unchanged desk, except for these two requests
+-- memory ran out in a take or in the first poll, or in the second
+abbrev pub LeftByNext : Desk → ℕ → Desk → Type 0
+LeftByNext d id new = LeftByPoll d id new ⊎ ((is_none (poll_told d id).reply ≡ true) × LeftByPoll (poll_told d id).desk id new)
+
+-- what may be left if memory ran out: an unchanged desk, except for these three requests
 abbrev pub LeftBy : Request → Desk → Desk → Type 0
 LeftBy (Poll id) d new = LeftByPoll d id new
+LeftBy (Next id turns) d new = LeftByNext d id new
 LeftBy (Wait span want turns names) d new = LeftByWait d want names new
 LeftBy request d new = new ≡ d
-
--- ---- runs of requests, with a yes or no for each `Listen` among them: whether its text is a pattern
-
--- the text that may be a pattern
-abbrev pub pattern_in : Request → Option (List ℕ)
-pattern_in (Listen name mode pattern) = Some pattern
-pattern_in request = None
-
--- the yes or no for a request with this text, or with none
-abbrev pub first_read : Option (List ℕ) → List Bool → Bool
-first_read (Some text) (read ∷ rest) = read
-first_read pattern reads = false
-
-abbrev pub later_reads : Option (List ℕ) → List Bool → List Bool
-later_reads None reads = reads
-later_reads (Some text) reads = drop 1 reads
-
-abbrev pub answer_to : Desk → List Bool → Request → Answer
-answer_to d reads request = answer d (first_read (pattern_in request) reads) request
-
--- the replies to requests in turn, and the desk after them
-abbrev pub answers : Desk → List Bool → List Request → List Reply
-answers d reads [] = []
-answers d reads (request ∷ rest) =
-    (answer_to d reads request).reply ∷ answers (answer_to d reads request).desk (later_reads (pattern_in request) reads) rest
-
-abbrev pub desk_after : Desk → List Bool → List Request → Desk
-desk_after d reads [] = d
-desk_after d reads (request ∷ rest) = desk_after (answer_to d reads request).desk (later_reads (pattern_in request) reads) rest
-
-abbrev pub patterns_in : List Request → List (List ℕ)
-patterns_in [] = []
-patterns_in (request ∷ rest) = option_to_list (pattern_in request) ++ patterns_in rest
-
--- one for each text, and yes only if it is a pattern
-abbrev pub AreReads : List Bool → List (List ℕ) → Type 0
-AreReads [] [] = Unit {0}
-AreReads (true ∷ reads) (text ∷ texts) = IsPattern text × AreReads reads texts
-AreReads (false ∷ reads) (text ∷ texts) = AreReads reads texts
-AreReads reads texts = ⊥

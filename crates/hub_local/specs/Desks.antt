@@ -1,7 +1,7 @@
--- The model of a desk: the fifodirs in the order they were made, each with its world, and the handles that were given.
+-- The model of a desk: the fifodirs in the order they were made, each with its world, the handles that were given, and the wills.
 use Rattle.std.specs.Prelude.{ℕ, ◌≡◌, ◌==◌, ◌+◌, Bool, true, false, if◌then◌else◌, List, [], ◌∷◌, map, nat_eq, Option, Some, None, is_some}
 use Rattle.std.specs.Option.{option_and_then}
-use Rattle.std.specs.Map.{lookup, values_of}
+use Rattle.std.specs.Map.{lookup}
 use Rattle.std.specs.Str.{bytes_eq}
 use Rattle.hub_letters.specs.declared.mode.Mode.TheVariants.{Repeat}
 use Rattle.hub_record.specs.World.{World, Subscription, subscription_in, after_cancel}
@@ -10,6 +10,7 @@ use Rattle.hub_local.specs.declared.local_desk.LocalListener.{LocalListener}
 use Rattle.hub_requests.specs.declared.reply.Reply.{Reply}
 use Rattle.hub_requests.specs.declared.reply.Reply.TheVariants.{No}
 use Rattle.hub_requests.specs.declared.reply.Refusal.{Refusal}
+use Rattle.hub_requests.specs.declared.will.Will.{Will}
 
 pub record Fifodir : Type 0 where
   pub name : List ℕ
@@ -27,9 +28,11 @@ pub record Handle : Type 0 where
 pub record Desk : Type 0 where
   pub fifodirs : List Fifodir
   pub handles : List Handle
+  -- each name with its will, in the order in which the names were first given one
+  pub wills : List (List ℕ × Will)
 
 abbrev pub new_desk : Desk
-new_desk = record { fifodirs = []; handles = [] }
+new_desk = record { fifodirs = []; handles = []; wills = [] }
 
 -- ---- fifodirs by name
 
@@ -67,6 +70,11 @@ holding_at d number = lookup (nat_eq number) (active d)
 
 abbrev pub without_holding : Handle → Handle
 without_holding h = record h { current = false }
+
+-- whether it is held for a listener
+abbrev pub is_listeners : Option Holding → Bool
+is_listeners None = false
+is_listeners (Some h) = is_some h.hearing
 
 -- with the handle of this number cancelled
 abbrev pub without_from : ℕ → List Handle → ℕ → List Handle
@@ -122,7 +130,7 @@ pub record Answer : Type 0 where
 abbrev pub refusal_answer : Desk → Refusal → Answer
 refusal_answer d refusal = record { reply = No refusal; desk = d }
 
--- ---- the end of a subscription, and of a session
+-- ---- the end of a subscription
 
 abbrev pub end_in : List Fifodir → Holding → Option World → List Fifodir
 end_in fifodirs h None = fifodirs
@@ -134,13 +142,9 @@ without_held fifodirs h = end_in fifodirs h (world_of fifodirs h.name)
 
 -- with the handle of this number and its subscription cancelled
 abbrev pub without_handle : Desk → ℕ → Holding → Desk
-without_handle d number h = record { fifodirs = without_held d.fifodirs h; handles = without_from 1 d.handles number }
+without_handle d number h = record d { fifodirs = without_held d.fifodirs h; handles = without_from 1 d.handles number }
 
 -- with each of these subscriptions cancelled
 abbrev pub without_all : List Fifodir → List Holding → List Fifodir
 without_all fifodirs [] = fifodirs
 without_all fifodirs (h ∷ rest) = without_all (without_held fifodirs h) rest
-
--- no handle is current, none is forgotten, and their subscriptions are cancelled
-abbrev pub desk_after_end : Desk → Desk
-desk_after_end d = record { fifodirs = without_all d.fifodirs (values_of (active d)); handles = map without_holding d.handles }

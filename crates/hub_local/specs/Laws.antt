@@ -1,6 +1,7 @@
 -- Laws of a desk: what requests do to its names, and what an await says of the take or poll that comes next.
 use Rattle.std.specs.Prelude.{ℕ, ◌≡◌, Bool, List, [], ◌∷◌, ◌++◌, ◌↔◌, false, None}
-use Rattle.hub_local.specs.Desks.{Desk, names_in, desk_after_end, IsDesk}
+use Rattle.hub_local.specs.Desks.{Desk, names_in, IsDesk}
+use Rattle.hub_local.specs.Ends.{desk_after_end}
 use Rattle.hub_local.specs.DeskAnswers.{answer, own_refusal, request_answer}
 use Rattle.hub_requests.specs.declared.request.Request.{Request}
 use Rattle.hub_requests.specs.declared.request.Request.TheVariants.{Dir, Svc, Take, Poll, Await}

@@ -1,9 +1,11 @@
 pub mod Replies
 pub mod Desks
+pub mod Ends
 pub mod Polls
 pub mod Awaits
 pub mod Waits
 pub mod DeskAnswers
+pub mod RunAnswers
 pub mod Laws
 pub mod Hearings
 pub mod Representing

@@ -45,7 +45,7 @@ heard_quietly g letters = record g { listener = after_quiet g.listener letters; 
 
 -- with the handle's listener and the fifodir's world as they are afterwards
 abbrev pub heard_on : Desk → ℕ → Holding → LocalListener → World → Desk
-heard_on d number h g w = record { fifodirs = with_world d.fifodirs h.name w; handles = with_holding_from 1 d.handles number (record h { hearing = Some g }) }
+heard_on d number h g w = record d { fifodirs = with_world d.fifodirs h.name w; handles = with_holding_from 1 d.handles number (record h { hearing = Some g }) }
 
 -- in mode Once, a hit ends the subscription
 abbrev pub ended_by : Mode → Desk → ℕ → Holding → Desk

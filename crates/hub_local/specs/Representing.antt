@@ -3,23 +3,27 @@ use Rattle.std.specs.Prelude.{ℕ, ◌≡◌, ◌≢◌, Bool, true, false, List
 use Rattle.hub_record.specs.Kept.{Kept, Represents}
 use Rattle.hub_record.specs.World.{World, subscription_in}
 use Rattle.hub_listen.specs.Hit.{IsPattern}
-use Rattle.hub_local.specs.Desks.{Fifodir, Desk, IsDesk, Answer, active, desk_after_end}
-use Rattle.hub_local.specs.DeskAnswers.{own_refusal, request_answer, answer_by, LeftBy, pattern_in, patterns_in, AreReads, answers, desk_after}
+use Rattle.hub_local.specs.Desks.{Fifodir, Desk, IsDesk, Answer, active, holding_at}
+use Rattle.hub_local.specs.Ends.{desk_after_end}
+use Rattle.hub_local.specs.DeskAnswers.{own_refusal, request_answer, answer_by, polled_again, poll_told, refusal_to_poll, LeftBy, LeftByNext}
+use Rattle.hub_local.specs.RunAnswers.{pattern_in, patterns_in, AreReads, answers, desk_after}
 use Rattle.hub_local.specs.declared.local_desk.LocalFifodir.{LocalFifodir}
 use Rattle.hub_local.specs.declared.local_desk.Holding.{Holding}
+use Rattle.hub_requests.specs.declared.will.Will.{Will}
 use Rattle.hub_requests.specs.declared.request.Request.{Request}
-use Rattle.hub_requests.specs.declared.request.Request.TheVariants.{Pub, Tell, Cancel, Close, Status, Await}
+use Rattle.hub_requests.specs.declared.request.Request.TheVariants.{Pub, Tell, Cancel, Close, Status, About, Await}
 use Rattle.hub_requests.specs.declared.reply.Reply.{Reply}
 use Rattle.hub_requests.specs.declared.reply.Reply.TheVariants.{No}
 use Rattle.hub_requests.specs.declared.reply.Refusal.{Refusal}
 use Rattle.hub_requests.specs.declared.reply.Refusal.TheVariants.{Memory}
 
 -- what a contract sees of a `LocalDesk`: the fifodirs by name in the order in which they were made, what the current
--- handles hold by number, and how many handles were given
+-- handles hold by number, how many handles were given, and the wills by name
 pub record Local : Type 0 where
   pub fifodirs : List (List ℕ × LocalFifodir)
   pub holdings : List (ℕ × Holding)
   pub given : ℕ
+  pub wills : List (List ℕ × Will)
 
 pub record IsKept (entry : List ℕ × LocalFifodir) (fifodir : Fifodir) : Type 0 where
   pub name : entry.0 ≡ fifodir.name
@@ -37,6 +41,7 @@ pub record RepresentsDesk (local : Local) (desk : Desk) : Type 0 where
   pub fifodirs : AreKept local.fifodirs desk.fifodirs
   pub holdings : local.holdings ≡ active desk
   pub given : local.given ≡ length desk.handles
+  pub wills : local.wills ≡ desk.wills
   pub is_desk : IsDesk desk
 
 -- every `LocalDesk` represents for some desk
@@ -78,6 +83,7 @@ grows (Tell name state) = false
 grows (Cancel id) = false
 grows (Close name) = false
 grows (Status name) = false
+grows (About name) = false
 grows (Await id turns) = false
 grows request = true
 
@@ -89,6 +95,11 @@ Unchanged desk new = new ≡ desk
 abbrev pub AsksWith : Bool → Local → Request → Reply → Local → Type 0
 AsksWith read old request reply new =
     CarriesOut old (grows request) (λ desk. own_refusal desk read request) (λ desk. request_answer desk request) (λ desk left. LeftBy request desk left) reply new
+
+-- a handle is polled as a next polls it
+abbrev pub PollsOn : Local → ℕ → Reply → Local → Type 0
+PollsOn old id reply new =
+    CarriesOut old true (λ desk. refusal_to_poll (holding_at desk id)) (λ desk. polled_again id (poll_told desk id)) (λ desk left. LeftByNext desk id left) reply new
 
 -- only a pattern is read; if memory ran out it isn't known whether the text is one
 abbrev pub IsReadAs : Bool → Option (List ℕ) → Reply → Type 0

@@ -2,10 +2,11 @@
 ghost use Rattle.std.specs.Prelude.{IfOk};
 
 use crate::local_desk::subscriptions::release_all;
+use crate::local_desk::wills::carry_out;
 use hub_letters::Letter;
 use hub_listen::{Listener, Mode};
 use hub_record::{Enter, Kind, Record};
-use hub_requests::{Desk, Name, Reply, Request, limits};
+use hub_requests::{Desk, Name, Reply, Request, Wills, limits};
 use indexmap::IndexMap;
 use std::alloc::{AllocError, Global};
 use std::marker::Model;
@@ -16,8 +17,10 @@ mod fifodirs;
 mod laws;
 mod listeners;
 mod listings;
+mod nexts;
 mod subscriptions;
 mod waits;
+mod wills;
 
 /// A fifodir that only this desk uses.
 #[derive(Drop)]
@@ -56,9 +59,12 @@ pub struct LocalDesk {
     holdings: IndexMap<u64, Holding>,
     /// How many handles were given so far.
     given: u64,
+    /// What it has to tell at its end.
+    wills: Wills,
 }
 
 impl Model for LocalDesk {
+    ghost use Rattle.hub_requests.specs.Wills.{wills_in};
     ghost use Rattle.hub_local.specs.Representing.{Local, RepresentsSome};
 
     ghost Value = { Local };
@@ -67,12 +73,14 @@ impl Model for LocalDesk {
       fifodirs = d.fifodirs.entries;
       holdings = d.holdings.entries;
       given = d.given;
+      wills = wills_in d.wills;
     } };
 
     ghost invariant = { λ d. RepresentsSome (record {
       fifodirs = d.fifodirs.entries;
       holdings = d.holdings.entries;
       given = d.given;
+      wills = wills_in d.wills;
     }) };
 }
 
@@ -89,6 +97,7 @@ impl LocalDesk {
             fifodirs: IndexMap::new(alloc),
             holdings: IndexMap::new(alloc),
             given: 0,
+            wills: Wills::new(alloc),
         })
     }
 }
@@ -123,10 +132,12 @@ impl Desk for LocalDesk {
             Request::Sub { name } => self.subscribe(name),
             Request::Pub { name, letters } => self.publish(name, letters),
             Request::Tell { name, state } => self.tell(name, *state),
+            Request::Will { name, state } => self.will(name, *state),
             Request::Take { id, max } => self.take(*id, *max),
             Request::Cancel { id } => self.cancel(*id),
             Request::Close { name } => self.close(name),
             Request::Status { name } => self.status(name),
+            Request::About { name } => self.about(name),
             Request::Listen {
                 name,
                 mode,
@@ -134,6 +145,7 @@ impl Desk for LocalDesk {
             } => self.listen(name, *mode, pattern),
             Request::Poll { id } => self.poll(*id),
             Request::Await { id, turns: _ } => self.look(*id),
+            Request::Next { id, turns: _ } => self.next(*id),
             Request::Wait {
                 span,
                 want,
@@ -147,5 +159,7 @@ impl Desk for LocalDesk {
     fn end<H: Wait>(&mut self, _rt: &H) {
         release_all(&mut self.fifodirs, &self.holdings);
         self.holdings.clear();
+        carry_out(&mut self.fifodirs, &self.wills);
+        self.wills.clear();
     }
 }

@@ -1,13 +1,12 @@
 -- One more question about a fifodir that is followed.
-use Rattle.std.proofs.Common.{◌≡◌, ℕ, suc, zero, ◌<◌, List, ◌∷◌, ◌++◌, length, take, drop, get_or, set, Bool, true, false, Option, None, map, Result, Ok, Err, OnOk, IfOk, IfErr, MatchResult, IsErrAnd, refl, sym, ap, ◌∙◌, subst, inl, inr, arith, take_all, take-append-drop, drop-cons}
+use Rattle.std.proofs.Common.{◌≡◌, ℕ, suc, zero, ◌<◌, List, ◌∷◌, ◌++◌, length, take, drop, get_or, set, false, Option, map, Result, Ok, Err, OnOk, IfOk, IfErr, MatchResult, IsErrAnd, refl, sym, ap, ◌∙◌, subst, inl, inr, arith, take_all, take-append-drop, drop-cons}
 use Rattle.std.proofs.lemmas.List.{set-get_or, set_split, take-append-le}
-use Rattle.hub_requests.specs.declared.request.Request.TheVariants as request
 use Rattle.hub_requests.specs.declared.reply.Reply.{Reply}
 use Rattle.hub_ask.specs.declared.fault.AskError.{AskError}
 use Rattle.hub_ask.specs.declared.outcome.Outcome.{Outcome}
 use Rattle.hub_look.specs.Stops.{IsOwnStop}
-use Rattle.hub_look.specs.Streams.{Streams, IsReplied}
-use Rattle.hub_look.specs.Follows.{Beginning, Manner, Scene, EndsFollow, EndsLookAt, FollowsTo, IsAwaited, IsSeenTo, IsUnderWay, LooksOn, AreAsked, IsTaken, EndsAwait, EndsLooks, EndsTake, comes_by, ends_by, scene}
+use Rattle.hub_look.specs.Streams.{Streams}
+use Rattle.hub_look.specs.Follows.{Beginning, Manner, Scene, EndsFollow, EndsLookAt, FollowsTo, GoesOn, IsSeenTo, IsUnderWay, LooksOn, AreAsked, IsTaken, EndsLooks, EndsTake, scene}
 use Rattle.hub_look.specs.Subscribing.{name_of}
 use Rattle.hub_look.specs.declared.stop.Stop.{Stop}
 use Rattle.hub_look.specs.declared.stop.Stop.TheVariants as stops
@@ -20,38 +19,17 @@ split_at all at d followed within is =
 
 -- ---- one look
 
--- it isn't over, and was asked about
-awaited : (followed : Followed) (before after : Streams) (turns : ℕ) (comes : Bool) → followed.is_over ≡ false → IsReplied before after (request.Await followed.handle turns) (comes_by comes) → IsAwaited followed before after comes
-awaited followed before after turns comes lasts replied = record { lasts = lasts; turns = turns; replied = replied }
-
--- nothing comes
-pub looked_late : (manner : Manner) (followed : Followed) (before after : Streams) (held : Option (List ℕ)) (turns : ℕ) (comes : Bool) → followed.is_over ≡ false → comes ≡ false
-    → IsReplied before after (request.Await followed.handle turns) (comes_by comes) → IsSeenTo manner followed followed before after held held
-looked_late manner followed before after held turns comes lasts late replied =
-    inr (inl (subst (IsAwaited followed before after) late (awaited followed before after turns comes lasts replied), refl, refl))
-
--- something comes, and it was asked for what is pending
-pub looked_ok : {T : Type 0} (manner : Manner) (followed later : Followed) (before between after : Streams) (held holds : Option (List ℕ)) (turns : ℕ) (comes : Bool) (result : Result T Stop) → followed.is_over ≡ false → comes ≡ true
-    → IsReplied before between (request.Await followed.handle turns) (comes_by comes)
-    → OnOk result ((reply : Reply) × IsTaken manner followed later between after held holds reply × (ends_by manner.is_once reply ≡ None))
+-- what came next was taken
+pub looked_ok : {T : Type 0} (manner : Manner) (turns : ℕ) (followed later : Followed) (before after : Streams) (held holds : Option (List ℕ)) (result : Result T Stop) → followed.is_over ≡ false
+    → OnOk result ((reply : Reply) × IsTaken manner turns followed later before after held holds reply × GoesOn manner.is_once reply)
     → OnOk result (IsSeenTo manner followed later before after held holds)
-looked_ok manner followed later before between after held holds turns comes (Ok it) lasts some replied h =
-    inr (inr (between, subst (IsAwaited followed before between) some (awaited followed before between turns comes lasts replied), h))
-looked_ok manner followed later before between after held holds turns comes (Err stop) lasts some replied h = tt
+looked_ok manner turns followed later before after held holds (Ok it) lasts h = inr (lasts, (turns, h))
+looked_ok manner turns followed later before after held holds (Err stop) lasts h = tt
 
-pub looked_err : {T : Type 0} (manner : Manner) (followed later : Followed) (before between after : Streams) (held holds : Option (List ℕ)) (turns : ℕ) (comes : Bool) (result : Result T Stop) → followed.is_over ≡ false → comes ≡ true
-    → IsReplied before between (request.Await followed.handle turns) (comes_by comes)
-    → IfErr result (EndsTake manner followed later between after held holds) → IfErr result (EndsLookAt manner followed later before after held holds)
-looked_err manner followed later before between after held holds turns comes (Ok it) lasts some replied h = tt
-looked_err manner followed later before between after held holds turns comes (Err stop) lasts some replied h =
-    inr (between, subst (IsAwaited followed before between) some (awaited followed before between turns comes lasts replied), h)
-
--- the question whether something comes ended it
-pub ends_awaiting : {T : Type 0} (manner : Manner) (followed : Followed) (before after : Streams) (held : Option (List ℕ)) (turns : ℕ) (result : Result T Stop) (stop : Stop)
-    → followed.is_over ≡ false → IsErrAnd result (λ it. it ≡ stop) → EndsAwait followed before after turns stop
-    → IfErr result (EndsLookAt manner followed followed before after held held)
-ends_awaiting manner followed before after held turns (Ok it) stop lasts is ends = tt
-ends_awaiting manner followed before after held turns (Err other) stop lasts is ends = inl (lasts, (turns, subst (EndsAwait followed before after turns) (sym is) ends), refl)
+pub looked_err : {T : Type 0} (manner : Manner) (turns : ℕ) (followed later : Followed) (before after : Streams) (held holds : Option (List ℕ)) (result : Result T Stop) → followed.is_over ≡ false
+    → IfErr result (EndsTake manner turns followed later before after held holds) → IfErr result (EndsLookAt manner followed later before after held holds)
+looked_err manner turns followed later before after held holds (Ok it) lasts h = tt
+looked_err manner turns followed later before after held holds (Err stop) lasts h = (lasts, (turns, h))
 
 -- ---- a look at one of them
 

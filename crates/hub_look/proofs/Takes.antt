@@ -19,7 +19,7 @@ use Rattle.hub_look.specs.Stops.{IsOwnFault}
 use Rattle.hub_ask.specs.declared.outcome.Outcome.{Outcome}
 use Rattle.hub_ask.specs.declared.outcome.Outcome.TheVariants as outcome
 use Rattle.hub_look.specs.EventLines.{IsTextOf, number_after}
-use Rattle.hub_look.specs.Follows.{Manner, IsTaken, IsWrittenFor, EndsTake, FailsToWrite, RefusesAwait, ends_by, followed_after, taking, told_of}
+use Rattle.hub_look.specs.Follows.{Manner, IsTaken, IsWrittenFor, EndsTake, FailsToWrite, GoesOn, ends_by, followed_after, told_of, written_of}
 use Rattle.hub_look.specs.Subscribing.{name_of}
 use Rattle.hub_look.specs.Streams.{IsNoted, IsReplied, IsToldTo, Streams}
 use Rattle.hub_look.specs.Tables.{note_of, reason_of}
@@ -30,9 +30,9 @@ use Rattle.hub_look.proofs.Refusals.{no_shown}
 
 -- ---- which reply is shown
 
-none_shown : (it : Reply) → Shows shown.Nothing it → it ≡ reply.Nothing
-none_shown reply.Nothing h = refl
-none_shown it h = absurd h
+late_shown : (it : Reply) → Shows shown.Late it → it ≡ reply.Late
+late_shown reply.Late h = refl
+late_shown it h = absurd h
 
 end_shown : (it : Reply) → Shows shown.End it → it ≡ reply.End
 end_shown reply.End h = refl
@@ -53,64 +53,44 @@ replied_by sent sends had has noted faults asked text read it h same answered = 
   faults = refl;
 }
 
--- ---- an await
-
-pub refuses_await : (sent sends had has noted notes : Option (List ℕ)) (faults failed : Option ℕ) (followed : Followed) (turns : ℕ) (text name : List ℕ) (refusal : Refusal)
-    → name ≡ name_of followed → IsAnswered sent sends had has (spelling (form_of (request.Await followed.handle turns))) text → IsShown text (shown.No refusal)
-    → IsToldTo noted notes faults failed (note_of name (reason_of refusal))
-    → RefusesAwait followed (record { sent = sent; had = had; noted = noted; faults = faults }) (record { sent = sends; had = has; noted = notes; faults = failed }) turns
-refuses_await sent sends had has noted notes faults failed followed turns text name refusal is_name answered h told = record {
-  refusal = refusal;
-  between = record { sent = sends; had = has; noted = noted; faults = faults };
-  replied = replied_by sent sends had has noted faults (request.Await followed.handle turns) text (shown.No refusal) (reply.No refusal) h (no_shown refusal h.reply h.shows) answered;
-  told = record { sent = refl; had = refl; noted = subst (λ n. IsToldTo noted notes faults failed (note_of n (reason_of refusal))) is_name told };
-}
-
--- ---- a take
-
--- the request is the one for what is pending
-taken_by : (manner : Manner) (sent sends had has noted : Option (List ℕ)) (faults : Option ℕ) (followed : Followed) (asked : Request) (text : List ℕ) (read : BorrowedReply) (it : Reply) (h : IsShown text read)
-    → h.reply ≡ it → asked ≡ taking manner.is_hit manner.is_once followed.handle → IsAnswered sent sends had has (spelling (form_of asked)) text
-    → IsReplied (record { sent = sent; had = had; noted = noted; faults = faults }) (record { sent = sends; had = has; noted = noted; faults = faults }) (taking manner.is_hit manner.is_once followed.handle) it
-taken_by manner sent sends had has noted faults followed asked text read it h same is answered =
-    replied_by sent sends had has noted faults (taking manner.is_hit manner.is_once followed.handle) text read it h same (subst (λ r. IsAnswered sent sends had has (spelling (form_of r)) text) is answered)
+-- ---- one request
 
 -- There is no note of the reply.
-took : (manner : Manner) (sent sends had has noted held holds : Option (List ℕ)) (faults : Option ℕ) (followed later : Followed) (asked : Request) (text : List ℕ) (read : BorrowedReply) (it : Reply) (h : IsShown text read)
-    → h.reply ≡ it → asked ≡ taking manner.is_hit manner.is_once followed.handle → IsAnswered sent sends had has (spelling (form_of asked)) text
-    → told_of it ≡ None → IsWrittenFor manner followed it held holds → later ≡ followed_after followed it
-    → IsTaken manner followed later (record { sent = sent; had = had; noted = noted; faults = faults }) (record { sent = sends; had = has; noted = noted; faults = faults }) held holds it
-took manner sent sends had has noted held holds faults followed later asked text read it h same is answered untold written moved =
+took : (manner : Manner) (turns : ℕ) (sent sends had has noted held holds : Option (List ℕ)) (faults : Option ℕ) (followed later : Followed) (text : List ℕ) (read : BorrowedReply) (it : Reply) (h : IsShown text read)
+    → h.reply ≡ it → IsAnswered sent sends had has (spelling (form_of (request.Next followed.handle turns))) text
+    → told_of it ≡ None → IsWrittenFor manner followed it held holds → later ≡ followed_after manner.is_once followed it
+    → IsTaken manner turns followed later (record { sent = sent; had = had; noted = noted; faults = faults }) (record { sent = sends; had = has; noted = noted; faults = faults }) held holds it
+took manner turns sent sends had has noted held holds faults followed later text read it h same answered untold written moved =
     let after : Streams = record { sent = sends; had = has; noted = noted; faults = faults } in
     record {
       between = after;
-      replied = taken_by manner sent sends had has noted faults followed asked text read it h same is answered;
+      replied = replied_by sent sends had has noted faults (request.Next followed.handle turns) text read it h same answered;
       told = subst (λ told. MatchOption told (after ≡ after) (λ reason. IsNoted after after (note_of (name_of followed) reason))) (sym untold) refl;
       written = written;
       moved = moved;
     }
 
-pub took_nothing : (manner : Manner) (sent sends had has noted held : Option (List ℕ)) (faults : Option ℕ) (followed : Followed) (asked : Request) (text : List ℕ)
-    → asked ≡ taking manner.is_hit manner.is_once followed.handle → IsAnswered sent sends had has (spelling (form_of asked)) text → IsShown text shown.Nothing
-    → (it : Reply) × IsTaken manner followed followed (record { sent = sent; had = had; noted = noted; faults = faults }) (record { sent = sends; had = has; noted = noted; faults = faults }) held held it
-    × (ends_by manner.is_once it ≡ None)
-took_nothing manner sent sends had has noted held faults followed asked text is answered h =
-    (reply.Nothing, took manner sent sends had has noted held held faults followed followed asked text shown.Nothing reply.Nothing h (none_shown h.reply h.shows) is answered refl refl refl, refl)
+pub took_late : (manner : Manner) (turns : ℕ) (sent sends had has noted held : Option (List ℕ)) (faults : Option ℕ) (followed : Followed) (text : List ℕ)
+    → IsAnswered sent sends had has (spelling (form_of (request.Next followed.handle turns))) text → IsShown text shown.Late
+    → (it : Reply) × IsTaken manner turns followed followed (record { sent = sent; had = had; noted = noted; faults = faults }) (record { sent = sends; had = has; noted = noted; faults = faults }) held held it
+    × GoesOn manner.is_once it
+took_late manner turns sent sends had has noted held faults followed text answered h =
+    (reply.Late, took manner turns sent sends had has noted held held faults followed followed text shown.Late reply.Late h (late_shown h.reply h.shows) answered refl refl refl, tt)
 
-pub took_end : (manner : Manner) (sent sends had has noted held : Option (List ℕ)) (faults : Option ℕ) (followed : Followed) (asked : Request) (text : List ℕ)
-    → asked ≡ taking manner.is_hit manner.is_once followed.handle → IsAnswered sent sends had has (spelling (form_of asked)) text → IsShown text shown.End
-    → (it : Reply) × IsTaken manner followed (record followed { is_over = true }) (record { sent = sent; had = had; noted = noted; faults = faults }) (record { sent = sends; had = has; noted = noted; faults = faults }) held held it
-    × (ends_by manner.is_once it ≡ None)
-took_end manner sent sends had has noted held faults followed asked text is answered h =
-    (reply.End, took manner sent sends had has noted held held faults followed (record followed { is_over = true }) asked text shown.End reply.End h (end_shown h.reply h.shows) is answered refl refl refl, refl)
+pub took_end : (manner : Manner) (turns : ℕ) (sent sends had has noted held : Option (List ℕ)) (faults : Option ℕ) (followed : Followed) (text : List ℕ)
+    → IsAnswered sent sends had has (spelling (form_of (request.Next followed.handle turns))) text → IsShown text shown.End
+    → (it : Reply) × IsTaken manner turns followed (record followed { is_over = true }) (record { sent = sent; had = had; noted = noted; faults = faults }) (record { sent = sends; had = has; noted = noted; faults = faults }) held held it
+    × GoesOn manner.is_once it
+took_end manner turns sent sends had has noted held faults followed text answered h =
+    (reply.End, took manner turns sent sends had has noted held held faults followed (record followed { is_over = true }) text shown.End reply.End h (end_shown h.reply h.shows) answered refl refl refl, tt)
 
 -- There is a note of it, and it ends the follow.
-took_noted : (manner : Manner) (sent sends had has noted notes held : Option (List ℕ)) (faults failed : Option ℕ) (followed : Followed) (asked : Request) (text name reason : List ℕ) (read : BorrowedReply) (it : Reply) (went : Outcome) (h : IsShown text read)
-    → h.reply ≡ it → name ≡ name_of followed → asked ≡ taking manner.is_hit manner.is_once followed.handle → IsAnswered sent sends had has (spelling (form_of asked)) text
+took_noted : (manner : Manner) (turns : ℕ) (sent sends had has noted notes held : Option (List ℕ)) (faults failed : Option ℕ) (followed : Followed) (text name reason : List ℕ) (read : BorrowedReply) (it : Reply) (went : Outcome) (h : IsShown text read)
+    → h.reply ≡ it → name ≡ name_of followed → IsAnswered sent sends had has (spelling (form_of (request.Next followed.handle turns))) text
     → IsToldTo noted notes faults failed (note_of name reason)
-    → told_of it ≡ Some reason → IsWrittenFor manner followed it held held → followed ≡ followed_after followed it → ends_by manner.is_once it ≡ Some went
-    → EndsTake manner followed followed (record { sent = sent; had = had; noted = noted; faults = faults }) (record { sent = sends; had = has; noted = notes; faults = failed }) held held (stops.Reply went)
-took_noted manner sent sends had has noted notes held faults failed followed asked text name reason read it went h same is_name is answered told tells written moved ends =
+    → told_of it ≡ Some reason → IsWrittenFor manner followed it held held → followed ≡ followed_after manner.is_once followed it → ends_by manner.is_once it ≡ Some went
+    → EndsTake manner turns followed followed (record { sent = sent; had = had; noted = noted; faults = faults }) (record { sent = sends; had = has; noted = notes; faults = failed }) held held (stops.Reply went)
+took_noted manner turns sent sends had has noted notes held faults failed followed text name reason read it went h same is_name answered told tells written moved ends =
     let between : Streams = record { sent = sends; had = has; noted = noted; faults = faults } in
     let after : Streams = record { sent = sends; had = has; noted = notes; faults = failed } in
     let note : IsNoted between after (note_of (name_of followed) reason) =
@@ -118,7 +98,7 @@ took_noted manner sent sends had has noted notes held faults failed followed ask
       it,
       record {
         between = between;
-        replied = taken_by manner sent sends had has noted faults followed asked text read it h same is answered;
+        replied = replied_by sent sends had has noted faults (request.Next followed.handle turns) text read it h same answered;
         told = subst (λ reason. MatchOption reason (after ≡ between) (λ reason. IsNoted between after (note_of (name_of followed) reason))) (sym tells) note;
         written = written;
         moved = moved;
@@ -126,19 +106,19 @@ took_noted manner sent sends had has noted notes held faults failed followed ask
       ends,
     )
 
-pub took_eviction : (manner : Manner) (sent sends had has noted notes held : Option (List ℕ)) (faults failed : Option ℕ) (followed : Followed) (asked : Request) (text name : List ℕ)
-    → name ≡ name_of followed → asked ≡ taking manner.is_hit manner.is_once followed.handle → IsAnswered sent sends had has (spelling (form_of asked)) text → IsShown text shown.Evicted
+pub took_eviction : (manner : Manner) (turns : ℕ) (sent sends had has noted notes held : Option (List ℕ)) (faults failed : Option ℕ) (followed : Followed) (text name : List ℕ)
+    → name ≡ name_of followed → IsAnswered sent sends had has (spelling (form_of (request.Next followed.handle turns))) text → IsShown text shown.Evicted
     → IsToldTo noted notes faults failed (note_of name (codes "evicted"))
-    → EndsTake manner followed followed (record { sent = sent; had = had; noted = noted; faults = faults }) (record { sent = sends; had = has; noted = notes; faults = failed }) held held (stops.Reply outcome.Nothing)
-took_eviction manner sent sends had has noted notes held faults failed followed asked text name is_name is answered h told =
-    took_noted manner sent sends had has noted notes held faults failed followed asked text name (codes "evicted") shown.Evicted reply.Evicted outcome.Nothing h (evicted_shown h.reply h.shows) is_name is answered told refl refl refl refl
+    → EndsTake manner turns followed followed (record { sent = sent; had = had; noted = noted; faults = faults }) (record { sent = sends; had = has; noted = notes; faults = failed }) held held (stops.Reply outcome.Nothing)
+took_eviction manner turns sent sends had has noted notes held faults failed followed text name is_name answered h told =
+    took_noted manner turns sent sends had has noted notes held faults failed followed text name (codes "evicted") shown.Evicted reply.Evicted outcome.Nothing h (evicted_shown h.reply h.shows) is_name answered told refl refl refl refl
 
-pub took_refusal : (manner : Manner) (sent sends had has noted notes held : Option (List ℕ)) (faults failed : Option ℕ) (followed : Followed) (asked : Request) (text name : List ℕ) (refusal : Refusal)
-    → name ≡ name_of followed → asked ≡ taking manner.is_hit manner.is_once followed.handle → IsAnswered sent sends had has (spelling (form_of asked)) text → IsShown text (shown.No refusal)
+pub took_refusal : (manner : Manner) (turns : ℕ) (sent sends had has noted notes held : Option (List ℕ)) (faults failed : Option ℕ) (followed : Followed) (text name : List ℕ) (refusal : Refusal)
+    → name ≡ name_of followed → IsAnswered sent sends had has (spelling (form_of (request.Next followed.handle turns))) text → IsShown text (shown.No refusal)
     → IsToldTo noted notes faults failed (note_of name (reason_of refusal))
-    → EndsTake manner followed followed (record { sent = sent; had = had; noted = noted; faults = faults }) (record { sent = sends; had = has; noted = notes; faults = failed }) held held (stops.Reply outcome.Refused)
-took_refusal manner sent sends had has noted notes held faults failed followed asked text name refusal is_name is answered h told =
-    took_noted manner sent sends had has noted notes held faults failed followed asked text name (reason_of refusal) (shown.No refusal) (reply.No refusal) outcome.Refused h (no_shown refusal h.reply h.shows) is_name is answered told refl refl refl refl
+    → EndsTake manner turns followed followed (record { sent = sent; had = had; noted = noted; faults = faults }) (record { sent = sends; had = has; noted = notes; faults = failed }) held held (stops.Reply outcome.Refused)
+took_refusal manner turns sent sends had has noted notes held faults failed followed text name refusal is_name answered h told =
+    took_noted manner turns sent sends had has noted notes held faults failed followed text name (reason_of refusal) (shown.No refusal) (reply.No refusal) outcome.Refused h (no_shown refusal h.reply h.shows) is_name answered told refl refl refl refl
 
 got_shown : (letters : Bor (List ℕ)) (it : Reply) → Shows (shown.Got letters) it → it ≡ reply.Got letters.now
 got_shown letters (reply.Got other) h = ap reply.Got (sym h)
@@ -148,64 +128,68 @@ hit_shown : (letters : Bor (List ℕ)) (it : Reply) → Shows (shown.Hit letters
 hit_shown letters (reply.Hit other) h = ap reply.Hit (sym h)
 hit_shown letters it h = absurd h
 
-pub took_letters : (manner : Manner) (sent sends had has noted held holds : Option (List ℕ)) (faults : Option ℕ) (followed later : Followed) (asked : Request) (text : List ℕ) (letters : Bor (List ℕ))
-    → asked ≡ taking manner.is_hit manner.is_once followed.handle → IsAnswered sent sends had has (spelling (form_of asked)) text → IsShown text (shown.Got letters)
-    → (lines : List ℕ) × IsTextOf manner.is_hit manner.is_plain (name_of followed) followed.next letters.now lines × Appends held holds lines
-    → later ≡ record followed { next = number_after followed.next (length letters.now) }
-    → IsTaken manner followed later (record { sent = sent; had = had; noted = noted; faults = faults }) (record { sent = sends; had = has; noted = noted; faults = faults }) held holds (reply.Got letters.now)
-took_letters manner sent sends had has noted held holds faults followed later asked text letters is answered h written moved =
-    took manner sent sends had has noted held holds faults followed later asked text (shown.Got letters) (reply.Got letters.now) h (got_shown letters h.reply h.shows) is answered refl written moved
+-- some of the letters, or all, are written
+pub took_letters : (manner : Manner) (turns : ℕ) (sent sends had has noted held holds : Option (List ℕ)) (faults : Option ℕ) (followed later : Followed) (text : List ℕ) (letters : Bor (List ℕ)) (some : List ℕ)
+    → IsAnswered sent sends had has (spelling (form_of (request.Next followed.handle turns))) text → IsShown text (shown.Got letters)
+    → some ≡ written_of manner.is_once letters.now
+    → (lines : List ℕ) × IsTextOf manner.is_hit manner.is_plain (name_of followed) followed.next some lines × Appends held holds lines
+    → later ≡ record followed { next = number_after followed.next (length some) }
+    → IsTaken manner turns followed later (record { sent = sent; had = had; noted = noted; faults = faults }) (record { sent = sends; had = has; noted = noted; faults = faults }) held holds (reply.Got letters.now)
+took_letters manner turns sent sends had has noted held holds faults followed later text letters some answered h are written moved =
+    took manner turns sent sends had has noted held holds faults followed later text (shown.Got letters) (reply.Got letters.now) h (got_shown letters h.reply h.shows) answered refl
+    (subst (λ it. (lines : List ℕ) × IsTextOf manner.is_hit manner.is_plain (name_of followed) followed.next it lines × Appends held holds lines) are written)
+    (moved ∙ ap (λ it. record followed { next = number_after followed.next (length it) }) are)
 
-pub took_hit : (manner : Manner) (sent sends had has noted held holds : Option (List ℕ)) (faults : Option ℕ) (followed later : Followed) (asked : Request) (text : List ℕ) (letters : Bor (List ℕ))
-    → asked ≡ taking manner.is_hit manner.is_once followed.handle → IsAnswered sent sends had has (spelling (form_of asked)) text → IsShown text (shown.Hit letters)
+pub took_hit : (manner : Manner) (turns : ℕ) (sent sends had has noted held holds : Option (List ℕ)) (faults : Option ℕ) (followed later : Followed) (text : List ℕ) (letters : Bor (List ℕ))
+    → IsAnswered sent sends had has (spelling (form_of (request.Next followed.handle turns))) text → IsShown text (shown.Hit letters)
     → (lines : List ℕ) × IsTextOf manner.is_hit manner.is_plain (name_of followed) followed.next letters.now lines × Appends held holds lines
     → later ≡ record followed { next = number_after followed.next (length letters.now) }
-    → IsTaken manner followed later (record { sent = sent; had = had; noted = noted; faults = faults }) (record { sent = sends; had = has; noted = noted; faults = faults }) held holds (reply.Hit letters.now)
-took_hit manner sent sends had has noted held holds faults followed later asked text letters is answered h written moved =
-    took manner sent sends had has noted held holds faults followed later asked text (shown.Hit letters) (reply.Hit letters.now) h (hit_shown letters h.reply h.shows) is answered refl written moved
+    → IsTaken manner turns followed later (record { sent = sent; had = had; noted = noted; faults = faults }) (record { sent = sends; had = has; noted = noted; faults = faults }) held holds (reply.Hit letters.now)
+took_hit manner turns sent sends had has noted held holds faults followed later text letters answered h written moved =
+    took manner turns sent sends had has noted held holds faults followed later text (shown.Hit letters) (reply.Hit letters.now) h (hit_shown letters h.reply h.shows) answered refl written moved
 
 -- after letters it goes on, unless the first ones were enough
-pub goes_on : (manner : Manner) (followed later : Followed) (before after : Streams) (held holds : Option (List ℕ)) (is_once : Bool) (result : Result Bool Stop) (it : Reply)
-    → result ≡ (if is_once then Err (stops.Reply outcome.Done) else Ok true) → ends_by is_once it ≡ (if is_once then Some outcome.Done else None)
-    → IsTaken manner followed later before after held holds it
-    → OnOk result ((it : Reply) × IsTaken manner followed later before after held holds it × (ends_by is_once it ≡ None))
-goes_on manner followed later before after held holds true result it is ends h =
-    subst (λ r. OnOk r ((it : Reply) × IsTaken manner followed later before after held holds it × (ends_by true it ≡ None))) (sym is) tt
-goes_on manner followed later before after held holds false result it is ends h =
-    subst (λ r. OnOk r ((it : Reply) × IsTaken manner followed later before after held holds it × (ends_by false it ≡ None))) (sym is) (it, h, ends)
+pub goes_on : (manner : Manner) (turns : ℕ) (followed later : Followed) (before after : Streams) (held holds : Option (List ℕ)) (is_once : Bool) (result : Result Bool Stop) (it : Reply)
+    → result ≡ (if is_once then Err (stops.Reply outcome.Done) else Ok true) → GoesOn false it
+    → IsTaken manner turns followed later before after held holds it
+    → OnOk result ((it : Reply) × IsTaken manner turns followed later before after held holds it × GoesOn is_once it)
+goes_on manner turns followed later before after held holds true result it is goes h =
+    subst (λ r. OnOk r ((it : Reply) × IsTaken manner turns followed later before after held holds it × GoesOn true it)) (sym is) tt
+goes_on manner turns followed later before after held holds false result it is goes h =
+    subst (λ r. OnOk r ((it : Reply) × IsTaken manner turns followed later before after held holds it × GoesOn false it)) (sym is) (it, h, goes)
 
-pub ends_there : (is_hit is_plain is_once : Bool) (followed later : Followed) (before after : Streams) (held holds : Option (List ℕ)) (result : Result Bool Stop) (it : Reply)
+pub ends_there : (is_hit is_plain is_once : Bool) (turns : ℕ) (followed later : Followed) (before after : Streams) (held holds : Option (List ℕ)) (result : Result Bool Stop) (it : Reply)
     → result ≡ (if is_once then Err (stops.Reply outcome.Done) else Ok true) → ends_by is_once it ≡ (if is_once then Some outcome.Done else None)
-    → IsTaken (record { is_hit = is_hit; is_plain = is_plain; is_once = is_once }) followed later before after held holds it
-    → IfErr result (EndsTake (record { is_hit = is_hit; is_plain = is_plain; is_once = is_once }) followed later before after held holds)
-ends_there is_hit is_plain true followed later before after held holds result it is ends h =
-    subst (λ r. IfErr r (EndsTake (record { is_hit = is_hit; is_plain = is_plain; is_once = true }) followed later before after held holds)) (sym is) (it, h, ends)
-ends_there is_hit is_plain false followed later before after held holds result it is ends h =
-    subst (λ r. IfErr r (EndsTake (record { is_hit = is_hit; is_plain = is_plain; is_once = false }) followed later before after held holds)) (sym is) tt
+    → IsTaken (record { is_hit = is_hit; is_plain = is_plain; is_once = is_once }) turns followed later before after held holds it
+    → IfErr result (EndsTake (record { is_hit = is_hit; is_plain = is_plain; is_once = is_once }) turns followed later before after held holds)
+ends_there is_hit is_plain true turns followed later before after held holds result it is ends h =
+    subst (λ r. IfErr r (EndsTake (record { is_hit = is_hit; is_plain = is_plain; is_once = true }) turns followed later before after held holds)) (sym is) (it, h, ends)
+ends_there is_hit is_plain false turns followed later before after held holds result it is ends h =
+    subst (λ r. IfErr r (EndsTake (record { is_hit = is_hit; is_plain = is_plain; is_once = false }) turns followed later before after held holds)) (sym is) tt
 
 -- ---- faults
 
-pub fails_taking : (manner : Manner) (followed later : Followed) (before after : Streams) (held holds : Option (List ℕ)) (stop : Stop)
-    → FailsToWrite manner followed held holds stop → EndsTake manner followed later before after held holds stop
-fails_taking manner followed later before after held holds (stops.Reply went) h = absurd h
-fails_taking manner followed later before after held holds (stops.Fault (Relay relay.Output)) h = h
-fails_taking manner followed later before after held holds (stops.Fault error) h = h
+pub fails_taking : (manner : Manner) (turns : ℕ) (followed later : Followed) (before after : Streams) (held holds : Option (List ℕ)) (stop : Stop)
+    → FailsToWrite manner followed held holds stop → EndsTake manner turns followed later before after held holds stop
+fails_taking manner turns followed later before after held holds (stops.Reply went) h = absurd h
+fails_taking manner turns followed later before after held holds (stops.Fault (Relay relay.Output)) h = h
+fails_taking manner turns followed later before after held holds (stops.Fault error) h = h
 
 -- writing the letters failed
-pub fails_so : {T : Type 0} (manner : Manner) (followed later : Followed) (before after : Streams) (held holds : Option (List ℕ)) (result : Result T Stop) (stop : Stop)
-    → IsErrAnd result (λ it. it ≡ stop) → FailsToWrite manner followed held holds stop → IfErr result (EndsTake manner followed later before after held holds)
-fails_so manner followed later before after held holds (Ok it) stop is h = tt
-fails_so manner followed later before after held holds (Err other) stop is h =
-    fails_taking manner followed later before after held holds other (subst (FailsToWrite manner followed held holds) (sym is) h)
+pub fails_so : {T : Type 0} (manner : Manner) (turns : ℕ) (followed later : Followed) (before after : Streams) (held holds : Option (List ℕ)) (result : Result T Stop) (stop : Stop)
+    → IsErrAnd result (λ it. it ≡ stop) → FailsToWrite manner followed held holds stop → IfErr result (EndsTake manner turns followed later before after held holds)
+fails_so manner turns followed later before after held holds (Ok it) stop is h = tt
+fails_so manner turns followed later before after held holds (Err other) stop is h =
+    fails_taking manner turns followed later before after held holds other (subst (FailsToWrite manner followed held holds) (sym is) h)
 
-own_fault : (manner : Manner) (followed later : Followed) (before after : Streams) (held : Option (List ℕ)) (error : AskError)
-    → error ≢ Relay relay.Output → EndsTake manner followed later before after held held (stops.Fault error)
-own_fault manner followed later before after held (Relay relay.Output) other = absurd (other refl)
-own_fault manner followed later before after held error other = refl
+own_fault : (manner : Manner) (turns : ℕ) (followed later : Followed) (before after : Streams) (held : Option (List ℕ)) (error : AskError)
+    → error ≢ Relay relay.Output → EndsTake manner turns followed later before after held held (stops.Fault error)
+own_fault manner turns followed later before after held (Relay relay.Output) other = absurd (other refl)
+own_fault manner turns followed later before after held error other = refl
 
 -- asking failed
-pub own_so : {T : Type 0} (manner : Manner) (followed later : Followed) (before after : Streams) (held : Option (List ℕ)) (result : Result T Stop) (stop : Stop)
-    → IsErrAnd result (λ it. it ≡ stop) → IsOwnFault stop → IfErr result (EndsTake manner followed later before after held held)
-own_so manner followed later before after held (Ok it) stop is own = tt
-own_so manner followed later before after held (Err other) stop is own =
-    subst (EndsTake manner followed later before after held held) (sym (is ∙ own.1)) (own_fault manner followed later before after held own.0 own.2)
+pub own_so : {T : Type 0} (manner : Manner) (turns : ℕ) (followed later : Followed) (before after : Streams) (held : Option (List ℕ)) (result : Result T Stop) (stop : Stop)
+    → IsErrAnd result (λ it. it ≡ stop) → IsOwnFault stop → IfErr result (EndsTake manner turns followed later before after held held)
+own_so manner turns followed later before after held (Ok it) stop is own = tt
+own_so manner turns followed later before after held (Err other) stop is own =
+    subst (EndsTake manner turns followed later before after held held) (sym (is ∙ own.1)) (own_fault manner turns followed later before after held own.0 own.2)

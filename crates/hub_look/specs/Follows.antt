@@ -1,14 +1,11 @@
 -- What a follow asks of a fifodir, and what it writes for each reply.
-use Rattle.std.specs.Prelude.{◌≡◌, ◌≢◌, ◌⊎◌, ℕ, zero, suc, List, ◌∷◌, ◌++◌, length, map, codes, Bool, true, false, if◌then◌else◌, Option, None, Some, MatchOption, is_some}
+use Rattle.std.specs.Prelude.{◌≡◌, ◌⊎◌, ℕ, zero, suc, List, ◌∷◌, ◌++◌, length, map, take, codes, Bool, true, false, if◌then◌else◌, Option, None, Some, MatchOption, is_some}
 use Rattle.std.specs.Io.KnownBytes.{Appends}
 use Rattle.std.specs.List.{list_all}
 use Rattle.hub_io.specs.Faults.{AppendsPart}
-use Rattle.hub_requests.specs.declared.bounds.TheConstants.{MOST_TAKEN}
-use Rattle.hub_requests.specs.declared.request.Request.{Request}
 use Rattle.hub_requests.specs.declared.request.Request.TheVariants as request
 use Rattle.hub_requests.specs.declared.reply.Reply.{Reply}
 use Rattle.hub_requests.specs.declared.reply.Reply.TheVariants as reply
-use Rattle.hub_requests.specs.declared.reply.Refusal.{Refusal}
 use Rattle.hub_client.specs.declared.fault.RelayError.TheVariants as relay
 use Rattle.hub_ask.specs.declared.fault.AskError.{AskError}
 use Rattle.hub_ask.specs.declared.fault.AskError.TheVariants.{Relay}
@@ -37,26 +34,25 @@ manner_of following = record { is_hit = is_some following.pattern; is_plain = fo
 abbrev pub names_of : Following → List (List ℕ)
 names_of following = map (λ name. name.now) following.names.items
 
--- the request for what is pending for a handle
-abbrev pub taking : (is_hit is_once : Bool) (id : ℕ) → Request
-taking true once id = request.Poll id
-taking false true id = request.Take id 1
-taking false false id = request.Take id MOST_TAKEN
+-- the letters of a reply that are written: the first one alone, if that is enough
+abbrev pub written_of : (is_once : Bool) → List ℕ → List ℕ
+written_of true letters = take 1 letters
+written_of false letters = letters
 
--- The letters of a reply are written once, as those of the fifodir, and nothing is written for another reply.
+-- The letters of a reply, or the hit, are written once, as those of the fifodir, and nothing is written for another reply.
 abbrev pub IsWrittenFor : Manner → Followed → Reply → (held holds : Option (List ℕ)) → Type 0
 IsWrittenFor manner followed (reply.Got letters) held holds =
-    (text : List ℕ) × IsTextOf manner.is_hit manner.is_plain (name_of followed) followed.next letters text × Appends held holds text
+    (text : List ℕ) × IsTextOf manner.is_hit manner.is_plain (name_of followed) followed.next (written_of manner.is_once letters) text × Appends held holds text
 IsWrittenFor manner followed (reply.Hit letters) held holds =
     (text : List ℕ) × IsTextOf manner.is_hit manner.is_plain (name_of followed) followed.next letters text × Appends held holds text
 IsWrittenFor manner followed other held holds = holds ≡ held
 
--- what is known of the fifodir after a reply: letters move the number of the next one, and after an end nothing comes
-abbrev pub followed_after : Followed → Reply → Followed
-followed_after followed (reply.Got letters) = record followed { next = number_after followed.next (length letters) }
-followed_after followed (reply.Hit letters) = record followed { next = number_after followed.next (length letters) }
-followed_after followed reply.End = record followed { is_over = true }
-followed_after followed other = followed
+-- what is known of the fifodir after a reply: letters that are written move the number of the next one, and after an end nothing comes
+abbrev pub followed_after : (is_once : Bool) → Followed → Reply → Followed
+followed_after is_once followed (reply.Got letters) = record followed { next = number_after followed.next (length (written_of is_once letters)) }
+followed_after is_once followed (reply.Hit letters) = record followed { next = number_after followed.next (length letters) }
+followed_after is_once followed reply.End = record followed { is_over = true }
+followed_after is_once followed other = followed
 
 -- what a note says of a reply
 abbrev pub told_of : Reply → Option (List ℕ)
@@ -72,13 +68,22 @@ ends_by is_once (reply.No refusal) = Some outcome.Refused
 ends_by is_once reply.Evicted = Some outcome.Nothing
 ends_by is_once other = None
 
--- The hub was asked once for what is pending for the fifodir's handle, and this was its reply, which is told and written.
-pub record IsTaken (manner : Manner) (followed later : Followed) (before after : Streams) (held holds : Option (List ℕ)) (reply : Reply) : Type 0 where
+-- a reply after which a follow goes on
+abbrev pub GoesOn : (is_once : Bool) → Reply → Type 0
+GoesOn is_once (reply.Got letters) = is_once ≡ false
+GoesOn is_once (reply.Hit letters) = is_once ≡ false
+GoesOn is_once reply.Late = Unit {0}
+GoesOn is_once reply.End = Unit {0}
+GoesOn is_once other = ⊥
+
+-- The hub was asked once for what comes next of the fifodir's handle, within so many turns, and this was its reply, which is told and
+-- written.
+pub record IsTaken (manner : Manner) (turns : ℕ) (followed later : Followed) (before after : Streams) (held holds : Option (List ℕ)) (reply : Reply) : Type 0 where
   pub between : Streams
-  pub replied : IsReplied before between (taking manner.is_hit manner.is_once followed.handle) reply
+  pub replied : IsReplied before between (request.Next followed.handle turns) reply
   pub told : MatchOption (told_of reply) (after ≡ between) (λ reason. IsNoted between after (note_of (name_of followed) reason))
   pub written : IsWrittenFor manner followed reply held holds
-  pub moved : later ≡ followed_after followed reply
+  pub moved : later ≡ followed_after manner.is_once followed reply
 
 -- Of the letters that came a part was written.
 pub record IsCutShort (manner : Manner) (followed : Followed) (held holds : Option (List ℕ)) : Type 0 where
@@ -94,55 +99,28 @@ FailsToWrite manner followed held holds (stops.Fault (Relay relay.Output)) = IsC
 FailsToWrite manner followed held holds (stops.Fault error) = holds ≡ held
 
 -- How a take ends a follow: by its reply, or by a fault. Unless writing the letters failed, nothing was written then.
-abbrev pub EndsTake : Manner → (followed later : Followed) → (before after : Streams) → (held holds : Option (List ℕ)) → Stop → Type 0
-EndsTake manner followed later before after held holds (stops.Reply went) =
-    (reply : Reply) × IsTaken manner followed later before after held holds reply × (ends_by manner.is_once reply ≡ Some went)
-EndsTake manner followed later before after held holds (stops.Fault (Relay relay.Output)) = IsCutShort manner followed held holds
-EndsTake manner followed later before after held holds (stops.Fault error) = holds ≡ held
-
--- The hub was asked once, for so many turns, whether something comes for the fifodir's handle, and refused it. There is one note of it.
-pub record RefusesAwait (followed : Followed) (before after : Streams) (turns : ℕ) : Type 0 where
-  pub refusal : Refusal
-  pub between : Streams
-  pub replied : IsReplied before between (request.Await followed.handle turns) (reply.No refusal)
-  pub told : IsNoted between after (note_of (name_of followed) (reason_of refusal))
-
--- How an await ends a follow.
-abbrev pub EndsAwait : Followed → (before after : Streams) → (turns : ℕ) → Stop → Type 0
-EndsAwait followed before after turns (stops.Reply outcome.Refused) = RefusesAwait followed before after turns
-EndsAwait followed before after turns (stops.Reply other) = ⊥
-EndsAwait followed before after turns (stops.Fault error) = error ≢ Relay relay.Output
-
--- the reply to an await that says whether something comes
-abbrev pub comes_by : (comes : Bool) → Reply
-comes_by true = reply.Done
-comes_by false = reply.Late
+abbrev pub EndsTake : Manner → (turns : ℕ) → (followed later : Followed) → (before after : Streams) → (held holds : Option (List ℕ)) → Stop → Type 0
+EndsTake manner turns followed later before after held holds (stops.Reply went) =
+    (reply : Reply) × IsTaken manner turns followed later before after held holds reply × (ends_by manner.is_once reply ≡ Some went)
+EndsTake manner turns followed later before after held holds (stops.Fault (Relay relay.Output)) = IsCutShort manner followed held holds
+EndsTake manner turns followed later before after held holds (stops.Fault error) = holds ≡ held
 
 -- ---- one look at a fifodir
 
--- The fifodir isn't over, and the hub was asked once whether something comes for its handle.
-pub record IsAwaited (followed : Followed) (before after : Streams) (comes : Bool) : Type 0 where
-  pub lasts : followed.is_over ≡ false
-  pub turns : ℕ
-  pub replied : IsReplied before after (request.Await followed.handle turns) (comes_by comes)
-
--- Nothing comes. Or something does, and the hub was asked once for what is pending.
+-- The fifodir isn't over. What came next of it was taken, and the follow goes on.
 abbrev pub IsLookedAt : Manner → (followed later : Followed) → (before after : Streams) → (held holds : Option (List ℕ)) → Type 0
-IsLookedAt manner followed later before after held holds =
-    (IsAwaited followed before after false × (later ≡ followed) × (holds ≡ held))
-    ⊎ ((between : Streams) × IsAwaited followed before between true
-    × ((reply : Reply) × IsTaken manner followed later between after held holds reply × (ends_by manner.is_once reply ≡ None)))
+IsLookedAt manner followed later before after held holds = (followed.is_over ≡ false) × ((turns : ℕ)
+    × ((reply : Reply) × IsTaken manner turns followed later before after held holds reply × GoesOn manner.is_once reply))
 
 -- It is looked at, unless it is over.
 abbrev pub IsSeenTo : Manner → (followed later : Followed) → (before after : Streams) → (held holds : Option (List ℕ)) → Type 0
 IsSeenTo manner followed later before after held holds =
     ((later ≡ followed) × (after ≡ before) × (holds ≡ held)) ⊎ IsLookedAt manner followed later before after held holds
 
--- How a look ends a follow: at the question whether something comes, or at what is pending.
+-- How a look at a fifodir that isn't over ends a follow.
 abbrev pub EndsLookAt : Manner → (followed later : Followed) → (before after : Streams) → (held holds : Option (List ℕ)) → Stop → Type 0
 EndsLookAt manner followed later before after held holds stop =
-    ((followed.is_over ≡ false) × ((turns : ℕ) × EndsAwait followed before after turns stop) × (holds ≡ held))
-    ⊎ ((between : Streams) × IsAwaited followed before between true × EndsTake manner followed later between after held holds stop)
+    (followed.is_over ≡ false) × ((turns : ℕ) × EndsTake manner turns followed later before after held holds stop)
 
 -- ---- the whole follow
 

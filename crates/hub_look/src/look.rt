@@ -21,9 +21,7 @@ fn is_look(request: &Request) -> bool
         | Request::Status { .. }
         | Request::Sub { .. }
         | Request::Listen { .. }
-        | Request::Await { .. }
-        | Request::Take { .. }
-        | Request::Poll { .. }
+        | Request::Next { .. }
         | Request::Cancel { .. } => true,
         _ => false,
     }

@@ -9,7 +9,7 @@ use crate::following::Following;
 use crate::peer::Peer;
 use crate::stop::Stop;
 use crate::subscribing::{Followed, subscribe_to_all};
-use crate::taking::{comes, take_and_write};
+use crate::taking::take_and_write;
 use hub_ask::{AskError, Outcome, Replies, Requests};
 use hub_io::Sink;
 use std::alloc::Global;
@@ -46,12 +46,7 @@ fn look_at<H: Wait + Clock, SR: Replies, SW: Requests, W: Sink, F: Sink>(
     if followed.is_over {
         return Ok(false);
     }
-    let has_news = comes(rt, alloc, turns, followed, peer, notes)?;
-    if has_news {
-        take_and_write(rt, alloc, following, followed, peer, output, notes)
-    } else {
-        Ok(false)
-    }
+    take_and_write(rt, alloc, following, turns, followed, peer, output, notes)
 }
 
 // Looks once at each fifodir that isn't over. Returns whether letters of any of them came.

@@ -1,14 +1,12 @@
-//! What is pending for a fifodir that is followed, and how it is written.
-ghost use Rattle.std.specs.Prelude.{◌≡◌, ℕ, List, length, true, None, Err, Ok, IfOk, IfErr, OnOk, if◌then◌else◌, is_some};
+//! What comes next of a fifodir that is followed, and how it is written.
+ghost use Rattle.std.specs.Prelude.{◌≡◌, ℕ, List, length, true, Err, Ok, IfOk, IfErr, OnOk, if◌then◌else◌, is_some};
 ghost use Rattle.std.specs.Io.KnownBytes.{Appends};
 ghost use Rattle.hub_requests.specs.declared.reply.Reply.{Reply as replies};
-ghost use Rattle.hub_requests.specs.declared.request.Request.TheVariants as request;
 ghost use Rattle.hub_ask.specs.declared.outcome.Outcome.TheVariants as outcome;
 ghost use Rattle.hub_look.specs.EventLines.{IsTextOf, number_after};
-ghost use Rattle.hub_look.specs.Follows.{EndsAwait, EndsTake, FailsToWrite, IsTaken, comes_by, ends_by, manner_of, taking};
+ghost use Rattle.hub_look.specs.Follows.{EndsTake, FailsToWrite, GoesOn, IsTaken, manner_of, written_of};
 ghost use Rattle.hub_look.specs.Subscribing.{name_of};
-ghost use Rattle.hub_look.specs.Looking.{IsLook};
-ghost use Rattle.hub_look.specs.Streams.{IsReplied, streams};
+ghost use Rattle.hub_look.specs.Streams.{streams};
 ghost use Rattle.hub_look.specs.declared.stop.Stop.TheVariants as stops;
 
 use crate::asking::ask_once;
@@ -20,7 +18,7 @@ use crate::subscribing::Followed;
 use hub_ask::{AskError, Outcome, Replies, Requests};
 use hub_io::Sink;
 use hub_protocol::BorrowedReply;
-use hub_requests::{MOST_TAKEN, Request};
+use hub_requests::Request;
 use std::alloc::Global;
 use std::rt::Clock;
 use std::sync::Wait;
@@ -49,49 +47,14 @@ fn write_letters<C: Clock, W: Sink>(
     Ok(())
 }
 
-/// Whether something comes within so many turns.
-pub(crate) fn comes<H: Wait, SR: Replies, SW: Requests, F: Sink>(
-    rt: &H,
-    alloc: Global,
-    turns: u64,
-    followed: &Followed,
-    peer: &mut Peer<SR, SW>,
-    notes: &mut F,
-) -> Result<bool, Stop>
-    ensures begun { peer.new.begun ≡ peer.old.begun }
-    ensures ok { IfOk result (λ it. IsReplied
-        (streams SW.contents SR.remaining F.contents F.faults peer.old.client notes.old)
-        (streams SW.contents SR.remaining F.contents F.faults peer.new.client notes.new)
-        (request.Await followed.now.handle turns) (comes_by it)) }
-    ensures err { IfErr result (EndsAwait followed.now
-        (streams SW.contents SR.remaining F.contents F.faults peer.old.client notes.old)
-        (streams SW.contents SR.remaining F.contents F.faults peer.new.client notes.new) turns) }
+// The letters of a reply that are written: the first one alone, if that is enough.
+fn written_of<'a>(following: &Following<'_>, letters: &'a [u8]) -> &'a [u8]
+    ensures { result.now ≡ written_of following.now.is_once letters.now }
 {
-    let id = followed.handle;
-    let heard = ask_once(rt, alloc, Request::Await { id, turns }, peer)?;
-    match heard.reply() {
-        BorrowedReply::Done => Ok(true),
-        BorrowedReply::Late => Ok(false),
-        BorrowedReply::No(refusal) => {
-            tell_refusal(alloc, followed.name.as_str(), refusal, notes)?;
-            Err(Stop::Reply(Outcome::Refused))
-        }
-        _ => Err(Stop::Fault(AskError::Unknown)),
-    }
-}
-
-// The request for what is pending for the handle.
-fn taking(following: &Following<'_>, id: u64) -> Request
-    ensures look { IsLook result }
-    ensures taking { result ≡ taking (is_some following.now.pattern) following.now.is_once id }
-{
-    match (following.pattern.is_some(), following.is_once) {
-        (true, _) => Request::Poll { id },
-        (false, true) => Request::Take { id, max: 1 },
-        (false, false) => Request::Take {
-            id,
-            max: MOST_TAKEN,
-        },
+    if following.is_once {
+        &letters[..letters.len().min(1)]
+    } else {
+        letters
     }
 }
 
@@ -107,11 +70,12 @@ fn after_letters(following: &Following<'_>) -> Result<bool, Stop>
     }
 }
 
-/// Takes what is pending for one fifodir, and writes it. Returns whether letters came.
+/// Takes what comes next of one fifodir, within so many turns, and writes it. Returns whether letters came.
 pub(crate) fn take_and_write<H: Wait + Clock, SR: Replies, SW: Requests, W: Sink, F: Sink>(
     rt: &H,
     alloc: Global,
     following: &Following<'_>,
+    turns: u64,
     followed: &mut Followed,
     peer: &mut Peer<SR, SW>,
     output: &mut W,
@@ -119,21 +83,22 @@ pub(crate) fn take_and_write<H: Wait + Clock, SR: Replies, SW: Requests, W: Sink
 ) -> Result<bool, Stop>
     ensures begun { peer.new.begun ≡ peer.old.begun }
     ensures ok { OnOk result ((reply : replies) × IsTaken
-        (manner_of following.now) followed.old followed.new
+        (manner_of following.now) turns followed.old followed.new
         (streams SW.contents SR.remaining F.contents F.faults peer.old.client notes.old)
         (streams SW.contents SR.remaining F.contents F.faults peer.new.client notes.new)
         (W.contents output.old) (W.contents output.new) reply
-        × (ends_by following.now.is_once reply ≡ None)) }
+        × GoesOn following.now.is_once reply) }
     ensures err { IfErr result (EndsTake
-        (manner_of following.now) followed.old followed.new
+        (manner_of following.now) turns followed.old followed.new
         (streams SW.contents SR.remaining F.contents F.faults peer.old.client notes.old)
         (streams SW.contents SR.remaining F.contents F.faults peer.new.client notes.new)
         (W.contents output.old) (W.contents output.new)) }
 {
-    let request = taking(following, followed.handle);
-    let heard = ask_once(rt, alloc, request, peer)?;
+    let id = followed.handle;
+    let heard = ask_once(rt, alloc, Request::Next { id, turns }, peer)?;
     match heard.reply() {
         BorrowedReply::Got(letters) => {
+            let letters = written_of(following, letters);
             write_letters(rt, alloc, following, followed, letters, output)?;
             after_letters(following)
         }
@@ -141,7 +106,7 @@ pub(crate) fn take_and_write<H: Wait + Clock, SR: Replies, SW: Requests, W: Sink
             write_letters(rt, alloc, following, followed, letters, output)?;
             after_letters(following)
         }
-        BorrowedReply::Nothing => Ok(false),
+        BorrowedReply::Late => Ok(false),
         BorrowedReply::End => {
             followed.is_over = true;
             Ok(false)

@@ -9,7 +9,7 @@ use Rattle.hub_requests.specs.declared.reply.Reply.TheVariants.{Done, No}
 use Rattle.hub_names.specs.declared.hub.HubError.{HubError}
 use Rattle.hub_names.specs.declared.hub.HubError.TheVariants.{Exists}
 use Rattle.hub_names.specs.declared.hub.Made.{Made}
-use Rattle.hub_names.specs.declared.hub.Named.{Named}
+use Rattle.hub_names.specs.declared.hub.named.Named.{Named}
 use Rattle.hub_names.specs.declared.hub.looking.NamesChange.{NamesChange}
 use Rattle.hub_names.specs.Hubs.{HasMade, found_as}
 use Rattle.hub_names.specs.Looks.{given_by}

@@ -1,3 +1,4 @@
 pub mod Speakers
 pub mod KeptFifodirs
 mod Changes
+pub mod LastWords

@@ -16,7 +16,7 @@ use Rattle.hub_names.specs.declared.joined.Joined.{Joined}
 use Rattle.hub_names.specs.declared.hub.looking.NamesLook.{NamesLook}
 use Rattle.hub_names.specs.Hubs.{IsFoundIn, seen_under}
 use Rattle.hub_names.specs.Looks.{IsLookAt}
-use Rattle.hub_names.specs.Speaking.{AsksAsPublisher, Tells, fifodir_of, notifies_of, publisher_of}
+use Rattle.hub_names.specs.Speaking.{AsksAsPublisher, Describes, Tells, fifodir_of, notifies_of, publisher_of}
 
 -- what is kept under the name
 abbrev pub joined_at : Fifodirs → List ℕ → Option Joined
@@ -106,6 +106,10 @@ AsksByName hub says old name reply new = AsksUnder hub (AsksAsPublisher says) ol
 -- the service under the name is told where it is
 abbrev pub TellsByName : Hub → State → Fifodirs → List ℕ → Reply → Fifodirs → Type 0
 TellsByName hub state old name reply new = AsksUnder hub (Tells state) old name reply new
+
+-- the session is told about the fifodir under the name
+abbrev pub DescribesByName : Hub → Fifodirs → List ℕ → Reply → Fifodirs → Type 0
+DescribesByName hub old name reply new = AsksUnder hub Describes old name reply new
 
 -- whatever was kept is kept still
 pub record KeepsAll (hub : Hub) (old new : Fifodirs) : Type 0 where

@@ -6,3 +6,4 @@ pub mod Fifodirs
 pub mod Looks
 pub mod Changes
 pub mod Lending
+pub mod Wills

@@ -9,7 +9,7 @@ use Rattle.hub_requests.specs.declared.reply.Refusal.TheVariants as no
 use Rattle.hub_requests.specs.declared.reply.Reply.{Reply}
 use Rattle.hub_requests.specs.declared.reply.Reply.TheVariants.{No}
 use Rattle.hub_names.specs.declared.hub.Hub.{Hub}
-use Rattle.hub_names.specs.declared.hub.Named.{Named}
+use Rattle.hub_names.specs.declared.hub.named.Named.{Named}
 use Rattle.hub_names.specs.declared.hub.looking.Looking.{Looking}
 use Rattle.hub_names.specs.declared.hub.looking.NamesLook.{NamesLook}
 use Rattle.hub_names.specs.declared.fifodirs.Fifodirs.{Fifodirs}

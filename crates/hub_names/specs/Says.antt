@@ -1,15 +1,18 @@
--- What a publisher is answered.
-use Rattle.std.specs.Prelude.{◌≡◌, ◌≢◌, ℕ, List, true}
+-- What a publisher is answered, and what is told about a fifodir.
+use Rattle.std.specs.Prelude.{◌≡◌, ◌≢◌, ℕ, Bool, List, true}
 use Rattle.hub_letters.specs.declared.state.State.{State}
 use Rattle.hub_letters.specs.States.{is_at_end}
 use Rattle.hub_record.specs.World.{letters}
 use Rattle.hub_requests.specs.Refusals.{refusal_of_pub}
+use Rattle.hub_requests.specs.declared.about.About as abouts
 use Rattle.hub_requests.specs.declared.reply.Refusal.TheVariants as no
 use Rattle.hub_requests.specs.declared.reply.Reply.{Reply}
 use Rattle.hub_requests.specs.declared.reply.Reply.TheVariants.{Done, Number, No}
 use Rattle.hub_requests.specs.declared.reply.Reply.TheVariants as reply
+use Rattle.hub_fifodir.specs.declared.fifodir.Fifodir.{Fifodir}
 use Rattle.hub_fifodir.specs.declared.publisher.Publisher.{Publisher}
-use Rattle.hub_fifodir.specs.Passes.{IsStatusOf, IsRefusedAt, HasPublished, KnewOwnClose, closed_mark, mine, seen_by, publisher_number, publisher_sight, word_told, word_to_tell}
+use Rattle.hub_fifodir.specs.declared.usage.Usage.{Usage}
+use Rattle.hub_fifodir.specs.Passes.{IsStatusOf, IsRefusedAt, HasPublished, KnewOwnClose, kind_of, limits_of, closed_mark, mine, seen_by, publisher_number, publisher_sight, word_told, word_to_tell}
 use Rattle.hub_record.specs.declared.PubError.{PubError}
 
 -- ---- a publisher that was `p` is now `q`
@@ -38,3 +41,18 @@ says_closed p _ q = ⊥
 abbrev pub says_status : Publisher → Reply → Publisher → Type 0
 says_status p (reply.State status) q = IsStatusOf status (publisher_sight q) × KnewOwnClose p q × (mine q ≡ mine p)
 says_status p _ q = ⊥
+
+-- ---- a fifodir
+
+-- what it is, and how much is there
+abbrev pub about_of : Fifodir → Bool → Usage → abouts.About
+about_of dir notifies usage = record {
+  kind = kind_of dir;
+  notifies = notifies;
+  waiting = (limits_of dir).waiting;
+  total = (limits_of dir).total;
+  policy = (limits_of dir).policy;
+  subscriptions = usage.subscriptions;
+  publishers = usage.publishers;
+  pending = usage.pending;
+}

@@ -1,20 +1,21 @@
--- What a session's publisher says, and how it is kept.
+-- What a session's publisher says, and how it is kept; and what a session is told about a fifodir.
 use Rattle.std.specs.Prelude.{◌≡◌, ◌≢◌, Bool, [], Option, None, Some, ◌⊎◌}
 use Rattle.std.specs.Arc.{arc_value}
 use Rattle.hub_requests.specs.declared.reply.Reply.{Reply}
-use Rattle.hub_requests.specs.declared.reply.Reply.TheVariants.{No}
+use Rattle.hub_requests.specs.declared.reply.Reply.TheVariants.{About, No}
 use Rattle.hub_letters.specs.declared.state.State.{State}
 use Rattle.hub_record.specs.declared.Kind.TheVariants.{Plain, Service}
 use Rattle.hub_requests.specs.declared.reply.Refusal.TheVariants.{Kind}
 use Rattle.hub_fifodir.specs.declared.PassError.{PassError}
 use Rattle.hub_fifodir.specs.declared.fifodir.Fifodir.{Fifodir}
 use Rattle.hub_fifodir.specs.declared.publisher.Publisher.{Publisher}
-use Rattle.hub_fifodir.specs.Passes.{IsPublisherOf, kind_of, closed_mark, mine, publisher_number, publisher_sight}
+use Rattle.hub_fifodir.specs.declared.usage.Usage.{Usage}
+use Rattle.hub_fifodir.specs.Passes.{IsPublisherOf, IsUsage, kind_of, closed_mark, mine, publisher_number, publisher_sight}
 use Rattle.hub_fifodir.specs.Steps.{Grows}
 use Rattle.hub_names.specs.declared.hub.Found.{Found}
 use Rattle.hub_names.specs.declared.joined.Joined.{Joined}
 use Rattle.hub_names.specs.Refusals.{refusal_of_pass}
-use Rattle.hub_names.specs.Says.{says_told}
+use Rattle.hub_names.specs.Says.{about_of, says_told}
 
 abbrev pub found_of : Joined → Found
 found_of j = j.found
@@ -72,3 +73,10 @@ AsksAsPublisher says old reply new = Spoke says old reply new ⊎ IsUnmade old r
 abbrev pub Tells : State → Joined → Reply → Joined → Type 0
 Tells state old reply new = ((kind_of (fifodir_of old) ≡ Service) × AsksAsPublisher (says_told state) old reply new)
     ⊎ ((kind_of (fifodir_of old) ≡ Plain) × (reply ≡ No Kind) × (new ≡ old))
+
+-- what the fifodir is, and how much was there when its lock was taken; the session's publisher there, if any, stays as it is
+pub record Describes (old : Joined) (reply : Reply) (new : Joined) : Type 0 where
+  pub usage : Usage
+  pub used : IsUsage (fifodir_of old) usage
+  pub said : reply ≡ About (about_of (fifodir_of old) (notifies_of old) usage)
+  pub same : new ≡ old

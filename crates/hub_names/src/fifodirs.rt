@@ -1,5 +1,6 @@
 //! The fifodirs that a session found, by name.
 ghost use Rattle.std.specs.Prelude.{◌≡◌, None, IfErr, IfNone, IfSome, OnOk, IfOk};
+ghost use Rattle.hub_requests.specs.Wills.{wills_in};
 ghost use Rattle.std.specs.Borrow.{sem};
 ghost use Rattle.hub_names.specs.Refusals.{refusal_of_hub};
 ghost use Rattle.hub_names.specs.Says.{says_closed, says_published, says_status};
@@ -7,10 +8,10 @@ ghost use Rattle.hub_names.specs.declared.hub.Hub.{Hub};
 
 use crate::hub::{Hub, HubError, Made, NamesChange, NamesLook};
 use crate::joined::Joined;
-use hub_fifodir::Enter;
+use hub_fifodir::{Enter, Pause};
 use hub_letters::State;
 use hub_record::{Kind, Letters, Limits};
-use hub_requests::{Name, Refusal, Reply};
+use hub_requests::{Name, Refusal, Reply, Will, Wills};
 use indexmap::IndexMap;
 use std::alloc::Global;
 use std::mem;
@@ -33,7 +34,8 @@ impl Fifodirs {
     ghost use Rattle.hub_names.specs.Changes.{MakesName};
     ghost use Rattle.hub_names.specs.Looks.{AsksNames};
     ghost use Rattle.hub_names.specs.Lending.{LendsJoined};
-    ghost use Rattle.hub_names.specs.Fifodirs.{AsksByName, TellsByName, IsAsBefore, IsSilent, IsKeptAs, KeepsAll, KeepsNone, Joins, IsFinding, IsMissing, IsFound, joined_at};
+    ghost use Rattle.hub_names.specs.Wills.{AreCarriedOut, IsCarriedOut, WillsByName, wills_after};
+    ghost use Rattle.hub_names.specs.Fifodirs.{AsksByName, DescribesByName, TellsByName, IsAsBefore, IsSilent, IsKeptAs, KeepsAll, KeepsNone, Joins, IsFinding, IsMissing, IsFound, joined_at};
 
     /// Those of a new session: it has found none.
     pub fn new(alloc: Global) -> Fifodirs
@@ -127,12 +129,41 @@ impl Fifodirs {
         }
     }
 
+    /// Gives the service of this name a will, which the session's publisher there is to carry out.
+    pub fn will<H: Wait + Enter>(
+        &mut self,
+        rt: &H,
+        hub: &Hub,
+        wills: &mut Wills,
+        name: &Name,
+        will: Will,
+    ) -> Reply
+        ensures asked { WillsByName hub.now self.old name.now result self.new }
+        ensures given { wills_in wills.new
+            ≡ wills_after name.now will result (wills_in wills.old) }
+    {
+        match self.joined(rt, hub, name) {
+            Ok(joined) => joined.will(rt, wills, name, will),
+            Err(refusal) => Reply::No(refusal),
+        }
+    }
+
     /// Closes the fifodir of this name by the session's publisher there.
     pub fn close<H: Wait + Enter>(&mut self, rt: &H, hub: &Hub, name: &Name) -> Reply
         ensures { AsksByName hub.now says_closed self.old name.now result self.new }
     {
         match self.joined(rt, hub, name) {
             Ok(joined) => joined.close(rt),
+            Err(refusal) => Reply::No(refusal),
+        }
+    }
+
+    /// Tells what the fifodir of this name is, and how much is there. It makes no publisher.
+    pub fn about<H: Wait + Enter>(&mut self, rt: &H, hub: &Hub, name: &Name) -> Reply
+        ensures { DescribesByName hub.now self.old name.now result self.new }
+    {
+        match self.joined(rt, hub, name) {
+            Ok(joined) => joined.about(rt),
             Err(refusal) => Reply::No(refusal),
         }
     }
@@ -186,6 +217,42 @@ impl Fifodirs {
         match made {
             Ok(()) => Reply::Done,
             Err(error) => Reply::No(refusal_of_hub(error)),
+        }
+    }
+
+    /// Carries out the wills by the session's publishers, in their order, each with a copy of the pause. Returns how many were
+    /// refused at fifodirs that are open.
+    pub fn carry_out<H: Wait, P: Pause + Copy>(&mut self, rt: &H, wills: &Wills, pause: P) -> u64
+        ensures { AreCarriedOut self.old (wills_in wills.now) result self.new }
+    {
+        let mut lost = 0;
+        for place in 0..wills.len() {
+            let Some((name, will)) = wills.get(place) else {
+                unreachable!()
+            };
+            if self.carry_out_one(rt, name, will, pause) {
+                lost += 1;
+            }
+        }
+        lost
+    }
+
+    /// Carries out one will. Returns whether it was refused, though the fifodir is open.
+    fn carry_out_one<H: Wait, P: Pause + Copy>(
+        &mut self,
+        rt: &H,
+        name: &Name,
+        will: Will,
+        pause: P,
+    ) -> bool
+        ensures { IsCarriedOut self.old (name.now, will) result self.new }
+    {
+        let Some(state) = will.state() else {
+            return false;
+        };
+        match self.by_name.get_mut(name) {
+            Some(joined) => joined.carry_out(rt, state, pause),
+            None => false,
         }
     }
 

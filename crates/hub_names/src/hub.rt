@@ -1,22 +1,21 @@
 //! The fifodirs that sessions share, by name.
-ghost use Rattle.std.specs.Prelude.{◌≡◌, ◌≤◌, ◌++◌, ◌∷◌, [], ℕ, List, true, false, is_some, option_map, IfOk, IfErr, IfSome, OnOk, OnErr, Err};
+ghost use Rattle.std.specs.Prelude.{◌≡◌, option_map, IfOk, IfErr, IfSome, OnOk};
 ghost use Rattle.std.specs.Arc.{arc_value};
-ghost use Rattle.std.specs.Str.{bytes_eq};
-ghost use Rattle.indexmap.specs.IndexMap.{get, index_map_len, keys};
-ghost use Rattle.hub_requests.specs.declared.bounds.TheConstants.{MOST_NAMES};
 
-use hub_fifodir::{Bell, Enter, Fifodir};
+use hub_fifodir::{Enter, Fifodir};
 use hub_record::{Kind, Limits};
-use hub_requests::{MOST_NAMES, Name, Refusal, Reply, names_reply};
-use indexmap::IndexMap;
+use hub_requests::{Name, Reply};
 use std::alloc::{AllocError, Global};
-use std::sync::{Arc, RwLock, Wait};
+use std::sync::{Arc, Wait};
 use thiserror::Error;
 
 mod looking;
+mod named;
 
+use looking::guarded::Guarded;
 use looking::{Changing, Looking};
 pub use looking::{NamesChange, NamesLook};
+use named::Named;
 
 /// Why no fifodir was made.
 #[derive(Clone, Copy, Debug, PartialEq, Eq, Hash, Error)]
@@ -104,88 +103,10 @@ impl Found {
     }
 }
 
-/// What is under the hub's lock.
-#[derive(Drop)]
-struct Named {
-    alloc: Global,
-    /// Shared by all fifodirs, so that a wait for several of them sleeps until one changes.
-    bell: Arc<Bell, Global>,
-    fifodirs: IndexMap<Name, Made>,
-    ghost few: { index_map_len fifodirs ≤ MOST_NAMES },
-}
-
-impl Named {
-    ghost use Rattle.hub_names.specs.Hubs.{HasMade, found_as};
-    ghost use Rattle.hub_names.specs.Looks.{Lists};
-
-    /// Makes a fifodir under a name that has none. It asks for `Enter`, so that what only looks can't make one.
-    fn make<H: Enter>(
-        &mut self,
-        _rt: &H,
-        name: &Name,
-        kind: Kind,
-        limits: Limits,
-        notifies: bool,
-    ) -> Result<(), HubError>
-        ensures exists { is_some (get bytes_eq self.old.fifodirs name.now) ≡ true
-            → result ≡ Err HubError.Exists }
-        ensures many { is_some (get bytes_eq self.old.fifodirs name.now) ≡ false
-            → MOST_NAMES ≤ index_map_len self.old.fifodirs → result ≡ Err HubError.Many }
-        ensures exists_only { result ≡ Err HubError.Exists
-            → is_some (get bytes_eq self.old.fifodirs name.now) ≡ true }
-        ensures many_only { result ≡ Err HubError.Many
-            → MOST_NAMES ≤ index_map_len self.old.fifodirs }
-        ensures ok { OnOk result (HasMade kind limits notifies
-            (get bytes_eq self.new.fifodirs name.now)) }
-        ensures others { OnOk result ((other : List ℕ) → bytes_eq name.now other ≡ false
-            → get bytes_eq self.new.fifodirs other ≡ get bytes_eq self.old.fifodirs other) }
-        ensures last { OnOk result (keys self.new.fifodirs
-            ≡ keys self.old.fifodirs ++ name.now ∷ []) }
-        ensures err { OnErr result (self.new.fifodirs.entries ≡ self.old.fifodirs.entries) }
-    {
-        if self.fifodirs.contains_key(name) {
-            return Err(HubError::Exists);
-        }
-        if self.fifodirs.len() >= MOST_NAMES {
-            return Err(HubError::Many);
-        }
-        let key = name.copy()?;
-        let bell = Arc::try_clone(&self.bell)?;
-        let fifodir = Fifodir::with_bell(self.alloc, kind, limits, bell)?;
-        let Ok(dir) = Arc::new(self.alloc, fifodir) else {
-            return Err(HubError::Memory);
-        };
-        match self.fifodirs.insert(key, Made { dir, notifies }) {
-            Ok(_) => Ok(()),
-            Err(_) => Err(HubError::Memory),
-        }
-    }
-
-    fn find(&self, name: &Name) -> Result<Option<Made>, AllocError>
-        ensures { IfOk result (λ made. option_map found_as made ≡ option_map found_as
-            (get bytes_eq self.now.fifodirs name.now)) }
-    {
-        match self.fifodirs.get(name) {
-            Some(made) => Ok(Some(made.copy()?)),
-            None => Ok(None),
-        }
-    }
-
-    /// The names from place `from` on, as many as fit in one reply.
-    fn list(&self, from: u64) -> Reply
-        ensures { Lists (keys self.now.fifodirs) from result }
-    {
-        match names_reply(self.alloc, self.fifodirs.keys().as_slice(), from) {
-            Ok(reply) => reply,
-            Err(_) => Reply::No(Refusal::Memory),
-        }
-    }
-}
-
 /// The fifodirs that sessions share.
 #[derive(Drop)]
 pub struct Hub {
-    named: RwLock<Named>,
+    named: Guarded<Named>,
     /// No clause says what this is, so no contract can show that two hubs are one. Nothing reads it at run time.
     mark: u64,
 }
@@ -197,16 +118,8 @@ impl Hub {
 
     /// A hub without a name.
     pub fn new(alloc: Global) -> Result<Hub, AllocError> {
-        let Ok(bell) = Arc::new(alloc, Bell::new()) else {
-            return Err(AllocError);
-        };
-        let named = Named {
-            alloc,
-            bell,
-            fifodirs: IndexMap::new(alloc),
-        };
         Ok(Hub {
-            named: RwLock::new(named),
+            named: Named::none(alloc)?,
             mark: 0,
         })
     }

@@ -4,13 +4,15 @@ ghost use Rattle.std.specs.Arc.{arc_value};
 ghost use Rattle.hub_fifodir.specs.Passes.{IsPublisherOf, HasSoundSight, publisher_view};
 ghost use Rattle.hub_fifodir.specs.declared.publisher.Publisher.{Publisher};
 ghost use Rattle.hub_names.specs.Refusals.{refusal_of_pass};
-ghost use Rattle.hub_names.specs.Says.{says_closed, says_published, says_status};
+ghost use Rattle.hub_names.specs.Says.{about_of, says_closed, says_published, says_status};
+ghost use Rattle.hub_requests.specs.Wills.{wills_in};
 
 use crate::hub::{Found, Made};
-use hub_fifodir::{Enter, PassError, Publisher};
+use crate::last_word::{is_lost, tell_as_last};
+use hub_fifodir::{Enter, Fifodir, PassError, Pause, Publisher, Usage};
 use hub_letters::State;
 use hub_record::{Closed, Kind, Letters};
-use hub_requests::{Refusal, Reply};
+use hub_requests::{About, Name, Refusal, Reply, Will, Wills};
 use std::mem;
 use std::sync::Wait;
 
@@ -24,7 +26,8 @@ pub struct Joined {
 }
 
 impl Joined {
-    ghost use Rattle.hub_names.specs.Speaking.{AsksAsPublisher, IsSpeaker, Tells, fifodir_of, found_of, publisher_of};
+    ghost use Rattle.hub_names.specs.Speaking.{AsksAsPublisher, Describes, IsSpeaker, Tells, fifodir_of, found_of, publisher_of};
+    ghost use Rattle.hub_names.specs.Wills.{MayTell, ReadiesForWill, wills_after};
 
     /// A fifodir that a session found, and at which it has no publisher yet.
     pub fn new(found: Found) -> Joined
@@ -108,6 +111,50 @@ impl Joined {
         Reply::to_publish(told)
     }
 
+    /// Gives the service a will, which its publisher is to carry out: the one that it keeps, or a new one, which it keeps from then
+    /// on. A plain fifodir gets neither.
+    pub fn will<H: Wait + Enter>(
+        &mut self,
+        rt: &H,
+        wills: &mut Wills,
+        name: &Name,
+        will: Will,
+    ) -> Reply
+        ensures readies { ReadiesForWill self.old result self.new }
+        ensures given { wills_in wills.new
+            ≡ wills_after name.now will result (wills_in wills.old) }
+    {
+        let Kind::Service = self.found.dir.kind() else {
+            return Reply::No(Refusal::Kind);
+        };
+        let Ok(key) = wills.room_for(name) else {
+            return Reply::No(Refusal::Memory);
+        };
+        let publisher = match self.speaker(rt) {
+            Ok(publisher) => publisher,
+            Err(error) => return Reply::No(refusal_of_pass(error)),
+        };
+        self.keep(publisher);
+        wills.put(key, will);
+        Reply::Done
+    }
+
+    /// Tells where the service is, if its last event is the publisher's own. Returns whether this was refused, though the fifodir
+    /// is open.
+    pub fn carry_out<H: Wait, P: Pause + Copy>(&mut self, rt: &H, state: State, pause: P) -> bool
+        ensures { MayTell state self.old result self.new }
+    {
+        let Kind::Service = self.found.dir.kind() else {
+            return false;
+        };
+        let Some(mut publisher) = self.publisher.take() else {
+            return false;
+        };
+        let told = tell_as_last(rt, &self.found.dir, &mut publisher, state, pause);
+        self.keep(publisher);
+        is_lost(told)
+    }
+
     /// Closes the fifodir by the publisher that it keeps, or by a new one, which it keeps from then on.
     pub fn close<H: Wait + Enter>(&mut self, rt: &H) -> Reply
         ensures { AsksAsPublisher says_closed self.old result self.new }
@@ -122,6 +169,14 @@ impl Joined {
             Ok(()) => Reply::Done,
             Err(Closed) => Reply::No(Refusal::Closed),
         }
+    }
+
+    /// Tells what the fifodir is, and how much is there. It makes no publisher.
+    pub fn about<H: Wait + Enter>(&self, rt: &H) -> Reply
+        ensures { Describes self.now result self.now }
+    {
+        let usage = self.found.dir.usage(rt);
+        Reply::About(about_of(&self.found.dir, self.found.notifies, usage))
     }
 
     /// Answers the status by the publisher that it keeps. None if it keeps none. It gets no `rt`, and so can't wait for the
@@ -158,6 +213,22 @@ impl Joined {
         if let Some(publisher) = publisher {
             found.dir.leave(rt, publisher);
         }
+    }
+}
+
+fn about_of(dir: &Fifodir, notifies: bool, usage: Usage) -> About
+    ensures { result ≡ about_of dir.now notifies usage }
+{
+    let limits = dir.limits();
+    About {
+        kind: dir.kind(),
+        notifies,
+        waiting: limits.waiting,
+        total: limits.total,
+        policy: limits.policy,
+        subscriptions: usage.subscriptions,
+        publishers: usage.publishers,
+        pending: usage.pending,
     }
 }
 

@@ -11,6 +11,7 @@
 mod fifodirs;
 mod hub;
 mod joined;
+mod last_word;
 
 pub use fifodirs::Fifodirs;
 pub use hub::{Found, Hub, HubError, Made, NamesChange, NamesLook};

@@ -4,7 +4,9 @@ use Rattle.std.specs.Prelude.{All}
 use Rattle.std.specs.Fmt.{decimal}
 use Rattle.std.proofs.lemmas.Fmt.{decimal_injective}
 use Rattle.std.proofs.lemmas.List.Elements.{All-nil, All-cons, All-head, All-tail}
-use Rattle.hub_requests.specs.Texts.{number_or_dash}
+use Rattle.hub_record.specs.declared.Kind as kinds
+use Rattle.hub_record.specs.declared.Kind.TheVariants as kind
+use Rattle.hub_requests.specs.Texts.{number_or_dash, word_of_kind}
 use Rattle.hub_protocol.specs.Replies.{IsCount, IsCountOrNone}
 use Rattle.hub_protocol.specs.ReplyLines.{IsCountText}
 use Rattle.hub_protocol.proofs.Visible.{AreVisible, AllVisible, visible_decimal, visible_dash, digits_all}
@@ -15,6 +17,11 @@ same_count m n h k e = decimal_injective m n h k e
 -- a dash isn't a digit
 pub no_dash : (n : ℕ) → IsCount n → decimal n ≢ codes "-"
 no_dash n h e = let yes = digits_all n h in cc
+
+-- the word of a kind isn't a number
+pub no_kind : (n : ℕ) (k : kinds.Kind) → IsCount n → decimal n ≢ word_of_kind k
+no_kind n kind.Plain h e = let yes = digits_all n h in cc
+no_kind n kind.Service h e = let yes = digits_all n h in cc
 
 pub same_count_or_none : (a b : Option ℕ) → IsCountOrNone a → IsCountOrNone b → number_or_dash a ≡ number_or_dash b → a ≡ b
 same_count_or_none None None h k e = refl

@@ -5,7 +5,7 @@ use Rattle.std.proofs.lemmas.List.{length-map, take_more_set, map-append, take_m
 use Rattle.hub_protocol.specs.declared.table.Kind.{Kind}
 use Rattle.hub_protocol.specs.declared.table.Kind.TheVariants as kind
 use Rattle.hub_protocol.specs.declared.line.Field as code
-use Rattle.hub_protocol.specs.Spelling.{Field, Name, Number, Letters, Mode, Span, Want, State, IsOf, IsSound, text_of_field}
+use Rattle.hub_protocol.specs.Spelling.{Field, Name, Number, Letters, Mode, Span, Want, State, Will, IsOf, IsSound, text_of_field}
 use Rattle.hub_protocol.specs.Lines.{IsWithinKind, field_shown, fields_shown}
 
 -- ---- lists side by side
@@ -44,6 +44,7 @@ sound_by k (Mode mode) h = tt
 sound_by k (Span s) h = tt
 sound_by k (Want want) h = tt
 sound_by k (State s) h = tt
+sound_by k (Will w) h = tt
 sound_by k field h = absurd h
 
 -- one more field is read

@@ -9,7 +9,7 @@ use Rattle.hub_protocol.specs.declared.table.Kind.TheVariants as kind
 use Rattle.hub_protocol.specs.declared.table.Ending.{Ending}
 use Rattle.hub_protocol.specs.declared.table.Ending.TheVariants as ending
 use Rattle.hub_protocol.specs.Table.{Row, IsWord, kinds_of, ending_of, row_in, table}
-use Rattle.hub_protocol.specs.Spelling.{Form, Field, Name, Number, Letters, Mode, Span, Want, State, Last, Nothing, Names, Pattern, Evict, IsForm, IsSoundForm, IsOf, EndsAs, IsWithin, form_of, request_from, says}
+use Rattle.hub_protocol.specs.Spelling.{Form, Field, Name, Number, Letters, Mode, Span, Want, State, Will, Last, Nothing, Names, Pattern, Evict, IsForm, IsSoundForm, IsOf, EndsAs, IsWithin, form_of, request_from, says}
 use Rattle.hub_protocol.specs.Lines.{AreWithinKinds, IsWithinKind, IsMadeOf, field_as, fields_as, last_as}
 use Rattle.hub_protocol.proofs.Rows.{EachRow, of_word, word_at}
 
@@ -49,6 +49,7 @@ read_field kind.Mode (Mode mode) h within = refl
 read_field kind.Span (Span s) h within = refl
 read_field kind.Want (Want want) h within = refl
 read_field kind.State (State s) h within = refl
+read_field kind.Will (Will w) h within = refl
 read_field k field h within = absurd h
 
 read_fields : (kinds : List Kind) (fields : List Field) → AllZip IsOf kinds fields → AllZip IsWithinKind kinds fields → fields_as kinds fields ≡ fields

@@ -12,10 +12,10 @@ use Rattle.hub_protocol.specs.declared.table.Kind.TheVariants as kind
 use Rattle.hub_protocol.specs.declared.table.Ending.{Ending}
 use Rattle.hub_protocol.specs.declared.table.Ending.TheVariants as ending
 use Rattle.hub_protocol.specs.Table.{IsWord, kinds_of, ending_of}
-use Rattle.hub_protocol.specs.Spelling.{Form, Field, Name, Number, Letters, Mode, Span, Want, State, Last, Nothing, Names, Pattern, Evict, IsOf, EndsAs, IsWithin, form_of, says, text_of_field, pieces_of_last, fields_in}
+use Rattle.hub_protocol.specs.Spelling.{Form, Field, Name, Number, Letters, Mode, Span, Want, State, Will, Last, Nothing, Names, Pattern, Evict, IsOf, EndsAs, IsWithin, form_of, says, text_of_field, pieces_of_last, fields_in}
 use Rattle.hub_protocol.specs.Reading.{first_word, IsTextByte, IsText, HasForm, Spells, IsReading}
 use Rattle.hub_protocol.proofs.Numerals.{same_number}
-use Rattle.hub_protocol.proofs.SameWords.{same_mode, same_span, same_state, same_want}
+use Rattle.hub_protocol.proofs.SameWords.{same_mode, same_span, same_state, same_want, same_will}
 use Rattle.hub_protocol.proofs.FormLines.{first_word-form, fields_of-has_form}
 use Rattle.hub_protocol.proofs.FormRequests.{same_request}
 
@@ -47,6 +47,9 @@ same_field kind.Want a b h i e = absurd h
 same_field kind.State (State a) (State b) h i e = ap State (same_state a b e)
 same_field kind.State (State a) b h i e = absurd i
 same_field kind.State a b h i e = absurd h
+same_field kind.Will (Will a) (Will b) h i e = ap Will (same_will a b e)
+same_field kind.Will (Will a) b h i e = absurd i
+same_field kind.Will a b h i e = absurd h
 
 pub same_fields : (kinds : List Kind) (as' bs : List Field) (xs ys : List (List ℕ)) → AllZip IsOf kinds as' → AllZip IsOf kinds bs → map text_of_field as' ++ xs ≡ map text_of_field bs ++ ys → (as' ≡ bs) × (xs ≡ ys)
 same_fields [] [] [] xs ys h i e = (refl, e)

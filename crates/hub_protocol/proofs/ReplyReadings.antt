@@ -8,11 +8,13 @@ use Rattle.std.proofs.lemmas.Bool.{false≢true}
 use Rattle.std.proofs.lemmas.List.{append_cancel_right, length-map}
 use Rattle.std.proofs.lemmas.List.Splits.{join_with_byte-slice_split}
 use Rattle.hub_letters.specs.Flags.{code_of}
+use Rattle.hub_record.specs.declared.Kind as kinds
 use Rattle.hub_record.specs.declared.Status.{Status}
-use Rattle.hub_requests.specs.Texts.{line_of, number_or_dash, openness, text_of, word_of}
+use Rattle.hub_requests.specs.Texts.{line_of, number_or_dash, openness, pieces_about, text_of, word_of, word_of_kind, word_of_policy}
+use Rattle.hub_requests.specs.declared.about.About as abouts
 use Rattle.hub_requests.specs.declared.bounds.TheConstants.{LONGEST_REPLY}
 use Rattle.hub_requests.specs.declared.reply.Reply.{Reply}
-use Rattle.hub_requests.specs.declared.reply.Reply.TheVariants.{Done, Number, State, Got, Hit, Nothing, End, Evicted, Yes, Never, Late, Listed, No}
+use Rattle.hub_requests.specs.declared.reply.Reply.TheVariants.{Done, Number, State, About, Got, Hit, Nothing, End, Evicted, Yes, Never, Late, Listed, No}
 use Rattle.hub_requests.specs.declared.reply.Refusal.{Refusal}
 use Rattle.hub_requests.specs.declared.reply.Refusal.TheVariants.{Unlawful}
 use Rattle.hub_protocol.specs.declared.replies.BorrowedReply.{BorrowedReply}
@@ -20,9 +22,9 @@ use Rattle.hub_protocol.specs.declared.replies.BorrowedReply.TheVariants as show
 use Rattle.hub_protocol.specs.declared.reply_pieces.Head as heads
 use Rattle.hub_protocol.specs.declared.reply_pieces.Head.TheVariants as head
 use Rattle.hub_protocol.specs.Spelling.{IsName, fields_of}
-use Rattle.hub_protocol.specs.Replies.{IsCount, IsLetter, IsOfHub, IsReadReply, IsSoundRefusal, IsSoundReply, Shows}
+use Rattle.hub_protocol.specs.Replies.{IsCount, IsLetter, IsOfHub, IsReadReply, IsSoundAbout, IsSoundRefusal, IsSoundReply, Shows}
 use Rattle.hub_protocol.specs.ReplyLines.{AreCountTexts, IsBehind, IsCountText, IsPlain, IsPlainOf, IsRefusalOf, IsSaid, behind_of, head_of, text_of_head, words_of}
-use Rattle.hub_protocol.proofs.Counts.{numbers_of, texts_of}
+use Rattle.hub_protocol.proofs.Counts.{no_kind, numbers_of, texts_of}
 use Rattle.hub_protocol.proofs.ReplyTexts.{line-pieces, pieces-line, visible_openness}
 use Rattle.hub_protocol.proofs.SameReplies.{same_text}
 use Rattle.hub_protocol.proofs.SameWords.{apart}
@@ -62,6 +64,7 @@ pub some_head : (reply : Reply) → (head : heads.Head) × (head_of reply ≡ te
 some_head Done = (head.Done, refl)
 some_head (Number n) = (head.Done, refl)
 some_head (State status) = (head.Done, refl)
+some_head (About about) = (head.Done, refl)
 some_head (Got letters) = (head.Got, refl)
 some_head (Hit letters) = (head.Hit, refl)
 some_head Nothing = (head.Nothing, refl)
@@ -156,13 +159,55 @@ plain_said word pieces None p none = no_plain word pieces p none
 plain_said word pieces (Some refusal) p is = plain_refusal word pieces refusal p is.0 is.1
 
 -- what is behind an `ok` and a number, if it is more
-pub no_status : (number : ℕ) (pieces : List (List ℕ)) → pieces ≢ [] → ((status : Status) → pieces ≢ decimal (code_of status.flags) ∷ openness status.closed ∷ [])
+pub no_status : (number : ℕ) (pieces : List (List ℕ)) → IsCount number → pieces ≢ [] → ((status : Status) → pieces ≢ decimal (code_of status.flags) ∷ openness status.closed ∷ [])
     → (reply : Reply) → IsSoundReply reply → head_of reply ≡ codes "ok" → decimal number ∷ pieces ≢ behind_of reply
-no_status number pieces some none Done h w e = cc
-no_status number pieces some none (Number n) h w e = let rest : pieces ≡ [] = cc in some rest
-no_status number pieces some none (State status) h w e =
+no_status number pieces small some none Done h w e = cc
+no_status number pieces small some none (Number n) h w e = let rest : pieces ≡ [] = cc in some rest
+no_status number pieces small some none (State status) h w e =
     let rest : pieces ≡ decimal (code_of status.flags) ∷ openness status.closed ∷ [] = cc in none status rest
-no_status number pieces some none reply h w e = absurd (apart (head_of reply) (codes "ok") refl w)
+no_status number pieces small some none (About about) h w e = let kind : decimal number ≡ word_of_kind about.kind = cc in no_kind number about.kind small kind
+no_status number pieces small some none reply h w e = absurd (apart (head_of reply) (codes "ok") refl w)
+
+-- what is behind an `ok`, if it is neither a kind nor a number
+pub no_number : (word : List ℕ) (pieces : List (List ℕ)) → ((k : kinds.Kind) → word ≢ word_of_kind k) → ((n : ℕ) → IsCount n → word ≢ decimal n)
+    → (reply : Reply) → IsSoundReply reply → head_of reply ≡ codes "ok" → word ∷ pieces ≢ behind_of reply
+no_number word pieces other none Done h w e = cc
+no_number word pieces other none (Number n) h w e = let digits : word ≡ decimal n = cc in none n h digits
+no_number word pieces other none (State status) h w e = let digits : word ≡ decimal status.number = cc in none status.number h digits
+no_number word pieces other none (About about) h w e = let kind : word ≡ word_of_kind about.kind = cc in other about.kind kind
+no_number word pieces other none reply h w e = absurd (apart (head_of reply) (codes "ok") refl w)
+
+-- what is told about a fifodir, from each piece on
+abbrev pub from_pending : abouts.About → List (List ℕ)
+from_pending it = decimal it.pending ∷ []
+
+abbrev pub from_publishers : abouts.About → List (List ℕ)
+from_publishers it = decimal it.publishers ∷ from_pending it
+
+abbrev pub from_subscriptions : abouts.About → List (List ℕ)
+from_subscriptions it = decimal it.subscriptions ∷ from_publishers it
+
+abbrev pub from_policy : abouts.About → List (List ℕ)
+from_policy it = word_of_policy it.policy ∷ from_subscriptions it
+
+abbrev pub from_total : abouts.About → List (List ℕ)
+from_total it = decimal it.total ∷ from_policy it
+
+abbrev pub from_waiting : abouts.About → List (List ℕ)
+from_waiting it = decimal it.waiting ∷ from_total it
+
+-- lists with the same pieces have the same behind their first
+pub behind_first : (x y : List ℕ) (xs ys : List (List ℕ)) → x ∷ xs ≡ y ∷ ys → xs ≡ ys
+behind_first x y xs ys e = cc
+
+-- what is behind an `ok` and a kind
+pub no_about : (k : kinds.Kind) (pieces : List (List ℕ)) → ((about : abouts.About) → IsSoundAbout about → word_of_kind k ∷ pieces ≢ pieces_about about)
+    → (reply : Reply) → IsSoundReply reply → head_of reply ≡ codes "ok" → word_of_kind k ∷ pieces ≢ behind_of reply
+no_about k pieces none Done h w e = cc
+no_about k pieces none (Number n) h w e = let digits : decimal n ≡ word_of_kind k = cc in no_kind n k h digits
+no_about k pieces none (State status) h w e = let digits : decimal status.number ≡ word_of_kind k = cc in no_kind status.number k h digits
+no_about k pieces none (About about) h w e = none about h e
+no_about k pieces none reply h w e = absurd (apart (head_of reply) (codes "ok") refl w)
 
 -- ---- numbers and names
 

@@ -4,15 +4,20 @@ use Rattle.std.proofs.lemmas.List.{append_cancel_right}
 use Rattle.std.specs.Fmt.{decimal}
 use Rattle.hub_letters.specs.declared.flags.Flags.{Flags}
 use Rattle.hub_letters.specs.Flags.{code_of, digit}
+use Rattle.hub_record.specs.declared.Kind as kinds
+use Rattle.hub_record.specs.declared.Kind.TheVariants as kind
 use Rattle.hub_record.specs.declared.Status.{Status}
-use Rattle.hub_requests.specs.Texts.{openness, text_of, line_of}
+use Rattle.hub_record.specs.declared.limits.Policy.{Policy}
+use Rattle.hub_record.specs.declared.limits.Policy.TheVariants.{Hold, Evict}
+use Rattle.hub_requests.specs.declared.about.About as abouts
+use Rattle.hub_requests.specs.Texts.{line_of, openness, pieces_about, text_of, text_of_flag, word_of_kind, word_of_policy}
 use Rattle.hub_requests.specs.declared.reply.Reply.{Reply}
-use Rattle.hub_requests.specs.declared.reply.Reply.TheVariants.{Done, Number, State, Got, Hit, Nothing, End, Evicted, Yes, Never, Late, Listed, No}
+use Rattle.hub_requests.specs.declared.reply.Reply.TheVariants.{Done, Number, State, About, Got, Hit, Nothing, End, Evicted, Yes, Never, Late, Listed, No}
 use Rattle.hub_requests.specs.declared.reply.Refusal.{Refusal}
 use Rattle.hub_requests.specs.declared.reply.Refusal.TheVariants as no
 use Rattle.hub_requests.specs.declared.reply.Refusal.TheVariants.{Unlawful}
 use Rattle.hub_protocol.specs.Spelling.{fields_of}
-use Rattle.hub_protocol.specs.Replies.{IsSoundRefusal, IsSoundReply}
+use Rattle.hub_protocol.specs.Replies.{IsSoundAbout, IsSoundRefusal, IsSoundReply}
 use Rattle.hub_protocol.specs.ReplyLines.{behind_of, head_of, words_of}
 use Rattle.hub_protocol.proofs.Counts.{same_count, same_counts}
 use Rattle.hub_protocol.proofs.ReplyTexts.{pieces-line, small_code, small_digit}
@@ -51,6 +56,62 @@ status_with number flags closed = record { number = number; flags = flags; close
 same_status : (s t : Status) → s.number ≡ t.number → s.flags ≡ t.flags → s.closed ≡ t.closed → s ≡ t
 same_status s t a b c =
     ap (λ x. status_with x s.flags s.closed) a ∙ ap (λ x. status_with t.number x s.closed) b ∙ ap (λ x. status_with t.number t.flags x) c
+
+-- ---- what is told about a fifodir
+
+same_kind : (a b : kinds.Kind) → word_of_kind a ≡ word_of_kind b → a ≡ b
+same_kind kind.Plain kind.Plain e = refl
+same_kind kind.Service kind.Service e = refl
+same_kind a b e = absurd (apart (word_of_kind a) (word_of_kind b) refl e)
+
+same_flag : (a b : Bool) → text_of_flag a ≡ text_of_flag b → a ≡ b
+same_flag true true e = refl
+same_flag false false e = refl
+same_flag a b e = absurd (apart (text_of_flag a) (text_of_flag b) refl e)
+
+same_policy : (a b : Policy) → word_of_policy a ≡ word_of_policy b → a ≡ b
+same_policy Hold Hold e = refl
+same_policy Evict Evict e = refl
+same_policy a b e = absurd (apart (word_of_policy a) (word_of_policy b) refl e)
+
+abbrev about_with : kinds.Kind → Bool → ℕ → ℕ → Policy → ℕ → ℕ → ℕ → abouts.About
+about_with kind notifies waiting total policy subscriptions publishers pending = record {
+  kind = kind;
+  notifies = notifies;
+  waiting = waiting;
+  total = total;
+  policy = policy;
+  subscriptions = subscriptions;
+  publishers = publishers;
+  pending = pending;
+}
+
+same_about : (a b : abouts.About) → IsSoundAbout a → IsSoundAbout b → pieces_about a ≡ pieces_about b → a ≡ b
+same_about a b h k e =
+    let kinds : word_of_kind a.kind ≡ word_of_kind b.kind = cc in
+    let flags : text_of_flag a.notifies ≡ text_of_flag b.notifies = cc in
+    let waits : decimal a.waiting ≡ decimal b.waiting = cc in
+    let totals : decimal a.total ≡ decimal b.total = cc in
+    let policies : word_of_policy a.policy ≡ word_of_policy b.policy = cc in
+    let subs : decimal a.subscriptions ≡ decimal b.subscriptions = cc in
+    let pubs : decimal a.publishers ≡ decimal b.publishers = cc in
+    let loads : decimal a.pending ≡ decimal b.pending = cc in
+    let kind = same_kind a.kind b.kind kinds in
+    let notifies = same_flag a.notifies b.notifies flags in
+    let waiting = same_count a.waiting b.waiting h.waiting k.waiting waits in
+    let total = same_count a.total b.total h.total k.total totals in
+    let policy = same_policy a.policy b.policy policies in
+    let subscriptions = same_count a.subscriptions b.subscriptions h.subscriptions k.subscriptions subs in
+    let publishers = same_count a.publishers b.publishers h.publishers k.publishers pubs in
+    let pending = same_count a.pending b.pending h.pending k.pending loads in
+    ap (λ x. about_with x a.notifies a.waiting a.total a.policy a.subscriptions a.publishers a.pending) kind
+    ∙ ap (λ x. about_with b.kind x a.waiting a.total a.policy a.subscriptions a.publishers a.pending) notifies
+    ∙ ap (λ x. about_with b.kind b.notifies x a.total a.policy a.subscriptions a.publishers a.pending) waiting
+    ∙ ap (λ x. about_with b.kind b.notifies b.waiting x a.policy a.subscriptions a.publishers a.pending) total
+    ∙ ap (λ x. about_with b.kind b.notifies b.waiting b.total x a.subscriptions a.publishers a.pending) policy
+    ∙ ap (λ x. about_with b.kind b.notifies b.waiting b.total b.policy x a.publishers a.pending) subscriptions
+    ∙ ap (λ x. about_with b.kind b.notifies b.waiting b.total b.policy b.subscriptions x a.pending) publishers
+    ∙ ap (λ x. about_with b.kind b.notifies b.waiting b.total b.policy b.subscriptions b.publishers x) pending
 
 -- ---- a refusal
 
@@ -98,12 +159,19 @@ pub same_reply : (a b : Reply) → IsSoundReply a → IsSoundReply b → head_of
 same_reply Done Done h k w e = refl
 same_reply Done (Number n) h k w e = cc
 same_reply Done (State t) h k w e = cc
+same_reply Done (About b) h k w e = cc
 same_reply (Number m) Done h k w e = cc
 same_reply (Number m) (Number n) h k w e = same_number m n h k e
 same_reply (Number m) (State t) h k w e = cc
+same_reply (Number m) (About b) h k w e = cc
 same_reply (State s) Done h k w e = cc
 same_reply (State s) (Number n) h k w e = cc
 same_reply (State s) (State t) h k w e = same_state s t h k e
+same_reply (State s) (About b) h k w e = cc
+same_reply (About a) Done h k w e = cc
+same_reply (About a) (Number n) h k w e = cc
+same_reply (About a) (State t) h k w e = cc
+same_reply (About a) (About b) h k w e = ap About (same_about a b h k e)
 same_reply (Got a) (Got b) h k w e = let same : a ≡ b = cc in ap Got same
 same_reply (Hit a) (Hit b) h k w e = let same : a ≡ b = cc in ap Hit same
 same_reply Nothing Nothing h k w e = refl

@@ -1,4 +1,4 @@
--- Modes, spans, wants, states and policies with the same spelling are one.
+-- Modes, spans, wants, states, wills and policies with the same spelling are one.
 use Rattle.std.proofs.Common.{◌≡◌, ◌≢◌, ℕ, List, false, refl, sym, ◌∙◌}
 use Rattle.std.specs.Str.{bytes_eq}
 use Rattle.std.proofs.lemmas.Slice.Eq.{bytes_eq-Decides}
@@ -11,7 +11,9 @@ use Rattle.hub_letters.specs.declared.mode.Mode.{Mode}
 use Rattle.hub_letters.specs.declared.mode.Mode.TheVariants.{Once, Repeat}
 use Rattle.hub_letters.specs.declared.span.Span.{Span}
 use Rattle.hub_letters.specs.declared.span.Span.TheVariants.{All, Any}
-use Rattle.hub_protocol.specs.Spelling.{text_of_mode, text_of_span, text_of_state, text_of_want}
+use Rattle.hub_requests.specs.declared.will.Will.{Will}
+use Rattle.hub_requests.specs.declared.will.Will.TheVariants as will
+use Rattle.hub_protocol.specs.Spelling.{text_of_mode, text_of_span, text_of_state, text_of_want, text_of_will}
 
 -- texts that a test tells apart
 pub apart : (a b : List ℕ) → bytes_eq a b ≡ false → a ≢ b
@@ -43,3 +45,10 @@ same_state state.Up state.Up e = refl
 same_state state.Ready state.Ready e = refl
 same_state state.Failed state.Failed e = refl
 same_state a b e = absurd (apart (text_of_state a) (text_of_state b) refl e)
+
+pub same_will : (a b : Will) → text_of_will a ≡ text_of_will b → a ≡ b
+same_will will.Off will.Off e = refl
+same_will will.Down will.Down e = refl
+same_will will.Failed will.Failed e = refl
+same_will will.None will.None e = refl
+same_will a b e = absurd (apart (text_of_will a) (text_of_will b) refl e)

@@ -12,6 +12,8 @@ use Rattle.std.proofs.lemmas.List.Elements.{All-nil, All-cons, All-head, All-tai
 use Rattle.hub_letters.specs.declared.state.State as states
 use Rattle.hub_letters.specs.declared.state.State.TheVariants as state
 use Rattle.hub_letters.specs.declared.want.Want as wants
+use Rattle.hub_requests.specs.declared.will.Will as wills
+use Rattle.hub_requests.specs.declared.will.Will.TheVariants as will
 use Rattle.hub_letters.specs.declared.want.Want.TheVariants.{Up}
 use Rattle.hub_letters.specs.declared.mode.Mode as modes
 use Rattle.hub_letters.specs.declared.mode.Mode.TheVariants.{Once}
@@ -23,7 +25,7 @@ use Rattle.hub_protocol.specs.declared.table.Kind.TheVariants as kind
 use Rattle.hub_protocol.specs.declared.table.Ending.{Ending}
 use Rattle.hub_protocol.specs.declared.table.Ending.TheVariants as ending
 use Rattle.hub_protocol.specs.Table.{IsWord, table}
-use Rattle.hub_protocol.specs.Spelling.{Form, Field, Name, Number, Letters, Mode, Span, Want, State, Last, Nothing, Names, Pattern, Evict, IsForm, IsOf, EndsAs, IsName, IsNumeral, text_of_mode, text_of_span, text_of_state, text_of_want, text_of_field, pieces_of_last, is_space, fields_of, fields_of_evict, fields_in}
+use Rattle.hub_protocol.specs.Spelling.{Form, Field, Name, Number, Letters, Mode, Span, Want, State, Will, Last, Nothing, Names, Pattern, Evict, IsForm, IsOf, EndsAs, IsName, IsNumeral, text_of_mode, text_of_span, text_of_state, text_of_want, text_of_will, text_of_field, pieces_of_last, is_space, fields_of, fields_of_evict, fields_in}
 use Rattle.hub_protocol.specs.Reading.{IsTextByte}
 use Rattle.hub_protocol.proofs.Numerals.{own, fits}
 use Rattle.hub_protocol.proofs.Splits.{IsOneField}
@@ -95,6 +97,10 @@ visible_state : (s : states.State) → AreVisible (text_of_state s)
 visible_state state.Off = visible_name (text_of_state state.Off) refl
 visible_state s = visible_name (text_of_state s) refl
 
+visible_will : (w : wills.Will) → AreVisible (text_of_will w)
+visible_will will.Off = visible_name (text_of_will will.Off) refl
+visible_will w = visible_name (text_of_will w) refl
+
 -- ---- lists of fields
 
 abbrev pub AllVisible : List (List ℕ) → Type 0
@@ -132,6 +138,7 @@ visible_field k (Mode mode) h = visible_mode mode
 visible_field k (Span s) h = visible_span s
 visible_field k (Want want) h = visible_want want
 visible_field k (State s) h = visible_state s
+visible_field k (Will w) h = visible_will w
 visible_field k field h = absurd h
 
 visible_texts : (kinds : List Kind) (fields : List Field) (pieces : List (List ℕ)) → AllZip IsOf kinds fields → AllVisible pieces → AllVisible (map text_of_field fields ++ pieces)

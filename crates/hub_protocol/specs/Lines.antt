@@ -15,7 +15,7 @@ use Rattle.hub_protocol.specs.declared.line.Rest as rests
 use Rattle.hub_protocol.specs.declared.line.Rest.TheVariants as rest
 use Rattle.hub_protocol.specs.declared.line.Line as lines
 use Rattle.hub_protocol.specs.Table.{kinds_of, ending_of}
-use Rattle.hub_protocol.specs.Spelling.{Field, Name, Number, Letters, Mode, Span, Want, State, Last, Nothing, Names, Pattern, Evict, Form, IsOf, IsSound, EndsAs, digit_of, evict_in, fields_of, first_of, flag_in, letters_in, mode_in, name_in, names_in, number_in, others_of, pattern_in, pieces_of_last, says, span_in, state_in, text_of_field, want_in}
+use Rattle.hub_protocol.specs.Spelling.{Field, Name, Number, Letters, Mode, Span, Want, State, Will, Last, Nothing, Names, Pattern, Evict, Form, IsOf, IsSound, EndsAs, digit_of, evict_in, fields_of, first_of, flag_in, letters_in, mode_in, name_in, names_in, number_in, others_of, pattern_in, pieces_of_last, says, span_in, state_in, text_of_field, want_in, will_in}
 use Rattle.hub_protocol.specs.Reading.{HasForm, IsReading}
 
 abbrev pub field_shown : fields.Field → Field
@@ -26,6 +26,7 @@ field_shown (field.Mode mode) = Mode mode
 field_shown (field.Span s) = Span s
 field_shown (field.Want want) = Want want
 field_shown (field.State s) = State s
+field_shown (field.Will w) = Will w
 
 abbrev pub last_shown : lasts.Last → Last
 last_shown last.Nothing = Nothing
@@ -69,6 +70,7 @@ field_as kind.Mode field = Mode (mode_in field)
 field_as kind.Span field = Span (span_in field)
 field_as kind.Want field = Want (want_in field)
 field_as kind.State field = State (state_in field)
+field_as kind.Will field = Will (will_in field)
 
 -- fields, read as these kinds
 abbrev pub fields_as : List Kind → List Field → List Field

@@ -2,8 +2,9 @@
 use Rattle.std.specs.Prelude.{◌≡◌, ◌≢◌, ℕ, ◌<◌, ◌≤◌, ◌^◌, List, length, map, All, Option, MatchOption}
 use Rattle.std.specs.List.{join_with_byte}
 use Rattle.hub_requests.specs.declared.bounds.TheConstants.{LONGEST_REPLY, MOST_SERVICES}
+use Rattle.hub_requests.specs.declared.about.About as abouts
 use Rattle.hub_requests.specs.declared.reply.Reply.{Reply}
-use Rattle.hub_requests.specs.declared.reply.Reply.TheVariants.{Done, Number, State, Got, Hit, Nothing, End, Evicted, Yes, Never, Late, Listed, No}
+use Rattle.hub_requests.specs.declared.reply.Reply.TheVariants.{Done, Number, State, About, Got, Hit, Nothing, End, Evicted, Yes, Never, Late, Listed, No}
 use Rattle.hub_requests.specs.declared.reply.Refusal.{Refusal}
 use Rattle.hub_requests.specs.declared.reply.Refusal.TheVariants.{Unlawful}
 use Rattle.hub_requests.specs.Texts.{number_or_dash, text_of}
@@ -27,6 +28,13 @@ pub record AreCounts (numbers : List (Option ℕ)) : Type 0 where
   pub few : length numbers ≤ MOST_SERVICES
   pub each : All IsCountOrNone numbers
 
+pub record IsSoundAbout (about : abouts.About) : Type 0 where
+  pub waiting : IsCount about.waiting
+  pub total : IsCount about.total
+  pub subscriptions : IsCount about.subscriptions
+  pub publishers : IsCount about.publishers
+  pub pending : IsCount about.pending
+
 abbrev pub IsSoundRefusal : Refusal → Type 0
 IsSoundRefusal (Unlawful place) = IsCount place
 IsSoundRefusal refusal = Unit {0}
@@ -35,6 +43,7 @@ IsSoundRefusal refusal = Unit {0}
 abbrev pub IsSoundReply : Reply → Type 0
 IsSoundReply (Number n) = IsCount n
 IsSoundReply (State status) = IsCount status.number
+IsSoundReply (About about) = IsSoundAbout about
 IsSoundReply (Got letters) = All IsLetter letters
 IsSoundReply (Hit letters) = All IsLetter letters
 IsSoundReply (Yes numbers) = AreCounts numbers
@@ -52,6 +61,7 @@ abbrev pub Shows : BorrowedReply → Reply → Type 0
 Shows shown.Done Done = Unit {0}
 Shows (shown.Number n) (Number m) = n ≡ m
 Shows (shown.State status) (State other) = status ≡ other
+Shows (shown.About about) (About other) = about ≡ other
 Shows (shown.Got text) (Got letters) = text.now ≡ letters
 Shows (shown.Hit text) (Hit letters) = text.now ≡ letters
 Shows shown.Nothing Nothing = Unit {0}

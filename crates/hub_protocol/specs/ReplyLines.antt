@@ -4,10 +4,10 @@ use Rattle.std.specs.Fmt.{decimal}
 use Rattle.hub_letters.specs.Flags.{code_of}
 use Rattle.hub_requests.specs.declared.bounds.TheConstants.{MOST_SERVICES}
 use Rattle.hub_requests.specs.declared.reply.Reply.{Reply}
-use Rattle.hub_requests.specs.declared.reply.Reply.TheVariants.{Done, Number, State, Got, Hit, Nothing, End, Evicted, Yes, Never, Late, Listed, No}
+use Rattle.hub_requests.specs.declared.reply.Reply.TheVariants.{Done, Number, State, About, Got, Hit, Nothing, End, Evicted, Yes, Never, Late, Listed, No}
 use Rattle.hub_requests.specs.declared.reply.Refusal.{Refusal}
 use Rattle.hub_requests.specs.declared.reply.Refusal.TheVariants.{Unlawful}
-use Rattle.hub_requests.specs.Texts.{number_or_dash, openness, word_of}
+use Rattle.hub_requests.specs.Texts.{number_or_dash, openness, pieces_about, word_of}
 use Rattle.hub_protocol.specs.declared.replies.BorrowedReply.{BorrowedReply}
 use Rattle.hub_protocol.specs.declared.reply_pieces.Head as heads
 use Rattle.hub_protocol.specs.declared.reply_pieces.Head.TheVariants as head
@@ -37,6 +37,7 @@ abbrev pub head_of : Reply → List ℕ
 head_of Done = codes "ok"
 head_of (Number n) = codes "ok"
 head_of (State status) = codes "ok"
+head_of (About about) = codes "ok"
 head_of (Got letters) = codes "got"
 head_of (Hit letters) = codes "hit"
 head_of Nothing = codes "none"
@@ -52,6 +53,7 @@ head_of (No refusal) = codes "no"
 abbrev pub behind_of : Reply → List (List ℕ)
 behind_of (Number n) = decimal n ∷ []
 behind_of (State status) = decimal status.number ∷ decimal (code_of status.flags) ∷ openness status.closed ∷ []
+behind_of (About about) = pieces_about about
 behind_of (Got letters) = letters ∷ []
 behind_of (Hit letters) = letters ∷ []
 behind_of (Yes numbers) = map number_or_dash numbers

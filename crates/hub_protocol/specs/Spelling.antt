@@ -16,6 +16,8 @@ use Rattle.hub_requests.specs.Ranges.{IsInRange}
 use Rattle.hub_requests.specs.declared.bounds.TheConstants.{MOST_SERVICES}
 use Rattle.hub_requests.specs.declared.request.Request.{Request}
 use Rattle.hub_requests.specs.declared.request.Request.TheVariants as request
+use Rattle.hub_requests.specs.declared.will.Will as wills
+use Rattle.hub_requests.specs.declared.will.Will.TheVariants as will
 use Rattle.hub_protocol.specs.declared.table.Kind.{Kind}
 use Rattle.hub_protocol.specs.declared.table.Kind.TheVariants as kind
 use Rattle.hub_protocol.specs.declared.table.Ending.{Ending}
@@ -31,6 +33,7 @@ pub data Field : Type 0 where
   Span : (span : spans.Span) → Field
   Want : (want : wants.Want) → Field
   State : (s : states.State) → Field
+  Will : (w : wills.Will) → Field
 
 -- what the end of a line says; a pattern with spaces is several pieces
 pub data Last : Type 0 where
@@ -79,6 +82,7 @@ IsOf kind.Mode (Mode mode) = Unit {0}
 IsOf kind.Span (Span s) = Unit {0}
 IsOf kind.Want (Want want) = Unit {0}
 IsOf kind.State (State s) = Unit {0}
+IsOf kind.Will (Will w) = Unit {0}
 IsOf kind field = ⊥
 
 -- the line ends as it may end
@@ -142,6 +146,12 @@ text_of_state state.Up = codes "up"
 text_of_state state.Ready = codes "ready"
 text_of_state state.Failed = codes "failed"
 
+abbrev pub text_of_will : wills.Will → List ℕ
+text_of_will will.Off = codes "off"
+text_of_will will.Down = codes "down"
+text_of_will will.Failed = codes "failed"
+text_of_will will.None = codes "none"
+
 abbrev pub is_space : ℕ → Bool
 is_space b = b == 32
 
@@ -162,6 +172,7 @@ text_of_field (Mode mode) = text_of_mode mode
 text_of_field (Span s) = text_of_span s
 text_of_field (Want want) = text_of_want want
 text_of_field (State s) = text_of_state s
+text_of_field (Will w) = text_of_will w
 
 abbrev pub pieces_of_last : Last → List (List ℕ)
 pieces_of_last Nothing = []
@@ -191,13 +202,16 @@ form_of (request.Svc name waiting total notifies evict) = says (codes "svc") (Na
 form_of (request.Sub name) = says (codes "sub") (Name name ∷ []) Nothing
 form_of (request.Pub name letters) = says (codes "pub") (Name name ∷ Letters letters ∷ []) Nothing
 form_of (request.Tell name s) = says (codes "tell") (Name name ∷ State s ∷ []) Nothing
+form_of (request.Will name w) = says (codes "will") (Name name ∷ Will w ∷ []) Nothing
 form_of (request.Take id max) = says (codes "take") (Number id ∷ Number max ∷ []) Nothing
 form_of (request.Cancel id) = says (codes "cancel") (Number id ∷ []) Nothing
 form_of (request.Close name) = says (codes "close") (Name name ∷ []) Nothing
 form_of (request.Status name) = says (codes "status") (Name name ∷ []) Nothing
+form_of (request.About name) = says (codes "about") (Name name ∷ []) Nothing
 form_of (request.Listen name mode pattern) = says (codes "listen") (Name name ∷ Mode mode ∷ []) (Pattern pattern)
 form_of (request.Poll id) = says (codes "poll") (Number id ∷ []) Nothing
 form_of (request.Await id turns) = says (codes "await") (Number id ∷ Number turns ∷ []) Nothing
+form_of (request.Next id turns) = says (codes "next") (Number id ∷ Number turns ∷ []) Nothing
 form_of (request.Wait s want turns names) = says (codes "wait") (Span s ∷ Want want ∷ Number turns ∷ []) (Names names)
 form_of (request.Names from) = says (codes "names") (Number from ∷ []) Nothing
 
@@ -234,6 +248,10 @@ abbrev pub state_in : Field → states.State
 state_in (State s) = s
 state_in field = state.Off
 
+abbrev pub will_in : Field → wills.Will
+will_in (Will w) = w
+will_in field = will.None
+
 abbrev pub names_in : Last → List (List ℕ)
 names_in (Names names) = names
 names_in last = []
@@ -262,15 +280,18 @@ request_by word a b c d last =
     else (if bytes_eq word (codes "sub") then request.Sub (name_in a)
     else (if bytes_eq word (codes "pub") then request.Pub (name_in a) (letters_in b)
     else (if bytes_eq word (codes "tell") then request.Tell (name_in a) (state_in b)
+    else (if bytes_eq word (codes "will") then request.Will (name_in a) (will_in b)
     else (if bytes_eq word (codes "take") then request.Take (number_in a) (number_in b)
     else (if bytes_eq word (codes "cancel") then request.Cancel (number_in a)
     else (if bytes_eq word (codes "close") then request.Close (name_in a)
     else (if bytes_eq word (codes "status") then request.Status (name_in a)
+    else (if bytes_eq word (codes "about") then request.About (name_in a)
     else (if bytes_eq word (codes "listen") then request.Listen (name_in a) (mode_in b) (pattern_in last)
     else (if bytes_eq word (codes "poll") then request.Poll (number_in a)
     else (if bytes_eq word (codes "await") then request.Await (number_in a) (number_in b)
+    else (if bytes_eq word (codes "next") then request.Next (number_in a) (number_in b)
     else (if bytes_eq word (codes "wait") then request.Wait (span_in a) (want_in b) (number_in c) (names_in last)
-    else request.Names (number_in a)))))))))))))
+    else request.Names (number_in a))))))))))))))))
 
 -- the request of a form; any, if the form is that of none
 abbrev pub request_from : Form → Request

@@ -9,7 +9,7 @@ use Rattle.hub_protocol.specs.declared.telling.Told as tolds
 use Rattle.hub_protocol.specs.declared.telling.Told.TheVariants as told
 use Rattle.hub_protocol.specs.declared.telling.End as ends
 use Rattle.hub_protocol.specs.declared.telling.End.TheVariants as end
-use Rattle.hub_protocol.specs.Spelling.{Field, Name, Number, Letters, Mode, Span, Want, State, Last, Nothing, Names, Pattern, Evict, form_of, spelling}
+use Rattle.hub_protocol.specs.Spelling.{Field, Name, Number, Letters, Mode, Span, Want, State, Will, Last, Nothing, Names, Pattern, Evict, form_of, spelling}
 
 -- the text was appended, or a prefix of it; all of it if there is room
 pub record Appends (old new : Vec ℕ Global) (result : Result (Unit {0}) AllocError) (text : List ℕ) : Type 0 where
@@ -26,6 +26,7 @@ field_told (told.Mode mode) = Mode mode
 field_told (told.Span s) = Span s
 field_told (told.Want want) = Want want
 field_told (told.State s) = State s
+field_told (told.Will w) = Will w
 
 abbrev pub last_told : ends.End → Last
 last_told end.Nothing = Nothing

@@ -5,6 +5,7 @@
 //! `docs/manual/protocol.md` is the manual of lines and replies.
 #![tactic(auto)]
 
+mod about;
 mod fields;
 mod line;
 mod parsing;

@@ -9,7 +9,7 @@ use crate::fields::{are_letters, are_names, is_pattern, numeral, split_at_space}
 use crate::table::{Ending, Kind, MOST_FIELDS};
 use crate::words::Spelled;
 use hub_letters::{Mode, Span, State, Want};
-use hub_requests::Name;
+use hub_requests::{Name, Will};
 
 /// What a field says.
 #[derive(Clone, Copy)]
@@ -21,6 +21,7 @@ pub enum Field<'a> {
     Span(Span),
     Want(Want),
     State(State),
+    Will(Will),
 }
 
 /// What the end of a line says. Names are as in the line, with one space between two.
@@ -69,6 +70,7 @@ fn field_of(kind: Kind, text: &[u8]) -> Option<Field<'_>>
         Kind::Span => Span::of_word(text).map(|span| Field::Span(span)),
         Kind::Want => Want::of_word(text).map(|want| Field::Want(want)),
         Kind::State => State::of_word(text).map(|state| Field::State(state)),
+        Kind::Will => Will::of_word(text).map(|will| Field::Will(will)),
     }
 }
 

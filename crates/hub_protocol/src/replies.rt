@@ -1,7 +1,8 @@
 //! Reads the reply that a line tells.
 ghost use Rattle.std.specs.Prelude.{◌≡◌, ◌≢◌, ◌∷◌, [], MatchOption, codes, Option};
 ghost use Rattle.std.specs.Fmt.{decimal};
-ghost use Rattle.hub_requests.specs.Texts.{text_of};
+ghost use Rattle.hub_record.specs.declared.Kind.{Kind as kind};
+ghost use Rattle.hub_requests.specs.Texts.{text_of, word_of_kind};
 ghost use Rattle.hub_requests.specs.declared.reply.Reply.{Reply as reply};
 ghost use Rattle.hub_protocol.specs.declared.replies.BorrowedReply.{BorrowedReply as shown};
 ghost use Rattle.hub_protocol.specs.Spelling.{fields_of};
@@ -9,14 +10,15 @@ ghost use Rattle.hub_protocol.specs.Lines.{pieces_of};
 ghost use Rattle.hub_protocol.specs.Replies.{IsOfHub, IsReadReply, Shows};
 ghost use Rattle.hub_protocol.specs.ReplyLines.{IsBehind, text_of_head};
 
+use crate::about::{about_in, kind_of};
 use crate::fields::fields_are_names;
 use crate::line::{Rest, first_piece};
 use crate::reply_pieces::{
     Head, are_counts, closed_in, head_of, letters_in, number_of, refusal_in,
 };
 use hub_letters::Flags;
-use hub_record::Status;
-use hub_requests::{LONGEST_REPLY, Refusal};
+use hub_record::{Kind, Status};
+use hub_requests::{About, LONGEST_REPLY, Refusal};
 
 /// A reply of a hub, as its line has it.
 #[derive(Clone, Copy, Debug, PartialEq, Eq)]
@@ -27,6 +29,8 @@ pub enum BorrowedReply<'a> {
     Number(u64),
     /// The status of a fifodir.
     State(Status),
+    /// What a fifodir is, and how much is there.
+    About(About),
     /// The letters of the events that were taken.
     Got(&'a [u8]),
     /// The letters of a listener's hit.
@@ -121,7 +125,26 @@ fn read_ok<'a>(rest: Rest<'_>) -> Option<BorrowedReply<'a>>
     let Rest::Text(text) = rest else {
         return Some(BorrowedReply::Done);
     };
-    let (digits, rest) = first_piece(text);
+    let (word, rest) = first_piece(text);
+    match kind_of(word) {
+        Some(kind) => read_about(kind, rest),
+        None => read_number(word, rest),
+    }
+}
+
+// The reply to an `about` of a fifodir of this kind.
+fn read_about<'a>(kind: Kind, rest: Rest<'_>) -> Option<BorrowedReply<'a>>
+    ensures { IsBehind (codes "ok") (word_of_kind kind ∷ pieces_of rest.entry) result }
+{
+    let about = about_in(kind, rest)?;
+    Some(BorrowedReply::About(about))
+}
+
+// The reply that has a number behind its `ok`.
+fn read_number<'a>(digits: &[u8], rest: Rest<'_>) -> Option<BorrowedReply<'a>>
+    requires { (k : kind) → digits.now ≢ word_of_kind k }
+    ensures { IsBehind (codes "ok") (digits.now ∷ pieces_of rest.entry) result }
+{
     let number = number_of(digits)?;
     match rest {
         Rest::Nothing => Some(BorrowedReply::Number(number)),

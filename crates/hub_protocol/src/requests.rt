@@ -1,7 +1,7 @@
 //! The request of a line.
 ghost use Rattle.std.specs.Prelude.{◌≡◌, ◌∷◌, [], length, IfOk};
 ghost use Rattle.hub_protocol.specs.Spelling as spelled;
-ghost use Rattle.hub_protocol.specs.Spelling.{EndsSoundly, IsName, IsPatternText, IsForm, IsSound, AreLetters, AreNames, evict_in, fields_of, flag_in, form_of, letters_in, mode_in, name_in, names_in, number_in, pattern_in, span_in, state_in, want_in};
+ghost use Rattle.hub_protocol.specs.Spelling.{EndsSoundly, IsName, IsPatternText, IsForm, IsSound, AreLetters, AreNames, evict_in, fields_of, flag_in, form_of, letters_in, mode_in, name_in, names_in, number_in, pattern_in, span_in, state_in, want_in, will_in};
 ghost use Rattle.hub_protocol.specs.Table.{IsWord};
 ghost use Rattle.hub_protocol.specs.declared.table.TheConstants.{MOST_FIELDS};
 ghost use Rattle.hub_protocol.specs.Lines.{AreAllSound, AreWithinKinds, IsMadeOf, field_shown, form_shown, last_shown};
@@ -10,7 +10,7 @@ use crate::line::{Field, Last, Line};
 use crate::table::forms;
 use hub_letters::{Letter, Mode, Span, State, Want};
 use hub_record::Letters;
-use hub_requests::{Name, Names, PatternText, Request};
+use hub_requests::{Name, Names, PatternText, Request, Will};
 use std::alloc::{AllocError, Global};
 
 fn name_of(alloc: Global, text: &[u8]) -> Result<Name, AllocError>
@@ -122,6 +122,15 @@ fn state(field: Field<'_>) -> State
     }
 }
 
+fn will(field: Field<'_>) -> Will
+    ensures { result ≡ will_in (field_shown field.entry) }
+{
+    match field {
+        Field::Will(will) => will,
+        _ => Will::None,
+    }
+}
+
 fn names(alloc: Global, last: Last<'_>) -> Result<Names, AllocError>
     requires { EndsSoundly (last_shown last) }
     ensures { IfOk result (λ names. names ≡ names_in (last_shown last.entry)) }
@@ -168,6 +177,7 @@ macro_rules! read {
     (SPAN $alloc:ident $field:ident) => { span($field) };
     (WANT $alloc:ident $field:ident) => { want($field) };
     (STATE $alloc:ident $field:ident) => { state($field) };
+    (WILL $alloc:ident $field:ident) => { will($field) };
     (REPORTS $alloc:ident $field:ident) => { flag($field) };
     ($number:ident $alloc:ident $field:ident) => { number($field) };
 }
@@ -179,17 +189,34 @@ macro_rules! read_last {
     (Evict $alloc:ident $last:ident) => { evict($last) };
 }
 
-// The request of the word, made of the fields and the end.
+// A request, made of the fields and the end.
+macro_rules! request {
+    ($alloc:ident $end:ident $request:ident { $($field:ident: $place:ident $kind:ident),* } $ending:ident $(($last:ident))?) => {
+        Ok(Request::$request {
+            $($field: read!($kind $alloc $place),)*
+            $($last: read_last!($ending $alloc $end),)?
+        })
+    };
+}
+
+// The request of the word. The words of each part are matched by themselves.
 macro_rules! made {
     (($alloc:ident, $said:ident, $fields:expr, $end:ident) ($a:ident $b:ident $c:ident $d:ident)
-     $($word:literal $request:ident { $($field:ident: $place:ident $kind:ident),* } $ending:ident $(($last:ident))?)*) => {{
+     $($word:literal $request:ident $read:tt $ending:ident $(($last:ident))?)*
+     ;
+     $($later:literal $other:ident $says:tt $ends:ident $(($behind:ident))?)*
+     ;
+     $($third:literal $one:ident $tells:tt $stops:ident $(($after:ident))?)*) => {{
         let ($a, $b, $c, $d) = $fields;
         match $said {
-            $($word => Ok(Request::$request {
-                $($field: read!($kind $alloc $place),)*
-                $($last: read_last!($ending $alloc $end),)?
-            }),)*
-            _ => unreachable!(),
+            $($word => request!($alloc $end $request $read $ending $(($last))?),)*
+            _ => match $said {
+                $($later => request!($alloc $end $other $says $ends $(($behind))?),)*
+                _ => match $said {
+                    $($third => request!($alloc $end $one $tells $stops $(($after))?),)*
+                    _ => unreachable!(),
+                },
+            },
         }
     }};
 }

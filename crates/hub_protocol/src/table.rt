@@ -24,6 +24,8 @@ pub enum Kind {
     Want,
     /// Where a service may be told to be.
     State,
+    /// Where it may be told to be when the session ends, or `none`.
+    Will,
 }
 
 /// What ends a line behind its fields.
@@ -64,13 +66,16 @@ const WANT: Kind = Kind::Want;
 
 const STATE: Kind = Kind::State;
 
+const WILL: Kind = Kind::Will;
+
 const TURNS: Kind = Kind::Number(0, MOST_TURNS);
 
 /// The most fields that a row has.
 pub const MOST_FIELDS: usize = 4;
 
 /// Hands the forms of all requests to the macro `$read`, behind what that is given: the word of each, the request, the place
-/// and the kind of each field, and what ends the line. All that the crate does with a word is written from here.
+/// and the kind of each field, and what ends the line. All that the crate does with a word is written from here. Semicolons part
+/// them in three, since one match of all words would be too long for a proof.
 macro_rules! forms {
     ($read:ident $given:tt) => {
         $read! {
@@ -80,13 +85,18 @@ macro_rules! forms {
             b"sub" Sub { name: a NAME } Nothing
             b"pub" Pub { name: a NAME, letters: b LETTERS } Nothing
             b"tell" Tell { name: a NAME, state: b STATE } Nothing
+            b"will" Will { name: a NAME, state: b WILL } Nothing
+            ;
             b"take" Take { id: a ANY, max: b MAX } Nothing
             b"cancel" Cancel { id: a ANY } Nothing
             b"close" Close { name: a NAME } Nothing
             b"status" Status { name: a NAME } Nothing
+            b"about" About { name: a NAME } Nothing
             b"listen" Listen { name: a NAME, mode: b MODE } Pattern(pattern)
+            ;
             b"poll" Poll { id: a ANY } Nothing
             b"await" Await { id: a ANY, turns: b TURNS } Nothing
+            b"next" Next { id: a ANY, turns: b TURNS } Nothing
             b"wait" Wait { span: a SPAN, want: b WANT, turns: c TURNS } Names(names)
             b"names" Names { from: a ANY } Nothing
         }
@@ -98,7 +108,7 @@ pub(crate) use forms;
 // The rows of the table.
 macro_rules! rows {
     ($given:tt $places:tt
-     $($word:literal $request:ident { $($field:ident: $place:ident $kind:ident),* } $ending:ident $(($last:ident))?)*) => {
+     $($word:literal $request:ident { $($field:ident: $place:ident $kind:ident),* } $ending:ident $(($last:ident))? $(;)?)*) => {
         &[$(($word, &[$($kind),*], Ending::$ending)),*]
     };
 }

@@ -9,7 +9,7 @@ use crate::words::Spelled;
 use crate::writing::{Appended, append_letters, append_name, append_names, append_number};
 use hub_letters::{Mode, Span, State, Want};
 use hub_record::Letters;
-use hub_requests::{Name, Names, PatternText, Request};
+use hub_requests::{Name, Names, PatternText, Request, Will};
 use std::alloc::AllocError;
 
 /// A field of a request.
@@ -22,6 +22,7 @@ enum Told<'a> {
     Span(Span),
     Want(Want),
     State(State),
+    Will(Will),
 }
 
 /// What ends the line of a request.
@@ -66,6 +67,7 @@ macro_rules! told {
     (SPAN $field:ident) => { Told::Span(*$field) };
     (WANT $field:ident) => { Told::Want(*$field) };
     (STATE $field:ident) => { Told::State(*$field) };
+    (WILL $field:ident) => { Told::Will(*$field) };
     (REPORTS $field:ident) => { Told::Number(u64::from(*$field)) };
     ($number:ident $field:ident) => { Told::Number(*$field) };
 }
@@ -81,7 +83,7 @@ macro_rules! end {
 // Appends the word of the request, its fields and its end.
 macro_rules! appended {
     (($said:ident, $out:ident) $places:tt
-     $($word:literal $request:ident { $($field:ident: $place:ident $kind:ident),* } $ending:ident $(($last:ident))?)*) => {
+     $($word:literal $request:ident { $($field:ident: $place:ident $kind:ident),* } $ending:ident $(($last:ident))? $(;)?)*) => {
         match $said {
             $(Request::$request { $($field,)* $($last)? } => {
                 append_form($word, &[$(told!($kind $field)),*], end!($ending $($last)?), $out)
@@ -135,6 +137,7 @@ fn append_field(field: Told<'_>, out: &mut Vec<u8>) -> Appended
         Told::Span(span) => append_word(span, out),
         Told::Want(want) => append_word(want, out),
         Told::State(state) => append_word(state, out),
+        Told::Will(will) => append_word(will, out),
     }
 }
 

@@ -1,8 +1,9 @@
-//! The words of modes, spans, wants and states.
+//! The words of modes, spans, wants, states and wills.
 ghost use Rattle.std.specs.Prelude.{◌≡◌, ◌≢◌, ℕ, List, MatchOption};
-ghost use Rattle.hub_protocol.specs.Spelling.{text_of_mode, text_of_span, text_of_state, text_of_want};
+ghost use Rattle.hub_protocol.specs.Spelling.{text_of_mode, text_of_span, text_of_state, text_of_want, text_of_will};
 
 use hub_letters::{Mode, Span, State, Want};
+use hub_requests::Will;
 
 /// A type whose values are words of a line.
 pub trait Spelled: Copy {
@@ -104,6 +105,29 @@ impl Spelled for State {
             b"up" => State::Up,
             b"ready" => State::Ready,
             b"failed" => State::Failed,
+            _ => return None,
+        })
+    }
+}
+
+impl Spelled for Will {
+    ghost word = { text_of_will };
+
+    fn text(self) -> &'static [u8] {
+        match self {
+            Will::Off => b"off",
+            Will::Down => b"down",
+            Will::Failed => b"failed",
+            Will::None => b"none",
+        }
+    }
+
+    fn of_word(text: &[u8]) -> Option<Will> {
+        Some(match text {
+            b"off" => Will::Off,
+            b"down" => Will::Down,
+            b"failed" => Will::Failed,
+            b"none" => Will::None,
             _ => return None,
         })
     }

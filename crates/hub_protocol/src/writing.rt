@@ -1,14 +1,14 @@
 //! Writes the text of a reply.
-ghost use Rattle.std.specs.Prelude.{◌≡◌, ◌++◌, ◌+◌, ◌∷◌, [], ◌≤◌, length, take, OnOk, OnErr, IsOk, vec_len, vec_capacity, codes};
+ghost use Rattle.std.specs.Prelude.{◌≡◌, ◌++◌, ◌+◌, ◌∷◌, [], ◌≤◌, length, OnOk, OnErr, IsOk, vec_len, vec_capacity, codes};
 ghost use Rattle.std.specs.Fmt.{decimal};
 ghost use Rattle.hub_requests.specs.declared.reply.Reply.{Reply};
 ghost use Rattle.hub_protocol.specs.Writing.{Appends};
 ghost use Rattle.hub_requests.specs.Names.{names_text};
-ghost use Rattle.hub_requests.specs.Texts.{line_of, number_or_dash, numbers_text, text_of};
+ghost use Rattle.hub_requests.specs.Texts.{line_of, number_or_dash, numbers_text, text_of, text_of_flag, word_of_kind, word_of_policy};
 
 use hub_letters::Letter;
-use hub_record::Status;
-use hub_requests::{Name, Refusal, Reply};
+use hub_record::{Kind, Policy, Status};
+use hub_requests::{About, Name, Refusal, Reply};
 use itoa::Buffer;
 use std::alloc::AllocError;
 
@@ -47,6 +47,7 @@ fn append_line(reply: &Reply, out: &mut Vec<u8>) -> Appended
         Reply::Done => out.extend_from_slice(b"ok"),
         Reply::Number(number) => append_number(b"ok ", *number, out),
         Reply::State(status) => append_status(status, out),
+        Reply::About(about) => append_about(about, out),
         Reply::Got(letters) => append_letters(b"got ", letters.items(), out),
         Reply::Hit(letters) => append_letters(b"hit ", letters.items(), out),
         Reply::Nothing => out.extend_from_slice(b"none"),
@@ -74,6 +75,60 @@ fn append_status(status: &Status, out: &mut Vec<u8>) -> Appended
     append_number(b"ok ", status.number, out)?;
     append_number(b" ", status.flags.code(), out)?;
     out.extend_from_slice(if status.closed { b" closed" } else { b" open" })
+}
+
+fn append_about(about: &About, out: &mut Vec<u8>) -> Appended
+    ensures { Appends out.old out.new result (line_of (Reply.About about.now)) }
+{
+    append_kind(about.kind, out)?;
+    append_flag(about.notifies, out)?;
+    append_limits(about, out)?;
+    append_usage(about, out)
+}
+
+fn append_kind(kind: Kind, out: &mut Vec<u8>) -> Appended
+    ensures { Appends out.old out.new result (codes "ok " ++ word_of_kind kind) }
+{
+    match kind {
+        Kind::Plain => out.extend_from_slice(b"ok dir"),
+        Kind::Service => out.extend_from_slice(b"ok svc"),
+    }
+}
+
+fn append_flag(flag: bool, out: &mut Vec<u8>) -> Appended
+    ensures { Appends out.old out.new result (32 ∷ text_of_flag flag) }
+{
+    match flag {
+        false => out.extend_from_slice(b" 0"),
+        true => out.extend_from_slice(b" 1"),
+    }
+}
+
+fn append_limits(about: &About, out: &mut Vec<u8>) -> Appended
+    ensures { Appends out.old out.new result (names_text (decimal about.now.waiting
+        ∷ decimal about.now.total ∷ word_of_policy about.now.policy ∷ [])) }
+{
+    append_number(b" ", about.waiting, out)?;
+    append_number(b" ", about.total, out)?;
+    append_policy(about.policy, out)
+}
+
+fn append_policy(policy: Policy, out: &mut Vec<u8>) -> Appended
+    ensures { Appends out.old out.new result (32 ∷ word_of_policy policy) }
+{
+    match policy {
+        Policy::Hold => out.extend_from_slice(b" hold"),
+        Policy::Evict => out.extend_from_slice(b" evict"),
+    }
+}
+
+fn append_usage(about: &About, out: &mut Vec<u8>) -> Appended
+    ensures { Appends out.old out.new result (names_text (decimal about.now.subscriptions
+        ∷ decimal about.now.publishers ∷ decimal about.now.pending ∷ [])) }
+{
+    append_number(b" ", about.subscriptions, out)?;
+    append_number(b" ", about.publishers, out)?;
+    append_number(b" ", about.pending, out)
 }
 
 pub(crate) fn append_letters(before: &[u8], letters: &[Letter], out: &mut Vec<u8>) -> Appended

@@ -1,5 +1,5 @@
 -- What a backlog keeps to find the least cursor, after each change.
-use Rattle.std.proofs.Common.{ℕ, zero, suc, ◌≡◌, ◌+◌, ◌-◌, ◌<◌, ◌≤◌, ◌⊎◌, Bool, true, false, IsTrue, nat_lt, List, [], ◌∷◌, ◌++◌, Some, min, length, drop, replicate, get_or, All, refl, sym, ap, subst, ◌∙◌, inl, inr, arith}
+use Rattle.std.proofs.Common.{ℕ, zero, suc, ◌≡◌, ◌+◌, ◌-◌, ◌<◌, ◌≤◌, ◌⊎◌, Bool, true, false, IsTrue, nat_le, nat_lt, count_by, List, [], ◌∷◌, ◌++◌, Some, min, length, drop, replicate, get_or, All, refl, sym, ap, subst, ◌∙◌, inl, inr, arith}
 use Rattle.std.proofs.lemmas.Bool.{cases_Bool, cases_eq, cases_lt, le-ltb, ltb-true}
 use Rattle.std.proofs.lemmas.List.{get_or_past, length-append, length-drop, length-replicate, length-set, length_push, map-append}
 use Rattle.std.proofs.lemmas.List.Elements.{All-push, All-weaker}
@@ -12,7 +12,7 @@ use Rattle.hub_record.specs.declared.limits.TheConstants.{MOST_EVENTS, MOST_PASS
 use Rattle.hub_record.specs.World.{least, is_slow, as_events}
 use Rattle.hub_record.specs.Backlog.{IsKept, lowest_in, active_in, active_at, first_place, with_one_more, with_one_less}
 use Rattle.hub_record.proofs.Active.{one, none, active_at-le-length}
-use Rattle.hub_record.proofs.Slow.{active_in-behind, active_at-active_in, lowest_near, lowest-push, lowest_bound_at, lowest_grown, slow_stay, none_active_at}
+use Rattle.hub_record.proofs.Slow.{active_in-behind, active_in-count, active_at-active_in, lowest_near, lowest-push, lowest_bound_at, lowest_grown, slow_stay, none_active_at}
 use Rattle.hub_record.proofs.Counted.{Counts, get_or-one_less, get_or-one_more, some_at_place, counts_lengthen, counts_push, counts_set_value, counts_active, counts_drop, base_told, first_at_base, first_stays, first_of_all}
 
 -- a new id is above all others
@@ -37,6 +37,11 @@ slow_below room base end given v test counts cs k e below =
       | inl slow ↦ slow
       | inr near ↦ (let bound = lowest_bound_at room end test cs v e (le-ltb room (end - v) near) in absurd (omega arith))
     ]
+
+-- the cursors that aren't slow are those at the base or above it
+pub active_counted : (room base end given : ℕ) (counts : Buffer ℕ) (cs : List (ℕ × ℕ)) → IsKept room base counts end given cs
+    → count_by (λ (c : ℕ × ℕ). nat_le base c.1) cs ≡ length (active_in room end cs)
+active_counted room base end given counts cs k = let low = k.lowest in active_in-count room end base cs (kept_near room base end given counts cs k) (omega arith)
 
 pub cursor_within : (room base end given v : ℕ) (test : ℕ → Bool) (counts : Buffer ℕ) (cs : List (ℕ × ℕ)) → IsKept room base counts end given cs → lookup test cs ≡ Some v → v ≤ end
 cursor_within room base end given v test counts cs k e = lookup_bound end v test cs k.behind e

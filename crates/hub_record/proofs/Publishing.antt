@@ -1,5 +1,5 @@
 -- After a subscribe, a publish or a close a record represents the world after it.
-use Rattle.std.proofs.Common.{ℕ, ◌≡◌, ◌+◌, ◌-◌, ◌<◌, ◌≤◌, ◌⊎◌, false, List, [], ◌∷◌, ◌++◌, length, drop, All, refl, sym, ap, subst, ◌∙◌, inl, inr, arith}
+use Rattle.std.proofs.Common.{ℕ, ◌≡◌, ◌+◌, ◌-◌, ◌<◌, ◌≤◌, ◌⊎◌, false, List, [], ◌∷◌, ◌++◌, length, drop, Option, All, refl, sym, ap, subst, ◌∙◌, inl, inr, arith}
 use Rattle.std.proofs.lemmas.Bool.{cases_lt}
 use Rattle.std.proofs.lemmas.List.{map-append, length-append, length-drop, drop-append-le, drop-drop}
 use Rattle.std.specs.Map.{values_of}
@@ -10,7 +10,7 @@ use Rattle.hub_record.specs.declared.limits.Limits.{Limits}
 use Rattle.hub_record.specs.declared.limits.Policy.{Policy}
 use Rattle.hub_record.specs.declared.limits.Policy.TheVariants.{Hold, Evict}
 use Rattle.hub_record.specs.declared.Event.{Event}
-use Rattle.hub_record.specs.World.{World, IsWorld, current, active, new_subscription, least, base, load, letters, as_events, IsLawfulIn, needed_by, needed, HasRoom, IsFull, MayPublish}
+use Rattle.hub_record.specs.World.{World, IsWorld, current, active, new_subscription, least, base, load, letters, as_events, last_publisher, IsLawfulIn, needed_by, needed, HasRoom, IsFull, MayPublish}
 use Rattle.hub_record.specs.Backlog.{Held, IsStill, HasRoomFor, room_for, active_in, lowest_in, with_new_id, with_events}
 use Rattle.hub_record.specs.Kept.{Kept, Represents, stage_in}
 use Rattle.hub_record.proofs.Cursors.{current-push, within_current, within_more, within-push}
@@ -102,8 +102,8 @@ kept_after r w who room message s at may =
     (λ j. drop (now j - was j) (s.events j ++ more)) ∙ ap (drop (base after - base w)) (sym (drop-append-le (base w) w.events more within))
     ∙ drop-drop (base after - base w) (base w) (w.events ++ more) ∙ ap (λ n. drop n (w.events ++ more)) sum
 
-pub publish_represents : (r : Kept) (h : Held) (w : World) (who room : ℕ) (message : List ℕ) (stage : Stage) (flags : Flags) → Represents r w → room ≡ r.limits.waiting → MayPublish w message → h ≡ with_events (held_of r room) (as_events who message) → stage ≡ stage_in w.kind (letters w.events ++ message) → flags ≡ flags_of (letters w.events ++ message) → Represents (record (with_held r h) { stage = stage; flags = flags }) (record w { events = w.events ++ as_events who message })
-publish_represents r h w who room message stage flags s at may e st fl =
+pub publish_represents : (r : Kept) (h : Held) (w : World) (who room : ℕ) (message : List ℕ) (stage : Stage) (flags : Flags) (last : Option ℕ) → Represents r w → room ≡ r.limits.waiting → MayPublish w message → h ≡ with_events (held_of r room) (as_events who message) → stage ≡ stage_in w.kind (letters w.events ++ message) → flags ≡ flags_of (letters w.events ++ message) → last ≡ last_publisher (w.events ++ as_events who message) → Represents (record (with_held r h) { stage = stage; flags = flags; last = last }) (record w { events = w.events ++ as_events who message })
+publish_represents r h w who room message stage flags last s at may e st fl la =
     let n = s.end in
     let long = length-append w.events (as_events who message) in
     let same = letters_after w.events who message in
@@ -118,6 +118,7 @@ publish_represents r h w who room message stage flags s at may e st fl =
       cursors = ap (λ (h : Held). h.cursors) e ∙ s.cursors;
       stage = st ∙ ap (stage_in w.kind) (sym same);
       flags = fl ∙ ap flags_of (sym same);
+      last = la;
     }
 
 -- ---- room

@@ -4,11 +4,11 @@ use Rattle.std.proofs.lemmas.List.{length-drop, drop-drop, drop_all}
 use Rattle.std.specs.Option.{option_map}
 use Rattle.std.specs.Map.{lookup}
 use Rattle.hub_record.specs.declared.limits.Limits.{Limits}
-use Rattle.hub_record.specs.World.{World, Subscription, IsWorld, current, current_from, active, is_slow, subscription_in, pending_for, least, base}
-use Rattle.hub_record.specs.Backlog.{Held, pending, pending_if, lowest, lowest_in, with_cursors}
+use Rattle.hub_record.specs.World.{World, Subscription, IsWorld, current, current_from, active, is_slow, subscription_in, pending_for, least, base, load}
+use Rattle.hub_record.specs.Backlog.{Held, active_in, pending, pending_if, lowest, lowest_in, with_cursors}
 use Rattle.hub_record.specs.Kept.{Kept, Represents}
 use Rattle.hub_record.proofs.Cursors.{lookup_current}
-use Rattle.hub_record.proofs.Policies.{base_is_lowest, evicted_is_slow}
+use Rattle.hub_record.proofs.Policies.{active_is, base_is_lowest, evicted_is_slow}
 
 -- what a record holds, with this much room; and a record that holds something else
 abbrev pub held_of : Kept → ℕ → Held
@@ -46,6 +46,12 @@ base_is r w s = (λ i. lowest_in (s.limits i).waiting (s.end i) (s.cursors i)) �
 
 pub lowest_is : (r : Kept) (w : World) (room : ℕ) → Represents r w → room ≡ r.limits.waiting → lowest (held_of r room) ≡ base w
 lowest_is r w room s at = ap (λ n. lowest_in n r.end r.cursors) at ∙ base_is r w s
+
+pub active_is_cursors : (r : Kept) (w : World) (room : ℕ) → Represents r w → room ≡ r.limits.waiting → length (active_in room r.end r.cursors) ≡ length (active w)
+active_is_cursors r w room s at = (λ i. length (active_in ((at ∙ ap (λ (l : Limits). l.waiting) s.limits) i) (s.end i) (s.cursors i))) ∙ sym (ap length (active_is w s.world))
+
+pub load_is : (r : Kept) (w : World) (room : ℕ) → Represents r w → room ≡ r.limits.waiting → r.end - lowest (held_of r room) ≡ load w
+load_is r w room s at = (λ i. s.end i - lowest_is r w room s at i)
 
 -- what is pending behind the cursor of an id
 pub waiting_is : (r : Kept) (w : World) (id room : ℕ) → Represents r w → room ≡ r.limits.waiting → pending (held_of r room) id ≡ pending_for w (subscription_in w id)
@@ -94,6 +100,7 @@ represents_with r h w subs s i end events given cursors = record {
   closed = s.closed;
   stage = s.stage;
   flags = s.flags;
+  last = s.last;
   end = end ∙ s.end;
   events = events;
   given = given;

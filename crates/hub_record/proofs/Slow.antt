@@ -1,11 +1,22 @@
 -- The cursors that aren't slow, and the least of them, after a change of one cursor or of the end.
-use Rattle.std.proofs.Common.{ℕ, ◌≡◌, ◌+◌, ◌-◌, ◌≤◌, ◌⊎◌, Bool, true, false, List, [], ◌∷◌, ◌++◌, Some, All, refl, sym, ap, ◌∙◌, inl, inr, arith}
-use Rattle.std.proofs.lemmas.Bool.{cases_Bool, lt-ltb, le-ltb, ltb-true, ltb-false}
+use Rattle.std.proofs.Common.{ℕ, ◌≡◌, ◌+◌, ◌-◌, ◌<◌, ◌≤◌, ◌⊎◌, Bool, true, false, cond, nat_le, List, [], ◌∷◌, ◌++◌, Some, length, count_by, All, refl, sym, ap, ◌∙◌, inl, inr, arith}
+use Rattle.std.proofs.lemmas.Bool.{cases_Bool, le-leb, lt-leb, lt-ltb, le-ltb, ltb-true, ltb-false}
+use Rattle.std.proofs.lemmas.List.Sums.{sum_by-cons}
 use Rattle.std.proofs.lemmas.List.Elements.{All-nil, All-cons, All-head, All-tail}
 use Rattle.std.specs.Map.{lookup, set_value, remove_entry, values_of}
 use Rattle.hub_record.specs.World.{least, is_slow}
 use Rattle.hub_record.specs.Backlog.{active_at, active_in, lowest_in}
 use Rattle.hub_record.proofs.Active.{one, none, active_at-cons, least-push, least_met}
+
+-- what a cursor at v counts among those from a number on
+abbrev one_from : ℕ → ℕ → ℕ
+one_from base v = cond (nat_le base v) 1 0
+
+above_one : (base v : ℕ) → base ≤ v → one_from base v ≡ 1
+above_one base v above = ap (λ b. cond b 1 0) (le-leb base v above)
+
+below_none : (base v : ℕ) → v < base → one_from base v ≡ 0
+below_none base v below = ap (λ b. cond b 1 0) (lt-leb base v below)
 
 module _ (room end : ℕ) where
   slow_cons : (c : ℕ × ℕ) (cs : List (ℕ × ℕ)) → is_slow room end c.1 ≡ true → active_in room end (c ∷ cs) ≡ active_in room end cs
@@ -26,6 +37,25 @@ module _ (room end : ℕ) where
 
   pub lowest-push : (id : ℕ) (cs : List (ℕ × ℕ)) → lowest_in room end (cs ++ (id, end) ∷ []) ≡ lowest_in room end cs
   lowest-push id cs = ap (least end) (active_in-push id end cs (le-ltb room (end - end) (omega arith))) ∙ least-push end id (active_in room end cs)
+
+  -- those that aren't slow are at the least of them or above it
+  pub active_in-count : (base : ℕ) (cs : List (ℕ × ℕ)) → end ≤ base + room → base ≤ lowest_in room end cs → count_by (λ (c : ℕ × ℕ). nat_le base c.1) cs ≡ length (active_in room end cs)
+  active_in-count base [] near low = refl
+  active_in-count base (c ∷ cs) near low =
+      let one = sum_by-cons (λ (c : ℕ × ℕ). one_from base c.1) c cs in
+      elim (cases_Bool (is_slow room end c.1)) [
+        | inl t ↦ (let k = ltb-true room (end - c.1) t in
+            let l = ap (least end) (slow_cons c cs t) in
+            let n = ap length (slow_cons c cs t) in
+            let below : c.1 < base = omega arith in
+            let out = below_none base c.1 below in
+            let ih = active_in-count base cs near (omega arith) in omega (arith, one, out, n, ih))
+        | inr t ↦ (let l = ap (least end) (near_cons c cs t) in
+            let n = ap length (near_cons c cs t) in
+            let above : base ≤ c.1 = omega arith in
+            let inside = above_one base c.1 above in
+            let ih = active_in-count base cs near (omega arith) in omega (arith, one, inside, n, ih))
+      ]
 
   -- no more is behind the least than there is room for
   pub lowest_near : (cs : List (ℕ × ℕ)) → end ≤ lowest_in room end cs + room

@@ -1,9 +1,9 @@
 //! The pending events, and the cursors into them.
-ghost use Rattle.std.specs.Prelude.{◌≡◌, ◌≤◌, ◌<◌, ◌↔◌, ◌+◌, ◌⊎◌, length, IfOk, IfSome, OnErr, IsTrue, nat_eq};
+ghost use Rattle.std.specs.Prelude.{◌≡◌, ◌≤◌, ◌<◌, ◌↔◌, ◌+◌, ◌-◌, ◌⊎◌, length, IfOk, IfSome, OnErr, IsTrue, nat_eq};
 ghost use Rattle.std.specs.Map.{set_value};
 ghost use Rattle.hub_record.specs.declared.limits.TheConstants.{MOST_EVENTS, MOST_IDS, MOST_PASSES};
 ghost use Rattle.hub_record.specs.World.{as_events};
-ghost use Rattle.hub_record.specs.Backlog.{Held, nothing_held, lowest, pending};
+ghost use Rattle.hub_record.specs.Backlog.{Held, nothing_held, active_in, lowest, pending};
 ghost use Rattle.hub_record.specs.Backlog.{with_new_id, with_events, with_cursors, next_of, IsStill, HasRoomFor, ArePending, ShowsBy, RemovesBy};
 
 use crate::counts::{Counts, has_first, keep_last, one_less, one_more};
@@ -105,6 +105,20 @@ impl Backlog {
         ensures { result ≡ length self.now.cursors }
     {
         self.cursors.len()
+    }
+
+    /// How many cursors aren't slow.
+    pub fn active(&self) -> usize
+        ensures { result ≡ length (active_in self.now.room self.now.end self.now.cursors) }
+    {
+        self.cursors.count_from(self.base)
+    }
+
+    /// How many events are kept.
+    pub fn load(&self) -> u64
+        ensures { result ≡ self.now.end - lowest self.now }
+    {
+        self.ring.len() as u64
     }
 
     /// How many events are pending behind the cursor of an id. None if the id has no cursor, or a slow one.

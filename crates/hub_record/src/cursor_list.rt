@@ -1,5 +1,5 @@
 //! The cursors of the current ids, in the order of the ids.
-ghost use Rattle.std.specs.Prelude.{◌≡◌, ◌<◌, ◌++◌, ℕ, [], ◌∷◌, All, length, slice_get, nat_eq, nat_lt, true, false, IsSome, IfSome, IfNone, IfOk, OnOk, OnErr, Some};
+ghost use Rattle.std.specs.Prelude.{◌≡◌, ◌<◌, ◌++◌, ℕ, [], ◌∷◌, All, length, slice_get, count_by, nat_eq, nat_le, nat_lt, true, false, IsSome, IfSome, IfNone, IfOk, OnOk, OnErr, Some};
 ghost use Rattle.std.specs.Option.{option_map};
 ghost use Rattle.std.specs.List.Sorted.{IsPartitionPoint};
 ghost use Rattle.hub_record.specs.Backlog.{IsRising};
@@ -42,6 +42,13 @@ impl CursorList {
         ensures { result ≡ length self.now }
     {
         self.list.len()
+    }
+
+    /// How many cursors are at this number or above it.
+    pub fn count_from(&self, number: u64) -> usize
+        ensures { result ≡ count_by (λ c. nat_le number c.1) self.now }
+    {
+        self.list.iter().filter(|cursor| cursor.1 >= number).count()
     }
 
     /// The place and the cursor of an id.

@@ -1,12 +1,12 @@
 //! Laws of the model, which no clause of a single call says. They are about the definitions alone, and so they hold for
 //! every record that represents a world.
-ghost use Rattle.std.specs.Prelude.{◌≡◌, ◌≢◌, ◌<◌, ◌≤◌, ◌+◌, ℕ, List, [], Ok, length, get_or, false};
-ghost use Rattle.hub_record.specs.World.{World, IsWorld, Subscription, empty_world, active, take_reply};
+ghost use Rattle.std.specs.Prelude.{◌≡◌, ◌≢◌, ◌<◌, ◌≤◌, ◌+◌, ◌++◌, ◌∷◌, ◌⊎◌, ◌↔◌, ℕ, List, [], Ok, Some, None, length, get_or, false};
+ghost use Rattle.hub_record.specs.World.{World, IsWorld, Subscription, empty_world, active, last_publisher, take_reply};
 ghost use Rattle.hub_record.specs.Kept.{Kept, Represents};
 ghost use Rattle.hub_record.specs.Laws.{IsOut, StaysOut, SaysOut, HasMark};
-ghost use Rattle.hub_record.specs.Runs.{IsRun, SaidTo, AllGatherSinceMark, after_call, by, ids_given, letters_published, world_after};
+ghost use Rattle.hub_record.specs.Runs.{IsRun, SaidTo, AllGatherSinceMark, after_call, by, ids_given, letters_accepted, letters_published, world_after};
 
-use crate::{Call, Kind, Limits, Said, Taken};
+use crate::{Call, Event, Kind, Limits, Said, Taken};
 
 /// After every run each subscription, cancelled or not, has gathered the events between its mark and its cursor, each
 /// event once and in order. The letters of a publisher are those of its accepted messages.
@@ -90,4 +90,15 @@ pub fn marks_stay()
         → IsRun (after_call w Call.Subscribe (Said.Subscribed (Ok (id, mark)))) calls replies
         → HasMark (world_after
         (after_call w Call.Subscribe (Said.Subscribed (Ok (id, mark)))) calls replies) id mark }
+{}
+
+/// The last publisher is that of the event at the end, and there is none exactly if there is no event. Whoever is the last one after a
+/// call was it before, or the call published letters of its.
+pub fn who_published_last()
+    ensures end { (before : List Event) (e : Event)
+        → last_publisher (before ++ e ∷ []) ≡ Some e.who }
+    ensures none { (events : List Event) → (last_publisher events ≡ None) ↔ (events ≡ []) }
+    ensures call { (w : World) (call : Call) (said : Said) (p : ℕ)
+        → last_publisher (after_call w call said).events ≡ Some p
+        → (last_publisher w.events ≡ Some p) ⊎ (letters_accepted p call said ≢ []) }
 {}

@@ -2,3 +2,4 @@ pub mod NextHandle
 pub mod NumbersText
 pub mod NamesText
 pub mod FittingNames
+mod AbsentNames

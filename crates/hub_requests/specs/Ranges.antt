@@ -3,7 +3,7 @@ use Rattle.std.specs.Prelude.{ℕ, ◌≤◌, List, length}
 use Rattle.hub_record.specs.declared.limits.TheConstants.{MOST_EVENTS, MOST_WAITING}
 use Rattle.hub_requests.specs.declared.bounds.TheConstants.{MOST_SERVICES, MOST_TAKEN, MOST_TURNS}
 use Rattle.hub_requests.specs.declared.request.Request.{Request}
-use Rattle.hub_requests.specs.declared.request.Request.TheVariants.{Dir, Svc, Take, Await, Wait}
+use Rattle.hub_requests.specs.declared.request.Request.TheVariants.{Dir, Svc, Take, Await, Next, Wait}
 
 pub record AreLimits (waiting total : ℕ) : Type 0 where
   pub some_wait : 1 ≤ waiting
@@ -26,5 +26,6 @@ IsInRange (Dir name waiting total evict) = AreLimits waiting total
 IsInRange (Svc name waiting total notifies evict) = AreLimits waiting total
 IsInRange (Take id max) = IsTake max
 IsInRange (Await id turns) = turns ≤ MOST_TURNS
+IsInRange (Next id turns) = turns ≤ MOST_TURNS
 IsInRange (Wait span want turns names) = IsWait turns names
 IsInRange request = Unit {0}

@@ -7,6 +7,7 @@
 //! This crate has the vocabulary alone. The layers above read lines, write replies and implement the desks with it.
 #![tactic(auto)]
 
+mod about;
 mod bounds;
 mod desk;
 mod letters;
@@ -16,7 +17,10 @@ mod reply;
 mod request;
 mod room;
 mod texts;
+mod will;
+mod wills;
 
+pub use about::About;
 pub use bounds::{
     LONGEST_NAME, LONGEST_REPLY, MOST_HANDLES, MOST_NAMES, MOST_NUMBERS, MOST_SERVICES, MOST_TAKEN,
     MOST_TURNS,
@@ -30,3 +34,5 @@ pub use reply::{Refusal, Reply};
 pub use request::Request;
 pub use room::{limits, refusal_of_handle};
 pub use texts::{Excerpt, Names, Numbers, PatternText};
+pub use will::Will;
+pub use wills::Wills;

@@ -1,5 +1,6 @@
 //! The answers to clients.
 
+use crate::about::About;
 use crate::listing::Listing;
 use crate::texts::{Excerpt, Numbers, number_is_short};
 use hub_record::{PubError, Status, SubError};
@@ -13,6 +14,8 @@ pub enum Reply {
     Number(u64),
     /// The status of a fifodir.
     State(Status),
+    /// What a fifodir is, and how much is there.
+    About(About),
     /// The letters of the events that were taken.
     Got(Excerpt),
     /// The letters of a listener's hit.
@@ -28,7 +31,7 @@ pub enum Reply {
     Yes(Numbers),
     /// What was wanted doesn't hold, and can't hold any more.
     Never,
-    /// Neither was known when the wait ended.
+    /// Neither was known when the wait ended, or nothing had come when an `await` or a `next` did.
     Late,
     /// The names of fifodirs, in the order in which they were made.
     Listed(Listing),
@@ -53,7 +56,7 @@ pub enum Refusal {
     Name,
     /// A fifodir has this name already.
     Exists,
-    /// A `wait` or a `tell` names a plain fifodir, and needs a service's.
+    /// A `wait`, a `tell` or a `will` names a plain fifodir, and needs a service's.
     Kind,
     /// This session has no handle with this number, or it isn't of the sort that the request needs.
     Id,
@@ -79,6 +82,7 @@ pub enum Refusal {
 impl Reply {
     ghost use Rattle.std.specs.Prelude.{◌≡◌, ◌≤◌, length};
     ghost use Rattle.hub_requests.specs.Refusals.{reply_to_publish};
+    ghost use Rattle.hub_requests.specs.Lateness.{or_late};
     ghost use Rattle.hub_requests.specs.Texts.{text_of};
     ghost use Rattle.hub_requests.specs.declared.bounds.TheConstants.{LONGEST_REPLY};
 
@@ -92,6 +96,16 @@ impl Reply {
         }
     }
 
+    /// What a `next` is answered that has waited for a take or a poll with this reply.
+    pub fn or_late(self) -> Reply
+        ensures { result ≡ or_late self }
+    {
+        match self {
+            Reply::Nothing => Reply::Late,
+            reply => reply,
+        }
+    }
+
     /// A law: the text of a reply has at most `LONGEST_REPLY` bytes.
     pub fn is_short(&self)
         ensures { length (text_of self.now) ≤ LONGEST_REPLY }
@@ -101,6 +115,13 @@ impl Reply {
             Reply::State(status) => {
                 number_is_short(status.number);
                 number_is_short(status.flags.code());
+            }
+            Reply::About(about) => {
+                number_is_short(about.waiting);
+                number_is_short(about.total);
+                number_is_short(about.subscriptions);
+                number_is_short(about.publishers);
+                number_is_short(about.pending);
             }
             Reply::Got(letters) | Reply::Hit(letters) => {
                 letters.items();

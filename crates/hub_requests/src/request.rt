@@ -2,6 +2,7 @@
 
 use crate::name::Name;
 use crate::texts::{Names, PatternText};
+use crate::will::Will;
 use hub_letters::{Mode, Span, State, Want};
 use hub_record::Letters;
 
@@ -40,6 +41,12 @@ pub enum Request {
         name: Name,
         state: State,
     },
+    /// Has a service told this state when the session ends, however it ends, if the last event is the session's own then. A
+    /// later will for the same name takes an earlier one's place.
+    Will {
+        name: Name,
+        state: Will,
+    },
     /// Takes at most `max` events (1 to 256) that are pending for a subscription.
     Take {
         id: u64,
@@ -57,6 +64,10 @@ pub enum Request {
     Status {
         name: Name,
     },
+    /// Reports what a fifodir is, and how much is there: its subscriptions, its publishers and what is pending.
+    About {
+        name: Name,
+    },
     /// Subscribes a listener. From now on it hears all letters, and has one hit of the pattern or repeated ones, by its
     /// mode.
     Listen {
@@ -71,6 +82,12 @@ pub enum Request {
     /// Sleeps for at most `turns` turns (0 to 1,000,000) until the next `take` or `poll` of a handle has something to do. It
     /// takes nothing.
     Await {
+        id: u64,
+        turns: u64,
+    },
+    /// Takes what is pending for a subscription, at most as many events as a reply shows, or looks for a listener's next hit. If
+    /// there is none yet, it sleeps for at most `turns` turns (0 to 1,000,000) until there is.
+    Next {
         id: u64,
         turns: u64,
     },

@@ -4,7 +4,7 @@ use Rattle.std.specs.Prelude.{All, flat_map}
 use Rattle.std.proofs.KnownBytes.{Appends-nil, Consumes-nil}
 use Rattle.std.proofs.lemmas.List.Elements.{All-head, All-tail}
 use Rattle.std.specs.List.{AllZip}
-use Rattle.hub_local.specs.DeskAnswers.{answers}
+use Rattle.hub_local.specs.RunAnswers.{answers}
 use Rattle.hub_local.specs.Desks.{new_desk}
 use Rattle.hub_local.specs.Representing.{Local, RepresentsDesk, AsksDesk, Ended, Runs, over, asked}
 use Rattle.hub_requests.specs.Texts.{text_of}
@@ -89,7 +89,7 @@ session_stops old new held holds had has e represents s =
 
 -- what a new desk keeps
 empty_local : Local
-empty_local = record { fifodirs = []; holdings = []; given = 0 }
+empty_local = record { fifodirs = []; holdings = []; given = 0; wills = [] }
 
 empty_is_new : RepresentsDesk empty_local new_desk
 unfolding empty_local

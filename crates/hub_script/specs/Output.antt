@@ -3,7 +3,7 @@
 use Rattle.std.specs.Prelude.{◌≡◌, ◌≢◌, ℕ, Bool, List, All, length, flat_map, Option, Result, Err}
 use Rattle.std.specs.List.{AllZip}
 use Rattle.std.specs.Io.KnownBytes.{Consumes, IsAtEnd}
-use Rattle.hub_local.specs.DeskAnswers.{answers, patterns_in, AreReads}
+use Rattle.hub_local.specs.RunAnswers.{answers, patterns_in, AreReads}
 use Rattle.hub_local.specs.Desks.{new_desk}
 use Rattle.hub_local.specs.Representing.{Local, RepresentsDesk, AsksDesk}
 use Rattle.hub_requests.specs.Texts.{text_of}

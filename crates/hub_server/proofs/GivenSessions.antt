@@ -1,9 +1,9 @@
 -- What a gate was asked for.
-use Rattle.std.proofs.Common.{◌≡◌, ℕ, ◌+◌, List, [], ◌∷◌, ◌++◌, length, refl, sym, ap, subst, ◌∙◌, arith, Bool, true, false, ◌≤◌, ◌<◌, inl, inr}
+use Rattle.std.proofs.Common.{◌≡◌, ℕ, ◌+◌, List, [], ◌∷◌, ◌++◌, length, refl, sym, ap, subst, ◌∙◌, arith, Bool, true, false, ◌≤◌, ◌<◌, inl, inr, Result, Ok, Err, IfErr}
 use Rattle.std.proofs.lemmas.List.{length_push}
 use Rattle.hub_server.specs.declared.gate.Next.TheVariants as next
 use Rattle.hub_server.specs.declared.promise.Session.{Session}
-use Rattle.hub_server.specs.declared.report.ServeError.TheVariants.{Spawn}
+use Rattle.hub_server.specs.declared.report.ServeError.{ServeError}
 use Rattle.hub_server.specs.Gates.{Giving, Gave, IsAsked, StopsEarly}
 use Rattle.hub_server.specs.Promised.{AreOver, IsShare, streams_of}
 use Rattle.std.proofs.lemmas.List.Elements.{All-push}
@@ -35,16 +35,22 @@ gave_another {R = R} {W = W} gives old gate new sessions sessions' session reade
     )
 
 -- the thread of the last session couldn't be started
-pub asked_for_one_more : {G R W : Type 0} (gives : Giving G R W) (most : ℕ) (old gate new : G) (given : List (R × W)) (reader : R) (writer : W)
-    → length given < most → Gave gives old given gate → gives gate (next.Session reader writer) new → StopsEarly gives most old new Spawn
-asked_for_one_more gives most old gate new given reader writer room gave one = record {
+asked_for_one_more : {G R W : Type 0} (gives : Giving G R W) (most : ℕ) (old gate new : G) (given : List (R × W)) (reader : R) (writer : W) (error : ServeError)
+    → length given < most → Gave gives old given gate → gives gate (next.Session reader writer) new → StopsEarly gives most old new error
+asked_for_one_more gives most old gate new given reader writer error room gave one = record {
   given = given ++ (reader, writer) ∷ [];
   gate = new;
   gave = gave_one_more gives old given gate new (reader, writer) gave one;
   few = let longer = length_push given (reader, writer) in omega arith;
   ends = inl refl;
-  spawn = λ spawn. ((let longer = length_push given (reader, writer) in omega arith), refl);
+  spawn = λ refused spawn. ((let longer = length_push given (reader, writer) in omega arith), refl);
 }
+
+-- so whatever error is told, it stopped early
+pub stops_for_one_more : {G R W T : Type 0} (gives : Giving G R W) (most : ℕ) (old gate new : G) (given : List (R × W)) (reader : R) (writer : W) (result : Result T ServeError)
+    → length given < most → Gave gives old given gate → gives gate (next.Session reader writer) new → IfErr result (StopsEarly gives most old new)
+stops_for_one_more gives most old gate new given reader writer (Ok done) room gave one = tt
+stops_for_one_more gives most old gate new given reader writer (Err error) room gave one = asked_for_one_more gives most old gate new given reader writer error room gave one
 
 -- no more were given than are wanted
 pub given_few : {G R W : Type 0} (gives : Giving G R W) (most : ℕ) (old : G) (given : List (R × W)) (failed : Bool) (new : G)

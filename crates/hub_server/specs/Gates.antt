@@ -4,6 +4,7 @@ use Rattle.hub_server.specs.declared.gate.Next.{Next}
 use Rattle.hub_server.specs.declared.gate.Next.TheVariants.{Session, Failed, Over}
 use Rattle.hub_server.specs.declared.report.ServeError.{ServeError}
 use Rattle.hub_server.specs.declared.report.ServeError.TheVariants.{Spawn}
+use Rattle.hub_server.specs.declared.spawning.NoThread.{NoThread}
 
 -- how a gate gives: the gate before, what it gives, the gate after
 abbrev pub Giving : Type 0 → Type 0 → Type 0 → Type 1
@@ -40,7 +41,7 @@ pub record StopsEarly {G R W : Type 0} (gives : Giving G R W) (most : ℕ) (old 
   pub gave : Gave gives old given gate
   pub few : length given ≤ most
   pub ends : (new ≡ gate) ⊎ (gives gate Failed new ⊎ gives gate Over new)
-  pub spawn : error ≡ Spawn → (0 < length given) × (new ≡ gate)
+  pub spawn : (refused : NoThread) → error ≡ Spawn refused → (0 < length given) × (new ≡ gate)
 
 -- this held for the gate when it was closed, and after that it wasn't called again
 pub record ThenCloses {G : Type 0} (closes : Closing G) (before : G → Type 0) (new : G) : Type 0 where

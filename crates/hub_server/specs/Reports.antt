@@ -24,5 +24,5 @@ pub record IsReport {D R W G : Type 0} (reads : ℕ) (begins : D → Type 0) (as
 
 -- the text of an error
 abbrev pub serve_text : ServeError → List ℕ
-serve_text Spawn = codes "cannot start a session"
+serve_text (Spawn refused) = codes "cannot start a session"
 serve_text Memory = fault_text passing.Memory

@@ -5,6 +5,7 @@ ghost use Rattle.hub_server.specs.Sessions.{IsEnded};
 
 use crate::desks::Desks;
 use crate::promise::Session;
+use crate::report::ServeError;
 use hub_io::{FrontError, Sink, Source};
 use std::alloc::AllocError;
 use std::sync::Wait;
@@ -50,8 +51,9 @@ pub trait Journal<R: Source, W: Sink> {
     fn failed<H: Wait>(&mut self, rt: &H)
         ensures { fails self.old self.new };
 
-    /// No thread could be started in the place of one that has ended. It is tried again when this returns, so it waits for a moment.
-    fn unstarted<H: Wait>(&mut self, rt: &H);
+    /// No thread could be started in the place of one that has ended, and this is why. It is tried again when this returns, so it
+    /// waits for a moment.
+    fn unstarted<H: Wait>(&mut self, rt: &H, why: ServeError);
 }
 
 /// Learns nothing.
@@ -85,5 +87,5 @@ impl<R: Source, W: Sink> Journal<R, W> for Untold {
 
     fn failed<H: Wait>(&mut self, _rt: &H) {}
 
-    fn unstarted<H: Wait>(&mut self, _rt: &H) {}
+    fn unstarted<H: Wait>(&mut self, _rt: &H, _why: ServeError) {}
 }

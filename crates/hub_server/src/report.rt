@@ -1,7 +1,8 @@
 //! The results of serving.
 ghost use Rattle.std.specs.Prelude.{◌≡◌, ◌↔◌, IsTrue, All, IsOk, Some, false};
-ghost use Rattle.hub_server.specs.declared.report.ServeError.TheVariants.{Memory};
+ghost use Rattle.hub_server.specs.declared.report.ServeError.TheVariants.{Memory, Spawn};
 
+use crate::spawning::NoThread;
 use hub_io::FrontError;
 use std::alloc::AllocError;
 use std::error::Error;
@@ -30,7 +31,7 @@ impl Report {
 #[derive(Clone, Copy, Debug, PartialEq, Eq)]
 pub enum ServeError {
     /// A thread couldn't be started.
-    Spawn,
+    Spawn(NoThread),
     /// Memory ran out, before the first session, for one more session, or for the results.
     Memory,
 }
@@ -42,13 +43,21 @@ impl fmt::Display for ServeError {
 
     fn fmt<W: fmt::Write>(&self, f: &mut fmt::Formatter<W>) -> fmt::Result {
         match self {
-            ServeError::Spawn => f.write_str("cannot start a session"),
+            ServeError::Spawn(_) => f.write_str("cannot start a session"),
             ServeError::Memory => write!(f, "{}", FrontError::Memory),
         }
     }
 }
 
 impl Error for ServeError {}
+
+impl From<NoThread> for ServeError {
+    ghost from_gives = { λ refused error. error ≡ Spawn refused };
+
+    fn from(refused: NoThread) -> ServeError {
+        ServeError::Spawn(refused)
+    }
+}
 
 impl From<AllocError> for ServeError {
     ghost from_gives = { λ _ error. error ≡ Memory };

@@ -1,5 +1,5 @@
 //! Sessions at the same time.
-ghost use Rattle.std.specs.Prelude.{◌≡◌, ◌≤◌, [], IfSome, IfOk, IfErr, OnOk, vec_len};
+ghost use Rattle.std.specs.Prelude.{◌≡◌, ◌≤◌, [], IfOk, IfErr, OnOk, vec_len};
 ghost use Rattle.hub_server.specs.Gates.{IsAsked, StopsEarly, ThenCloses};
 ghost use Rattle.hub_server.specs.Promised.{AreOver, streams_of};
 ghost use Rattle.hub_server.specs.Reports.{IsReport};
@@ -11,14 +11,15 @@ use crate::journal::Untold;
 use crate::promise::Session;
 use crate::report::{Report, ServeError};
 use crate::serving::serve_session;
+use crate::spawning::{NoThread, spawn_with};
 use crate::started::{Started, join_over, results_of};
 use hub_front::Enter;
 use hub_io::{FrontError, Sink, Source};
-use std::alloc::Global;
+use std::alloc::{AllocError, Global};
 use std::snapshot::Snapshot;
 use std::sync::atomic::{AtomicBool, Ordering};
 use std::sync::{Arc, Wait};
-use std::thread::{Builder, Threads};
+use std::thread::Threads;
 
 /// The bytes of stack of a session's thread: 2 MiB. The deepest session that was found, with a pattern of 200 unclosed
 /// groups, takes 256 KiB.
@@ -42,41 +43,47 @@ fn serve_untold<H: Wait + Enter + Drop, R: Source + Drop, W: Sink + Drop, O: Des
     serve_session(&rt, alloc, &desks, &mut Untold, 0, reader, writer)
 }
 
-// Starts the thread of one session. The thread sets `is_over` as its last step.
+type Flag = Arc<AtomicBool, Global>;
+
+// A flag that isn't set, for its thread and for who starts that.
+fn new_flag(alloc: Global) -> Result<(Flag, Flag), AllocError> {
+    let flag = Arc::new(alloc, AtomicBool::new(false))?;
+    let told = Arc::try_clone(&flag)?;
+    Ok((flag, told))
+}
+
+// Starts the thread of one session. The thread sets the flag as its last step.
 fn start<H, R, W, O>(
     rt: &H,
     alloc: Global,
     desks: O,
-    is_over: Arc<AtomicBool, Global>,
+    flag: (Flag, Flag),
     reader: R,
     writer: W,
-) -> Option<Running<R, W, O>>
+) -> Result<Running<R, W, O>, NoThread>
 where
     H: Threads + Wait + Enter + Copy + Send + 'static,
     R: Source + Send + Drop + 'static,
     W: Sink + Send + Drop + 'static,
     O: Desks + Send + Drop + 'static,
-    ensures reader { IfSome result (λ started. started.reader.value ≡ reader) }
-    ensures writer { IfSome result (λ started. started.writer.value ≡ writer) }
-    ensures desks { IfSome result (λ started. started.desks.value ≡ desks) }
+    ensures reader { IfOk result (λ started. started.reader.value ≡ reader) }
+    ensures writer { IfOk result (λ started. started.writer.value ≡ writer) }
+    ensures desks { IfOk result (λ started. started.desks.value ≡ desks) }
 {
     let own = *rt;
-    let told = Arc::try_clone(&is_over).ok()?;
+    let (is_over, told) = flag;
     let session = Session {
         desks: Snapshot::of(&desks),
         reader: Snapshot::of(&reader),
         writer: Snapshot::of(&writer),
     };
     let began = Snapshot::of(&session);
-    let thread = Builder::new()
-        .stack_size(STACK_SIZE)
-        .spawn_with(rt, session, move || {
-            let result = serve_untold(own, alloc, desks, reader, writer);
-            told.store(true, Ordering::Release);
-            result
-        })
-        .ok()?;
-    Some(Started::new(began, thread, is_over))
+    let thread = spawn_with(rt, session, move || {
+        let result = serve_untold(own, alloc, desks, reader, writer);
+        told.store(true, Ordering::Release);
+        result
+    })?;
+    Ok(Started::new(began, thread, is_over))
 }
 
 // Starts the sessions that the gate gives, each as it comes. Returns whether the gate failed. It joins the threads that
@@ -104,18 +111,12 @@ where
     'sessions: for _session in 0..sessions {
         join_over(rt, started);
         let room = started.reserve(1);
-        let (Ok(()), Ok(own), Ok(is_over)) = (
-            room,
-            desks.share(),
-            Arc::new(alloc, AtomicBool::new(false)),
-        ) else {
+        let (Ok(()), Ok(own), Ok(flag)) = (room, desks.share(), new_flag(alloc)) else {
             return Err(ServeError::Memory);
         };
         match gate.next(rt) {
             Next::Session(reader, writer) => {
-                let Some(session) = start(rt, alloc, own, is_over, reader, writer) else {
-                    return Err(ServeError::Spawn);
-                };
+                let session = start(rt, alloc, own, flag, reader, writer)?;
                 started.push_reserved(session);
             }
             Next::Failed => return Ok(true),

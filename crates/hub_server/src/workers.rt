@@ -13,7 +13,7 @@ use crate::journal::Journal;
 use crate::lasting::serve_on;
 use crate::report::ServeError;
 use crate::seat::Seat;
-use crate::together::STACK_SIZE;
+use crate::spawning::spawn;
 use hub_front::Enter;
 use hub_io::{Sink, Source};
 use std::alloc::{AllocError, Global};
@@ -21,7 +21,7 @@ use std::io::{Read, Write};
 use std::rt::Clock;
 use std::sync::atomic::Ordering;
 use std::sync::{Arc, OnceLock, Wait};
-use std::thread::{Builder, JoinHandle, Threads};
+use std::thread::{JoinHandle, Threads};
 
 /// What each worker has a share of.
 #[derive(Drop)]
@@ -62,14 +62,11 @@ where
     {
         let (own, means) = (*rt, self.share()?);
         let seat = Arc::try_clone(seat)?;
-        Builder::new()
-            .stack_size(STACK_SIZE)
-            .spawn(rt, move || work(own, means, seat))
-            .map_err(|_| ServeError::Spawn)
+        Ok(spawn(rt, move || work(own, means, seat))?)
     }
 
-    // Puts another worker in the place of one that has left. Returns whether there is one.
-    fn renew<H>(&self, rt: &H, place: &mut Place) -> bool
+    // Puts another worker in the place of one that has left, unless none can be started.
+    fn renew<H>(&self, rt: &H, place: &mut Place) -> Result<(), ServeError>
     where
         H: Threads + Wait + Enter + Copy + Send + 'static,
     {
@@ -80,9 +77,9 @@ where
             place.seat.free_piece(rt);
         }
         if place.thread.is_none() {
-            place.thread = self.start(rt, &place.seat).ok();
+            place.thread = Some(self.start(rt, &place.seat)?);
         }
-        place.thread.is_some()
+        Ok(())
     }
 }
 
@@ -150,18 +147,18 @@ where
         Ok(Workers { means, places })
     }
 
-    // Joins each worker that has left, and starts another one in its place. Returns whether each place has one.
-    fn renew<H>(&mut self, rt: &H) -> bool
+    // Joins each worker that has left, and starts another one in its place. An error is why the first one couldn't be started.
+    fn renew<H>(&mut self, rt: &H) -> Result<(), ServeError>
     where
         H: Threads + Wait + Enter + Copy + Send + 'static,
         ensures { vec_len self.new.places ≡ vec_len self.old.places }
     {
-        let mut are_there = true;
+        let mut renewed = Ok(());
         'places: for place in self.places.iter_mut() {
-            let is_there = self.means.renew(rt, place);
-            are_there = are_there && is_there;
+            let this = self.means.renew(rt, place);
+            renewed = renewed.and(this);
         }
-        are_there
+        renewed
     }
 
     // Renews workers for as long as the program runs. If a thread couldn't be started, it is tried again.
@@ -172,10 +169,10 @@ where
         'renewals: for _ in rt.forever() {
             self.means.bell.hear(rt);
             'tries: for _ in rt.forever() {
-                if self.renew(rt) {
-                    break;
+                match self.renew(rt) {
+                    Ok(()) => break,
+                    Err(why) => self.means.journal.unstarted(rt, why),
                 }
-                self.means.journal.unstarted(rt);
             }
         }
     }
@@ -236,13 +233,11 @@ where
         bell,
     };
     let own = *rt;
-    let keeper = Builder::new()
-        .stack_size(STACK_SIZE)
-        .spawn(rt, move || start_and_keep(&own, means, count, &told))
-        .map_err(|_| ServeError::Spawn)?;
+    let keeper = spawn(rt, move || start_and_keep(&own, means, count, &told))?;
     match begun.wait(rt) {
         Ok(crew) if crew.asked == count => Ok(Keeper::of(keeper, crew)),
-        Ok(_) => Err(ServeError::Spawn),
+        // Of what another thread set, a contract knows only the type: no crew is of another number.
+        Ok(_) => Err(ServeError::Memory),
         Err(fault) => Err(*fault),
     }
 }

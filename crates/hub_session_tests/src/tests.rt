@@ -1,6 +1,7 @@
 mod calls;
 mod clients;
 mod crowd;
+mod dialers;
 mod doors;
 mod faults;
 mod gates;

@@ -6,7 +6,7 @@ use Rattle.std.specs.Arc.{arc_value}
 use Rattle.std.specs.Map.{lookup}
 use Rattle.std.specs.Str.{bytes_eq}
 use Rattle.hub_requests.specs.declared.request.Request.{Request}
-use Rattle.hub_requests.specs.declared.request.Request.TheVariants.{Dir, Svc, Sub, Pub, Tell, Close, Status, Listen, Wait, Names}
+use Rattle.hub_requests.specs.declared.request.Request.TheVariants.{Dir, Svc, Sub, Pub, Tell, Will, Close, Status, About, Listen, Wait, Names}
 use Rattle.hub_requests.specs.declared.reply.Reply.{Reply}
 use Rattle.hub_requests.specs.declared.reply.Reply.TheVariants as answer
 use Rattle.hub_letters.specs.declared.mode.Mode.{Mode}
@@ -18,8 +18,9 @@ use Rattle.hub_names.specs.declared.joined.Joined.{Joined}
 use Rattle.hub_names.specs.Fifodirs.{AsksUnder, KeepsAll, KeepsNone, joined_at}
 use Rattle.hub_names.specs.Hubs.{IsFoundIn}
 use Rattle.hub_names.proofs.KeptFifodirs.{one_of}
-use Rattle.hub_names.specs.Speaking.{AsksAsPublisher, Tells, fifodir_of, found_of}
+use Rattle.hub_names.specs.Speaking.{AsksAsPublisher, Describes, Tells, fifodir_of, found_of}
 use Rattle.hub_names.specs.Says.{says_told}
+use Rattle.hub_names.specs.Wills.{ReadiesForWill, ReadiesSpeaker}
 use Rattle.hub_handles.specs.declared.handles.Handles.{Handles}
 use Rattle.hub_handles.specs.declared.session_listener.SessionListener.{SessionListener}
 use Rattle.hub_handles.specs.declared.subscription.Subscription.{Subscription}
@@ -85,6 +86,18 @@ asked_found says before after reply (inr unmade) = unmade.found
 told_found : (state : State) (before after : Joined) (reply : Reply) → Tells state before reply after → after.found ≡ before.found
 told_found state before after reply (inl (service, asked)) = asked_found (says_told state) before after reply asked
 told_found state before after reply (inr (plain, said, same)) = ap found_of same
+
+described_found : (before after : Joined) (reply : Reply) → Describes before reply after → after.found ≡ before.found
+described_found before after reply described = ap found_of described.same
+
+readied_found : (before after : Joined) (reply : Reply) → ReadiesSpeaker before reply after → after.found ≡ before.found
+readied_found before after reply (inl (done, has)) = has.found
+readied_found before after reply (inr (inl (said, same))) = ap found_of same
+readied_found before after reply (inr (inr unmade)) = unmade.found
+
+willed_found : (before after : Joined) (reply : Reply) → ReadiesForWill before reply after → after.found ≡ before.found
+willed_found before after reply (inl (service, readied)) = readied_found before after reply readied
+willed_found before after reply (inr (plain, said, same)) = ap found_of same
 
 -- what is asked keeps the fifodir
 spoken_named : (hub : Hub) (asks : Joined → Reply → Joined → Type 0) (keeps : (before after : Joined) (reply : Reply) → asks before reply after → after.found ≡ before.found)
@@ -195,8 +208,10 @@ asked_named hub fs gs hs ks (Svc name waiting total notifies evict) reply n ((li
 asked_named hub fs gs hs ks (Sub name) reply n (keeps, a) = subscribed_named hub gs hs ks name reply a (all_still hub fs gs hs keeps n)
 asked_named hub fs gs hs ks (Pub name letters) reply n (a, f) = subst (AreNamed hub gs) (sym f) (spoken_named hub _ (asked_found _) fs gs hs name reply a n)
 asked_named hub fs gs hs ks (Tell name state) reply n (a, f) = subst (AreNamed hub gs) (sym f) (spoken_named hub _ (told_found state) fs gs hs name reply a n)
+asked_named hub fs gs hs ks (Will name will) reply n (a, f) = subst (AreNamed hub gs) (sym f) (spoken_named hub ReadiesForWill willed_found fs gs hs name reply a n)
 asked_named hub fs gs hs ks (Close name) reply n (a, f) = subst (AreNamed hub gs) (sym f) (spoken_named hub _ (asked_found _) fs gs hs name reply a n)
 asked_named hub fs gs hs ks (Status name) reply n (a, f) = subst (AreNamed hub gs) (sym f) (spoken_named hub _ (asked_found _) fs gs hs name reply a n)
+asked_named hub fs gs hs ks (About name) reply n (a, f) = subst (AreNamed hub gs) (sym f) (spoken_named hub Describes described_found fs gs hs name reply a n)
 asked_named hub fs gs hs ks (Listen name mode pattern) reply n (keeps, a) = listened_named hub gs hs ks name _ _ reply a (all_still hub fs gs hs keeps n)
 asked_named hub fs gs hs ks (Wait span want turns names) reply n (keeps, why, f) = subst (AreNamed hub gs) (sym f) (all_still hub fs gs hs keeps n)
 asked_named hub fs gs hs ks (Names from) reply n (a, f) =

@@ -5,6 +5,7 @@ use Rattle.hub_io.specs.declared.client.Client.{Client}
 use Rattle.hub_handles.specs.Handles.{HoldsNone, given_of}
 use Rattle.hub_names.specs.Fifodirs.{KeepsNone}
 use Rattle.hub_names.specs.declared.hub.Hub.{Hub}
+use Rattle.hub_requests.specs.Wills.{wills_in}
 use Rattle.hub_shared.specs.Desks.{IsNewDesk, Watches}
 use Rattle.hub_shared.specs.declared.shared_desk.SharedDesk.{SharedDesk}
 
@@ -15,4 +16,5 @@ still_new hub pause client old new is watches = record {
   fifodirs = subst KeepsNone (sym watches.fifodirs) is.fifodirs;
   handles = subst HoldsNone (sym watches.handles) is.handles;
   given = ap given_of watches.handles ∙ is.given;
+  wills = ap wills_in watches.wills ∙ is.wills;
 }

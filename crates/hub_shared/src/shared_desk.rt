@@ -1,5 +1,5 @@
 //! The desk of one session among several.
-ghost use Rattle.std.specs.Prelude.{◌≤◌, IfOk, length};
+ghost use Rattle.std.specs.Prelude.{◌≡◌, ◌≤◌, IfOk, length};
 ghost use Rattle.std.specs.Arc.{arc_value};
 ghost use Rattle.hub_requests.specs.Ranges.{AreLimits};
 ghost use Rattle.hub_requests.specs.declared.bounds.TheConstants.{MOST_SERVICES};
@@ -11,7 +11,7 @@ use hub_io::Client;
 use hub_letters::{Mode, Span, Want};
 use hub_names::{Fifodirs, Hub};
 use hub_record::Kind;
-use hub_requests::{Desk, Name, Names, PatternText, Refusal, Reply, Request, limits};
+use hub_requests::{Desk, Name, Names, PatternText, Refusal, Reply, Request, Will, Wills, limits};
 use hub_wait::Pause;
 use std::alloc::{AllocError, Global};
 use std::sync::{Arc, Wait};
@@ -36,10 +36,13 @@ pub struct SharedDesk<P: Pause + Copy> {
     client: Option<Client>,
     fifodirs: Fifodirs,
     handles: Handles,
+    wills: Wills,
+    /// How many wills its last end couldn't carry out.
+    lost: u64,
 }
 
 impl<P: Pause + Copy> SharedDesk<P> {
-    ghost use Rattle.hub_shared.specs.Desks.{Asks, IsNewDesk, Watches};
+    ghost use Rattle.hub_shared.specs.Desks.{Asks, IsNewDesk, Watches, lost_by};
 
     /// A session that has found no fifodir and has no handle.
     pub fn new(alloc: Global, hub: Arc<Hub, Global>, pause: P) -> Result<SharedDesk<P>, AllocError>
@@ -53,6 +56,8 @@ impl<P: Pause + Copy> SharedDesk<P> {
             client: None,
             fifodirs: Fifodirs::new(alloc),
             handles,
+            wills: Wills::new(alloc),
+            lost: 0,
         })
     }
 
@@ -64,8 +69,16 @@ impl<P: Pause + Copy> SharedDesk<P> {
         self.client = client;
     }
 
+    /// How many wills its last end couldn't carry out, at fifodirs that had no room for a minute, or take no more events.
+    pub fn lost_wills(&self) -> u64
+        ensures { result ≡ lost_by self.now }
+    {
+        self.lost
+    }
+
     /// Ends all that the session still holds, and frees the desk.
-    pub fn release<H: Wait>(self, rt: &H) {
+    pub fn release<H: Wait>(mut self, rt: &H) {
+        self.end(rt);
         let SharedDesk {
             alloc: _,
             hub: _,
@@ -73,6 +86,8 @@ impl<P: Pause + Copy> SharedDesk<P> {
             client: _,
             fifodirs,
             handles,
+            wills: _,
+            lost: _,
         } = self;
         handles.release(rt);
         fifodirs.release(rt);
@@ -136,6 +151,13 @@ impl<P: Pause + Copy> SharedDesk<P> {
         }
     }
 
+    fn will<H: Wait + Enter>(&mut self, rt: &H, name: &Name, will: Will) -> Reply
+        ensures { Asks self.old (asked.Will name.now will) result self.new }
+    {
+        self.fifodirs
+            .will(rt, &self.hub, &mut self.wills, name, will)
+    }
+
     /// Waits for the lock only if the session has no publisher there yet.
     fn status<H: Wait + Enter>(&mut self, rt: &H, name: &Name) -> Reply
         ensures { Asks self.old (asked.Status name.now) result self.new }
@@ -151,6 +173,14 @@ impl<P: Pause + Copy> SharedDesk<P> {
     {
         let mut pause = ClientPause::new(self.pause, self.client.as_ref());
         self.handles.await_more(rt, id, turns, &mut pause)
+    }
+
+    fn next<H: Wait>(&mut self, rt: &H, id: u64, turns: u64) -> Reply
+        ensures { Asks self.old (asked.Next id turns) result self.new }
+    {
+        let client = self.client.as_ref();
+        let mut pause = ClientPause::new(self.pause, client);
+        self.handles.next(rt, id, turns, &mut pause)
     }
 
     fn wait<H: Wait + Enter>(
@@ -200,10 +230,12 @@ impl<P: Pause + Copy> Desk for SharedDesk<P> {
             Request::Sub { name } => self.subscribe(rt, name),
             Request::Pub { name, letters } => self.fifodirs.publish(rt, &self.hub, name, letters),
             Request::Tell { name, state } => self.fifodirs.tell(rt, &self.hub, name, *state),
+            Request::Will { name, state } => self.will(rt, name, *state),
             Request::Take { id, max } => self.handles.take(rt, *id, *max),
             Request::Cancel { id } => self.handles.cancel(rt, *id),
             Request::Close { name } => self.fifodirs.close(rt, &self.hub, name),
             Request::Status { name } => self.status(rt, name),
+            Request::About { name } => self.fifodirs.about(rt, &self.hub, name),
             Request::Listen {
                 name,
                 mode,
@@ -211,6 +243,7 @@ impl<P: Pause + Copy> Desk for SharedDesk<P> {
             } => self.listen(rt, name, *mode, pattern),
             Request::Poll { id } => self.handles.poll(rt, *id),
             Request::Await { id, turns } => self.await_more(rt, *id, *turns),
+            Request::Next { id, turns } => self.next(rt, *id, *turns),
             Request::Wait {
                 span,
                 want,
@@ -223,6 +256,8 @@ impl<P: Pause + Copy> Desk for SharedDesk<P> {
 
     fn end<H: Wait>(&mut self, rt: &H) {
         self.handles.end(rt);
+        self.lost = self.fifodirs.carry_out(rt, &self.wills, self.pause);
+        self.wills.clear();
         self.fifodirs.leave(rt);
     }
 }

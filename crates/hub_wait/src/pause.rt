@@ -94,4 +94,17 @@ impl<C: Clock> Pause for Patience<C> {
         bell.sleep(rt, looked, rest.min(Duration::from_millis(LONGEST_SLEEP)));
         Go::Again
     }
+
+    fn pause_for<R: Wait>(&mut self, rt: &R, left: u64) -> Go
+        ensures { self.new.clock ≡ self.old.clock }
+    {
+        let is_over = match self.times(left) {
+            Some((elapsed, time)) => time.checked_sub(elapsed).is_none(),
+            None => false,
+        };
+        if is_over {
+            return Go::Expired;
+        }
+        self.pause(rt)
+    }
 }

@@ -1,3 +1,6 @@
+mod rows;
+
+use self::rows::PLANS;
 use super::{early_status, read_words};
 use std::alloc::{AllocError, Global};
 use std::process::Abort;
@@ -25,8 +28,11 @@ static HELP: &str = "
     ftrighub wait --help
     ftrighub status --help
     ftrighub follow --help
+    ftrighub make --help
     ftrighub tell --help
     ftrighub tell -h
+    ftrighub hold --help
+    ftrighub hold -h
 ";
 
 /// These are refused.
@@ -54,6 +60,9 @@ static WRONG: &str = "
     ftrighub serve s --forever --idle 0
     ftrighub serve s --forever --idle 1000001
     ftrighub serve s --forever --idle 5s
+    ftrighub serve s --forever --setup
+    ftrighub serve s --forever --setup a --setup b
+    ftrighub serve s --setup a
     ftrighub serve s --idle 5
     ftrighub serve s --ready-fd 3
     ftrighub serve s --mode 0660
@@ -91,6 +100,32 @@ static WRONG: &str = "
     ftrighub tell --socket s db Ready
     ftrighub tell --socket s db finished
     ftrighub tell --socket s db ready --plain
+    ftrighub hold
+    ftrighub hold db
+    ftrighub hold --socket s
+    ftrighub hold --socket s db up
+    ftrighub hold --socket s db ready
+    ftrighub hold --socket s db none
+    ftrighub hold --socket s db Down
+    ftrighub hold --socket s db down web
+    ftrighub hold --socket s db down --tell
+    ftrighub hold --socket s db down --tell finished
+    ftrighub hold --socket s db down --tell none
+    ftrighub hold --socket s db --tell up --tell ready
+    ftrighub hold --socket s db --plain
+    ftrighub make
+    ftrighub make db
+    ftrighub make --socket s
+    ftrighub make --socket s --plain
+    ftrighub make --socket s db --plain --plain
+    ftrighub make --socket s db --waiting
+    ftrighub make --socket s db --waiting 0
+    ftrighub make --socket s db --waiting 4097
+    ftrighub make --socket s db --waiting many
+    ftrighub make --socket s db --total 0
+    ftrighub make --socket s db --total 1000000000001
+    ftrighub make --socket s db --evict
+    ftrighub make --socket s db --hold=yes
 ";
 
 /// These are plans.
@@ -101,6 +136,7 @@ static RUN: &str = "
     ftrighub serve s --sessions 64
     ftrighub serve s --forever
     ftrighub serve s --sessions 1024 --forever
+    ftrighub serve s --setup a --forever
     ftrighub call s
     ftrighub ask --socket s names 0
     ftrighub ask --socket s pub web --
@@ -113,6 +149,12 @@ static RUN: &str = "
     ftrighub follow db web --once --plain --socket s --pattern u
     ftrighub tell --socket s db ready
     ftrighub tell db off --socket s
+    ftrighub hold --socket s db
+    ftrighub hold db failed --tell ready --socket s
+    ftrighub hold --tell off --socket s db off
+    ftrighub make --socket s db
+    ftrighub make db web --plain --no-readiness --hold --waiting 1 --total 1 --socket s
+    ftrighub make db --waiting 4096 --total 1000000000000 --socket s
 ";
 
 fn expect_status(
@@ -136,117 +178,6 @@ fn early_statuses(rt: HostRuntime) -> Result<(), Fail> {
     expect_status(&rt, rt.alloc(), RUN, None)?;
     Ok(())
 }
-
-/// The plans of these words, and of these beside a socket that the environment has.
-static PLANS: [(&str, Option<&str>, &str); 23] = [
-    ("ftrighub script", None, "Script"),
-    (
-        "ftrighub serve /run/hub.sock",
-        None,
-        "Serve { socket: \"/run/hub.sock\", sessions: 1 }",
-    ),
-    (
-        "ftrighub serve --sessions 64 hub",
-        Some("t"),
-        "Serve { socket: \"hub\", sessions: 64 }",
-    ),
-    (
-        "ftrighub serve --forever hub",
-        None,
-        "ServeForever(HubOptions { socket: \"hub\", sessions: 64, mode: None, ready: None, idle: None })",
-    ),
-    (
-        "ftrighub serve hub --ready-fd 3 --mode 0660 --idle 1000000 --sessions 1024 --forever",
-        None,
-        "ServeForever(HubOptions { socket: \"hub\", sessions: 1024, mode: Some(432), ready: Some(3), idle: Some(1000000) })",
-    ),
-    ("ftrighub call hub", Some("t"), "Call { socket: \"hub\" }"),
-    (
-        "ftrighub ask --socket s names 0",
-        None,
-        "Ask { socket: \"s\", words: [\"names\", \"0\"] }",
-    ),
-    (
-        "ftrighub ask names 0",
-        Some("t"),
-        "Ask { socket: \"t\", words: [\"names\", \"0\"] }",
-    ),
-    (
-        "ftrighub ask --socket s names 0",
-        Some("t"),
-        "Ask { socket: \"s\", words: [\"names\", \"0\"] }",
-    ),
-    (
-        "ftrighub ask pub web --socket",
-        Some("t"),
-        "Ask { socket: \"t\", words: [\"pub\", \"web\", \"--socket\"] }",
-    ),
-    (
-        "ftrighub ask -- --socket s",
-        Some("t"),
-        "Ask { socket: \"t\", words: [\"--socket\", \"s\"] }",
-    ),
-    (
-        "ftrighub wait any ready --for 2m db web",
-        Some("t"),
-        "Wait { socket: \"t\", wish: Wish { span: \"any\", want: \"ready\", patience: \"2m\", names: [\"db\", \"web\"] } }",
-    ),
-    (
-        "ftrighub wait --for 5s all restarted db",
-        Some("t"),
-        "Wait { socket: \"t\", wish: Wish { span: \"all\", want: \"restarted\", patience: \"5s\", names: [\"db\"] } }",
-    ),
-    (
-        "ftrighub wait any --for 2m --socket s ready db web",
-        Some("t"),
-        "Wait { socket: \"s\", wish: Wish { span: \"any\", want: \"ready\", patience: \"2m\", names: [\"db\", \"web\"] } }",
-    ),
-    (
-        "ftrighub status",
-        Some("t"),
-        "Status { socket: \"t\", names: [] }",
-    ),
-    (
-        "ftrighub status db --socket s web",
-        Some("t"),
-        "Status { socket: \"s\", names: [\"db\", \"web\"] }",
-    ),
-    (
-        "ftrighub follow db",
-        Some("t"),
-        "Follow { socket: \"t\", names: [\"db\"], pattern: None, is_plain: false, is_once: false }",
-    ),
-    (
-        "ftrighub follow --once web --pattern ^u$ db --plain",
-        Some("t"),
-        "Follow { socket: \"t\", names: [\"web\", \"db\"], pattern: Some(\"^u$\"), is_plain: true, is_once: true }",
-    ),
-    (
-        "ftrighub tell db off",
-        Some("t"),
-        "Tell { socket: \"t\", name: \"db\", state: Off }",
-    ),
-    (
-        "ftrighub tell db down",
-        Some("t"),
-        "Tell { socket: \"t\", name: \"db\", state: Down }",
-    ),
-    (
-        "ftrighub tell db up",
-        Some("t"),
-        "Tell { socket: \"t\", name: \"db\", state: Up }",
-    ),
-    (
-        "ftrighub tell db ready",
-        Some("t"),
-        "Tell { socket: \"t\", name: \"db\", state: Ready }",
-    ),
-    (
-        "ftrighub tell db failed",
-        Some("t"),
-        "Tell { socket: \"t\", name: \"db\", state: Failed }",
-    ),
-];
 
 fn plan_of(alloc: Global, line: &str, known: Option<&str>) -> Result<String, Fail> {
     let words = words_of(alloc, line)?;

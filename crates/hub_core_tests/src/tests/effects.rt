@@ -22,6 +22,7 @@ enum Call {
     CloseTwice,
     Take,
     Look,
+    Usage,
     Meet,
     Await,
     Receive,
@@ -40,13 +41,14 @@ type State = (u64, bool, u64, Option<u64>, u64);
 const UNTOUCHED: State = (0, false, 1, Some(1), 0);
 
 /// What is at a fifodir after a call there, and at another one that the call may also have to do with.
-static ROWS: [(Call, State, State); 15] = [
+static ROWS: [(Call, State, State); 16] = [
     (Call::Nothing, UNTOUCHED, UNTOUCHED),
     (Call::Publish, (1, false, 2, Some(1), 1), UNTOUCHED),
     (Call::PublishTooMuch, (0, false, 2, Some(2), 0), UNTOUCHED),
     (Call::CloseTwice, (0, true, 2, None, 1), UNTOUCHED),
     (Call::Take, (1, false, 2, Some(2), 1), UNTOUCHED),
     (Call::Look, (0, false, 2, Some(2), 0), UNTOUCHED),
+    (Call::Usage, (1, false, 2, Some(2), 1), UNTOUCHED),
     (Call::Meet, (0, false, 2, Some(2), 0), UNTOUCHED),
     (Call::Await, (0, false, 1, Some(2), 0), UNTOUCHED),
     (Call::Receive, (0, false, 1, Some(2), 0), UNTOUCHED),
@@ -110,6 +112,22 @@ fn looks<R: Abort + Wait + Enter>(rt: &R, fifodir: &Fifodir) {
     let _ = fifodir.front(&mut one);
     let _ = fifodir.status(&mut reader);
     let _ = fifodir.has_more(&mut reader);
+    fifodir.leave(rt, one);
+    fifodir.cancel(rt, reader);
+}
+
+/// Asks how much there is, with an event, a publisher and a ticket.
+fn counts<R: Abort + Wait + Enter>(rt: &R, fifodir: &Fifodir) {
+    let mut one = publisher(rt, fifodir);
+    let reader = ticket(rt, fifodir);
+    let _ = fifodir.publish(rt, &mut one, &[Letter::LEAST]);
+    for _ in 0..3 {
+        let usage = fifodir.usage(rt);
+        assert_eq!(rt;
+            (usage.subscriptions, usage.publishers, usage.pending),
+            (1, 1, 1)
+        );
+    }
     fifodir.leave(rt, one);
     fifodir.cancel(rt, reader);
 }
@@ -187,6 +205,7 @@ fn does<R: Abort + Threads + Wait + Enter + Sync>(
         Call::CloseTwice => closes_twice(rt, &here),
         Call::Take => takes(rt, &here),
         Call::Look => looks(rt, &here),
+        Call::Usage => counts(rt, &here),
         Call::Meet => meets(rt, &here),
         Call::Await => awaits(rt, &here),
         Call::Receive => receives(rt, &here),

@@ -2,6 +2,7 @@
 use crate::tests::fixtures::{BLANK, BLANKS, none_is_unlike, row};
 use crate::tests::scenes::{Row, Step, goes_so};
 use hub_fifodir::{Enter, PassError};
+use hub_letters::State;
 use hub_record::{Closed, Kind, Policy, PubError, SubError, Taken};
 use std::alloc::Global;
 use std::sync::Wait;
@@ -56,6 +57,36 @@ static ROWS: [Row; 10] = [
         Shows(0, (3, 7, true))),
 ];
 
+/// Rows of services, which whoever published last tells where they are.
+static LAST: [Row; 4] = [
+    row!("nobody tells a service without events", Service (64, 100, 10):
+        Join(Ok(1)), TellAsLast(State::Down, None, ""), Publish("", Ok(0)),
+        TellAsLast(State::Off, None, ""), Close(Ok(())), TellAsLast(State::Down, None, "")),
+    row!("a successor that published nothing isn't last", Service (64, 100, 10):
+        Subscribe(Ok((1, 0))), Join(Ok(1)), Publish("su", Ok(0)), Join(Ok(2)), Publish("", Ok(2)),
+        Publish("D", Err(PubError::Unlawful(0))), TellAsLast(State::Down, None, ""), Leave,
+        TellAsLast(State::Down, Some(Ok(2)), "dD"), TellAsLast(State::Down, Some(Ok(4)), ""),
+        Take(0, Taken::Got(3), [(1, b's'), (1, b'u'), (1, b'd')]),
+        Take(0, Taken::Got(1), [(1, b'D'), BLANK, BLANK])),
+    row!("a successor that published is last, also once it has left", Service (64, 100, 10):
+        Subscribe(Ok((1, 0))), Join(Ok(1)), Publish("su", Ok(0)), Join(Ok(2)), Publish("U", Ok(2)),
+        Leave, TellAsLast(State::Down, None, ""), TellAsLast(State::Ready, None, ""),
+        Publish("d", Ok(3)), TellAsLast(State::Down, Some(Ok(4)), "D"), Shows(0, (5, 6, false))),
+    row!("only the last one learns of full, spent and closed", Service (2, 4, 10):
+        Subscribe(Ok((1, 0))), Join(Ok(1)), Publish("su", Ok(0)),
+        TellAsLast(State::Down, Some(Err(PubError::Full)), ""),
+        TellAsLast(State::Off, Some(Err(PubError::Spent)), ""),
+        TellAsLast(State::Up, Some(Ok(2)), ""), Join(Ok(2)), TellAsLast(State::Down, None, ""),
+        TellAsLast(State::Off, None, ""), Leave,
+        Take(0, Taken::Got(2), [(1, b's'), (1, b'u'), BLANK]),
+        TellAsLast(State::Down, Some(Ok(2)), "dD"),
+        Take(0, Taken::Got(2), [(1, b'd'), (1, b'D'), BLANK]),
+        TellAsLast(State::Up, Some(Err(PubError::Spent)), ""), Close(Ok(())),
+        TellAsLast(State::Down, Some(Err(PubError::Closed)), ""), Join(Ok(3)),
+        TellAsLast(State::Down, None, ""), Leave, Shows(0, (4, 6, true)),
+        Take(0, Taken::End, BLANKS)),
+];
+
 /// Rows of fifodirs that evict.
 static EVICTING: [Row; 3] = [
     row!("a slow ticket is evicted, and no other", Plain (2, 100, 10):
@@ -93,6 +124,7 @@ fn first_unlike<R: Wait + Enter>(
 #[test]
 fn fifodirs_by_rows(rt: HostRuntime) -> Result<(), Fail> {
     none_is_unlike(&rt, first_unlike(&rt, rt.alloc(), &ROWS, Policy::Hold)?);
+    none_is_unlike(&rt, first_unlike(&rt, rt.alloc(), &LAST, Policy::Hold)?);
     none_is_unlike(
         &rt,
         first_unlike(&rt, rt.alloc(), &EVICTING, Policy::Evict)?,

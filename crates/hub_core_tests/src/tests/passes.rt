@@ -5,7 +5,7 @@ ghost use Rattle.std.specs.Prelude.{◌≡◌, [], length};
 ghost use Rattle.hub_fifodir.specs.Passes.{HasTaken, IsPublisherOf, IsTicketOf, mine};
 
 use hub_fifodir::{Enter, Fifodir, Looked, PassError, Publisher, Ticket};
-use hub_letters::Letter;
+use hub_letters::{Letter, State};
 use hub_record::{Closed, Event, Kind, Limits, Policy, PubError, Status, SubError, Taken};
 use hub_wait::{Pause, receive};
 use std::alloc::{AllocError, Global};
@@ -77,6 +77,18 @@ impl Sender {
 
     pub(crate) fn send<R: Wait>(&mut self, rt: &R, letters: &[Letter]) -> Result<u64, PubError> {
         self.fifodir.publish(rt, &mut self.me, letters)
+    }
+
+    /// Tells where the service is, if its last event is this publisher's. A plain fifodir isn't told.
+    pub(crate) fn tell_as_last<R: Wait>(
+        &mut self,
+        rt: &R,
+        state: State,
+    ) -> Option<Result<u64, PubError>> {
+        match self.fifodir.kind() {
+            Kind::Service => self.fifodir.tell_as_last(rt, &mut self.me, state),
+            Kind::Plain => None,
+        }
     }
 
     pub(crate) fn close<R: Wait>(&mut self, rt: &R) -> Result<(), Closed> {

@@ -152,6 +152,62 @@ fn a_pause_without_a_clock_sleeps_a_turn(rt: HostRuntime) -> Result<(), Fail> {
     Ok(())
 }
 
+/// How many tries of a call that is refused the first pause is told of, as a will has them.
+const TRIES: u64 = 60_000;
+
+/// How many microseconds after the first pause began the second one begins, and whether it goes on to another try.
+static TRIES_AT: [(u64, bool); 8] = [
+    (1_000, true),
+    (2_000, true),
+    (30_000_000, true),
+    (59_999_000, true),
+    (60_000_000, true),
+    (60_000_001, false),
+    (60_001_000, false),
+    (600_000_000, false),
+];
+
+/// Whether a second pause between tries goes on so many microseconds after the first one began, and how many both slept.
+fn tries_on_at<R: Wait>(rt: &R, microseconds: u64) -> (bool, u64, u64) {
+    let clock = Slept::new(false);
+    let mut pause = Patience::new(&clock);
+    let first = pause.pause_for(rt, TRIES) == Go::Again;
+    let slept = clock.microseconds();
+    clock.pass(microseconds.saturating_sub(slept));
+    let second = pause.pause_for(rt, TRIES.saturating_sub(1)) == Go::Again;
+    let slept_then = clock.microseconds().saturating_sub(microseconds);
+    (first && second, slept, slept_then)
+}
+
+/// How many pauses between tries there are until one ends the tries, and how many microseconds they slept. At most so many are made.
+fn pauses_between_tries<R: Wait>(rt: &R, broken: bool, most: u64) -> (u64, u64) {
+    let clock = Slept::new(broken);
+    let mut pause = Patience::new(&clock);
+    for tried in 0..most {
+        if pause.pause_for(rt, TRIES.saturating_sub(tried)) == Go::Expired {
+            return (tried, clock.microseconds());
+        }
+    }
+    (most, clock.microseconds())
+}
+
+#[test]
+fn a_call_is_tried_each_millisecond_for_a_minute(rt: HostRuntime) {
+    for (microseconds, goes_on) in TRIES_AT {
+        let slept_then = if goes_on { 1_000 } else { 0 };
+        assert_eq!(rt;
+            tries_on_at(&rt, microseconds),
+            (goes_on, 1_000, slept_then),
+            "{microseconds}"
+        );
+    }
+    assert_eq!(rt;
+        pauses_between_tries(&rt, false, TRIES),
+        (60_000, 60_000_000)
+    );
+    assert_eq!(rt; pauses_between_tries(&rt, true, 7), (7, 7_000));
+}
+
 /// How long a pause is in a wait of 20 seconds, by a clock that passes by itself. The bell has rung before, and then it doesn't.
 fn silent_pause<R: Abort + Wait + Enter + Clock + Copy>(
     rt: &R,

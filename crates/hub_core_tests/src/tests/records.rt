@@ -22,6 +22,8 @@ enum Step {
     Counts(u64, u64, Option<u64>),
     /// The stage, the flags' code, and whether it is closed.
     Shows(Stage, u64, bool),
+    /// The number of the publisher of the last event.
+    Last(Option<u64>),
 }
 
 /// A record of this kind, with these limits, answers these calls so.
@@ -32,7 +34,7 @@ struct Row {
     steps: &'static [Step],
 }
 
-static ROWS: [Row; 7] = [
+static ROWS: [Row; 8] = [
     row!("ids are never given again", Plain (2, 5, 1):
         Subscribe(Ok((1, 0))), Cancel(1, Ok(())), Subscribe(Err(SubError::Spent)), Close(Ok(())),
         Subscribe(Err(SubError::Closed)), Publish(1, "", Err(PubError::Closed)), Close(Err(Closed)),
@@ -60,6 +62,14 @@ static ROWS: [Row; 7] = [
     row!("a million letters pass a ring of two", Plain (2, 1_000_000, 10):
         Subscribe(Ok((1, 0))), Pass(1_000_000), Counts(1_000_000, 1_000_000, Some(0)),
         Publish(1, "a", Err(PubError::Spent)), Publish(1, "", Ok(1_000_000))),
+    row!("whose event is last, whether it is kept or not", Service (2, 100, 10):
+        Last(None), Publish(7, "", Ok(0)), Publish(7, "u", Err(PubError::Unlawful(0))), Last(None),
+        Publish(7, "s", Ok(0)), Last(Some(7)), Publish(8, "", Ok(1)),
+        Publish(8, "U", Err(PubError::Unlawful(0))), Last(Some(7)), Publish(8, "u", Ok(1)),
+        Last(Some(8)), Subscribe(Ok((1, 2))), Last(Some(8)), Publish(7, "Ud", Ok(2)),
+        Last(Some(7)), Publish(9, "D", Err(PubError::Full)), Last(Some(7)),
+        Take(1, Ok(Taken::Got(2)), [(7, b'U'), (7, b'd'), BLANK]), Cancel(1, Ok(())),
+        Last(Some(7)), Close(Ok(())), Publish(9, "D", Err(PubError::Closed)), Last(Some(7))),
 ];
 
 /// Rows of records that evict.
@@ -138,6 +148,7 @@ fn answers(alloc: Global, record: &mut Record, step: Step) -> io::Result<bool> {
         Step::Shows(stage, code, closed) => {
             (record.stage(), record.flags().code(), record.closed()) == (stage, code, closed)
         }
+        Step::Last(who) => record.last_publisher() == who,
     })
 }
 

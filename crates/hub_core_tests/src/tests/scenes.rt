@@ -2,6 +2,7 @@
 use crate::tests::fixtures::{are_events, word};
 use crate::tests::passes::{Reader, Sender, Shared, end_all, keep, open_with};
 use hub_fifodir::{Enter, PassError};
+use hub_letters::State;
 use hub_record::{Closed, Event, Kind, Policy, PubError, SubError, Taken};
 use std::alloc::{AllocError, Global};
 use std::io;
@@ -17,6 +18,8 @@ pub(crate) enum Step {
     /// Tickets and publishers that get the numbers from 1 to this one.
     HoldUpTo(u64),
     Publish(&'static str, Result<u64, PubError>),
+    /// What a tell by whoever published last answers, and the letters that it then has published.
+    TellAsLast(State, Option<Result<u64, PubError>>, &'static str),
     Close(Result<(), Closed>),
     Leave,
     Take(usize, Taken, [(u64, u8); 3]),
@@ -155,7 +158,7 @@ impl Scene {
     /// Whether the first publisher sees the letters that the steps were to publish, and no more, and the close.
     fn front_is_after(&mut self, step: Step) -> bool {
         match step {
-            Step::Publish(text, Ok(_)) => {
+            Step::Publish(text, Ok(_)) | Step::TellAsLast(_, _, text) => {
                 self.events = self.events.wrapping_add(text.len() as u64);
             }
             Step::Close(Ok(())) => self.closed = true,
@@ -181,7 +184,7 @@ impl Scene {
             Step::Cancel(place) => self.cancels(rt, place),
             Step::Shows(place, wanted) => self.shows(place, wanted),
             Step::Ticket(place, wanted) => self.is_ticket(place, wanted),
-            Step::Publish(_, _) | Step::Close(_) | Step::Front(_) => {
+            Step::Publish(_, _) | Step::TellAsLast(_, _, _) | Step::Close(_) | Step::Front(_) => {
                 self.publisher_goes(rt, alloc, step)?
             }
         })
@@ -193,6 +196,7 @@ impl Scene {
         };
         Ok(match step {
             Step::Publish(text, answer) => sender.send(rt, &word(alloc, text)?) == answer,
+            Step::TellAsLast(state, answer, _) => sender.tell_as_last(rt, state) == answer,
             Step::Close(answer) => sender.close(rt) == answer,
             Step::Front(number) => sender.front() == number,
             _ => false,

@@ -1,6 +1,7 @@
 //! What a call leaves behind in each state that a fifodir may be in. The passes of the call are there before, so that it can be
 //! made where no new ones are given.
 mod scene;
+mod usages;
 
 use crate::tests::passes::{Shared, new_reader, new_sender, next_id, open_with};
 use hub_fifodir::Enter;
@@ -11,7 +12,7 @@ use std::process::Abort;
 use std::sync::{Arc, Wait};
 use std::test::Fail;
 
-/// How the fifodir of a service, with room for 8 events, came to be as it is. A publisher, a ticket and a post came first, in
+/// How the fifodir of a service, with room for 8 events, came to be as it is. Two publishers, a ticket and a post came first, in
 /// this order, and then the supervisor started.
 #[derive(Clone, Copy, Debug, PartialEq)]
 enum State {
@@ -48,12 +49,18 @@ pub(crate) enum Call {
     PublishUnlawful,
     TellDown,
     TellUp,
+    /// By the publisher whose event is last.
+    TellUpAsLast,
+    TellDownAsLast,
+    /// By another one.
+    TellAsAnother,
     Close,
     CloseTwice,
     Take,
     TakeNone,
     Status,
     Front,
+    Usage,
     HasMore,
     Meet,
     Await,
@@ -70,22 +77,22 @@ type Left = (u64, u64, bool, u64, Option<u64>, u64, u64);
 
 /// What is there in each state.
 static STATES: [(State, Left); 11] = [
-    (State::Fresh, (1, 6, false, 2, Some(3), 1, 0)),
-    (State::Wrapped, (21, 6, false, 2, Some(3), 21, 0)),
-    (State::Long, (5_101, 6, false, 2, Some(3), 5_101, 0)),
-    (State::Busy, (1, 6, false, 42, Some(43), 1, 0)),
-    (State::Three, (1, 6, false, 2, Some(5), 1, 0)),
-    (State::Awaited, (1, 6, false, 2, Some(28), 1, 0)),
-    (State::Full, (9, 6, false, 2, Some(3), 1, 0)),
-    (State::Evicted, (10, 6, false, 2, Some(3), 1, 0)),
-    (State::Closed, (3, 6, true, 2, None, 1, 0)),
-    (State::Ended, (3, 6, true, 2, None, 3, 0)),
-    (State::Failed, (2, 14, false, 2, Some(3), 2, 0)),
+    (State::Fresh, (1, 6, false, 3, Some(3), 1, 0)),
+    (State::Wrapped, (21, 6, false, 3, Some(3), 21, 0)),
+    (State::Long, (5_101, 6, false, 3, Some(3), 5_101, 0)),
+    (State::Busy, (1, 6, false, 43, Some(43), 1, 0)),
+    (State::Three, (1, 6, false, 3, Some(5), 1, 0)),
+    (State::Awaited, (1, 6, false, 3, Some(28), 1, 0)),
+    (State::Full, (9, 6, false, 3, Some(3), 1, 0)),
+    (State::Evicted, (10, 6, false, 3, Some(3), 1, 0)),
+    (State::Closed, (3, 6, true, 3, None, 1, 0)),
+    (State::Ended, (3, 6, true, 3, None, 3, 0)),
+    (State::Failed, (2, 14, false, 3, Some(3), 2, 0)),
 ];
 
 /// What each call changes of that, in a state where it has an effect: how many events it adds, whether it closes, how many
 /// events it takes at most, and how often it rings.
-static CALLS: [(Call, u64, bool, u64, u64); 20] = [
+static CALLS: [(Call, u64, bool, u64, u64); 24] = [
     (Call::Nothing, 0, false, 0, 0),
     (Call::Publish, 1, false, 0, 1),
     (Call::PublishNothing, 0, false, 0, 1),
@@ -93,12 +100,16 @@ static CALLS: [(Call, u64, bool, u64, u64); 20] = [
     (Call::PublishUnlawful, 0, false, 0, 0),
     (Call::TellDown, 0, false, 0, 1),
     (Call::TellUp, 1, false, 0, 1),
+    (Call::TellUpAsLast, 1, false, 0, 1),
+    (Call::TellDownAsLast, 0, false, 0, 1),
+    (Call::TellAsAnother, 0, false, 0, 0),
     (Call::Close, 0, true, 0, 1),
     (Call::CloseTwice, 0, true, 0, 1),
     (Call::Take, 0, false, 4, 0),
     (Call::TakeNone, 0, false, 0, 0),
     (Call::Status, 0, false, 0, 0),
     (Call::Front, 0, false, 0, 0),
+    (Call::Usage, 0, false, 0, 0),
     (Call::HasMore, 0, false, 0, 0),
     (Call::Meet, 0, false, 0, 0),
     (Call::Await, 0, false, 0, 0),
@@ -111,7 +122,7 @@ static CALLS: [(Call, u64, bool, u64, u64); 20] = [
 /// The code of the flags after the letters that a call adds: `u` of a service that is told to be up, and `s` else.
 fn code_after(call: Call) -> u64 {
     match call {
-        Call::TellUp => 5,
+        Call::TellUp | Call::TellUpAsLast => 5,
         _ => 6,
     }
 }
@@ -178,7 +189,7 @@ fn come_to<R: Abort + Wait + Enter>(rt: &R, scene: &mut Scene, words: &Words, st
     }
 }
 
-fn does<R: Wait>(rt: &R, scene: &mut Scene, words: &Words, call: Call) {
+fn does<R: Wait + Enter>(rt: &R, scene: &mut Scene, words: &Words, call: Call) {
     match call {
         Call::Nothing => {}
         Call::Publish => scene.send(rt, &words.start),
@@ -187,6 +198,9 @@ fn does<R: Wait>(rt: &R, scene: &mut Scene, words: &Words, call: Call) {
         Call::PublishUnlawful => scene.send(rt, &words.unlawful),
         Call::TellDown => scene.tell(rt, hub_letters::State::Down),
         Call::TellUp => scene.tell(rt, hub_letters::State::Up),
+        Call::TellUpAsLast => scene.tell_as_last(rt, hub_letters::State::Up),
+        Call::TellDownAsLast => scene.tell_as_last(rt, hub_letters::State::Down),
+        Call::TellAsAnother => scene.tell_as_another(rt, hub_letters::State::Up),
         Call::Close => scene.close(rt),
         Call::CloseTwice => {
             scene.close(rt);
@@ -195,11 +209,22 @@ fn does<R: Wait>(rt: &R, scene: &mut Scene, words: &Words, call: Call) {
         Call::Take => scene.take(rt, &mut [Event::FILLER; 4]),
         Call::TakeNone => scene.take(rt, &mut []),
         Call::Status | Call::Front | Call::HasMore => scene.look(call),
+        Call::Usage => scene.count(rt),
         Call::Meet => scene.meet(rt),
         Call::Await => scene.await_more(rt),
         Call::Receive => scene.receive(rt),
         Call::CatchUp | Call::SvWait | Call::SvListen => scene.wait(rt, call),
     }
+}
+
+/// A fifodir that can come to this state.
+fn open_in(alloc: Global, state: State) -> Result<Shared, Fail> {
+    let policy = if state == State::Evicted {
+        Policy::Evict
+    } else {
+        Policy::Hold
+    };
+    open_with(alloc, Kind::Service, (8, 10_000, 100), policy)
 }
 
 /// What is there after this call in this state. So many publishers and tickets came and went before those that make the call.
@@ -211,12 +236,7 @@ fn left<R: Abort + Wait + Enter>(
     state: State,
     call: Call,
 ) -> Result<Left, Fail> {
-    let policy = if state == State::Evicted {
-        Policy::Evict
-    } else {
-        Policy::Hold
-    };
-    let fifodir = open_with(alloc, Kind::Service, (8, 10_000, 100), policy)?;
+    let fifodir = open_in(alloc, state)?;
     pass_by(rt, &fifodir, passes);
     let shared = Arc::try_clone(&fifodir)?;
     let mut scene = Scene::new(rt, alloc, shared);
@@ -263,7 +283,7 @@ fn a_call_leaves_behind_what_it_says_in_each_state(rt: HostRuntime) -> Result<()
 fn a_call_by_any_pass_leaves_behind_what_it_says(rt: HostRuntime) -> Result<(), Fail> {
     let words = Words::new(rt.alloc())?;
     for passes in 0..40u64 {
-        let (next, id) = (passes.saturating_add(2), passes.saturating_add(3));
+        let (next, id) = (passes.saturating_add(3), passes.saturating_add(3));
         let before = (State::Fresh, (1, 6, false, next, Some(id), 1, 0));
         for call in CALLS.iter() {
             let found = left(&rt, rt.alloc(), &words, passes, State::Fresh, call.0)?;

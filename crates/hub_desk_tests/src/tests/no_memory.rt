@@ -1,6 +1,6 @@
-//! The end of a desk, an `await`, what lends the parts of a request, and a shared desk's `take` and `poll` where nothing waits
-//! take no memory. It is counted by `tests/no-memory`, which runs this program over a `malloc` that counts (`tests/count.c`): it
-//! counts between two marks.
+//! The end of a desk, an `await`, an `about` of a name that the desk knows, what lends the parts of a request, and a shared desk's
+//! `take`, `poll` and `next` where nothing waits take no memory. It is counted by `tests/no-memory`, which runs this program over a
+//! `malloc` that counts (`tests/count.c`): it counts between two marks.
 use crate::tests::desks::{alone, new_local};
 use crate::tests::rows::{name_of, run};
 use hub_letters::Letter;
@@ -32,9 +32,14 @@ fn nothing_waits<H: Wait + Enter, D: Desk>(rt: &H, desk: &mut D) -> bool {
     let replies = (
         desk.ask(rt, &Request::Take { id: 2, max: 256 }),
         desk.ask(rt, &Request::Poll { id: 3 }),
+        desk.ask(rt, &Request::Next { id: 2, turns: 0 }),
+        desk.ask(rt, &Request::Next { id: 3, turns: 0 }),
     );
     mark();
-    matches!(replies, (Reply::Nothing, Reply::Nothing))
+    matches!(
+        replies,
+        (Reply::Nothing, Reply::Nothing, Reply::Late, Reply::Late)
+    )
 }
 
 /// Whether a subscription with events is told so, and one without and a listener without too.
@@ -47,6 +52,15 @@ fn awaits<H: Wait + Enter, D: Desk>(rt: &H, desk: &mut D) -> bool {
     );
     mark();
     matches!(replies, (Reply::Done, Reply::Late, Reply::Late))
+}
+
+/// Whether the desk tells about the fifodir of this name, which it knows.
+fn tells<H: Wait + Enter, D: Desk>(rt: &H, desk: &mut D, name: Name) -> bool {
+    let about = Request::About { name };
+    mark();
+    let reply = desk.ask(rt, &about);
+    mark();
+    matches!(reply, Reply::About(_))
 }
 
 fn end<H: Wait, D: Desk>(rt: &H, desk: &mut D) {
@@ -84,17 +98,22 @@ fn parts_are_lent(alloc: Global, name: Name) -> Result<bool, AllocError> {
 fn these_calls_take_no_memory(rt: HostRuntime) -> Result<(), Fail> {
     let name = name_of(&rt, rt.alloc(), "web")?;
     assert!(rt; parts_are_lent(rt.alloc(), name)?);
+    let known = name_of(&rt, rt.alloc(), "web")?;
+    let also = name_of(&rt, rt.alloc(), "web")?;
     let mut local = new_local(&rt);
     run(&rt, &mut local, HOLDS);
     assert!(rt; awaits(&rt, &mut local), "awaits of a local desk");
+    assert!(rt; tells(&rt, &mut local, known), "an about of a local desk");
     end(&rt, &mut local);
     let mut shared = alone(&rt);
     run(&rt, &mut shared, HOLDS);
     let nothing_waits = nothing_waits(&rt, &mut shared);
     let awaits = awaits(&rt, &mut shared);
+    let tells = tells(&rt, &mut shared, also);
     end(&rt, &mut shared);
     shared.release(&rt);
     assert!(rt; nothing_waits, "nothing waits");
     assert!(rt; awaits, "awaits of a shared desk");
+    assert!(rt; tells, "an about of a shared desk");
     Ok(())
 }

@@ -55,6 +55,29 @@ fn carries<H: AllocGlobal + Abort + Wait + Enter, D: Desk>(
         && is_heard
 }
 
+/// How many letters are published before each next: all that a take has room for, one more, and all that may be pending.
+const NEXT_SIZES: [usize; 8] = [1, 2, 255, 256, 257, 4_095, 4_096, 1];
+
+/// How many letters the first message has that a next doesn't take whole.
+fn next_unlike<H: AllocGlobal + Abort + Wait + Enter, D: Desk>(
+    rt: &H,
+    desk: &mut D,
+) -> Option<usize> {
+    run(rt, desk, "dir web 4096 1000000 -> ok; sub web -> ok 1");
+    for count in NEXT_SIZES {
+        let message = many_letters(rt, rt.alloc(), count);
+        let sent = answer_to(rt, desk, &message);
+        let is_whole = match (sent, answer(rt, desk, "next 1 2")) {
+            (Reply::Number(_), Reply::Got(letters)) => letters.items().len() == count,
+            _ => false,
+        };
+        if !is_whole {
+            return Some(count);
+        }
+    }
+    None
+}
+
 /// How many letters the first message has that isn't carried so.
 fn message_unlike<H: AllocGlobal + Abort + Wait + Enter, D: Desk>(
     rt: &H,
@@ -118,6 +141,15 @@ fn are_names(alloc: Global) -> Result<bool, AllocError> {
         }
     }
     Ok(true)
+}
+
+#[test]
+fn nexts_of_each_size(rt: HostRuntime) {
+    assert_eq!(rt; next_unlike(&rt, &mut new_local(&rt)), None);
+    let mut desk = alone(&rt);
+    let unlike = next_unlike(&rt, &mut desk);
+    desk.release(&rt);
+    assert_eq!(rt; unlike, None);
 }
 
 #[test]

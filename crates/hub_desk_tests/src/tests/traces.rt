@@ -36,7 +36,7 @@ const NAMES: &str = "names 0 -> names web db";
 const ONE_MORE: &str = "names 0 -> names web db log";
 
 /// Requests with their replies, and what others see of `web`, of `db` and of the names afterwards.
-static REQUESTS: [(&str, Seen, Seen, &str); 31] = [
+static REQUESTS: [(&str, Seen, Seen, &str); 38] = [
     ("dir log 64 1000 -> ok", WEB, DB, ONE_MORE),
     ("dir web 64 1000 -> no exists", WEB, DB, NAMES),
     ("svc log 64 1000 1 -> ok", WEB, DB, ONE_MORE),
@@ -64,16 +64,23 @@ static REQUESTS: [(&str, Seen, Seen, &str); 31] = [
     ("tell web up -> ok 1", (2, Some(2), Some(2)), DB, NAMES),
     ("tell web down -> ok 1", WEB, DB, NAMES),
     ("tell db up -> no kind", WEB, DB, NAMES),
+    ("will web down -> ok", WEB, DB, NAMES),
+    ("will db off -> no kind", WEB, DB, NAMES),
     ("take 1 9 -> got s\ntake 1 9 -> none", WEB, DB, NAMES),
     ("take 2 9 -> no id", WEB, DB, NAMES),
     ("poll 2 -> hit ab\npoll 2 -> none", WEB, DB, NAMES),
     ("await 1 3 -> ok\nawait 2 3 -> ok", WEB, DB, NAMES),
     ("take 1 9 -> got s\nawait 1 3 -> late", WEB, DB, NAMES),
+    ("next 1 3 -> got s\nnext 1 3 -> late", WEB, DB, NAMES),
+    ("next 2 3 -> hit ab\nnext 2 3 -> late", WEB, DB, NAMES),
     ("cancel 1 -> ok\ncancel 1 -> no id", WEB, DB, NAMES),
     ("cancel 2 -> ok", WEB, DB, NAMES),
     ("close web -> ok", (1, None, Some(2)), DB, NAMES),
     ("close db -> ok", WEB, (2, None, Some(2)), NAMES),
     ("status db -> ok 2 0 open", WEB, DB, NAMES),
+    ("about web -> ok svc 1 64 1000 hold 1 1 1", WEB, DB, NAMES),
+    ("about db -> ok dir 0 64 1000 hold 1 1 2", WEB, DB, NAMES),
+    ("about gone -> no name", WEB, DB, NAMES),
     (
         "wait all up 2 web -> late",
         (1, Some(3), Some(2)),

@@ -1,4 +1,4 @@
-//! How often a session pauses in a wait and in an await.
+//! How often a session pauses in a wait, in an await and in a next.
 use crate::tests::desks::new_hub;
 use crate::tests::rows::run;
 use hub_shared::SharedDesk;
@@ -27,7 +27,7 @@ static BEGUN: &str = "
 ";
 
 /// Requests with their replies, and how often there was a pause so far.
-static PAUSES: [(&str, u64); 9] = [
+static PAUSES: [(&str, u64); 16] = [
     ("await 1 3 -> late", 3),
     ("await 2 2 -> late", 5),
     ("await 1 0 -> late", 5),
@@ -37,6 +37,13 @@ static PAUSES: [(&str, u64); 9] = [
     ("pub web su -> ok 0", 9),
     ("await 1 5 -> ok", 9),
     ("wait all up 5 web -> yes 2", 9),
+    ("next 1 5 -> got su", 9),
+    ("next 1 3 -> late", 12),
+    ("next 1 0 -> late", 12),
+    ("next 2 4 -> late", 16),
+    ("next 2 2 -> late", 18),
+    ("next 3 5 -> no id", 18),
+    ("next 2 0 -> late", 18),
 ];
 
 #[test]

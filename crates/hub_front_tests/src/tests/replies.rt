@@ -2,8 +2,8 @@
 
 use hub_letters::Flags;
 use hub_protocol::{BorrowedReply, read_reply};
-use hub_record::Status;
-use hub_requests::{LONGEST_REPLY, Refusal};
+use hub_record::{Kind, Policy, Status};
+use hub_requests::{About, LONGEST_REPLY, Refusal};
 use std::test::Fail;
 
 const SUPERVISED_UP: Flags = Flags {
@@ -21,7 +21,7 @@ const EACH: Flags = Flags {
 };
 
 /// What a line is read as.
-static READ: [(&str, BorrowedReply<'static>); 42] = [
+static READ: [(&str, BorrowedReply<'static>); 44] = [
     ("ok\n", BorrowedReply::Done),
     ("ok 0\n", BorrowedReply::Number(0)),
     (
@@ -42,6 +42,32 @@ static READ: [(&str, BorrowedReply<'static>); 42] = [
             number: 1000000000000,
             flags: EACH,
             closed: true,
+        }),
+    ),
+    (
+        "ok dir 0 1 1000000000000 hold 0 0 0\n",
+        BorrowedReply::About(About {
+            kind: Kind::Plain,
+            notifies: false,
+            waiting: 1,
+            total: 1000000000000,
+            policy: Policy::Hold,
+            subscriptions: 0,
+            publishers: 0,
+            pending: 0,
+        }),
+    ),
+    (
+        "ok svc 1 4096 5 evict 1024 3 18446744073709551615\n",
+        BorrowedReply::About(About {
+            kind: Kind::Service,
+            notifies: true,
+            waiting: 4096,
+            total: 5,
+            policy: Policy::Evict,
+            subscriptions: 1024,
+            publishers: 3,
+            pending: 18446744073709551615,
         }),
     ),
     ("got sU\n", BorrowedReply::Got(b"sU")),
@@ -107,7 +133,7 @@ static READ: [(&str, BorrowedReply<'static>); 42] = [
 ];
 
 /// No lines of replies.
-static OTHERS: [&str; 54] = [
+static OTHERS: [&str; 66] = [
     "",
     "\n",
     "ok",
@@ -130,6 +156,18 @@ static OTHERS: [&str; 54] = [
     "ok 1 2 open \n",
     "ok 1 2 open open\n",
     "ok  1 2 open\n",
+    "ok dir\n",
+    "ok Dir 0 1 1 hold 0 0 0\n",
+    "ok log 0 1 1 hold 0 0 0\n",
+    "ok dir 2 1 1 hold 0 0 0\n",
+    "ok dir 00 1 1 hold 0 0 0\n",
+    "ok dir 0 01 1 hold 0 0 0\n",
+    "ok dir 0 1 - hold 0 0 0\n",
+    "ok dir 0 1 1 holds 0 0 0\n",
+    "ok svc 1 1 1 evict 0 0\n",
+    "ok svc 1 1 1 evict 0 0 0 0\n",
+    "ok svc 1 1 1 evict 0 0 \n",
+    "ok svc 1 1 1 0 0 0\n",
     "got\n",
     "got s U\n",
     "got s\tU\n",

@@ -2,8 +2,8 @@
 
 use hub_letters::{Flags, Letter, MOST_GATHERED};
 use hub_protocol::write_reply;
-use hub_record::Status;
-use hub_requests::{Excerpt, MOST_SERVICES, Name, Numbers, Refusal, Reply, names_reply};
+use hub_record::{Kind, Policy, Status};
+use hub_requests::{About, Excerpt, MOST_SERVICES, Name, Numbers, Refusal, Reply, names_reply};
 use std::alloc::{AllocError, Global};
 use std::process::Abort;
 use std::test::Fail;
@@ -61,6 +61,26 @@ fn each_reply_has_its_text(rt: HostRuntime) -> Result<(), Fail> {
         flags: Flags::none(),
         closed: true,
     };
+    let held = About {
+        kind: Kind::Plain,
+        notifies: false,
+        waiting: 64,
+        total: 1000,
+        policy: Policy::Hold,
+        subscriptions: 2,
+        publishers: 3,
+        pending: 4,
+    };
+    let evicting = About {
+        kind: Kind::Service,
+        notifies: true,
+        waiting: 1,
+        total: 1000000000000,
+        policy: Policy::Evict,
+        subscriptions: 0,
+        publishers: 0,
+        pending: 0,
+    };
     for (reply, want) in [
         (Reply::Done, "ok\n"),
         (Reply::Number(0), "ok 0\n"),
@@ -70,6 +90,11 @@ fn each_reply_has_its_text(rt: HostRuntime) -> Result<(), Fail> {
         ),
         (Reply::State(open), "ok 12 5 open\n"),
         (Reply::State(closed), "ok 0 0 closed\n"),
+        (Reply::About(held), "ok dir 0 64 1000 hold 2 3 4\n"),
+        (
+            Reply::About(evicting),
+            "ok svc 1 1 1000000000000 evict 0 0 0\n",
+        ),
         (Reply::Got(letters), "got sU\n"),
         (Reply::Nothing, "none\n"),
         (Reply::End, "end\n"),

@@ -1,4 +1,4 @@
-//! The requests about a fifodir: make one, publish to it, close it, and report its status.
+//! The requests about a fifodir: make one, publish to it, close it, and report its status, or what it is and how much is there.
 ghost use Rattle.std.specs.Prelude.{◌≡◌, ◌≢◌, Some, false, true};
 ghost use Rattle.hub_record.specs.Kept.{Represents};
 ghost use Rattle.hub_record.specs.World.{World, after_publish};
@@ -6,17 +6,17 @@ ghost use Rattle.hub_local.specs.Replies.{publish_reply};
 ghost use Rattle.hub_requests.specs.Refusals.{reply_to_publish};
 ghost use Rattle.hub_requests.specs.declared.reply.Reply.TheVariants.{No};
 ghost use Rattle.hub_requests.specs.declared.reply.Refusal.TheVariants.{Memory};
-ghost use Rattle.hub_local.specs.DeskAnswers.{make_answer, refusal_to_make};
+ghost use Rattle.hub_local.specs.DeskAnswers.{about_in, make_answer, refusal_to_make};
 ghost use Rattle.hub_local.specs.Representing.{CarriesOut, AsksWith, Unchanged};
-ghost use Rattle.hub_requests.specs.declared.request.Request.TheVariants.{Pub, Tell, Close, Status as Show};
+ghost use Rattle.hub_requests.specs.declared.request.Request.TheVariants.{About as Describe, Pub, Tell, Close, Status as Show};
 
 use crate::local_desk::{LocalDesk, LocalFifodir};
 use hub_letters::{Letter, State};
 use hub_record::{Closed, Kind, Letters, Limits, Record, Status};
-use hub_requests::{MOST_NAMES, Name, Refusal, Reply};
+use hub_requests::{About, MOST_NAMES, Name, Refusal, Reply};
 
 /// The publisher's number in a desk's own records.
-const PUBLISHER: u64 = 1;
+pub(super) const PUBLISHER: u64 = 1;
 
 impl LocalDesk {
     pub(super) fn make(
@@ -97,11 +97,37 @@ impl LocalDesk {
         };
         Reply::State(status)
     }
+
+    pub(super) fn about(&self, name: &Name) -> Reply
+        ensures { AsksWith false self.now (Describe name.now) result self.now }
+    {
+        let Some(fifodir) = self.fifodirs.get(name) else {
+            return Reply::No(Refusal::Name);
+        };
+        Reply::About(fifodir.about())
+    }
 }
 
 impl LocalFifodir {
+    /// What it is, and how much is there. The desk's own publisher isn't counted.
+    fn about(&self) -> About
+        ensures { (w : World) → Represents self.now.kept w → result ≡ about_in self.now.reports w }
+    {
+        let limits = self.kept.limits();
+        About {
+            kind: self.kept.kind(),
+            notifies: self.reports.unwrap_or(false),
+            waiting: limits.waiting,
+            total: limits.total,
+            policy: limits.policy,
+            subscriptions: self.kept.active() as u64,
+            publishers: 0,
+            pending: self.kept.load(),
+        }
+    }
+
     /// Publishes letters by the desk's publisher.
-    fn publish(&mut self, letters: &[Letter]) -> Reply
+    pub(super) fn publish(&mut self, letters: &[Letter]) -> Reply
         ensures reply { (w : World) → Represents self.old.kept w
             → result ≡ reply_to_publish (publish_reply w letters.now) }
         ensures after { (w : World) → Represents self.old.kept w

@@ -3,11 +3,10 @@ ghost use Rattle.std.specs.Prelude.{◌≡◌, ◌≤◌, ◌<◌, List, length,
 ghost use Rattle.indexmap.specs.IndexMap.{values, spare, insert_entry};
 ghost use Rattle.hub_record.specs.Kept.{Represents};
 ghost use Rattle.hub_record.specs.World.{World, letters, take_reply, take_events, after_take};
-ghost use Rattle.hub_requests.specs.declared.bounds.TheConstants.{MOST_TAKEN};
+ghost use Rattle.hub_letters.specs.declared.mode.TheConstants.{MOST_GATHERED};
 ghost use Rattle.hub_local.specs.Opening.{Begins, is_there};
 ghost use Rattle.hub_local.specs.DeskAnswers.{in_world, refusal_to_hold, subscribe_answer, take_shown};
 ghost use Rattle.hub_local.specs.Desks.{Desk, Fifodir, GoesOn, without_held, without_all, world_of};
-ghost use Rattle.hub_requests.specs.Ranges.{IsTake};
 ghost use Rattle.hub_local.specs.Replies.{subscribe_reply};
 ghost use Rattle.hub_local.specs.Representing.{AreKept, CarriesOut, AsksWith, HasSubscription, RepresentsDesk, Unchanged};
 ghost use Rattle.hub_requests.specs.declared.reply.Reply.TheVariants.{No};
@@ -63,7 +62,7 @@ impl LocalDesk {
     }
 
     pub(super) fn take(&mut self, id: u64, max: u64) -> Reply
-        requires { IsTake max }
+        requires { max ≤ MOST_GATHERED }
         ensures { AsksWith false self.old (Take id max) result self.new }
     {
         let Some(holding) = self.holdings.get(&id) else {
@@ -156,7 +155,7 @@ pub(super) fn release_all(
 /// memory runs out, nothing was taken.
 fn take_waiting(alloc: Global, kept: &mut Record, id: u64, most: usize) -> Result<Reply, AllocError>
     requires current { HasSubscription kept.old id }
-    requires few { most ≤ MOST_TAKEN }
+    requires few { most ≤ MOST_GATHERED }
     ensures reply { (w : World) → Represents kept.old w
         → IfOk result (λ reply. reply ≡ take_shown (letters (take_events w id most))
         (take_reply w id most)) }
@@ -177,7 +176,7 @@ fn take_letters(
     room: &mut [Event],
 ) -> Result<Reply, AllocError>
     requires current { HasSubscription kept.old id }
-    requires few { length room.old ≤ MOST_TAKEN }
+    requires few { length room.old ≤ MOST_GATHERED }
     ensures reply { (w : World) → Represents kept.old w
         → IfOk result (λ reply. reply ≡ take_shown
         (letters (take_events w id (length room.old))) (take_reply w id (length room.old))) }

@@ -3,13 +3,16 @@ ghost use Rattle.std.specs.Prelude.{◌≡◌, option_map, IfOk, IfSome, IfErr, 
 ghost use Rattle.std.specs.Str.{bytes_eq};
 ghost use Rattle.indexmap.specs.IndexMap.{get, keys};
 
-use super::{Found, Hub, HubError, Named};
+use super::named::Named;
+use super::{Found, Hub, HubError};
 use hub_fifodir::Enter;
 use hub_record::{Kind, Limits};
 use hub_requests::{MOST_NAMES, Name, Reply};
 use std::alloc::AllocError;
 use std::snapshot::Snapshot;
 use std::sync::{RwLockReadGuard, RwLockWriteGuard, Wait};
+
+pub(super) mod guarded;
 
 /// What a hub had under its names at one moment, as contracts see it: it has no bytes. Only the hub's own lock gives one.
 #[derive(Drop)]
@@ -27,7 +30,7 @@ impl NamesLook {
         ensures at { IsLookAt hub.now result }
         ensures seen { given_by result ≡ named.now }
     {
-        prove!(named.fifodirs.len() <= MOST_NAMES);
+        prove!(named.count() <= MOST_NAMES);
         NamesLook {
             hub: Snapshot::of(hub),
             named: Snapshot::of(named),

@@ -8,10 +8,11 @@ use std::alloc::Global;
 use std::process::Abort;
 use std::test::Fail;
 
-static OWN: [(Fault, &str); 11] = [
+static OWN: [(Fault, &str); 12] = [
     (Fault::Listen, "ftrighub: cannot listen\n"),
     (Fault::Taken, "ftrighub: another server listens there\n"),
     (Fault::Notify, "ftrighub: cannot notify\n"),
+    (Fault::Setup, "ftrighub: cannot read the setup\n"),
     (Fault::Restored, "ftrighub: socket file restored\n"),
     (Fault::Lost, "ftrighub: socket file lost\n"),
     (Fault::Idle { number: 12 }, "ftrighub: session 12: idle\n"),
@@ -28,11 +29,6 @@ static OWN: [(Fault, &str); 11] = [
     (Fault::Accept, "ftrighub: cannot accept\n"),
     (Fault::Connect, "ftrighub: cannot connect\n"),
     (Fault::Memory, "ftrighub: out of memory\n"),
-];
-
-static OF_SERVING: [(ServeError, &str); 2] = [
-    (ServeError::Spawn, "ftrighub: cannot start a session\n"),
-    (ServeError::Memory, "ftrighub: out of memory\n"),
 ];
 
 static OF_RELAYING: [(RelayError, &str); 7] = [
@@ -61,9 +57,8 @@ fn each_fault_has_its_line(rt: HostRuntime) {
     }
     let turns = Fault::from(FrontError::Turns);
     expect_line(&rt, rt.alloc(), turns, "ftrighub: too many reads\n");
-    for (fault, line) in &OF_SERVING {
-        expect_line(&rt, rt.alloc(), Fault::from(*fault), line);
-    }
+    let memory = Fault::from(ServeError::Memory);
+    expect_line(&rt, rt.alloc(), memory, "ftrighub: out of memory\n");
     for (fault, line) in &OF_RELAYING {
         expect_line(&rt, rt.alloc(), Fault::from(*fault), line);
     }

@@ -2,7 +2,7 @@
 ghost use Rattle.std.specs.Prelude.{None};
 
 use hub_io::{FrontError, Sink, Source};
-use hub_server::{Desks, Gate, Journal, Next, Session, Timed, serve_on};
+use hub_server::{Desks, Gate, Journal, Next, ServeError, Session, Timed, serve_on};
 use std::alloc::{AllocError, Global};
 use std::io::{Read, Write};
 use std::sync::atomic::{AtomicBool, Ordering};
@@ -204,7 +204,7 @@ impl<R: Source + Timed, W: Sink + Timed> Journal<R, W> for Telling {
         self.steps.add(Step::Fails);
     }
 
-    fn unstarted<H: Wait>(&mut self, _rt: &H) {}
+    fn unstarted<H: Wait>(&mut self, _rt: &H, _why: ServeError) {}
 }
 
 static EVENTS: [Event; 5] = [

@@ -30,19 +30,24 @@ impl Pause for AtOnce {
 pub(crate) struct Scene {
     pub(crate) fifodir: Shared,
     one: Publisher,
+    /// It publishes nothing.
+    other: Publisher,
     pub(crate) reader: Ticket,
     posts: Vec<Post>,
     ghost one_of: { IsPublisherOf (arc_value fifodir) one },
+    ghost other_of: { IsPublisherOf (arc_value fifodir) other },
     ghost reader_of: { IsTicketOf (arc_value fifodir) reader },
 }
 
 impl Scene {
     pub(crate) fn new<R: Abort + Wait + Enter>(rt: &R, alloc: Global, fifodir: Shared) -> Scene {
         let one = publisher(rt, &fifodir);
+        let other = publisher(rt, &fifodir);
         let reader = ticket(rt, &fifodir);
         Scene {
             fifodir,
             one,
+            other,
             reader,
             posts: Vec::new(alloc),
         }
@@ -68,6 +73,26 @@ impl Scene {
         match self.fifodir.kind() {
             Kind::Service => {
                 let _ = self.fifodir.tell(rt, &mut self.one, state);
+            }
+            Kind::Plain => {}
+        }
+    }
+
+    /// Tells where the service is, if the last event is the first publisher's. A plain fifodir isn't told.
+    pub(crate) fn tell_as_last<R: Wait>(&mut self, rt: &R, state: State) {
+        match self.fifodir.kind() {
+            Kind::Service => {
+                let _ = self.fifodir.tell_as_last(rt, &mut self.one, state);
+            }
+            Kind::Plain => {}
+        }
+    }
+
+    /// The same, by the publisher that published nothing.
+    pub(crate) fn tell_as_another<R: Wait>(&mut self, rt: &R, state: State) {
+        match self.fifodir.kind() {
+            Kind::Service => {
+                let _ = self.fifodir.tell_as_last(rt, &mut self.other, state);
             }
             Kind::Plain => {}
         }
@@ -113,6 +138,10 @@ impl Scene {
         self.fifodir.meet(rt, &mut self.one, &mut self.reader);
     }
 
+    pub(crate) fn count<R: Wait + Enter>(&self, rt: &R) {
+        let _ = self.fifodir.usage(rt);
+    }
+
     pub(crate) fn look(&mut self, call: Call) {
         match call {
             Call::Status => {
@@ -149,10 +178,12 @@ impl Scene {
         let Scene {
             fifodir,
             one,
+            other,
             reader,
             posts,
         } = self;
         fifodir.leave(rt, one);
+        fifodir.leave(rt, other);
         fifodir.cancel(rt, reader);
         end_all(rt, posts);
     }

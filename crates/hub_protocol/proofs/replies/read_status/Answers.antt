@@ -1,6 +1,7 @@
-use Rattle.std.proofs.Common.{◌≡◌, ◌∙◌, ◌∷◌, sym, refl, ap, arith}
+use Rattle.std.proofs.Common.{◌≡◌, ◌∙◌, ◌∷◌, [], sym, refl, ap, arith}
 use Rattle.std.specs.Fmt.{decimal}
 use Rattle.hub_letters.specs.Flags.{code_of}
+use Rattle.hub_requests.specs.Texts.{openness}
 use Rattle.hub_requests.specs.declared.reply.Reply.TheVariants.{State}
 use Rattle.hub_protocol.specs.Spelling.{fields_of}
 use Rattle.hub_protocol.specs.Lines.{pieces_of}
@@ -16,10 +17,26 @@ returns-in_err-flags c =
     let (small, is) = c.in_ok-code.ensures in
     let pieces = c.first_piece.ensures in
     let large = c.in_err-flags.ensures.coded in
-    rw c.from_residual-in_err-flags.ensures (no_status c.args.number (fields_of text) (no_fields text) (λ status e.
+    rw c.from_residual-in_err-flags.ensures (no_status c.args.number (fields_of text) c.ranges.number.fits (no_fields text) (λ status e.
     let digits : decimal c.in_ok-code.code ≡ decimal (code_of status.flags) = cc in
     let same : c.in_ok-code.code ≡ code_of status.flags = same_count c.in_ok-code.code (code_of status.flags) small (small_code status.flags) digits in
     omega (arith, large, same, below_sixteen status.flags)))
+
+pub returns-in_err-code : goal.returns-in_err-code
+returns-in_err-code c =
+    let text = c.args.text.now in
+    let pieces = c.first_piece.ensures in
+    rw c.from_residual.ensures (no_status c.args.number (fields_of text) c.ranges.number.fits (no_fields text) (λ status e.
+    let digits : c.first_piece.result.0.now ≡ decimal (code_of status.flags) = cc in
+    c.in_err-code.ensures (code_of status.flags) (small_code status.flags) digits))
+
+pub returns-in_err-closed : goal.returns-in_err-closed
+returns-in_err-closed c =
+    let text = c.args.text.now in
+    let pieces = c.first_piece.ensures in
+    rw c.from_residual-in_err-closed.ensures (no_status c.args.number (fields_of text) c.ranges.number.fits (no_fields text) (λ status e.
+    let rest : pieces_of c.first_piece.result.1 ≡ openness status.closed ∷ [] = cc in
+    c.in_err-closed.ensures status.closed rest))
 
 pub returns : goal.returns
 returns c =

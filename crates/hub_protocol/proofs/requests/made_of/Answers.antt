@@ -6,7 +6,7 @@ use Rattle.hub_protocol.proofs.FormRequests.{some_word}
 use Rattle.hub_protocol.proofs.requests.made_of.Goals as goal
 
 -- what isn't read as a word is the word of no request
-no_word : (c : goal.In_default) (r : Request) → c.args.word.now ≢ (form_of r).word
+no_word : (c : goal.In_default-word-2) (r : Request) → c.args.word.now ≢ (form_of r).word
 no_word c (Dir name waiting total evict) = search rules
 no_word c r = search rules
 

@@ -1,6 +1,7 @@
 use Rattle.std.proofs.Common.{◌≡◌, ◌++◌, ◌∷◌, [], ℕ, ◌+◌, List, refl, ap, ◌∙◌, nat_eq}
 use Rattle.std.specs.Map.{lookup}
 use Rattle.indexmap.proofs.CallerLemmas.{insert_entry-new}
+use Rattle.hub_requests.specs.Wills.{wills_in}
 use Rattle.hub_local.specs.Representing.{Local}
 use Rattle.hub_local.specs.declared.local_desk.Holding.{Holding}
 use Rattle.hub_local.proofs.Asking.{answers_from, represents_next}
@@ -23,7 +24,7 @@ returns-in-Ok c =
     ∙ insert_entry-new nat_eq c.begin.new.holdings n h (ap (lookup (nat_eq n)) c.in-Ok.ensures.same ∙ fresh_number _ c.self.invariant.desk c.self.invariant.represents)
     ∙ ap (λ (es : List (ℕ × Holding)). es ++ (n, h) ∷ []) c.in-Ok.ensures.same
     ∙ ap (λ (k : List ℕ). c.self.inside.holdings.entries ++ (n, record { name = k; id = c.in-Ok.id; hearing = c.args.hearing }) ∷ []) c.in-Ok.ensures.name)
-    refl)
+    refl refl)
 
 pub invariant_of-self : goal.invariant_of-self
 invariant_of-self c = represents_next _ c.args.self.now _ _ _ _ _ _ c.self.view_is (returns-in-Ok c) c.self.invariant
@@ -31,17 +32,17 @@ invariant_of-self c = represents_next _ c.args.self.now _ _ _ _ _ _ c.self.view_
 pub invariant_of-self-in-Err : goal.invariant_of-self-in-Err
 invariant_of-self-in-Err c = represents_next _ c.args.self.now _ _ _ _ _ _ c.self.view_is
     (answers_from c.self.view_is (hold_refused _ _ c.args.name.now c.args.hearing (unrefused_at c.args.name.now c.self.view_is c.requires.unrefused)
-    c.in-Err.refusal c.in-Err.ensures.begins c.in-Err.ensures.same refl _ refl)) c.self.invariant
+    c.in-Err.refusal c.in-Err.ensures.begins c.in-Err.ensures.same refl refl _ refl)) c.self.invariant
 
 pub invariant_of-self-in-Err-2 : goal.invariant_of-self-in-Err-2
 invariant_of-self-in-Err-2 c = represents_next _ c.args.self.now _ _ _ _ _ _ c.self.view_is
     (answers_from c.self.view_is (hold_refused _ _ c.args.name.now c.args.hearing (unrefused_at c.args.name.now c.self.view_is c.requires.unrefused)
-    c.in-Err.refusal c.in-Err.ensures.begins c.in-Err.ensures.same refl _ refl)) c.self.invariant
+    c.in-Err.refusal c.in-Err.ensures.begins c.in-Err.ensures.same refl refl _ refl)) c.self.invariant
 
 pub returns-in-Err : goal.returns-in-Err
 returns-in-Err c =
-    let after : Local = record { fifodirs = c.begin.new.fifodirs.entries; holdings = c.begin.new.holdings.entries; given = c.self.inside.given } in
+    let after : Local = record { fifodirs = c.begin.new.fifodirs.entries; holdings = c.begin.new.holdings.entries; given = c.self.inside.given; wills = wills_in c.self.inside.wills } in
     let ends = λ (now : Local) (is : now ≡ after).
     hold_refused _ after c.args.name.now c.args.hearing (unrefused_at c.args.name.now c.self.view_is c.requires.unrefused)
-    c.in-Err.refusal c.in-Err.ensures.begins c.in-Err.ensures.same refl now is in
+    c.in-Err.refusal c.in-Err.ensures.begins c.in-Err.ensures.same refl refl now is in
     answers_from c.self.view_is (elim c.match-hearing.branch [ in-Some-1 w ↦ ends _ w.self-is | in-None-1 w ↦ ends _ w.self-is ])

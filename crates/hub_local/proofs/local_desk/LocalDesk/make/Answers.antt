@@ -28,11 +28,11 @@ returns-in-Ok-insert c =
     answers_from c.self.view_is (make_done _ c.args.name.now _ _ _ absent (let n = c.len.ensures.len in let m = c.if-len-ge-MOST_NAMES.false in omega arith) _ c.in-Ok-new.kept c.in-Ok-new.ensures
     (c.in-Ok-insert.ensures.entries
     ∙ insert_entry-new bytes_eq c.self.inside.fifodirs c.in-Ok.key _ (none_of _ (ap (λ (k : List ℕ). is_some (lookup (bytes_eq k) c.self.inside.fifodirs.entries)) named ∙ absent))
-    ∙ ap (λ (k : List ℕ). c.self.inside.fifodirs.entries ++ (k, record { kept = c.in-Ok-new.kept; reports = c.args.reports }) ∷ []) named) refl refl)
+    ∙ ap (λ (k : List ℕ). c.self.inside.fifodirs.entries ++ (k, record { kept = c.in-Ok-new.kept; reports = c.args.reports }) ∷ []) named) refl refl refl)
 
 pub returns : goal.returns
 returns c =
-    answers_from c.self.view_is (make_lacks _ c.args.name.now _ _ _ (sym c.contains_key.ensures ∙ c.if-contains_key.false) (let n = c.len.ensures.len in let m = c.if-len-ge-MOST_NAMES.false in omega arith) _ (same_parts _ _ c.in-Err.ensures.err refl refl))
+    answers_from c.self.view_is (make_lacks _ c.args.name.now _ _ _ (sym c.contains_key.ensures ∙ c.if-contains_key.false) (let n = c.len.ensures.len in let m = c.if-len-ge-MOST_NAMES.false in omega arith) _ (same_parts _ _ c.in-Err.ensures.err refl refl refl))
 
 pub invariant_of-self : goal.invariant_of-self
 invariant_of-self c = represents_next _ c.args.self.now _ _ _ _ _ _ c.self.view_is (returns-in-Ok-insert c) c.self.invariant

@@ -1,4 +1,5 @@
 use Rattle.std.proofs.Common.{◌≡◌, ℕ, List, ◌++◌, length, Some, refl, sym, ap, ◌∙◌, arith}
+use Rattle.hub_requests.specs.Wills.{wills_in}
 use Rattle.hub_local.specs.Representing.{Local}
 use Rattle.hub_local.proofs.Asking.{answers_from, same_parts, represents_next}
 use Rattle.hub_listen.proofs.Singly.{never_spent}
@@ -10,7 +11,7 @@ use Rattle.hub_local.proofs.local_desk.LocalDesk.poll.Goals.{After-hear, in-Once
 pub returns-in_default-hearing : goal.returns-in_default-hearing
 returns-in_default-hearing c =
     answers_from c.self.view_is (poll_plain _ _ c.args.id c.in-Some.holding.now c.in-Some.ensures.value c.in_default-hearing.is
-    (same_parts _ _ refl ((c.get_mut.follows.holds _).0 ∙ same_hearing c.self.inside.holdings.entries c.args.id c.in-Some.holding.now _ refl (sym c.in-Some.ensures.value)) refl))
+    (same_parts _ _ refl ((c.get_mut.follows.holds _).0 ∙ same_hearing c.self.inside.holdings.entries c.args.id c.in-Some.holding.now _ refl (sym c.in-Some.ensures.value)) refl refl))
 
 pub invariant_of-self-in_default-hearing : goal.invariant_of-self-in_default-hearing
 invariant_of-self-in_default-hearing c = represents_next _ c.args.self.now _ _ _ _ _ _ c.self.view_is (returns-in_default-hearing c) c.self.invariant
@@ -19,7 +20,7 @@ pub returns-then-text-ge-MOST_GATHERED : goal.returns-then-text-ge-MOST_GATHERED
 returns-then-text-ge-MOST_GATHERED c =
     answers_from c.self.view_is (poll_overlong _ _ c.args.id c.in-Some.holding.now c.in-Some.ensures.value c.in-Some-hearing.hearing c.in-Some-hearing.is
     (let l = ap length c.text.ensures.value in let t = c.if-text-ge-MOST_GATHERED.true in omega arith)
-    (same_parts _ _ refl ((c.get_mut.follows.holds _).0 ∙ same_hearing c.self.inside.holdings.entries c.args.id c.in-Some.holding.now _ c.in-Some-hearing.is (sym c.in-Some.ensures.value)) refl))
+    (same_parts _ _ refl ((c.get_mut.follows.holds _).0 ∙ same_hearing c.self.inside.holdings.entries c.args.id c.in-Some.holding.now _ c.in-Some-hearing.is (sym c.in-Some.ensures.value)) refl refl))
 
 pub invariant_of-self-then-text-ge-MOST_GATHERED : goal.invariant_of-self-then-text-ge-MOST_GATHERED
 invariant_of-self-then-text-ge-MOST_GATHERED c = represents_next _ c.args.self.now _ _ _ _ _ _ c.self.view_is (returns-then-text-ge-MOST_GATHERED c) c.self.invariant
@@ -28,7 +29,7 @@ pub returns-in_default-with_capacity : goal.returns-in_default-with_capacity
 returns-in_default-with_capacity c =
     answers_from c.self.view_is (poll_lacks _ _ c.args.id c.in-Some.holding.now c.in-Some.ensures.value c.in-Some-hearing.hearing c.in-Some-hearing.is
     (let l = ap length c.text.ensures.value in let t = c.if-text-ge-MOST_GATHERED.false in omega arith)
-    (same_parts _ _ refl ((c.get_mut.follows.holds _).0 ∙ same_hearing c.self.inside.holdings.entries c.args.id c.in-Some.holding.now _ c.in-Some-hearing.is (sym c.in-Some.ensures.value)) refl))
+    (same_parts _ _ refl ((c.get_mut.follows.holds _).0 ∙ same_hearing c.self.inside.holdings.entries c.args.id c.in-Some.holding.now _ c.in-Some-hearing.is (sym c.in-Some.ensures.value)) refl refl))
 
 pub invariant_of-self-in_default-with_capacity : goal.invariant_of-self-in_default-with_capacity
 invariant_of-self-in_default-with_capacity c = represents_next _ c.args.self.now _ _ _ _ _ _ c.self.view_is (returns-in_default-with_capacity c) c.self.invariant
@@ -45,13 +46,14 @@ hear-requires-clause-unspent c =
 
 -- the desk as it was, and as it is after the look
 abbrev before : After-hear → Local
-before c = record { fifodirs = c.self.inside.fifodirs.entries; holdings = c.self.inside.holdings.entries; given = c.self.inside.given }
+before c = record { fifodirs = c.self.inside.fifodirs.entries; holdings = c.self.inside.holdings.entries; given = c.self.inside.given; wills = wills_in c.self.inside.wills }
 
 abbrev after : After-hear → Local
 after c = record {
   fifodirs = (c.get_mut-2.follows.lender (record c.in-Some-get_mut.fifodir.now { kept = c.hear.new.kept })).entries;
   holdings = (c.get_mut.follows.lender (record c.in-Some.holding.now { hearing = Some c.hear.new.hearing })).entries;
   given = c.self.inside.given;
+  wills = wills_in c.self.inside.wills;
 }
 
 look : (c : After-hear) → HasLooked (before c) (after c) c.args.id c.in-Some.holding.now c.in-Some-hearing.hearing c.hear.new.hearing c.in-Some-get_mut.fifodir.now c.hear.new.kept
@@ -59,7 +61,7 @@ look c = record {
   held_is = c.in-Some.ensures.value;
   hears = c.in-Some-hearing.is;
   room = (let l = ap length c.text.ensures.value in let t = c.if-text-ge-MOST_GATHERED.false in omega arith);
-  put = record { was = sym c.in-Some-get_mut.ensures.value; fifodirs = (c.get_mut-2.follows.holds _).0; holdings = (c.get_mut.follows.holds _).0; given = refl };
+  put = record { was = sym c.in-Some-get_mut.ensures.value; fifodirs = (c.get_mut-2.follows.holds _).0; holdings = (c.get_mut.follows.holds _).0; given = refl; wills = refl };
 }
 
 pub returns-in-Nothing : goal.returns-in-Nothing

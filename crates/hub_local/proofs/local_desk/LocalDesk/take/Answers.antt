@@ -16,9 +16,9 @@ returns c =
     let has = has_subscription _ c.self.invariant.desk c.self.invariant.represents c.args.id c.in-Some.holding.now c.in-Some.ensures.value c.in-Some-get_mut.fifodir.now c.in-Some-get_mut.ensures.value in
     answers_from c.self.view_is (elim c.match-take_waiting.branch [
       | in-Ok w ↦ take_done _ _ c.args.id c.args.max c.in-Some.holding.now c.in-Some.ensures.value (sym c.is_some.ensures ∙ c.if-is_some.false) c.in-Some-get_mut.fifodir.now c.take_waiting.new.kept
-          (record { was = sym c.in-Some-get_mut.ensures.value; fifodirs = (c.get_mut.follows.holds _).0; holdings = refl; given = refl }) _ _ has (λ v st. w.result-is ∙ w.in-Ok.ensures.reply v st) w.in-Ok.ensures.after refl
+          (record { was = sym c.in-Some-get_mut.ensures.value; fifodirs = (c.get_mut.follows.holds _).0; holdings = refl; given = refl; wills = refl }) _ _ has (λ v st. w.result-is ∙ w.in-Ok.ensures.reply v st) w.in-Ok.ensures.after refl
       | in-Err w ↦ take_lacks _ _ c.args.id c.args.max c.in-Some.holding.now c.in-Some.ensures.value (sym c.is_some.ensures ∙ c.if-is_some.false) c.in-Some-get_mut.fifodir.now c.take_waiting.new.kept
-          (record { was = sym c.in-Some-get_mut.ensures.value; fifodirs = (c.get_mut.follows.holds _).0; holdings = refl; given = refl }) _ w.in-Err.ensures.err w.result-is
+          (record { was = sym c.in-Some-get_mut.ensures.value; fifodirs = (c.get_mut.follows.holds _).0; holdings = refl; given = refl; wills = refl }) _ w.in-Err.ensures.err w.result-is
     ])
 
 pub invariant_of-self : goal.invariant_of-self

@@ -21,7 +21,7 @@ returns-in_default-with_capacity-2 c =
 pub returns-in-Ok-opened : goal.returns-in-Ok-opened
 returns-in-Ok-opened c =
     answers_from c.self.view_is (waits_for _ _ c.args.span c.args.want _ _ _ c.items-names.ensures
-    (wait_done _ _ c.args.span c.args.want c.items-names.result.now (sym c.in_default.ensures) c.open_all-opened.new.fifodirs.entries c.open_all-opened.new.posts.items refl refl
+    (wait_done _ _ c.args.span c.args.want c.items-names.result.now (sym c.in_default.ensures) c.open_all-opened.new.fifodirs.entries c.open_all-opened.new.posts.items refl refl refl
     (λ fs k. subst (λ (ps : List LocalPost). AreKept c.give_back.new.fifodirs.entries (without_posts fs c.items-names.result.now ps)) c.deref.ensures.value (c.give_back.ensures fs k))
     (λ fs k. c.in-Ok-opened.ensures.opens fs k) c.verdict_shown.result
     (c.verdict_shown.ensures ∙ ap (verdict_shown c.args.span) c.deref-in-Ok-opened.ensures.value)))
@@ -29,7 +29,7 @@ returns-in-Ok-opened c =
 pub returns : goal.returns
 returns c =
     answers_from c.self.view_is (waits_for _ _ c.args.span c.args.want _ _ _ c.items-names.ensures
-    (wait_stopped _ _ c.args.span c.args.want c.items-names.result.now (sym c.in_default.ensures) c.open_all-opened.new.fifodirs.entries c.open_all-opened.new.posts.items refl refl
+    (wait_stopped _ _ c.args.span c.args.want c.items-names.result.now (sym c.in_default.ensures) c.open_all-opened.new.fifodirs.entries c.open_all-opened.new.posts.items refl refl refl
     (λ fs k. subst (λ (ps : List LocalPost). AreKept c.give_back.new.fifodirs.entries (without_posts fs c.items-names.result.now ps)) c.deref.ensures.value (c.give_back.ensures fs k))
     c.in-Err.refusal (λ fs k. c.in-Err.ensures.opens fs k)))
 

@@ -1,0 +1,121 @@
+//! What the pieces of the reply to an `about` say.
+ghost use Rattle.std.specs.Prelude.{◌≡◌, ◌≢◌, ◌∷◌, [], ℕ, Bool, List, MatchOption};
+ghost use Rattle.std.specs.Fmt.{decimal};
+ghost use Rattle.hub_record.specs.declared.Kind.{Kind as kind};
+ghost use Rattle.hub_record.specs.declared.limits.Policy.{Policy as policy};
+ghost use Rattle.hub_requests.specs.declared.about.About.{About as about};
+ghost use Rattle.hub_requests.specs.Texts.{pieces_about, text_of_flag, word_of_kind, word_of_policy};
+ghost use Rattle.hub_protocol.specs.Lines.{pieces_of};
+ghost use Rattle.hub_protocol.specs.Replies.{IsCount, IsSoundAbout};
+
+use crate::line::{Rest, first_piece};
+use crate::reply_pieces::number_of;
+use hub_record::{Kind, Policy};
+use hub_requests::About;
+
+/// The kind that this word tells.
+pub fn kind_of(word: &[u8]) -> Option<Kind>
+    ensures { MatchOption result ((k : kind) → word.now ≢ word_of_kind k)
+        (λ k. word.now ≡ word_of_kind k) }
+{
+    match word {
+        b"dir" => Some(Kind::Plain),
+        b"svc" => Some(Kind::Service),
+        _ => None,
+    }
+}
+
+/// What all that is left tells of a fifodir of this kind.
+pub fn about_in(kind: Kind, rest: Rest<'_>) -> Option<About>
+    ensures { MatchOption result
+        ((it : about) → IsSoundAbout it → word_of_kind kind ∷ pieces_of rest.entry ≢ pieces_about it)
+        (λ it. IsSoundAbout it × (word_of_kind kind ∷ pieces_of rest.entry ≡ pieces_about it)) }
+{
+    let (notifies, rest) = flag_in(rest)?;
+    let (waiting, rest) = number_in(rest)?;
+    let (total, rest) = number_in(rest)?;
+    let (policy, rest) = policy_in(rest)?;
+    let (subscriptions, rest) = number_in(rest)?;
+    let (publishers, rest) = number_in(rest)?;
+    let pending = last_number(rest)?;
+    Some(About {
+        kind,
+        notifies,
+        waiting,
+        total,
+        policy,
+        subscriptions,
+        publishers,
+        pending,
+    })
+}
+
+fn flag_in(rest: Rest<'_>) -> Option<(bool, Rest<'_>)>
+    ensures { MatchOption result
+        ((flag : Bool) (more : List (List ℕ)) → pieces_of rest.entry ≢ text_of_flag flag ∷ more)
+        (λ p. pieces_of rest.entry ≡ text_of_flag p.0 ∷ pieces_of p.1) }
+{
+    let Rest::Text(text) = rest else {
+        return None;
+    };
+    let (word, rest) = first_piece(text);
+    Some((flag_of(word)?, rest))
+}
+
+fn flag_of(word: &[u8]) -> Option<bool>
+    ensures { MatchOption result ((flag : Bool) → word.now ≢ text_of_flag flag)
+        (λ flag. word.now ≡ text_of_flag flag) }
+{
+    match word {
+        b"0" => Some(false),
+        b"1" => Some(true),
+        _ => None,
+    }
+}
+
+fn policy_in(rest: Rest<'_>) -> Option<(Policy, Rest<'_>)>
+    ensures { MatchOption result
+        ((p : policy) (more : List (List ℕ)) → pieces_of rest.entry ≢ word_of_policy p ∷ more)
+        (λ p. pieces_of rest.entry ≡ word_of_policy p.0 ∷ pieces_of p.1) }
+{
+    let Rest::Text(text) = rest else {
+        return None;
+    };
+    let (word, rest) = first_piece(text);
+    Some((policy_of(word)?, rest))
+}
+
+fn policy_of(word: &[u8]) -> Option<Policy>
+    ensures { MatchOption result ((p : policy) → word.now ≢ word_of_policy p)
+        (λ p. word.now ≡ word_of_policy p) }
+{
+    match word {
+        b"hold" => Some(Policy::Hold),
+        b"evict" => Some(Policy::Evict),
+        _ => None,
+    }
+}
+
+fn number_in(rest: Rest<'_>) -> Option<(u64, Rest<'_>)>
+    ensures { MatchOption result
+        ((n : ℕ) (more : List (List ℕ)) → IsCount n → pieces_of rest.entry ≢ decimal n ∷ more)
+        (λ p. IsCount p.0 × (pieces_of rest.entry ≡ decimal p.0 ∷ pieces_of p.1)) }
+{
+    let Rest::Text(text) = rest else {
+        return None;
+    };
+    let (digits, rest) = first_piece(text);
+    Some((number_of(digits)?, rest))
+}
+
+// The number that is all that is left.
+fn last_number(rest: Rest<'_>) -> Option<u64>
+    ensures { MatchOption result ((n : ℕ) → IsCount n → pieces_of rest.entry ≢ decimal n ∷ [])
+        (λ n. IsCount n × (pieces_of rest.entry ≡ decimal n ∷ [])) }
+{
+    let (number, rest) = number_in(rest)?;
+    match rest {
+        Rest::Nothing => Some(number),
+        Rest::Text(_) => None,
+    }
+}
