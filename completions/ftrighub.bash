@@ -1,14 +1,16 @@
 # Completions of ftrighub for bash. tests/install compares them with `--help`.
 
-# Sets `place` to the number of words before the one to complete that are no options, and `socket` to the option for the socket.
+# Sets `place` to the number of words before the one to complete that are no options, and `socket` to the option for the socket. Of a
+# wait, `all` or `any` doesn't count, and is `span`.
 _ftrighub_before() {
     local at
-    place=0 socket=()
+    place=0 span="" socket=()
     for ((at = 2; at < COMP_CWORD; at++)); do
-        case ${COMP_WORDS[at]} in
-        --socket) socket=(--socket "${COMP_WORDS[++at]}") ;;
-        --for | --pattern | --tell | --waiting | --total) at=$((at + 1)) ;;
-        -*) ;;
+        case ${COMP_WORDS[1]}:$place$span:${COMP_WORDS[at]} in
+        *:--socket) socket=(--socket "${COMP_WORDS[++at]}") ;;
+        *:--for | *:--timeout | *:--pattern | *:--tell | *:--waiting | *:--total) at=$((at + 1)) ;;
+        *:-*) ;;
+        wait:0:all | wait:0:any) span=${COMP_WORDS[at]} ;;
         *) place=$((place + 1)) ;;
         esac
     done
@@ -29,12 +31,12 @@ _ftrighub_words() {
 }
 
 _ftrighub() {
-    local word=${COMP_WORDS[COMP_CWORD]} command="" words="" place socket
+    local word=${COMP_WORDS[COMP_CWORD]} command="" words="" place span socket
     ((COMP_CWORD == 1)) || command=${COMP_WORDS[1]}
     _ftrighub_before
     case $command:${COMP_WORDS[COMP_CWORD - 1]} in
     *:--socket | serve:--setup) command=FILES ;;
-    serve:--sessions | serve:--ready-fd | serve:--idle | wait:--for | follow:--pattern | make:--waiting | make:--total) return 0 ;;
+    serve:--sessions | serve:--ready-fd | serve:--idle | wait:--for | wait:--timeout | follow:--timeout | follow:--pattern | make:--waiting | make:--total) return 0 ;;
     serve:--mode) command=MODE ;;
     hold:--tell) command=STATE ;;
     esac
@@ -49,9 +51,11 @@ _ftrighub() {
     tell:*:-* | status:*:-*) words="-h --help --socket" ;;
     hold:*:-*) words="-h --help --socket --tell" ;;
     follow:*:-*) words="-h --help --socket --pattern --plain --once" ;;
-    :* | help:*) words="make tell hold wait status follow ask serve call script help" ;;
-    wait:0:*) words="all any" ;;
-    wait:1:*) words="up ready down finished restarted restarted-ready" ;;
+    :* | help:*) words="make tell wait status follow hold ask serve call script help" ;;
+    wait:0:*)
+        words="up ready down finished restarted restarted-ready"
+        [ -n "$span" ] || words="all any $words"
+        ;;
     tell:1:* | STATE:*) words="off down up ready failed" ;;
     hold:1:*) words="off down failed" ;;
     ask:0:*) words=$(_ftrighub_words) ;;
