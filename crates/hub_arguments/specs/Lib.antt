@@ -1,4 +1,3 @@
 pub mod Words
 pub mod Ranges
 pub mod Environment
-pub mod Wishes

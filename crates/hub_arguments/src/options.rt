@@ -29,14 +29,14 @@ pub(crate) fn flag<'a>(alloc: Global, word: &'a str) -> Arg<'a> {
     Arg::new(alloc, word).long(word).action(ArgAction::SetTrue)
 }
 
-/// What `--help` says of the argument for the socket of a hub.
-pub(crate) const SOCKET_HELP: &str = "Socket of the hub (or else FTRIGHUB_SOCKET has it)";
-
-/// The argument for the socket. Without it the socket has this path, if one is known.
-pub(crate) fn or_known<'a>(argument: Arg<'a>, known: Option<&'a str>) -> Arg<'a> {
+/// The option for the path of the socket. It isn't needed if the environment has a path.
+fn path<'a>(alloc: Global, known: Option<&'a str>) -> Arg<'a> {
+    let argument = valued(alloc, SOCKET, "PATH").help(
+        "Socket of the hub (or else FTRIGHUB_SOCKET has it)",
+    );
     match known {
-        Some(path) => argument.default_value(path).hide_default_value(true),
-        None => argument,
+        Some(socket) => argument.default_value(socket).hide_default_value(true),
+        None => argument.required(true),
     }
 }
 
@@ -48,11 +48,10 @@ pub(crate) fn asking<'a>(
     texts: (&'a str, &'a str),
 ) -> Made<'a> {
     let (about, lines) = texts;
-    let path = or_known(valued(alloc, SOCKET, "PATH").help(SOCKET_HELP), known);
     Command::new(alloc, word)
         .about(about)
         .after_help(lines)
-        .arg(path)
+        .arg(path(alloc, known))
 }
 
 /// One or more values behind the options.

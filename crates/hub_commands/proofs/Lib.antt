@@ -1,3 +1,6 @@
+pub mod Results
+pub mod CarriedOut
+pub mod Lines
 pub mod Requested
 pub mod Planned
 pub mod Lookings
@@ -9,5 +12,3 @@ pub mod Made
 pub mod Shapes
 pub mod Compared
 pub mod Makes
-pub mod Waits
-pub mod Followings

@@ -2,10 +2,7 @@ pub mod Looking
 pub mod Looks
 pub mod Streams
 pub mod Stops
-pub mod ServiceStates
-pub mod Descriptions
 pub mod Tables
-pub mod Json
 pub mod EventLines
 pub mod Subscribing
 pub mod Follows

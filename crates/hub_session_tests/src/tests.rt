@@ -5,7 +5,6 @@ mod dialers;
 mod doors;
 mod faults;
 mod gates;
-mod limits;
 mod memory;
 mod sockets;
 mod waits;

@@ -1,7 +1,5 @@
 //! A call of a server in the same process.
-use hub_dialing::{Dialer, call};
-use hub_endings::Fault;
-use hub_serving::{Enter, serve};
+use hub_commands::{Dialer, Enter, Fault, call, serve};
 use std::alloc::Global;
 use std::fs::Files;
 use std::net::Net;
