@@ -99,6 +99,26 @@ static void begin_waits(int *streams, int waits, const char *path, pid_t child)
     }
 }
 
+/* Whether a program serves for ever. */
+static int is_forever(char **program)
+{
+    while (*program != NULL && strcmp(*program, "--forever") != 0)
+        program++;
+    return *program != NULL;
+}
+
+/* Ends the server. A hub ends by itself when its clients have closed, unless it serves for ever, or its waits go on. */
+static void end_server(pid_t server, const char *kind, int goes_on)
+{
+    if (goes_on || strncmp(kind, "nats", 4) == 0) {
+        stop(server);
+        return;
+    }
+    if (strcmp(kind, "redis") == 0)
+        kill(server, SIGTERM);
+    wait_for(server);
+}
+
 static void ask_over_socket(const char *kind, int clients, int waits, long depth, long parts, const char *path, char **program)
 {
     static struct client all[MOST_CLIENTS];
@@ -125,12 +145,7 @@ static void ask_over_socket(const char *kind, int clients, int waits, long depth
     }
     for (int i = 0; i < clients; i++)
         pthread_join(all[i].thread, NULL);
-    if (strcmp(kind, "redis") == 0)
-        kill(child, SIGTERM);
-    if (waits > 0)
-        stop(child); /* (its waits go on for longer than this) */
-    else
-        wait_for(child);
+    end_server(child, kind, waits > 0 || is_forever(program));
     unlink(path);
     printf("%.0f\n", best);
 }

@@ -1,13 +1,16 @@
 #define _GNU_SOURCE
 #include "common.h"
 
+#include <arpa/inet.h>
 #include <errno.h>
+#include <netinet/tcp.h>
 #include <sched.h>
 #include <signal.h>
 #include <stdio.h>
 #include <stdlib.h>
 #include <string.h>
 #include <sys/prctl.h>
+#include <sys/resource.h>
 #include <sys/socket.h>
 #include <sys/un.h>
 #include <sys/wait.h>
@@ -32,9 +35,14 @@ void die(const char *message)
 
 void begin_program(int count, int wanted, const char *usage)
 {
+    struct rlimit files;
     alarm(100);
     if (count < wanted)
         die(usage);
+    if (getrlimit(RLIMIT_NOFILE, &files) == 0) {
+        files.rlim_cur = files.rlim_max;
+        setrlimit(RLIMIT_NOFILE, &files);
+    }
 }
 
 long number_of(const char *word)
@@ -98,9 +106,37 @@ static void hub_setup(struct load *load, const char *fifodir, size_t count)
     load->setup_count = count;
 }
 
+/* The load of NATS: each message is acknowledged, or only a PING behind them. */
+static void nats_load(struct load *load, int is_answered)
+{
+    load->setup_count = 1;
+    load->setup[0] = line_of(is_answered ? NATS_HELLO("true") : NATS_HELLO("false"), "");
+    load->setup_end = NATS_PONG;
+    if (!is_answered)
+        load->last = line_of("PING\r\n", "");
+    struct line one = line_of("PUB hub 1\r\na\r\n", "");
+    circle(load, one, one, 1);
+}
+
+/* The load of a peer, if it is of this kind. */
+static int peer_load(struct load *load, const char *kind)
+{
+    if (strcmp(kind, "redis") == 0) {
+        struct line one = line_of("*3\r\n$7\r\nPUBLISH\r\n$3\r\nhub\r\n$1\r\na\r\n", "");
+        load->setup_count = 0;
+        circle(load, one, one, 1);
+        return 1;
+    }
+    int is_answered = strcmp(kind, "nats") == 0;
+    if (!is_answered && strcmp(kind, "nats-pings") != 0)
+        return 0;
+    nats_load(load, is_answered);
+    return 1;
+}
+
 struct load load_of(const char *kind, const char *fifodir)
 {
-    struct load load = { NULL, 0, NULL, 0, 0 };
+    struct load load = { .setup_end = "\n", .last = { "", 0 } };
     struct line one = line_of("pub %s a\n", fifodir);
     struct line status = line_of("status %s\n", fifodir);
     hub_setup(&load, fifodir, 2);
@@ -120,11 +156,7 @@ struct load load_of(const char *kind, const char *fifodir)
         hub_setup(&load, where, 1);
         one = line_of("pub %s a\n", where);
         circle(&load, one, one, 1);
-    } else if (strcmp(kind, "redis") == 0) {
-        load.setup_count = 0;
-        one = line_of("*3\r\n$7\r\nPUBLISH\r\n$3\r\nhub\r\n$1\r\na\r\n", "");
-        circle(&load, one, one, 1);
-    } else {
+    } else if (!peer_load(&load, kind)) {
         die("no load of this kind");
     }
     return load;
@@ -141,24 +173,30 @@ void write_all(int to, const char *bytes, size_t length)
     }
 }
 
-void request(int from, int to, struct line line, char reply[LONGEST_REPLY])
+void read_until(int from, const char *end, size_t length, char reply[LONGEST_REPLY])
 {
-    size_t length = 0;
-    write_all(to, line.text, line.length);
+    size_t came = 0;
     do {
-        ssize_t more = read(from, reply + length, LONGEST_REPLY - 1 - length);
+        ssize_t more = read(from, reply + came, LONGEST_REPLY - 1 - came);
         if (more <= 0)
             die("no reply came");
-        length += (size_t)more;
-    } while (reply[length - 1] != '\n');
-    reply[length] = '\0';
+        came += (size_t)more;
+    } while (came < length || memcmp(reply + came - length, end, length) != 0);
+    reply[came] = '\0';
+}
+
+void request(int from, int to, struct line line, char reply[LONGEST_REPLY])
+{
+    write_all(to, line.text, line.length);
+    read_until(from, "\n", 1, reply);
 }
 
 void send_setup(int from, int to, const struct load *load)
 {
     char reply[LONGEST_REPLY];
     for (size_t i = 0; i < load->setup_count; i++) {
-        request(from, to, load->setup[i], reply);
+        write_all(to, load->setup[i].text, load->setup[i].length);
+        read_until(from, load->setup_end, strlen(load->setup_end), reply);
         if (strncmp(reply, "no ", 3) == 0 && strcmp(reply, "no exists\n") != 0)
             die("a line of the setup was refused");
     }
@@ -175,24 +213,36 @@ void send_circle(int from, int to, struct load *load, long count)
     }
 }
 
-/* Reads so many lines, and dies where one of them refuses. */
-static void read_replies(int from, long count)
+void read_replies(int from, long count)
 {
-    char bytes[LONGEST_REPLY];
-    /* (how much of "\nno " came last) */
-    int seen = 1, refused = 0;
+    char bytes[LONGEST_REPLY], front[4] = "";
+    size_t length = 0;
+    int refused = 0;
     while (count > 0) {
         ssize_t more = read(from, bytes, sizeof bytes);
         if (more <= 0)
             die("no reply came");
         for (ssize_t i = 0; i < more; i++) {
-            refused |= (seen == 3 && bytes[i] == ' ') || (seen == 1 && bytes[i] == '-');
-            seen = bytes[i] == '\n' ? 1 : seen > 0 && seen < 3 && bytes[i] == "\nno"[seen] ? seen + 1 : 0;
-            count -= bytes[i] == '\n';
+            if (length < sizeof front)
+                front[length++] = bytes[i];
+            if (bytes[i] != '\n')
+                continue;
+            refused |= front[0] == '-' || memcmp(front, "no ", 3) == 0;
+            count -= memcmp(front, "PING", sizeof front) != 0;
+            length = 0;
         }
     }
     if (refused)
         die("a line was refused");
+}
+
+/* Adds a line to the first bytes of some, of which there are so many, and returns how many there are then. */
+static size_t add_line(char *lines, size_t length, size_t most, struct line line)
+{
+    if (length + line.length > most)
+        die("the lines are too long for this depth");
+    memcpy(lines + length, line.text, line.length);
+    return length + line.length;
 }
 
 void send_deep(int from, int to, struct load *load, long depth, long count)
@@ -201,15 +251,12 @@ void send_deep(int from, int to, struct load *load, long depth, long count)
     for (long sent = 0; sent < count; sent += depth) {
         size_t length = 0;
         for (long i = 0; i < depth; i++) {
-            struct line line = load->circle[load->place];
-            if (length + line.length > sizeof lines)
-                die("the lines are too long for this depth");
-            memcpy(lines + length, line.text, line.length);
-            length += line.length;
+            length = add_line(lines, length, sizeof lines, load->circle[load->place]);
             load->place = (load->place + 1) % load->circle_count;
         }
+        length = add_line(lines, length, sizeof lines, load->last);
         write_all(to, lines, length);
-        read_replies(from, depth);
+        read_replies(from, load->last.length > 0 ? 1 : depth);
     }
 }
 
@@ -263,18 +310,42 @@ void wait_for(pid_t program)
         die("the program failed");
 }
 
+union address {
+    struct sockaddr any;
+    struct sockaddr_un local;
+    struct sockaddr_in port;
+};
+
+/* The address that a path is, and its length. */
+static socklen_t address_of(const char *path, union address *address)
+{
+    memset(address, 0, sizeof *address);
+    if (strncmp(path, "tcp:", 4) == 0) {
+        address->port.sin_family = AF_INET;
+        address->port.sin_port = htons((uint16_t)number_of(path + 4));
+        address->port.sin_addr.s_addr = htonl(INADDR_LOOPBACK);
+        return sizeof address->port;
+    }
+    if (strlen(path) >= sizeof address->local.sun_path)
+        die("the socket's path is too long");
+    address->local.sun_family = AF_UNIX;
+    strcpy(address->local.sun_path, path);
+    return sizeof address->local;
+}
+
 int connect_to(const char *path, pid_t program)
 {
-    struct sockaddr_un address = { .sun_family = AF_UNIX };
+    union address address;
+    socklen_t length = address_of(path, &address);
     double give_up = now() + 10;
-    if (strlen(path) >= sizeof address.sun_path)
-        die("the socket's path is too long");
-    strcpy(address.sun_path, path);
     while (now() < give_up) {
-        int status;
-        int stream = socket(AF_UNIX, SOCK_STREAM | SOCK_CLOEXEC, 0);
-        if (connect(stream, (struct sockaddr *)&address, sizeof address) == 0)
+        int status, at_once = 1;
+        int stream = socket(address.any.sa_family, SOCK_STREAM | SOCK_CLOEXEC, 0);
+        if (connect(stream, &address.any, length) == 0) {
+            if (address.any.sa_family == AF_INET)
+                setsockopt(stream, IPPROTO_TCP, TCP_NODELAY, &at_once, sizeof at_once);
             return stream;
+        }
         close(stream);
         if (waitpid(program, &status, WNOHANG) == program) {
             running = 0;

@@ -2,8 +2,9 @@
  * has the last one. The publisher sends many messages at once, and is ahead of the slowest by at most `WINDOW` letters, so that
  * no server refuses a message or drops one.
  *
- *     fan hub TAKERS MESSAGES SIZE PATH PROGRAM [WORD ..]          sessions that `await` and `take` 256, some times ahead
+ *     fan hub TAKERS MESSAGES SIZE PATH PROGRAM [WORD ..]          sessions that ask by `next`, some times ahead
  *     fan redis TAKERS MESSAGES SIZE PATH PROGRAM [WORD ..]        subscribers of a channel
+ *     fan nats TAKERS MESSAGES SIZE PATH PROGRAM [WORD ..]         subscribers of a subject; no message is acknowledged
  *     fan mosquitto TAKERS MESSAGES SIZE PATH PROGRAM [WORD ..]    subscribers of a topic, at quality 0
  */
 #define _GNU_SOURCE
@@ -16,18 +17,28 @@
 #include <string.h>
 #include <unistd.h>
 
-enum { MOST_TAKERS = 64, WINDOW = 4096, BURST = 1024, MOST_SIZE = 256, MOST_FRAME = 512, AHEAD = 32 };
+enum { MOST_TAKERS = 1024, WINDOW = 4096, BURST = 1024, MOST_SIZE = 256, MOST_FRAME = 512, AHEAD = 32 };
+
+/* What a thread reads at once, and how large its stack is. */
+enum { CHUNK = 1 << 16, STACK = 4 * CHUNK };
+
+/* What NATS sends between messages, to see whether its client is there. */
+static const char PING[] = "PING\r\n";
 
 struct bytes {
     char bytes[MOST_FRAME];
     size_t length;
 };
 
+/* Something that is sent once, and how what answers it ends. If it is empty, it isn't sent. */
+struct once {
+    struct bytes sent, end;
+};
+
 /* What is sent to a server, and what comes from it. */
 struct server {
-    /* What a client sends first, and a taker after that, and the lengths of the replies. */
-    struct bytes hello, subscribe;
-    size_t greeted, subscribed;
+    /* The publisher's first, then that of each client, and then that of each taker. */
+    struct once setup, hello, subscribe;
     /* A message as it is sent, and as a taker gets it; if that is empty, takers have to ask. */
     struct bytes sent, got;
     /* Whether the publisher gets a line for each message. */
@@ -39,8 +50,8 @@ struct taker {
     const struct server *server;
     int stream;
     long size, wanted;
-    /* So many bytes came, so many of them in whole pairs of replies, and so many lines. */
-    long came, counted, lines;
+    /* So many bytes came. So many messages began, or so many lines ended, and the next one begins at this byte. */
+    long came, count, next;
     /* So many letters came. */
     atomic_long taken;
 };
@@ -52,6 +63,26 @@ static struct bytes around(const char *front, const char *letters, const char *e
 {
     struct bytes made = { .length = 0 };
     made.length = (size_t)snprintf(made.bytes, sizeof made.bytes, "%s%s%s", front, letters, end);
+    return made;
+}
+
+/* The same, of which %ld in the front is the size. */
+static struct bytes sized(const char *form, const char *letters, const char *end)
+{
+    char front[64];
+    snprintf(front, sizeof front, form, (long)strlen(letters));
+    return around(front, letters, end);
+}
+
+static struct once once(const char *sent, const char *end)
+{
+    return (struct once){ around(sent, "", ""), around(end, "", "") };
+}
+
+static struct bytes raw(const char *from, size_t length)
+{
+    struct bytes made = { .length = length };
+    memcpy(made.bytes, from, length);
     return made;
 }
 
@@ -68,90 +99,147 @@ static struct bytes packet(int type, const char *rest, size_t length)
     return made;
 }
 
+static struct server hub(const char *letters)
+{
+    return (struct server){
+        .setup = once("dir hub 4096 1000000000000\n", "ok\n"),
+        .subscribe = once("sub hub\n", "ok 1\n"),
+        .sent = around("pub hub ", letters, "\n"),
+        .is_answered = 1,
+    };
+}
+
+static struct server redis(const char *letters)
+{
+    return (struct server){
+        .subscribe = once("*2\r\n$9\r\nSUBSCRIBE\r\n$3\r\nhub\r\n", "*3\r\n$9\r\nsubscribe\r\n$3\r\nhub\r\n:1\r\n"),
+        .sent = sized("*3\r\n$7\r\nPUBLISH\r\n$3\r\nhub\r\n$%ld\r\n", letters, "\r\n"),
+        .got = sized("*3\r\n$7\r\nmessage\r\n$3\r\nhub\r\n$%ld\r\n", letters, "\r\n"),
+        .is_answered = 1,
+    };
+}
+
+static struct server nats(const char *letters)
+{
+    return (struct server){
+        .hello = once(NATS_HELLO("false"), NATS_PONG),
+        .subscribe = once("SUB hub 1\r\nPING\r\n", NATS_PONG),
+        .sent = sized("PUB hub %ld\r\n", letters, "\r\n"),
+        .got = sized("MSG hub 1 %ld\r\n", letters, "\r\n"),
+    };
+}
+
+/* CONNECT is without a name and with a clean session. */
+static struct server mosquitto(const char *letters)
+{
+    char message[MOST_FRAME];
+    size_t length = strlen(letters) + 5;
+    memcpy(message, "\0\3hub", 5);
+    memcpy(message + 5, letters, length - 5);
+    return (struct server){
+        .hello = { packet(0x10, "\0\4MQTT\4\2\0\0\0\0", 12), raw("\x20\2\0\0", 4) },
+        .subscribe = { packet(0x82, "\0\1\0\3hub\0", 8), raw("\x90\3\0\1\0", 5) },
+        .sent = packet(0x30, message, length),
+        .got = packet(0x30, message, length),
+    };
+}
+
 static struct server server_of(const char *kind, long size)
 {
-    struct server server = { .is_answered = 1 };
-    char letters[MOST_SIZE + 1] = "", front[64], topic[MOST_SIZE + 5] = "\0\3hub";
+    static const struct { const char *kind; struct server (*of)(const char *letters); } servers[] = {
+        { "hub", hub }, { "redis", redis }, { "nats", nats }, { "mosquitto", mosquitto },
+    };
+    char letters[MOST_SIZE + 1] = "";
     memset(letters, 'a', (size_t)size);
-    if (strcmp(kind, "hub") == 0) {
-        server.subscribe = around("sub hub\n", "", "");
-        server.subscribed = strlen("ok 1\n");
-        server.sent = around("pub hub ", letters, "\n");
-    } else if (strcmp(kind, "redis") == 0) {
-        server.subscribe = around("*2\r\n$9\r\nSUBSCRIBE\r\n$3\r\nhub\r\n", "", "");
-        server.subscribed = strlen("*3\r\n$9\r\nsubscribe\r\n$3\r\nhub\r\n:1\r\n");
-        snprintf(front, sizeof front, "*3\r\n$7\r\nPUBLISH\r\n$3\r\nhub\r\n$%ld\r\n", size);
-        server.sent = around(front, letters, "\r\n");
-        snprintf(front, sizeof front, "*3\r\n$7\r\nmessage\r\n$3\r\nhub\r\n$%ld\r\n", size);
-        server.got = around(front, letters, "\r\n");
-    } else if (strcmp(kind, "mosquitto") == 0) {
-        /* CONNECT, without a name and with a clean session, is answered by four bytes, and SUBSCRIBE by five. */
-        server.hello = packet(0x10, "\0\4MQTT\4\2\0\0\0\0", 12);
-        server.greeted = 4;
-        server.subscribe = packet(0x82, "\0\1\0\3hub\0", 8);
-        server.subscribed = 5;
-        memcpy(topic + 5, letters, (size_t)size);
-        server.sent = server.got = packet(0x30, topic, (size_t)size + 5);
-        server.is_answered = 0;
-    } else {
-        die("no server of this kind");
-    }
-    return server;
+    for (size_t i = 0; i < sizeof servers / sizeof servers[0]; i++)
+        if (strcmp(kind, servers[i].kind) == 0)
+            return servers[i].of(letters);
+    die("no server of this kind");
 }
 
-/* Sends something, and reads so many bytes that answer it. */
-static void send_and_read(int stream, const struct bytes *bytes, size_t length)
+static void send_once(int stream, const struct once *once)
 {
-    char reply[MOST_FRAME];
-    write_all(stream, bytes->bytes, bytes->length);
-    while (length > 0) {
-        ssize_t more = read(stream, reply, length);
-        if (more <= 0)
-            die("a connection ended");
-        length -= (size_t)more;
-    }
+    char reply[LONGEST_REPLY];
+    if (once->sent.length == 0)
+        return;
+    write_all(stream, once->sent.bytes, once->sent.length);
+    read_until(stream, once->end.bytes, once->end.length, reply);
 }
 
-/* Sends so many times `await` and `take`. */
+/* Sends `next` so many times. */
 static void ask(int stream, long times)
 {
-    static const char lines[] = "await 1 1000000\ntake 1 256\n";
-    char burst[AHEAD * sizeof lines];
+    static const char line[] = "next 1 1000000\n";
+    char burst[AHEAD * sizeof line];
     for (long i = 0; i < times; i++)
-        memcpy(burst + (size_t)i * (sizeof lines - 1), lines, sizeof lines - 1);
-    write_all(stream, burst, (size_t)times * (sizeof lines - 1));
+        memcpy(burst + (size_t)i * (sizeof line - 1), line, sizeof line - 1);
+    write_all(stream, burst, (size_t)times * (sizeof line - 1));
 }
 
-/* Counts whole pairs of replies, `ok` and `got LETTERS`, in what came, and the bytes up to the end of the last one. */
-static void count_pairs(struct taker *taker, const char *bytes, size_t length)
+/* The letters of all whole lines `got LETTERS` so far, with those in what came. */
+static long letters_of_lines(struct taker *taker, const char *bytes, size_t length)
 {
-    const char *end, *from = bytes;
-    while ((end = memchr(from, '\n', (size_t)(bytes + length - from))) != NULL) {
-        from = end + 1;
-        if (++taker->lines % 2 == 0)
-            taker->counted = taker->came + (from - bytes);
+    static const long OTHERS = sizeof "got \n" - 1;
+    const char *from = bytes, *end = bytes + length, *last = bytes;
+    int is_begun = taker->came > taker->next;
+    while (from < end && last != NULL) {
+        if (!is_begun && *from != 'g')
+            die("a request was refused");
+        last = memchr(from, '\n', (size_t)(end - from));
+        is_begun = last == NULL;
+        if (last != NULL) {
+            from = last + 1;
+            taker->count++;
+            taker->next = taker->came + (from - bytes);
+        }
     }
     taker->came += (long)length;
+    return taker->next - OTHERS * taker->count;
+}
+
+/* The letters of all whole messages so far, with those in what came. */
+static long letters_of_messages(struct taker *taker, const char *bytes, size_t length)
+{
+    long message = (long)taker->server->got.length, ping = sizeof PING - 1, came = taker->came + (long)length;
+    while (taker->next < came) {
+        int is_ping = bytes[taker->next - taker->came] == PING[0];
+        taker->next += is_ping ? ping : message;
+        taker->count += !is_ping;
+    }
+    taker->came = came;
+    return (taker->count - (taker->next > came)) * taker->size;
 }
 
 static void *run_taker(void *of)
 {
-    static const long OTHERS = sizeof "ok\ngot \n" - 1;
     struct taker *taker = of;
-    char bytes[1 << 16];
-    long frame = (long)taker->server->got.length, asked = 0;
+    char bytes[CHUNK];
+    int has_to_ask = taker->server->got.length == 0;
+    long asked = 0;
     while (taker->taken < taker->wanted) {
-        if (frame == 0 && asked - taker->lines / 2 <= AHEAD / 2) {
+        if (has_to_ask && asked - taker->count <= AHEAD / 2) {
             ask(taker->stream, AHEAD / 2);
             asked += AHEAD / 2;
         }
         ssize_t more = read(taker->stream, bytes, sizeof bytes);
-        if (more <= 0 || strncmp(bytes, "no ", 3) == 0)
-            die("a connection ended, or a request was refused");
-        count_pairs(taker, bytes, (size_t)more);
-        taker->taken = frame == 0 ? taker->counted - OTHERS * (taker->lines / 2) : taker->came / frame * taker->size;
+        if (more <= 0)
+            die("a connection ended");
+        long (*letters_of)(struct taker *, const char *, size_t) = has_to_ask ? letters_of_lines : letters_of_messages;
+        taker->taken = letters_of(taker, bytes, (size_t)more);
     }
     return NULL;
+}
+
+static void start_taker(struct taker *taker)
+{
+    pthread_attr_t small;
+    send_once(taker->stream, &taker->server->hello);
+    send_once(taker->stream, &taker->server->subscribe);
+    pthread_attr_init(&small);
+    pthread_attr_setstacksize(&small, STACK);
+    if (pthread_create(&taker->thread, &small, run_taker, taker) != 0)
+        die("no thread");
+    pthread_attr_destroy(&small);
 }
 
 static long slowest(int count)
@@ -161,19 +249,6 @@ static long slowest(int count)
         if (takers[i].taken < least)
             least = takers[i].taken;
     return least;
-}
-
-/* Reads a line for each of so many messages. */
-static void read_lines(int from, long count)
-{
-    char bytes[LONGEST_REPLY];
-    while (count > 0) {
-        ssize_t more = read(from, bytes, sizeof bytes);
-        if (more <= 0 || strncmp(bytes, "no ", 3) == 0)
-            die("a message was refused");
-        for (ssize_t i = 0; i < more; i++)
-            count -= bytes[i] == '\n';
-    }
 }
 
 static void publish(int stream, const struct server *server, long messages, long size, int count)
@@ -188,14 +263,14 @@ static void publish(int stream, const struct server *server, long messages, long
             memcpy(burst + (size_t)i * server->sent.length, server->sent.bytes, server->sent.length);
         write_all(stream, burst, (size_t)now * server->sent.length);
         if (server->is_answered)
-            read_lines(stream, now);
+            read_replies(stream, now);
         sent += now;
     }
 }
 
 int main(int words, char **word)
 {
-    begin_program(words, 7, "usage: fan hub|redis|mosquitto TAKERS MESSAGES SIZE PATH PROGRAM ..");
+    begin_program(words, 7, "usage: fan hub|redis|nats|mosquitto TAKERS MESSAGES SIZE PATH PROGRAM ..");
     long count = number_of(word[2]), messages = number_of(word[3]), size = number_of(word[4]);
     if (count > MOST_TAKERS || size > MOST_SIZE)
         die("too many takers, or too long messages");
@@ -203,17 +278,11 @@ int main(int words, char **word)
     int nothing = open("/dev/null", O_RDWR | O_CLOEXEC);
     pid_t child = start(word + 6, nothing, nothing);
     int publisher = connect_to(word[5], child);
-    struct bytes make = around("dir hub 4096 1000000000000\n", "", "");
-    if (server.got.length == 0)
-        send_and_read(publisher, &make, strlen("ok\n"));
-    send_and_read(publisher, &server.hello, server.greeted);
+    send_once(publisher, &server.setup);
+    send_once(publisher, &server.hello);
     for (long i = 0; i < count; i++) {
-        struct taker *taker = &takers[i];
-        *taker = (struct taker){ .server = &server, .stream = connect_to(word[5], child), .size = size, .wanted = messages * size };
-        send_and_read(taker->stream, &server.hello, server.greeted);
-        send_and_read(taker->stream, &server.subscribe, server.subscribed);
-        if (pthread_create(&taker->thread, NULL, run_taker, taker) != 0)
-            die("no thread");
+        takers[i] = (struct taker){ .server = &server, .stream = connect_to(word[5], child), .size = size, .wanted = messages * size };
+        start_taker(&takers[i]);
     }
     double begun = now();
     publish(publisher, &server, messages, size, (int)count);

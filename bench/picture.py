@@ -20,6 +20,7 @@ GROUPS = {
     "pipe": "One request at a time over a pipe: rates",
     "socket": "Over a Unix socket: rates",
     "fan-out": "From one publisher to many who take all: rates",
+    "crowd": "One publisher while many wait for its service: rates",
     "wake": "From a message until all who wait have it: times",
     "library": "Two threads that answer each other: times",
     "record": "A record by itself: rates",

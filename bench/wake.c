@@ -3,6 +3,7 @@
  *
  *     wake hub WAITERS ROUNDS PATH PROGRAM [WORD ..]      sessions in a `wait`, until they have its reply
  *     wake await WAITERS ROUNDS PATH PROGRAM [WORD ..]    sessions in an `await`, until they have the reply of a `poll` after it
+ *     wake next WAITERS ROUNDS PATH PROGRAM [WORD ..]     sessions of a listener in a `next`, until they have its reply
  *     wake redis WAITERS ROUNDS PATH PROGRAM [WORD ..]    subscribers of a channel, until they have the message
  *     wake call ROUNDS PATH PROGRAM [WORD ..]             a process `PROGRAM call PATH` in a `wait`, until it has ended
  *     wake ftrig ROUNDS FIFODIR                           a process `s6-ftrig-wait FIFODIR u`, until it has ended
@@ -43,6 +44,12 @@ static const struct talk AWAIT = {
     "ok 1\n", "ok\n",
 };
 
+static const struct talk NEXT = {
+    "listen db repeat u\n", "next 1 1000000\n", "",
+    { "dir db 4096 1000000000000\n", "" }, "pub db u\n", "",
+    "ok 1\n", "hit u\n",
+};
+
 static const struct talk REDIS = {
     "*2\r\n$9\r\nSUBSCRIBE\r\n$3\r\nhub\r\n", "", "",
     { "", "" }, "*3\r\n$7\r\nPUBLISH\r\n$3\r\nhub\r\n$1\r\na\r\n", "",
@@ -74,18 +81,12 @@ static void print_delays(size_t count)
     printf("%.0f %.0f\n", 1e6 * delays[count / 2], 1e6 * delays[count * 99 / 100]);
 }
 
-/* Reads until what came ends so. */
-static void read_until(int from, const char *end)
+/* Reads until what came ends so, and dies where it is a refusal. */
+static void read_answer(int from, const char *end)
 {
-    char bytes[LONGEST_REPLY];
-    size_t length = 0, last = strlen(end);
-    do {
-        ssize_t more = read(from, bytes + length, sizeof bytes - length);
-        if (more <= 0)
-            die("no reply came");
-        length += (size_t)more;
-    } while (length < last || memcmp(bytes + length - last, end, last) != 0);
-    if (strncmp(bytes, "no ", 3) == 0 || bytes[0] == '-')
+    char reply[LONGEST_REPLY];
+    read_until(from, end, strlen(end), reply);
+    if (strncmp(reply, "no ", 3) == 0 || reply[0] == '-')
         die("a line was refused");
 }
 
@@ -99,7 +100,7 @@ static void send_line(int stream, const char *line)
 {
     if (*line != '\0') {
         send_text(stream, line);
-        read_until(stream, "\n");
+        read_answer(stream, "\n");
     }
 }
 
@@ -108,12 +109,12 @@ static void *run_waiter(void *of)
     struct waiter *waiter = of;
     if (*waiter->talk->once != '\0') {
         send_text(waiter->stream, waiter->talk->once);
-        read_until(waiter->stream, waiter->talk->end_of_once);
+        read_answer(waiter->stream, waiter->talk->end_of_once);
     }
     for (long round = 0; round < waiter->rounds; round++) {
         pthread_barrier_wait(waiter->turn);
         send_text(waiter->stream, waiter->talk->wait);
-        read_until(waiter->stream, waiter->talk->end_of_event);
+        read_answer(waiter->stream, waiter->talk->end_of_event);
         send_line(waiter->stream, waiter->talk->then);
         waiter->came[round] = now();
         pthread_barrier_wait(waiter->turn);
@@ -187,7 +188,7 @@ static void wake_calls(long rounds, char *path, char **program)
         send_text(publisher, HUB.event);
         wait_for(child);
         delays[round] = now() - begin;
-        read_until(publisher, "\n");
+        read_answer(publisher, "\n");
         send_line(publisher, HUB.back);
     }
     close(publisher);
@@ -232,9 +233,21 @@ static void wake_listeners(long rounds, char *fifodir)
     print_delays((size_t)rounds);
 }
 
+/* What is said in a run of this kind, or NULL. */
+static const struct talk *talk_of(const char *kind)
+{
+    static const struct { const char *kind; const struct talk *talk; } talks[] = {
+        { "hub", &HUB }, { "await", &AWAIT }, { "next", &NEXT }, { "redis", &REDIS },
+    };
+    for (size_t i = 0; i < sizeof talks / sizeof talks[0]; i++)
+        if (strcmp(kind, talks[i].kind) == 0)
+            return talks[i].talk;
+    return NULL;
+}
+
 int main(int count, char **words)
 {
-    static const char usage[] = "usage: wake hub|await|redis WAITERS ROUNDS PATH PROGRAM .. | wake call ROUNDS PATH PROGRAM .. | "
+    static const char usage[] = "usage: wake hub|await|next|redis WAITERS ROUNDS PATH PROGRAM .. | wake call ROUNDS PATH PROGRAM .. | "
                                 "wake ftrig ROUNDS FIFODIR";
     begin_program(count, 4, usage);
     signal(SIGPIPE, SIG_IGN);
@@ -243,9 +256,7 @@ int main(int count, char **words)
     } else if (count > 4 && strcmp(words[1], "call") == 0 && number_of(words[2]) <= MOST_ROUNDS) {
         wake_calls(number_of(words[2]), words[3], words + 4);
     } else if (count > 5 && number_of(words[2]) <= MOST_WAITERS && number_of(words[3]) <= MOST_ROUNDS) {
-        const struct talk *talk = strcmp(words[1], "hub") == 0 ? &HUB
-            : strcmp(words[1], "await") == 0 ? &AWAIT
-            : strcmp(words[1], "redis") == 0 ? &REDIS : NULL;
+        const struct talk *talk = talk_of(words[1]);
         if (talk == NULL)
             die(usage);
         wake_sessions(talk, (int)number_of(words[2]), number_of(words[3]), words[4], words + 5);

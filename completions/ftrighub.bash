@@ -46,11 +46,12 @@ _ftrighub() {
     serve:*:-*) words="-h --help --forever --idle --mode --ready-fd --sessions --setup" ;;
     call:*:-* | script:*:-*) words="-h --help" ;;
     ask:0:-*) words="-h --help --socket" ;;
-    wait:*:-*) words="-h --help --socket --for" ;;
+    wait:*:-*) words="-h --help --socket --timeout --now -q --quiet" ;;
     make:*:-*) words="-h --help --socket --plain --no-readiness --waiting --total --hold" ;;
-    tell:*:-* | status:*:-*) words="-h --help --socket" ;;
+    tell:*:-*) words="-h --help --socket" ;;
+    status:*:-*) words="-h --help --socket --json" ;;
     hold:*:-*) words="-h --help --socket --tell" ;;
-    follow:*:-*) words="-h --help --socket --pattern --plain --once" ;;
+    follow:*:-*) words="-h --help --socket --pattern --plain --json --once --timeout --retry" ;;
     :* | help:*) words="make tell wait status follow hold ask serve call script help" ;;
     wait:0:*)
         words="up ready down finished restarted restarted-ready"

@@ -52,7 +52,7 @@ complete -c ftrighub -f
 complete -c ftrighub -n __fish_use_subcommand -a make -d 'Make services, or check those that are there'
 complete -c ftrighub -n __fish_use_subcommand -a tell -d 'Say whether a service is off, down, up, ready or failed'
 complete -c ftrighub -n __fish_use_subcommand -a wait -d "Wait until services reach a state, and report those that don't"
-complete -c ftrighub -n __fish_use_subcommand -a status -d 'Show the state of services, in a table'
+complete -c ftrighub -n __fish_use_subcommand -a status -d 'Show the state of services'
 complete -c ftrighub -n __fish_use_subcommand -a follow -d 'Print events as they arrive'
 complete -c ftrighub -n __fish_use_subcommand -a hold -d 'Say where a service is, and what it is once this command has ended'
 complete -c ftrighub -n __fish_use_subcommand -a ask -d 'Send one request to a hub, and write its reply'
@@ -69,7 +69,9 @@ complete -c ftrighub -n '__fish_seen_subcommand_from serve' -l idle -x -d 'With 
 complete -c ftrighub -n '__fish_seen_subcommand_from serve' -l setup -r -F -d 'With --forever: carry out the lines of FILE first'
 complete -c ftrighub -n '__fish_seen_subcommand_from serve' -l mode -x -a '0600 0620 0622 0660 0666' -d 'With --forever: mode of the socket file'
 complete -c ftrighub -n '__fish_seen_subcommand_from ask make tell hold wait status follow' -l socket -r -F -d 'Socket of the hub (or else FTRIGHUB_SOCKET has it)'
-complete -c ftrighub -n '__fish_seen_subcommand_from wait' -l for -x -d 'Time limit, such as 500ms, 5s or 2m'
+complete -c ftrighub -n '__fish_seen_subcommand_from wait' -l timeout -x -d 'Time limit, such as 500ms, 0.5s, 90 (seconds), 2m or 1h'
+complete -c ftrighub -n '__fish_seen_subcommand_from wait' -l now -d "Don't wait for the hub, or for names to be made"
+complete -c ftrighub -n '__fish_seen_subcommand_from wait' -s q -l quiet -d 'Write nothing but errors'
 complete -c ftrighub -n '__ftrighub_at 0 wait' -a 'up ready down finished restarted restarted-ready'
 complete -c ftrighub -n '__ftrighub_at 0 wait; and not __fish_seen_subcommand_from all any' -a 'all any'
 complete -c ftrighub -n '__fish_seen_subcommand_from make' -l plain -d 'Make plain fifodirs, which take any letters'
@@ -82,8 +84,12 @@ complete -c ftrighub -n '__fish_seen_subcommand_from hold' -l tell -x -a 'off do
 complete -c ftrighub -n '__ftrighub_at 1 hold' -a 'off down failed'
 complete -c ftrighub -n '__ftrighub_at 0 ask' -a '(__ftrighub_words)'
 complete -c ftrighub -n '__ftrighub_at 0 tell hold; or __ftrighub_behind 0 make status follow; or __ftrighub_behind 1 wait ask' -a '(__ftrighub_names)'
+complete -c ftrighub -n '__fish_seen_subcommand_from status' -l json -d 'Write an object of JSON on a line for each fifodir'
 complete -c ftrighub -n '__fish_seen_subcommand_from follow' -l pattern -x -d 'Write the hits of this pattern, and not each letter'
 complete -c ftrighub -n '__fish_seen_subcommand_from follow' -l plain -d 'Write the letters alone'
+complete -c ftrighub -n '__fish_seen_subcommand_from follow' -l json -d 'Write an object of JSON for each letter or hit'
 complete -c ftrighub -n '__fish_seen_subcommand_from follow' -l once -d 'End with the first letter, or the first hit'
+complete -c ftrighub -n '__fish_seen_subcommand_from follow' -l timeout -x -d 'Time limit, such as 500ms, 0.5s, 90 (seconds), 2m or 1h'
+complete -c ftrighub -n '__fish_seen_subcommand_from follow' -l retry -d 'If the hub ends, wait for the next one, and go on'
 complete -c ftrighub -n '__fish_seen_subcommand_from serve call; and not __fish_seen_subcommand_from help' -F
 complete -c ftrighub -n '__fish_seen_subcommand_from help' -a 'make tell wait status follow hold ask serve call script help'

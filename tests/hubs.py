@@ -55,6 +55,20 @@ def seen_by(check, seconds=PATIENCE, of=None):
     return True
 
 
+def stop(process):
+    """Stops the process, and waits until each of its threads has stopped: the signal alone returns earlier."""
+    os.kill(process, signal.SIGSTOP)
+    tasks = f"/proc/{process}/task"
+    if not seen_by(lambda: all(letter_of_state(f"{tasks}/{task}") == "T" for task in os.listdir(tasks))):
+        raise TimeoutError(f"the process {process} wasn't stopped within {PATIENCE} s")
+
+
+def letter_of_state(task):
+    """How the thread is, as /proc has it: T if it is stopped."""
+    with open(f"{task}/stat", encoding="ascii") as file:
+        return file.read().rpartition(") ")[2][0]
+
+
 class Client:
     """A connection to the hub. If nobody listens yet, it tries until the hub's process has ended, or for a minute, and then fails."""
 

@@ -4,12 +4,11 @@ import contextlib
 import errno
 import itertools
 import os
-import signal
 import socket
 import threading
 import time
 
-from hubs import PATIENCE, Hub, hub_at
+from hubs import PATIENCE, Hub, hub_at, stop
 
 
 class Peer:
@@ -101,7 +100,7 @@ class Silent:
 
     def __init__(self, program, folder):
         stopped = hub_at(program, f"{folder}/stopped")
-        stopped.process.send_signal(signal.SIGSTOP)
+        stop(stopped.process.pid)
         taken = Hub(program.path, f"{folder}/taken", "--sessions", "4")
         taken.told()
         self.clients = [taken.client() for _ in range(4)]

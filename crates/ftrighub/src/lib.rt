@@ -13,7 +13,6 @@
 #![tactic(auto)]
 
 pub use hub_client::{RelayError, relay};
-pub use hub_commands::serve_all;
 pub use hub_desk::{
     Desk, Excerpt, Found, Hub, HubError, Listing, LocalDesk, Name, Names, Numbers, PatternText,
     Refusal, Reply, Request, SharedDesk,
@@ -27,4 +26,5 @@ pub use hub_record::{
     Closed, Event, Kind, Letters, Limits, NoId, Policy, PubError, Record, Status, SubError, Taken,
 };
 pub use hub_server::{Gate, Next, Report, ServeError};
+pub use hub_serving::serve_all;
 pub use hub_wait::{Go, Patience, Pause, Post, Tally, Verdict, Watch, receive, svlisten, svwait};

@@ -1,3 +1,4 @@
 pub mod Words
 pub mod Ranges
 pub mod Environment
+pub mod Wishes

@@ -1,4 +1,6 @@
 //! The subcommands that ask a hub for one thing.
+ghost use Rattle.std.specs.Prelude.{◌≡◌, ◌∷◌, ◌<◌, ℕ, List, length, map, MatchBool, MatchOption};
+ghost use Rattle.hub_arguments.specs.Wishes.{IsSpan, IsWant, Says};
 
 use crate::asking_help::{
     ASK_ABOUT, ASK_LINES, FOLLOW_ABOUT, FOLLOW_LINES, STATUS_ABOUT, STATUS_LINES, WAIT_ABOUT,
@@ -6,24 +8,32 @@ use crate::asking_help::{
 };
 use crate::command_line::Plan;
 use crate::options::{Made, NAMES, PLAIN, Read, asking, flag, operands, socket_in, valued, values};
-use clap::{Arg, ArgMatches, Command};
+use clap::error::ErrorKind;
+use clap::{Arg, ArgMatches, Command, Error};
 use std::alloc::Global;
 
 const WORDS: &str = "words";
 
-const SPAN: &str = "span";
+const FIRST: &str = "first";
 
-const WANT: &str = "want";
+const TIMEOUT: &str = "timeout";
 
-const PATIENCE: &str = "for";
+const NOW: &str = "now";
+
+const QUIET: &str = "quiet";
 
 const PATTERN: &str = "pattern";
 
 const ONCE: &str = "once";
 
-static SPANS: [&str; 2] = ["all", "any"];
+const JSON: &str = "json";
 
-static WANTS: [&str; 6] = [
+const RETRY: &str = "retry";
+
+// What the first operand of a wait may be: how many of the services are meant, or the state itself.
+static FIRSTS: [&str; 8] = [
+    "all",
+    "any",
     "up",
     "ready",
     "down",
@@ -32,6 +42,9 @@ static WANTS: [&str; 6] = [
     "restarted-ready",
 ];
 
+const NO_WISH: &str =
+    "a wait needs a state (up, ready, down, finished, restarted or restarted-ready), and a name";
+
 /// What a wait is for.
 #[derive(Drop, Debug, PartialEq, Eq)]
 pub struct Wish<'a> {
@@ -39,10 +52,33 @@ pub struct Wish<'a> {
     pub span: &'a str,
     /// The state of a service.
     pub want: &'a str,
-    /// For how long at most, as the words say it.
-    pub patience: &'a str,
+    /// For how long at most, as the words say it. Without it there is no end.
+    pub timeout: Option<&'a str>,
+    /// Whether a hub or a name that isn't there yet is an error at once.
+    pub is_now: bool,
+    /// Whether nothing is written but faults.
+    pub is_quiet: bool,
     /// The services.
     pub names: Vec<&'a str>,
+}
+
+/// What a follow is of.
+#[derive(Drop, Debug, PartialEq, Eq)]
+pub struct Follow<'a> {
+    /// The fifodirs.
+    pub names: Vec<&'a str>,
+    /// The hits of this pattern are written, and not each letter.
+    pub pattern: Option<&'a str>,
+    /// Only letters are written, and nothing else about them.
+    pub is_plain: bool,
+    /// What is written are objects of JSON. Not so if it is plain.
+    pub is_json: bool,
+    /// It ends with the first letter, or the first hit.
+    pub is_once: bool,
+    /// After so long it ends, as the words say it. Without end if they don't.
+    pub timeout: Option<&'a str>,
+    /// If the hub ends, it waits for the next one.
+    pub is_patient: bool,
 }
 
 pub(crate) fn ask_command<'a>(alloc: Global, known: Option<&'a str>) -> Made<'a> {
@@ -53,23 +89,23 @@ pub(crate) fn ask_command<'a>(alloc: Global, known: Option<&'a str>) -> Made<'a>
 }
 
 pub(crate) fn wait_command<'a>(alloc: Global, known: Option<&'a str>) -> Made<'a> {
-    let span = Arg::new(alloc, SPAN)
-        .value_name("SPAN")
-        .help("Wait for all of the services, or for any one of them")
-        .value_parser(SPANS.as_slice())
-        .required(true);
-    let want = Arg::new(alloc, WANT)
+    let first = Arg::new(alloc, FIRST)
         .value_name("WANT")
-        .help("State to wait for")
-        .value_parser(WANTS.as_slice())
+        .help("State to wait for; `any` before it is for any one of the services")
+        .value_parser(FIRSTS.as_slice())
         .required(true);
-    let patience = valued(alloc, PATIENCE, "DURATION")
-        .help("Time limit, such as 500ms, 5s or 2m")
-        .required(true);
+    let timeout = valued(alloc, TIMEOUT, "D")
+        .alias("for")?
+        .help("Time limit, such as 500ms, 0.5s, 90 (seconds), 2m or 1h");
+    let now = flag(alloc, NOW).help("Don't wait for the hub, or for names to be made");
+    let quiet = flag(alloc, QUIET)
+        .short('q')
+        .help("Write nothing but errors");
     asking(alloc, known, "wait", (WAIT_ABOUT, WAIT_LINES))?
-        .arg(patience)?
-        .arg(span)?
-        .arg(want)?
+        .arg(timeout)?
+        .arg(now)?
+        .arg(quiet)?
+        .arg(first)?
         .arg(operands(alloc, NAMES, "NAME").help("Names of services"))
 }
 
@@ -78,7 +114,10 @@ pub(crate) fn status_command<'a>(alloc: Global, known: Option<&'a str>) -> Made<
         .value_name("NAME")
         .help("Names of fifodirs; without one, all of the hub")
         .num_args(0..);
-    asking(alloc, known, "status", (STATUS_ABOUT, STATUS_LINES))?.arg(names)
+    let json = flag(alloc, JSON).help("Write an object of JSON on a line for each fifodir");
+    asking(alloc, known, "status", (STATUS_ABOUT, STATUS_LINES))?
+        .arg(json)?
+        .arg(names)
 }
 
 pub(crate) fn follow_command<'a>(alloc: Global, known: Option<&'a str>) -> Made<'a> {
@@ -86,11 +125,21 @@ pub(crate) fn follow_command<'a>(alloc: Global, known: Option<&'a str>) -> Made<
         "Write the hits of this pattern, and not each letter",
     );
     let plain = flag(alloc, PLAIN).help("Write the letters alone");
+    let json = flag(alloc, JSON)
+        .help("Write an object of JSON for each letter or hit")
+        .conflicts_with(PLAIN)?;
     let once = flag(alloc, ONCE).help("End with the first letter, or the first hit");
+    let timeout = valued(alloc, TIMEOUT, "D").help(
+        "Time limit, such as 500ms, 0.5s, 90 (seconds), 2m or 1h",
+    );
+    let retry = flag(alloc, RETRY).help("If the hub ends, wait for the next one, and go on");
     asking(alloc, known, "follow", (FOLLOW_ABOUT, FOLLOW_LINES))?
         .arg(pattern)?
         .arg(plain)?
+        .arg(json)?
         .arg(once)?
+        .arg(timeout)?
+        .arg(retry)?
         .arg(operands(alloc, NAMES, "NAME").help("Names of fifodirs"))
 }
 
@@ -101,12 +150,71 @@ pub(crate) fn ask_plan<'a>(alloc: Global, found: &ArgMatches<'a>) -> Read<'a> {
     })
 }
 
-pub(crate) fn wait_plan<'a>(alloc: Global, found: &ArgMatches<'a>) -> Read<'a> {
+// Whether the word says how many of the services.
+fn is_span(word: &str) -> bool
+    ensures { MatchBool result (IsSpan word.now) (IsSpan word.now → ⊥) }
+{
+    matches!(word, "all" | "any")
+}
+
+// Whether the word is a state to wait for.
+fn is_want(word: &str) -> bool
+    ensures { MatchBool result (IsWant word.now) (IsWant word.now → ⊥) }
+{
+    matches!(
+        word,
+        "up" | "ready" | "down" | "finished" | "restarted" | "restarted-ready"
+    )
+}
+
+// How many of which services are to be in which state. None if one of these isn't said.
+fn wish_of<'a, 'b>(first: &'a str, rest: &'b [&'a str]) -> Option<(&'a str, &'a str, &'b [&'a str])>
+    ensures { MatchOption result
+        ((span want : List ℕ) (names : List (List ℕ))
+        → Says (first.now ∷ map (λ word. word.now) rest.now) span want names → ⊥)
+        (λ it. Says (first.now ∷ map (λ word. word.now) rest.now)
+        it.0.now it.1.now (map (λ word. word.now) it.2.now)) }
+{
+    if !is_span(first) {
+        return with_names("all", first, rest);
+    }
+    let (want, names) = rest.split_first()?;
+    with_names(first, want, names)
+}
+
+// The three of them. None if the word is no state, or there is no name.
+fn with_names<'a, 'b>(
+    span: &'a str,
+    want: &'a str,
+    names: &'b [&'a str],
+) -> Option<(&'a str, &'a str, &'b [&'a str])>
+    ensures { MatchOption result (IsWant want.now → 0 < length names.now → ⊥)
+        (λ it. IsWant want.now × (0 < length names.now) × (it.0.now ≡ span.now)
+        × (it.1.now ≡ want.now) × (it.2.now ≡ names.now)) }
+{
+    if is_want(want) && !names.is_empty() {
+        Some((span, want, names))
+    } else {
+        None
+    }
+}
+
+pub(crate) fn wait_plan<'a>(alloc: Global, found: &ArgMatches<'a>) -> Result<Plan<'a>, Error> {
+    let first = found.get_str(FIRST).unwrap_or("");
+    let rest = found.get_strs(NAMES).unwrap_or(&[]);
+    let Some((span, want, others)) = wish_of(first, rest) else {
+        let mut wait = wait_command(alloc, None)?.bin_name("ftrighub wait")?;
+        return Err(wait.error(ErrorKind::InvalidValue, NO_WISH)?);
+    };
+    let mut names = Vec::new(alloc);
+    names.extend_from_slice(others)?;
     let wish = Wish {
-        span: found.get_str(SPAN).unwrap_or(""),
-        want: found.get_str(WANT).unwrap_or(""),
-        patience: found.get_str(PATIENCE).unwrap_or(""),
-        names: values(alloc, found, NAMES)?,
+        span,
+        want,
+        timeout: found.get_str(TIMEOUT),
+        is_now: found.get_flag(NOW),
+        is_quiet: found.get_flag(QUIET),
+        names,
     };
     Ok(Plan::Wait {
         socket: socket_in(found),
@@ -118,15 +226,22 @@ pub(crate) fn status_plan<'a>(alloc: Global, found: &ArgMatches<'a>) -> Read<'a>
     Ok(Plan::Status {
         socket: socket_in(found),
         names: values(alloc, found, NAMES)?,
+        is_json: found.get_flag(JSON),
     })
 }
 
 pub(crate) fn follow_plan<'a>(alloc: Global, found: &ArgMatches<'a>) -> Read<'a> {
-    Ok(Plan::Follow {
-        socket: socket_in(found),
+    let follow = Follow {
         names: values(alloc, found, NAMES)?,
         pattern: found.get_str(PATTERN),
         is_plain: found.get_flag(PLAIN),
+        is_json: found.get_flag(JSON),
         is_once: found.get_flag(ONCE),
+        timeout: found.get_str(TIMEOUT),
+        is_patient: found.get_flag(RETRY),
+    };
+    Ok(Plan::Follow {
+        socket: socket_in(found),
+        follow,
     })
 }

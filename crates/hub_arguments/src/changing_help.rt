@@ -7,7 +7,7 @@ pub const MAKE_ABOUT: &str = "Make services, or check those that are there";
 pub const MAKE_LINES: &str = "\
 Makes the fifodir (a list of events) of each service, in the order of the NAMEs.
 
-  ftrighub make --socket /run/hub.sock db web
+  ftrighub make db web
 
 If a NAME is there already and is the same, it is as if it were made now. So
 each script that needs a service may make it. If what is there isn't the same,
@@ -32,7 +32,7 @@ pub const TELL_LINES: &str = "\
 Says where a service is, so that those who wait for that go on. It prints
 nothing. If the service is there already, nothing changes.
 
-  ftrighub tell --socket /run/hub.sock db ready
+  ftrighub tell db ready
 
 off     no supervisor runs
 down    it is supervised, and down
@@ -63,10 +63,10 @@ tells that the service is down (or off, or failed). With --tell it also says
 where the service is now. Then it stays connected until its standard input ends
 or a signal ends it. It prints nothing, and throws its input away.
 
-  ftrighub hold --socket /run/hub.sock db failed --tell ready <&3 &
+  sleep 2 | ftrighub hold db failed --tell ready
 
-Descriptor 3 is what whoever speaks for the service keeps open, such as a pipe.
-Without `<`, a script gives a command with `&` an input that has ended.
+In the place of `sleep` is what speaks for the service, and keeps the pipe open.
+Without one, a script gives a command with `&` an input that has ended.
 
 The hub carries the will out only if the last event of the service is one that
 --tell published. So it isn't carried out without --tell, if the service was in

@@ -2,32 +2,34 @@
 ghost use Rattle.std.specs.Prelude.{◌≡◌, ◌≢◌, ◌⊎◌, ℕ, codes, IfErr, IfOk, IfSome};
 ghost use Rattle.clap.specs.Words.{kind_of};
 ghost use Rattle.clap.specs.declared.error.ErrorKind.TheVariants as kind;
-ghost use Rattle.hub_arguments.specs.Environment.{IsTaken};
 ghost use Rattle.hub_arguments.specs.Words.{BeginsWith};
 ghost use Rattle.hub_arguments.specs.declared.command_line.Start.TheVariants.{End};
+ghost use Rattle.hub_arguments.specs.declared.command_line.WordsError.TheVariants.{Text};
 
 use crate::asking::{
-    Wish, ask_command, ask_plan, follow_command, follow_plan, status_command, status_plan,
+    Follow, Wish, ask_command, ask_plan, follow_command, follow_plan, status_command, status_plan,
     wait_command, wait_plan,
 };
 use crate::changing::{
     Hold, Shape, hold_command, hold_plan, make_command, make_plan, tell_command, tell_plan,
 };
-use crate::help::{ABOUT, EXIT, LONG_ABOUT};
+use crate::help::{ABOUT, LINES};
+use crate::help_words::words_of_help;
+use crate::options::SOCKET;
 use crate::serving::{
     HubOptions, call_command, call_plan, script_command, serve_command, serve_plan,
 };
+use crate::socket::OwnSocket;
 use clap::error::ErrorKind;
-use clap::{Command, Error};
+use clap::{ArgMatches, Command, Error};
 use hub_io::FrontError;
 use hub_letters::State;
 use std::alloc::{AllocError, AllocGlobal, Global};
-use std::env::VarError;
 use std::rt::Runtime;
 use std::{env, io};
 
 /// The program's name in the usage lines, whatever name it was started by.
-const NAME: &str = "ftrighub";
+pub(crate) const NAME: &str = "ftrighub";
 
 /// The program's version, which `--version` prints after its name.
 const VERSION: &str = "0.4.0-dev";
@@ -59,18 +61,17 @@ pub enum Plan<'a> {
         socket: &'a str,
         wish: Wish<'a>,
     },
-    /// Writes the state of these fifodirs, or of all of the hub at the socket if there is none, to standard output.
+    /// Writes the state of these fifodirs, or of all of the hub at the socket if there is none, to standard output: as a table, or
+    /// as objects of JSON.
     Status {
         socket: &'a str,
         names: Vec<&'a str>,
+        is_json: bool,
     },
     /// Writes each letter of these fifodirs of the server at the socket to standard output, or each hit of the pattern.
     Follow {
         socket: &'a str,
-        names: Vec<&'a str>,
-        pattern: Option<&'a str>,
-        is_plain: bool,
-        is_once: bool,
+        follow: Follow<'a>,
     },
     /// Says where a service of the hub at the socket is.
     Tell {
@@ -96,12 +97,11 @@ fn program<'a>(alloc: Global) -> Command<'a> {
     Command::new(alloc, NAME)
         .version(VERSION)
         .about(ABOUT)
-        .long_about(LONG_ABOUT)
-        .after_help(EXIT)
+        .after_help(LINES)
         .subcommand_required(true)
 }
 
-// The path that the environment has for a socket is known.
+// The path of the socket for words that name none may be known.
 fn command<'a>(
     alloc: Global,
     is_forever: bool,
@@ -110,28 +110,77 @@ fn command<'a>(
     program(alloc)
         .subcommand(make_command(alloc, known)?)?
         .subcommand(tell_command(alloc, known)?)?
-        .subcommand(hold_command(alloc, known)?)?
         .subcommand(wait_command(alloc, known)?)?
         .subcommand(status_command(alloc, known)?)?
         .subcommand(follow_command(alloc, known)?)?
+        .subcommand(hold_command(alloc, known)?)?
         .subcommand(ask_command(alloc, known)?)?
         .subcommand(serve_command(alloc, is_forever)?)?
-        .subcommand(call_command(alloc)?)?
+        .subcommand(call_command(alloc, known)?)?
         .subcommand(script_command(alloc))
 }
 
-/// Reads the words. The first word is the program's name, which the usage lines print. `known` is the path of the socket
-/// for words that name none, if there is one. An error has the text to print: help, the version, or what is wrong with
-/// the words; `OutOfMemory` if memory ran out.
+/// Why words are no plan.
+#[derive(Drop, Debug)]
+pub enum WordsError {
+    /// This has the text to print: help, the version, or what is wrong with the words. `OutOfMemory` if memory ran out.
+    Text(Error),
+    /// They need a socket and name none, and none is known.
+    NoSocket,
+}
+
+impl From<Error> for WordsError {
+    ghost from_gives = { λ error it. it ≡ Text error };
+
+    fn from(error: Error) -> WordsError {
+        WordsError::Text(error)
+    }
+}
+
+impl From<AllocError> for WordsError {
+    fn from(error: AllocError) -> WordsError {
+        WordsError::Text(Error::from(error))
+    }
+}
+
+// Whether the words need a socket and name none, unless one is known.
+fn lacks_socket(matches: &ArgMatches<'_>) -> bool {
+    match matches.subcommand() {
+        Some(("script", _)) | None => false,
+        Some((_, found)) => found.get_str(SOCKET).is_none(),
+    }
+}
+
+// The help for words without a command or with `help` before it, or what is wrong with them.
+fn help_for(alloc: Global, words: &[String]) -> Result<Option<Error>, AllocError> {
+    let Some(asked) = words_of_help(alloc, words)? else {
+        return Ok(None);
+    };
+    Ok(
+        command(alloc, false, None)?
+            .try_get_matches_from(asked.as_slice())
+            .err(),
+    )
+}
+
+/// Reads the words. The first word is the program's name, which the usage lines print. `known` is the socket for words that
+/// name none, if there is one.
 pub fn read_words<'a>(
     alloc: Global,
     words: &'a [String],
-    known: Option<&'a str>,
-) -> Result<Plan<'a>, Error> {
+    known: Option<&'a OwnSocket>,
+) -> Result<Plan<'a>, WordsError> {
+    if let Some(error) = help_for(alloc, words)? {
+        return Err(WordsError::Text(error));
+    }
     let is_forever = words.iter().any(|word| word.as_str() == "--forever");
-    let matches = command(alloc, is_forever, known)?.try_get_matches_from(words)?;
+    let path = known.map(|own| own.path());
+    let matches = command(alloc, is_forever, path)?.try_get_matches_from(words)?;
+    if known.is_none() && lacks_socket(&matches) {
+        return Err(WordsError::NoSocket);
+    }
     Ok(match matches.subcommand() {
-        Some(("serve", found)) => serve_plan(found),
+        Some(("serve", found)) => serve_plan(found, known),
         Some(("call", found)) => call_plan(found),
         Some(("ask", found)) => ask_plan(alloc, found)?,
         Some(("make", found)) => make_plan(alloc, found)?,
@@ -149,6 +198,8 @@ pub fn read_words<'a>(
 pub enum Start<'a> {
     /// The program is to do this.
     Run(Plan<'a>),
+    /// The words need a socket and name none, and none is known. Nothing was printed.
+    NoSocket,
     /// The text for these words was printed, and the program ends with this status.
     End(u8),
 }
@@ -183,13 +234,14 @@ fn status_with_memory(error: &Error) -> Result<u8, AllocError>
 pub fn early_status(
     alloc: Global,
     words: &[String],
-    known: Option<&str>,
+    known: Option<&OwnSocket>,
 ) -> Result<Option<u8>, AllocError>
     ensures { IfOk result (λ status. IfSome status (λ s. (s ≡ 0) ⊎ (s ≡ 2))) }
 {
     match read_words(alloc, words, known) {
         Ok(_) => Ok(None),
-        Err(error) => Ok(Some(status_with_memory(&error)?)),
+        Err(WordsError::Text(error)) => Ok(Some(status_with_memory(&error)?)),
+        Err(WordsError::NoSocket) => Ok(Some(2)),
     }
 }
 
@@ -207,36 +259,21 @@ pub fn own_words<H: Runtime + AllocGlobal>(rt: &H, alloc: Global) -> io::Result<
     Ok(words)
 }
 
-/// The path of the socket that the environment has under `FTRIGHUB_SOCKET`. A path that is empty or not UTF-8 is none.
-pub fn own_socket<H: Runtime + AllocGlobal>(rt: &H) -> Result<Option<String>, AllocError> {
-    path_taken(env::var(rt, "FTRIGHUB_SOCKET"))
-}
-
-// The path that is taken, if this was found.
-fn path_taken(found: Result<String, VarError>) -> Result<Option<String>, AllocError>
-    ensures { IsTaken (λ path. path.bytes.items) found result }
-{
-    match found {
-        Ok(path) if !path.is_empty() => Ok(Some(path)),
-        Err(VarError::OutOfMemory) => Err(AllocError),
-        Ok(_) | Err(VarError::NotPresent | VarError::NotUnicode) => Ok(None),
-    }
-}
-
 /// Reads the words. If they run nothing, it prints their text: help and the version on standard output, what is wrong on
-/// standard error. `known` is the path of the socket for words that name none. An error is `Write` if the text couldn't be printed, or `Memory`.
+/// standard error. `known` is the socket for words that name none. An error is `Write` if the text couldn't be printed, or `Memory`.
 pub fn begin<'a, H: Runtime + AllocGlobal>(
     rt: &H,
     alloc: Global,
     words: &'a [String],
-    known: Option<&'a str>,
+    known: Option<&'a OwnSocket>,
 ) -> Result<Start<'a>, FrontError>
     ensures { IfOk result (λ start. (status : ℕ) → start ≡ End status
         → (status ≡ 0) ⊎ (status ≡ 2)) }
 {
     let error = match read_words(alloc, words, known) {
         Ok(plan) => return Ok(Start::Run(plan)),
-        Err(error) => error,
+        Err(WordsError::NoSocket) => return Ok(Start::NoSocket),
+        Err(WordsError::Text(error)) => error,
     };
     let status = status_with_memory(&error)?;
     match error.print(rt) {

@@ -4,34 +4,27 @@
 pub const ABOUT: &str =
     "An event hub: lets scripts wait until services are up, ready, down or restarted.";
 
-/// The program, for a reader who doesn't know it.
-pub const LONG_ABOUT: &str = "\
-An event hub: lets scripts wait until services are up, ready, down or restarted.
-
-These lines start a hub, make the service db, say that it is ready, wait for
-it for five seconds at most, and end the hub:
+/// How to begin, what the letters of a service mean, and the exit statuses.
+pub const LINES: &str = "\
+These lines start a hub, make two services, say that they are ready, wait for
+both of them for five seconds at most, and end the hub:
 
   ftrighub serve hub.socket --forever & export FTRIGHUB_SOCKET=hub.socket
-  until ftrighub make db 2>refused; do sleep 0.1; done
-  ftrighub tell db ready
-  ftrighub wait all ready --for 5s db
+  until ftrighub make db web 2>/dev/null; do sleep 0.1; done
+  ftrighub tell db ready; ftrighub tell web ready
+  ftrighub wait all ready --for 5s db web
   kill $!; wait
 
-`tell` publishes letters in the service's fifodir (a list of events, named after
-the event directories of s6): s (a supervisor runs), u (up), U (ready), d
-(down), D (wholly down), O (failed, won't be restarted), x (the supervisor
-ended). Each subscriber gets every letter that is published after it
-subscribed, once and in order. A letter stays pending until the slowest
-subscriber has taken it. If too many are pending, `pub` gets `no full`, and you
-retry it. Or the slow subscriber is evicted, and told: see `evict` in
-`ftrighub script --help`.";
-
-/// The exit statuses.
-pub const EXIT: &str = "\
-`ftrighub COMMAND --help` has examples, `ftrighub script --help` each request.
+`ftrighub COMMAND --help` has examples, and `ftrighub script --help` each
+request. `tell` publishes letters in the service's fifodir (a list of events,
+named after the event directories of s6): s (a supervisor runs), u (up), U
+(ready), d (down), D (wholly down), O (failed, won't be restarted), x (the
+supervisor ended). Each subscriber gets every letter that is published after it
+subscribed, once and in order.
 
 Exit status: 0 all went well, 1 an error while running (one line on standard
-error), 2 the command line was refused. Those of a command are in its --help.";
+error), 2 the command line was refused, 3 the hub refused. The others are in the
+--help of a command.";
 
 /// The subcommand `script` in one line.
 pub const SCRIPT_ABOUT: &str = "Answer the request lines of standard input on standard output";
@@ -39,7 +32,11 @@ pub const SCRIPT_ABOUT: &str = "Answer the request lines of standard input on st
 /// The request lines and their replies.
 pub const SCRIPT_LINES: &str = "\
 Each line of standard input is a request, and each gets one reply line, in
-order. N is a name of 1 to 32 bytes (letters, digits, `_`, `.`, `-`). Fields are
+order:
+
+  printf 'dir web 64 1000\\npub web ab\\n' | ftrighub script
+
+N is a name of 1 to 32 bytes (letters, digits, `_`, `.`, `-`). Fields are
 separated by exactly one space. Each request below has an example and its reply.
 
   dir N W T      make a fifodir. W: how many events may be pending (1 to 4096).
@@ -139,9 +136,13 @@ pub const SERVE_ABOUT: &str = "Run a hub at a Unix socket";
 pub const SERVE_LINES: &str = "\
 With --forever it runs until it is stopped, and serves at most N clients at the
 same time; one more waits until another disconnects. This is how a supervisor
-such as s6 runs it, with a notification-fd of 3:
+such as s6 runs it, with --ready-fd 3 for a notification-fd of 3:
 
-  ftrighub serve /run/hub.sock --forever --ready-fd 3 --mode 0660
+  ftrighub serve hub.socket --forever --mode 0660
+
+Without SOCKET it listens where the commands look for it, such as at
+/run/ftrighub/hub.socket for root: `ftrighub ask --help` has the rule. If root
+has no folder /run/ftrighub, it is made. No other folder is.
 
 A socket file that an earlier hub left is replaced. SOCKET.lock keeps a second
 hub away, and from the folder SOCKET.a the hub puts its socket file back if
@@ -188,9 +189,10 @@ pub const CALL_ABOUT: &str = "Send the request lines of standard input to a hub"
 pub const CALL_LINES: &str = "\
 Connects to the hub at SOCKET and sends it each line of standard input, once the
 line before has its reply. Each reply is written to standard output. At the end
-of input it disconnects, which ends its session and its subscriptions.
+of input it disconnects, which ends its session and its subscriptions. Without
+SOCKET it takes the one that `ftrighub ask --help` says.
 
-  printf 'pub db suU\\n' | ftrighub call /run/hub.sock
+  printf 'pub db suU\\n' | ftrighub call hub.socket
 
 A start-up script goes on if both services are ready, and gives up after about
 five seconds:

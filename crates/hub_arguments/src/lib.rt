@@ -2,7 +2,7 @@
 //!
 //! [`read_words`] reads the words with the crate `clap`. They are a [`Plan`], or an error with the text to print: help,
 //! the version, or what is wrong with them. [`status_of`] is the exit status for such an error. A program takes its
-//! [`own_words`] and calls [`begin`], which prints that text.
+//! [`own_words`] and calls [`begin`], which prints that text. Words that name no socket are for its [`own_socket`].
 #![tactic(auto)]
 
 mod asking;
@@ -11,12 +11,15 @@ mod changing;
 mod changing_help;
 mod command_line;
 mod help;
+mod help_words;
 mod options;
 mod serving;
+mod socket;
 
-pub use asking::Wish;
+pub use asking::{Follow, Wish};
 pub use changing::{Hold, Shape};
 pub use command_line::{
-    Plan, Start, begin, early_status, own_socket, own_words, read_words, status_of,
+    Plan, Start, WordsError, begin, early_status, own_words, read_words, status_of,
 };
 pub use serving::HubOptions;
+pub use socket::{OwnSocket, own_socket};

@@ -29,14 +29,14 @@ pub(crate) fn flag<'a>(alloc: Global, word: &'a str) -> Arg<'a> {
     Arg::new(alloc, word).long(word).action(ArgAction::SetTrue)
 }
 
-/// The option for the path of the socket. It isn't needed if the environment has a path.
-fn path<'a>(alloc: Global, known: Option<&'a str>) -> Arg<'a> {
-    let argument = valued(alloc, SOCKET, "PATH").help(
-        "Socket of the hub (or else FTRIGHUB_SOCKET has it)",
-    );
+/// What `--help` says of the argument for the socket of a hub.
+pub(crate) const SOCKET_HELP: &str = "Socket of the hub (or else FTRIGHUB_SOCKET has it)";
+
+/// The argument for the socket. Without it the socket has this path, if one is known.
+pub(crate) fn or_known<'a>(argument: Arg<'a>, known: Option<&'a str>) -> Arg<'a> {
     match known {
-        Some(socket) => argument.default_value(socket).hide_default_value(true),
-        None => argument.required(true),
+        Some(path) => argument.default_value(path).hide_default_value(true),
+        None => argument,
     }
 }
 
@@ -48,10 +48,11 @@ pub(crate) fn asking<'a>(
     texts: (&'a str, &'a str),
 ) -> Made<'a> {
     let (about, lines) = texts;
+    let path = or_known(valued(alloc, SOCKET, "PATH").help(SOCKET_HELP), known);
     Command::new(alloc, word)
         .about(about)
         .after_help(lines)
-        .arg(path(alloc, known))
+        .arg(path)
 }
 
 /// One or more values behind the options.

@@ -1,13 +1,15 @@
 //! The subcommands that serve sessions, and `call`, which reaches them.
-ghost use Rattle.std.specs.Prelude.{◌≡◌, ℕ, ◌<◌, ◌^◌, Some};
+ghost use Rattle.std.specs.Prelude.{◌≡◌, ℕ, ◌<◌, ◌^◌, Some, codes, true};
 ghost use Rattle.std.specs.Option.{SomeIff};
 ghost use Rattle.std.specs.Str.Parse.{IsNumeral, digits_value, without_leading_plus};
+ghost use Rattle.hub_arguments.specs.Environment.{IsServedAt};
 ghost use Rattle.hub_arguments.specs.Ranges.{IsInRange, kept_in};
 ghost use Rattle.hub_arguments.specs.declared.serving.TheConstants.{MOST_CLIENTS, MOST_CONNECTIONS, MOST_DESCRIPTOR, MOST_IDLE};
 
 use crate::command_line::Plan;
 use crate::help::{CALL_ABOUT, CALL_LINES, SCRIPT_ABOUT, SCRIPT_LINES, SERVE_ABOUT, SERVE_LINES};
-use crate::options::{SOCKET, flag, socket_in, valued};
+use crate::options::{SOCKET, SOCKET_HELP, flag, or_known, socket_in, valued};
+use crate::socket::{OwnSocket, ROOT_SOCKET};
 use clap::{Arg, ArgMatches, Command, value_parser};
 use std::alloc::{AllocError, Global};
 
@@ -42,6 +44,8 @@ const MOST_IDLE: u64 = 1_000_000;
 pub struct HubOptions<'a> {
     /// The path of the socket.
     pub socket: &'a str,
+    /// Whether the folder `/run/ftrighub` is made if it isn't there.
+    pub makes_folder: bool,
     /// How many sessions there may be at the same time.
     pub sessions: u64,
     /// The permission bits of the socket's file. None: those that the process's umask leaves.
@@ -53,16 +57,15 @@ pub struct HubOptions<'a> {
     pub idle: Option<u64>,
     /// The path of the file whose lines are carried out before the hub listens. None: there is none.
     pub setup: Option<&'a str>,
+    // The folder is made for root's socket only.
+    ghost folder_is: { makes_folder ≡ true → socket.now ≡ codes "/run/ftrighub/hub.socket" },
     ghost sessions_are: { IsInRange 1 MOST_CLIENTS sessions },
     ghost ready_is: { (d : ℕ) → ready ≡ Some d → IsInRange 0 MOST_DESCRIPTOR d },
     ghost idle_is: { (seconds : ℕ) → idle ≡ Some seconds → IsInRange 1 MOST_IDLE seconds },
 }
 
 fn socket<'a>(alloc: Global) -> Arg<'a> {
-    Arg::new(alloc, SOCKET)
-        .value_name("SOCKET")
-        .help("Path of the socket")
-        .required(true)
+    Arg::new(alloc, SOCKET).value_name("SOCKET")
 }
 
 // With `--forever` there may be more sessions.
@@ -122,10 +125,13 @@ pub(crate) fn serve_command<'a>(
     alloc: Global,
     is_forever: bool,
 ) -> Result<Command<'a>, AllocError> {
+    let path = socket(alloc)
+        .help("Path of the socket; --forever can do without it")
+        .required(!is_forever);
     Command::new(alloc, "serve")
         .about(SERVE_ABOUT)
         .after_help(SERVE_LINES)
-        .arg(socket(alloc))?
+        .arg(path)?
         .arg(sessions(alloc, is_forever))?
         .arg(forever(alloc))?
         .arg(ready(alloc)?)?
@@ -134,11 +140,15 @@ pub(crate) fn serve_command<'a>(
         .arg(setup(alloc)?)
 }
 
-pub(crate) fn call_command<'a>(alloc: Global) -> Result<Command<'a>, AllocError> {
+pub(crate) fn call_command<'a>(
+    alloc: Global,
+    known: Option<&'a str>,
+) -> Result<Command<'a>, AllocError> {
+    let path = or_known(socket(alloc).help(SOCKET_HELP), known);
     Command::new(alloc, "call")
         .about(CALL_ABOUT)
         .after_help(CALL_LINES)
-        .arg(socket(alloc))
+        .arg(path)
 }
 
 // The number that was found, if it is in range.
@@ -180,16 +190,32 @@ fn connections(found: Option<u64>) -> u64
     }
 }
 
-/// What the words of a `serve` ask for.
-pub(crate) fn serve_plan<'a>(found: &ArgMatches<'a>) -> Plan<'a> {
+// The path of the socket of a `serve` that doesn't end, and whether its folder is made.
+fn hub_socket<'a>(named: Option<&'a str>, known: Option<&'a OwnSocket>) -> (&'a str, bool)
+    ensures served { IsServedAt (λ path. path.now) (λ own. own.now)
+        named.entry known.entry result.0.now result.1 }
+    ensures roots { result.1 ≡ true → result.0.now ≡ codes "/run/ftrighub/hub.socket" }
+{
+    match (named, known) {
+        (Some(path), _) => (path, false),
+        (None, Some(OwnSocket::OfRoot)) => (ROOT_SOCKET, true),
+        (None, Some(OwnSocket::Named(path) | OwnSocket::OfUser(path))) => (path.as_str(), false),
+        (None, None) => ("", false),
+    }
+}
+
+/// What the words of a `serve` ask for. `known` is the socket of one that doesn't end, if they name none.
+pub(crate) fn serve_plan<'a>(found: &ArgMatches<'a>, known: Option<&'a OwnSocket>) -> Plan<'a> {
     if !found.get_flag(FOREVER) {
         return Plan::Serve {
             socket: socket_in(found),
             sessions: connections(found.get_one::<u64>(SESSIONS)),
         };
     }
+    let (socket, makes_folder) = hub_socket(found.get_str(SOCKET), known);
     Plan::ServeForever(HubOptions {
-        socket: socket_in(found),
+        socket,
+        makes_folder,
         sessions: clients(found.get_one::<u64>(SESSIONS)),
         mode: found.get_str(MODE).and_then(|digits| mode_of(digits)),
         ready: within(found.get_one::<u64>(READY), 0, MOST_DESCRIPTOR),

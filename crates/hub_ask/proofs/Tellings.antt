@@ -3,6 +3,7 @@ use Rattle.std.proofs.Common.{◌≡◌, ◌≢◌, List, ℕ, Option, Some, tru
 use Rattle.hub_requests.specs.Texts.{text_of}
 use Rattle.hub_requests.specs.declared.reply.Reply.{Reply}
 use Rattle.hub_requests.specs.declared.reply.Reply.TheVariants as reply
+use Rattle.hub_requests.specs.declared.reply.Refusal.TheVariants as refusal
 use Rattle.hub_protocol.specs.declared.replies.BorrowedReply.{BorrowedReply}
 use Rattle.hub_protocol.specs.declared.replies.BorrowedReply.TheVariants as shown
 use Rattle.hub_protocol.specs.Replies.{IsOfHub, IsShown, Shows}
@@ -27,7 +28,7 @@ of_wait it h kind = record { reply = it; of_hub = h; kind = kind; spelled = refl
 
 -- ---- what is read of a line
 
-same_outcome : (read : BorrowedReply) (it : Reply) → Shows read it → outcome_read read ≡ outcome_of it
+pub same_outcome : (read : BorrowedReply) (it : Reply) → Shows read it → outcome_read read ≡ outcome_of it
 same_outcome shown.Done reply.Done h = refl
 same_outcome (shown.Number n) (reply.Number m) h = refl
 same_outcome (shown.State s) (reply.State t) h = refl
@@ -93,3 +94,19 @@ shows_state read it h = absurd h
 
 pub no_state : (line : List ℕ) (read : BorrowedReply) → IsShown line read → ((s : Status) → read ≢ shown.State s) → (it : Status) → IsOfHub (reply.State it) → line ≢ text_of (reply.State it)
 no_state line read is other it h e = let (s, same) = shows_state read it (same_shown line read (reply.State it) is h e) in other s same
+
+-- ---- what a wait may go on after
+
+is_no_name : (it : Reply) → Shows (shown.No refusal.Name) it → it ≡ reply.No refusal.Name
+is_no_name (reply.No other) h = ap (λ r. reply.No r) (sym h)
+is_no_name it h = absurd h
+
+is_late : (it : Reply) → Shows shown.Late it → it ≡ reply.Late
+is_late reply.Late h = refl
+is_late it h = absurd h
+
+pub tells_no_name : (line : List ℕ) → IsShown line (shown.No refusal.Name) → line ≡ text_of (reply.No refusal.Name)
+tells_no_name line is = is.spelled ∙ ap text_of (is_no_name is.reply is.shows)
+
+pub tells_late : (line : List ℕ) → IsShown line shown.Late → line ≡ text_of reply.Late
+tells_late line is = is.spelled ∙ ap text_of (is_late is.reply is.shows)

@@ -1,5 +1,6 @@
 -- A wait, and what is asked after it.
-use Rattle.std.specs.Prelude.{◌≡◌, ◌⊎◌, ℕ, List, [], ◌∷◌, codes, flat_map, if◌then◌else◌, Option}
+use Rattle.std.specs.Prelude.{◌≡◌, ◌⊎◌, ℕ, List, [], ◌∷◌, codes, flat_map, if◌then◌else◌, Option, None, Some}
+use Rattle.std.specs.Io.KnownBytes.{Appends}
 use Rattle.std.specs.Fmt.{decimal}
 use Rattle.hub_letters.specs.declared.want.Want as wants
 use Rattle.hub_letters.specs.declared.span.Span.TheVariants as span
@@ -7,11 +8,20 @@ use Rattle.hub_requests.specs.Names.{is_name}
 use Rattle.hub_requests.specs.declared.request.Request.{Request}
 use Rattle.hub_requests.specs.declared.request.Request.TheVariants as request
 use Rattle.hub_protocol.specs.Spelling.{text_of_want}
-use Rattle.hub_ask.specs.Asking.{HasReply}
 use Rattle.hub_ask.specs.Lines.{joined}
 use Rattle.hub_ask.specs.Sending.{SendsFront}
 use Rattle.hub_ask.specs.Outcomes.{TellsOfWait}
+use Rattle.hub_client.specs.declared.fault.RelayError.TheVariants as relay
+use Rattle.hub_io.specs.Faults.{AppendsPart}
+use Rattle.hub_requests.specs.declared.reply.Refusal.TheVariants as refusal
+use Rattle.hub_requests.specs.declared.reply.Reply.{Reply}
+use Rattle.hub_requests.specs.declared.reply.Reply.TheVariants as reply
+use Rattle.hub_ask.specs.declared.fault.AskError.{AskError}
+use Rattle.hub_ask.specs.declared.fault.AskError.TheVariants.{Relay, Unknown}
 use Rattle.hub_ask.specs.declared.outcome.Outcome.{Outcome}
+use Rattle.hub_ask.specs.declared.waiting.Delay.{Delay}
+use Rattle.hub_ask.specs.declared.waiting.Delay.TheVariants as delay
+use Rattle.hub_ask.specs.declared.waiting.Delay.TheVariants.{Missing}
 use Rattle.hub_ask.specs.declared.outcome.Outcome.TheVariants.{Refused, Never, Late}
 
 -- the words of a wait for these names, with one space between each two
@@ -43,9 +53,19 @@ AsksAfter sent sends had has asks Never = asks sent sends
 AsksAfter sent sends had has asks Late = asks sent sends
 AsksAfter sent sends had has asks other = (sends ≡ sent) × (has ≡ had)
 
--- A wait: sends' and has' are the streams between the reply and the questions.
-pub record IsWaited (sent sends had has held holds : Option (List ℕ)) (line : List ℕ) (asks : Asking) (outcome : Outcome) : Type 0 where
-  pub sends' : Option (List ℕ)
-  pub has' : Option (List ℕ)
-  pub replied : HasReply TellsOfWait sent sends' had has' held holds line outcome
-  pub after : AsksAfter sends' sends has' has asks outcome
+-- the reply that isn't the end of a wait that may go on
+abbrev pub reply_of : Delay → Reply
+reply_of Missing = reply.No refusal.Name
+reply_of delay.Late = reply.Late
+
+-- The reply was written, and tells the outcome. Then at most these questions were asked.
+pub record IsEnded (sent sends had has held holds : Option (List ℕ)) (reply : List ℕ) (asks : Asking) (outcome : Outcome) : Type 0 where
+  pub written : Appends held holds reply
+  pub told : TellsOfWait reply (Some outcome)
+  pub after : AsksAfter sent sends had has asks outcome
+
+-- Only a prefix of the reply could be written. Or it was written, and is none to a wait.
+abbrev pub FailsToEnd : (held holds : Option (List ℕ)) (reply : List ℕ) → AskError → Type 0
+FailsToEnd held holds reply (Relay relay.Output) = AppendsPart held holds reply
+FailsToEnd held holds reply Unknown = Appends held holds reply × TellsOfWait reply None
+FailsToEnd held holds reply error = ⊥

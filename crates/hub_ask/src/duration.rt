@@ -1,10 +1,10 @@
-//! How long a wait may take.
-ghost use Rattle.std.specs.Prelude.{◌≡◌, ◌⊎◌, ◌<◌, ◌≤◌, ◌^◌, ℕ, IfNone, IfSome};
+//! How long something may take.
+ghost use Rattle.std.specs.Prelude.{◌≡◌, ◌⊎◌, ◌<◌, ◌≤◌, ◌^◌, ℕ, IfNone, IfSome, MatchOption};
 ghost use Rattle.std.specs.Option.{SomeIff};
 ghost use Rattle.std.specs.Str.Parse.{IsNumeral, digits_value};
-ghost use Rattle.hub_ask.specs.Durations.{AreParts, AsksFor, SpellsDuration, turns_of_request};
+ghost use Rattle.hub_ask.specs.Durations.{AreParts, AsksFor, IsPlace, SpellsDuration, WritesFraction, WritesNumber, turns_of_request};
 ghost use Rattle.hub_ask.specs.Lines.{bytes_of};
-ghost use Rattle.hub_ask.specs.declared.duration.TheConstants.{MOST_TURNS};
+ghost use Rattle.hub_ask.specs.declared.duration.TheConstants.{MOST_MILLIS, MOST_TURNS};
 
 use crate::line::Line;
 use hub_protocol::parse;
@@ -14,7 +14,10 @@ use std::alloc::Global;
 /// The most turns of a wait. A turn takes about a millisecond.
 pub const MOST_TURNS: u64 = 1_000_000;
 
-// The bytes of a duration before its unit, and how many turns one of its unit has.
+/// The most milliseconds of a duration: those of 1,000 hours.
+pub const MOST_MILLIS: u64 = 3_600_000_000;
+
+// The bytes of a duration before its unit, and how many milliseconds one of its unit has.
 fn parts_of(text: &str) -> (&str, u64)
     ensures { AreParts text.now result.0.now result.1 }
 {
@@ -24,8 +27,10 @@ fn parts_of(text: &str) -> (&str, u64)
         (number, 1_000)
     } else if let Some(number) = text.strip_suffix("m") {
         (number, 60_000)
+    } else if let Some(number) = text.strip_suffix("h") {
+        (number, 3_600_000)
     } else {
-        (text, 1)
+        (text, 1_000)
     }
 }
 
@@ -40,19 +45,59 @@ fn number_of(digits: &str) -> Option<u64>
     digits.parse::<u64>().ok()
 }
 
-/// The turns of a duration: a number with `ms`, `s` or `m`, or alone for turns. None if it is another text, or too long.
-pub fn turns_of(text: &str) -> Option<u64>
-    ensures none { IfNone result ((turns : ℕ) → SpellsDuration text.now turns
-        → MOST_TURNS < turns) }
+// How many thousandths the last of so many digits behind a point counts. None if there may not be so many.
+fn place_of(count: usize) -> Option<u64>
+    ensures { MatchOption result ((place : ℕ) → IsPlace count place → ⊥) (IsPlace count) }
+{
+    match count {
+        1 => Some(100),
+        2 => Some(10),
+        3 => Some(1),
+        _ => None,
+    }
+}
+
+// The thousandths that these digits behind a point write.
+fn fraction_of(digits: &str) -> Option<u64>
+    ensures none { IfNone result ((thousandths : ℕ) → WritesFraction digits.now thousandths
+        → 2 ^ 64 ≤ thousandths) }
+    ensures some { IfSome result (WritesFraction digits.now) }
+{
+    let place = place_of(digits.len())?;
+    number_of(digits)?.checked_mul(place)
+}
+
+// The thousandths of a number, which may have a point.
+fn thousandths_of(number: &str) -> Option<u64>
+    ensures none { IfNone result ((thousandths : ℕ) → WritesNumber number.now thousandths
+        → 2 ^ 64 ≤ thousandths) }
+    ensures some { IfSome result (WritesNumber number.now) }
+{
+    match number.split_once('.') {
+        Some((whole, fraction)) => {
+            let behind = fraction_of(fraction)?;
+            let front = number_of(whole)?.checked_mul(1_000)?;
+            front.checked_add(behind)
+        }
+        None => number_of(number)?.checked_mul(1_000),
+    }
+}
+
+/// The milliseconds of a duration: a number with `ms`, `s`, `m` or `h`, or alone for seconds. It may have a point, and three digits
+/// behind it. None if it is another text, has a part of a millisecond, or is too long.
+pub fn millis_of(text: &str) -> Option<u64>
+    ensures none { IfNone result ((millis : ℕ) → SpellsDuration text.now millis
+        → MOST_MILLIS < millis) }
     ensures some { IfSome result (SpellsDuration text.now) }
-    ensures few { IfSome result (λ turns. turns ≤ MOST_TURNS) }
+    ensures few { IfSome result (λ millis. millis ≤ MOST_MILLIS) }
 {
     let (number, unit) = parts_of(text);
-    let turns = number_of(number)?.checked_mul(unit)?;
-    if turns > MOST_TURNS {
+    let micros = thousandths_of(number)?.checked_mul(unit)?;
+    let millis = micros / 1_000;
+    if micros % 1_000 != 0 || millis > MOST_MILLIS {
         return None;
     }
-    Some(turns)
+    Some(millis)
 }
 
 /// For how many turns a hub may sleep before it answers this request: those of a `wait`, an `await` or a `next`, else none.
@@ -76,3 +121,6 @@ pub fn turns_asked(alloc: Global, line: &Line) -> u64
         Err(_) => 0,
     }
 }
+
+#[cfg(test)]
+mod tests;

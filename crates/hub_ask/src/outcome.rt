@@ -3,7 +3,7 @@ ghost use Rattle.std.specs.Prelude.{◌≡◌, ℕ, List, Some};
 ghost use Rattle.hub_ask.specs.declared.outcome.Outcome.{Outcome as outcome};
 ghost use Rattle.hub_requests.specs.Texts.{text_of};
 ghost use Rattle.hub_requests.specs.declared.reply.Reply.{Reply as reply};
-ghost use Rattle.hub_protocol.specs.Replies.{IsOfHub};
+ghost use Rattle.hub_protocol.specs.Replies.{IsOfHub, Shows};
 ghost use Rattle.hub_ask.specs.Outcomes.{outcome_of, outcome_read, replies_to_wait, status_of, Tells, TellsOfWait, RepliesToWait};
 
 use hub_protocol::{BorrowedReply, read_reply};
@@ -72,6 +72,13 @@ impl Outcome {
         } else {
             None
         }
+    }
+
+    /// How a request went that has this reply.
+    pub fn of_reply(shown: BorrowedReply<'_>) -> Outcome
+        ensures { (it : reply) → Shows shown.entry it → result ≡ outcome_of it }
+    {
+        outcome_of(shown)
     }
 
     /// The exit status.

@@ -4,28 +4,28 @@ ghost use Rattle.std.specs.Io.KnownBytes.{Appends};
 ghost use Rattle.hub_letters.specs.declared.span.Span.TheVariants as span;
 ghost use Rattle.hub_requests.specs.declared.request.Request.TheVariants as request;
 ghost use Rattle.hub_client.specs.Passing.{has_lf};
-ghost use Rattle.hub_ask.specs.Asking.{HasNoReply};
 ghost use Rattle.hub_ask.specs.Lines.{bytes_of, joined};
-ghost use Rattle.hub_ask.specs.Outcomes.{TellsOfWait};
 ghost use Rattle.hub_ask.specs.Sending.{SendsFront, lines_of_requests};
-ghost use Rattle.hub_ask.specs.Waiting.{AsksAbout, IsWaited, questions, questions_about, wait_words};
+ghost use Rattle.hub_ask.specs.Waiting.{AsksAbout, FailsToEnd, IsEnded, questions, questions_about, reply_of, wait_words};
+ghost use Rattle.hub_requests.specs.Texts.{text_of};
 
-use crate::asking::ask_and_write;
 use crate::client::Client;
 use crate::fault::AskError;
 use crate::line::Line;
 use crate::notes::{tell_state, want_of};
 use crate::outcome::Outcome;
 use crate::peer::{Replies, Requests};
-use hub_io::Sink;
+use hub_client::RelayError;
+use hub_io::{Sink, write_whole};
 use hub_letters::{Span, Want};
-use hub_requests::{Name, Names, Request};
+use hub_protocol::{BorrowedReply, read_reply};
+use hub_requests::{Name, Names, Refusal, Request};
 use std::alloc::{AllocError, Global};
 use std::io::Write;
 use std::sync::Wait;
 
 /// How many milliseconds a hub has for the reply of a wait after the wait's own time, and then for what is asked about the services.
-pub const GRACE: u64 = 2_000;
+pub const GRACE: u64 = 1_000;
 
 /// The line of a wait. None if a word has an LF.
 pub fn wait_line(
@@ -124,32 +124,52 @@ fn explain<H: Wait, SR: Replies, SW: Requests, F: Write>(
     explain_each(rt, alloc, want, names, client, notes)
 }
 
-/// Sends the line of a wait as [`ask`](crate::ask) does; only a `yes` is done. If it is refused, `never` or `late`, it asks how each service is, and writes a line to
-/// `notes` for each that isn't as wanted. What goes wrong then isn't told.
-pub fn wait_for<H: Wait, SR: Replies, SW: Requests, W: Sink, F: Write>(
+/// Why a reply isn't the end of a wait that may go on.
+#[derive(Clone, Copy, Debug, PartialEq, Eq)]
+pub enum Delay {
+    /// A name isn't made yet.
+    Missing,
+    /// The time of this line is over.
+    Late,
+}
+
+/// Why the reply line isn't the end of a wait that may go on. None if it is.
+pub fn delay_of(reply: &[u8]) -> Option<Delay>
+    ensures { IfSome result (λ delay. reply.now ≡ text_of (reply_of delay)) }
+{
+    match read_reply(reply)? {
+        BorrowedReply::No(Refusal::Name) => Some(Delay::Missing),
+        BorrowedReply::Late => Some(Delay::Late),
+        _ => None,
+    }
+}
+
+/// Writes the reply line of a wait, and tells how the wait went; only a `yes` is done. If it was refused, `never` or `late`, it asks how
+/// each service is, and writes a line to `notes` for each that isn't as wanted. What goes wrong then isn't told.
+pub fn end_wait<H: Wait, SR: Replies, SW: Requests, W: Sink, F: Write>(
     rt: &H,
     alloc: Global,
-    line: &Line,
+    reply: &[u8],
     want: &str,
     names: &[&str],
     client: &mut Client<SR, SW>,
     output: &mut W,
     notes: &mut F,
 ) -> Result<Outcome, AskError>
-    // The wait goes as in `ask`. After it only these questions are sent, and only if it is refused, `never` or `late`.
-    ensures ok { IfOk result (IsWaited
+    // Only these questions are sent, and only if it was refused, `never` or `late`.
+    ensures ok { IfOk result (IsEnded
         (SW.contents client.old.sender) (SW.contents client.new.sender)
         (SR.remaining client.old.receiver) (SR.remaining client.new.receiver)
-        (W.contents output.old) (W.contents output.new) (bytes_of line.now)
+        (W.contents output.old) (W.contents output.new) reply.now
         (AsksAbout want.now (λ name. name.now) names.now)) }
-    // Without an outcome it is all as in `ask`.
-    ensures err { IfErr result (HasNoReply TellsOfWait
-        (SW.contents client.old.sender) (SW.contents client.new.sender)
-        (SR.remaining client.old.receiver) (SR.remaining client.new.receiver)
-        (W.contents output.old) (W.contents output.new) (bytes_of line.now)) }
+    // Without an outcome nothing is sent.
+    ensures err { IfErr result (FailsToEnd (W.contents output.old) (W.contents output.new) reply.now) }
+    ensures kept { OnErr result (client.new ≡ client.old) }
 {
-    let reply = ask_and_write(rt, alloc, line, client, output)?;
-    let outcome = Outcome::of_wait(&reply).ok_or(AskError::Unknown)?;
+    if write_whole(output, reply).is_err() {
+        return Err(AskError::Relay(RelayError::Output));
+    }
+    let outcome = Outcome::of_wait(reply).ok_or(AskError::Unknown)?;
     match outcome {
         Outcome::Refused | Outcome::Never | Outcome::Late => {
             let _: Result<(), AskError> = explain(rt, alloc, want, names, client, notes);

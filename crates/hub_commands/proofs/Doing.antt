@@ -8,12 +8,12 @@ use Rattle.hub_ask.specs.declared.outcome.Outcome.{Outcome}
 use Rattle.hub_look.specs.Streams.{Streams, streams}
 use Rattle.hub_server.specs.Sessions.{Writing}
 use Rattle.hub_commands.specs.Asked.{DoesWith}
-use Rattle.hub_commands.specs.Dialing.{Dialing, OverOne}
+use Rattle.hub_dialing.specs.Dialing.{Dialing, OverOne}
 use Rattle.hub_commands.specs.Looking.{Told}
-use Rattle.hub_commands.specs.declared.ending.BadWords.{BadWords}
-use Rattle.hub_commands.specs.declared.ending.Ending.{Ending}
-use Rattle.hub_commands.specs.declared.ending.Ending.TheVariants.{Failed}
-use Rattle.hub_commands.specs.declared.fault.Fault.TheVariants.{Ask}
+use Rattle.hub_endings.specs.declared.ending.BadWords.{BadWords}
+use Rattle.hub_endings.specs.declared.ending.Ending.{Ending}
+use Rattle.hub_endings.specs.declared.ending.Ending.TheVariants.{Failed}
+use Rattle.hub_endings.specs.declared.fault.Fault.TheVariants.{Ask}
 use Rattle.hub_commands.proofs.Requested.{over_one}
 
 -- what went over the connection, if the client began with its streams

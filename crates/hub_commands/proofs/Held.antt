@@ -15,12 +15,12 @@ use Rattle.hub_requests.specs.declared.reply.Reply.TheVariants as reply
 use Rattle.hub_requests.specs.declared.request.Request.TheVariants as request
 use Rattle.hub_requests.specs.declared.will.Will.{Will}
 use Rattle.hub_server.specs.Sessions.{Reading, Writing}
-use Rattle.hub_commands.specs.Dialing.{Dialing}
+use Rattle.hub_dialing.specs.Dialing.{Dialing}
 use Rattle.hub_commands.specs.Holding.{FailsToAskEach, FailsToRead, FailsToSay, HoldsAsTold, IsAsked, IsHeld, IsSaid, beside, request_of}
 use Rattle.hub_commands.specs.Telling.{RefusesName}
-use Rattle.hub_commands.specs.declared.ending.Ending.{Ending}
-use Rattle.hub_commands.specs.declared.ending.Ending.TheVariants.{Failed}
-use Rattle.hub_commands.specs.declared.fault.Fault.TheVariants.{Ask}
+use Rattle.hub_endings.specs.declared.ending.Ending.{Ending}
+use Rattle.hub_endings.specs.declared.ending.Ending.TheVariants.{Failed}
+use Rattle.hub_endings.specs.declared.fault.Fault.TheVariants.{Ask}
 use Rattle.hub_commands.proofs.Doing.{does_in_vain, does_so}
 
 -- how the requests went, and the input

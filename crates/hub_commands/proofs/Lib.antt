@@ -1,6 +1,3 @@
-pub mod Results
-pub mod CarriedOut
-pub mod Lines
 pub mod Requested
 pub mod Planned
 pub mod Lookings
@@ -12,3 +9,5 @@ pub mod Made
 pub mod Shapes
 pub mod Compared
 pub mod Makes
+pub mod Waits
+pub mod Followings

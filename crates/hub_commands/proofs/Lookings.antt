@@ -4,20 +4,19 @@ use Rattle.hub_ask.specs.Outcomes.{status_of}
 use Rattle.hub_ask.specs.declared.exchanging.TheConstants.{ANSWER}
 use Rattle.hub_ask.specs.declared.fault.AskError.{AskError}
 use Rattle.hub_ask.specs.declared.outcome.Outcome.{Outcome}
-use Rattle.hub_look.specs.Follows.{Beginning, FailsToFollow, FollowsTo, Manner}
 use Rattle.hub_look.specs.Looks.{OnlyLooks}
 use Rattle.hub_look.specs.Streams.{Streams}
 use Rattle.hub_look.specs.Tables.{FailsToShowStates, ShowsStates}
 use Rattle.hub_server.specs.Sessions.{Writing}
 use Rattle.hub_commands.specs.Asking.{Going}
-use Rattle.hub_commands.specs.BadWords.{any_breaks}
-use Rattle.hub_commands.specs.Dialing.{Dialing}
-use Rattle.hub_commands.specs.Looking.{FollowsAsTold, LooksOver, LooksWith, ShowsStatus, Told}
-use Rattle.hub_commands.specs.declared.ending.BadWords.{BadWords}
-use Rattle.hub_commands.specs.declared.ending.BadWords.TheVariants as bad
-use Rattle.hub_commands.specs.declared.ending.Ending.{Ending}
-use Rattle.hub_commands.specs.declared.ending.Ending.TheVariants.{Failed}
-use Rattle.hub_commands.specs.declared.fault.Fault.TheVariants.{Ask}
+use Rattle.hub_commands.specs.Breaking.{any_breaks}
+use Rattle.hub_dialing.specs.Dialing.{Dialing}
+use Rattle.hub_commands.specs.Looking.{LooksOver, LooksWith, ShowsStatus, Told}
+use Rattle.hub_endings.specs.declared.ending.BadWords.{BadWords}
+use Rattle.hub_endings.specs.declared.ending.BadWords.TheVariants as bad
+use Rattle.hub_endings.specs.declared.ending.Ending.{Ending}
+use Rattle.hub_endings.specs.declared.ending.Ending.TheVariants.{Failed}
+use Rattle.hub_endings.specs.declared.fault.Fault.TheVariants.{Ask}
 use Rattle.hub_commands.proofs.Requested.{over_one}
 
 -- what went over the connection, if the client began with its streams as they were
@@ -49,48 +48,26 @@ looks_in_vain d old new socket breaks refused untouched goes fails (Err ending) 
     subst (λ it. LooksWith d old new socket breaks refused untouched goes fails (Err it)) (sym is)
     (whole, inr (error, refl, over_it d old new socket (fails error) receive receives send sends begun sent had reached is_begun looks is_sent is_had over))
 
--- ---- `status` and `follow`
+-- ---- `status`
 
-pub shows_so : {D SR SW F Name : Type 0} (d : Dialing D SR SW) (old new : D) (socket : List ℕ) (n : Writing F) (notes note : F) (text : Name → List ℕ) (names : List Name) (untouched : Type 0)
+pub shows_so : {D SR SW F Name : Type 0} (d : Dialing D SR SW) (old new : D) (socket : List ℕ) (n : Writing F) (notes note : F) (text : Name → List ℕ) (is_json : Bool) (names : List Name) (untouched : Type 0)
     (held holds : Option (List ℕ)) (status : ℕ) (outcome : Outcome) (receive receives : SR) (send sends begun : SW) (sent had : Option (List ℕ)) → any_breaks text names ≡ false → status ≡ status_of outcome
     → d.reaches old socket ANSWER (Ok (receive, send)) new → begun ≡ send → ∥ OnlyLooks (d.contents begun) (d.contents sends) ∥₁ → sent ≡ d.contents send → had ≡ d.remaining receive
-    → Told n notes note (λ before after. ShowsStates text before after held holds names outcome) sent (d.contents sends) had (d.remaining receives)
-    → ShowsStatus d old new socket n notes note text names untouched held holds (Ok status)
-shows_so d old new socket n notes note text names untouched held holds status outcome receive receives send sends begun sent had whole is reached is_begun looks is_sent is_had over =
+    → Told n notes note (λ before after. ShowsStates text is_json before after held holds names outcome) sent (d.contents sends) had (d.remaining receives)
+    → ShowsStatus d old new socket n notes note text is_json names untouched held holds (Ok status)
+shows_so d old new socket n notes note text is_json names untouched held holds status outcome receive receives send sends begun sent had whole is reached is_begun looks is_sent is_had over =
     looks_so d old new socket (any_breaks text names) bad.Name untouched
-    (λ outcome. Told n notes note (λ before after. ShowsStates text before after held holds names outcome))
-    (λ error. Told n notes note (λ before after. FailsToShowStates text before after held holds names error))
+    (λ outcome. Told n notes note (λ before after. ShowsStates text is_json before after held holds names outcome))
+    (λ error. Told n notes note (λ before after. FailsToShowStates text is_json before after held holds names error))
     status outcome receive receives send sends begun sent had whole is reached is_begun looks is_sent is_had over
 
-pub shows_in_vain : {D SR SW F Name : Type 0} (d : Dialing D SR SW) (old new : D) (socket : List ℕ) (n : Writing F) (notes note : F) (text : Name → List ℕ) (names : List Name) (untouched : Type 0)
+pub shows_in_vain : {D SR SW F Name : Type 0} (d : Dialing D SR SW) (old new : D) (socket : List ℕ) (n : Writing F) (notes note : F) (text : Name → List ℕ) (is_json : Bool) (names : List Name) (untouched : Type 0)
     (held holds : Option (List ℕ)) (result : Result ℕ Ending) (error : AskError) (receive receives : SR) (send sends begun : SW) (sent had : Option (List ℕ)) → any_breaks text names ≡ false → IsErrAnd result (λ it. it ≡ Failed (Ask error))
     → d.reaches old socket ANSWER (Ok (receive, send)) new → begun ≡ send → ∥ OnlyLooks (d.contents begun) (d.contents sends) ∥₁ → sent ≡ d.contents send → had ≡ d.remaining receive
-    → Told n notes note (λ before after. FailsToShowStates text before after held holds names error) sent (d.contents sends) had (d.remaining receives)
-    → ShowsStatus d old new socket n notes note text names untouched held holds result
-shows_in_vain d old new socket n notes note text names untouched held holds result error receive receives send sends begun sent had whole is reached is_begun looks is_sent is_had over =
+    → Told n notes note (λ before after. FailsToShowStates text is_json before after held holds names error) sent (d.contents sends) had (d.remaining receives)
+    → ShowsStatus d old new socket n notes note text is_json names untouched held holds result
+shows_in_vain d old new socket n notes note text is_json names untouched held holds result error receive receives send sends begun sent had whole is reached is_begun looks is_sent is_had over =
     looks_in_vain d old new socket (any_breaks text names) bad.Name untouched
-    (λ outcome. Told n notes note (λ before after. ShowsStates text before after held holds names outcome))
-    (λ error. Told n notes note (λ before after. FailsToShowStates text before after held holds names error))
-    result error receive receives send sends begun sent had whole is reached is_begun looks is_sent is_had over
-
-pub follows_so : {D SR SW F : Type 0} (d : Dialing D SR SW) (old new : D) (socket : List ℕ) (n : Writing F) (notes note : F) (breaks : Bool) (manner : Manner) (begins : Streams → Beginning) (names : List (List ℕ)) (untouched : Type 0)
-    (held holds : Option (List ℕ)) (status : ℕ) (outcome : Outcome) (receive receives : SR) (send sends begun : SW) (sent had : Option (List ℕ)) → breaks ≡ false → status ≡ status_of outcome
-    → d.reaches old socket ANSWER (Ok (receive, send)) new → begun ≡ send → ∥ OnlyLooks (d.contents begun) (d.contents sends) ∥₁ → sent ≡ d.contents send → had ≡ d.remaining receive
-    → Told n notes note (λ before after. FollowsTo manner (begins before) names after held holds outcome) sent (d.contents sends) had (d.remaining receives)
-    → FollowsAsTold d old new socket n notes note breaks manner begins names untouched held holds (Ok status)
-follows_so d old new socket n notes note breaks manner begins names untouched held holds status outcome receive receives send sends begun sent had whole is reached is_begun looks is_sent is_had over =
-    looks_so d old new socket breaks bad.Word untouched
-    (λ outcome. Told n notes note (λ before after. FollowsTo manner (begins before) names after held holds outcome))
-    (λ error. Told n notes note (λ before after. FailsToFollow manner (begins before) names after held holds error))
-    status outcome receive receives send sends begun sent had whole is reached is_begun looks is_sent is_had over
-
-pub follows_in_vain : {D SR SW F : Type 0} (d : Dialing D SR SW) (old new : D) (socket : List ℕ) (n : Writing F) (notes note : F) (breaks : Bool) (manner : Manner) (begins : Streams → Beginning) (names : List (List ℕ)) (untouched : Type 0)
-    (held holds : Option (List ℕ)) (result : Result ℕ Ending) (error : AskError) (receive receives : SR) (send sends begun : SW) (sent had : Option (List ℕ)) → breaks ≡ false → IsErrAnd result (λ it. it ≡ Failed (Ask error))
-    → d.reaches old socket ANSWER (Ok (receive, send)) new → begun ≡ send → ∥ OnlyLooks (d.contents begun) (d.contents sends) ∥₁ → sent ≡ d.contents send → had ≡ d.remaining receive
-    → Told n notes note (λ before after. FailsToFollow manner (begins before) names after held holds error) sent (d.contents sends) had (d.remaining receives)
-    → FollowsAsTold d old new socket n notes note breaks manner begins names untouched held holds result
-follows_in_vain d old new socket n notes note breaks manner begins names untouched held holds result error receive receives send sends begun sent had whole is reached is_begun looks is_sent is_had over =
-    looks_in_vain d old new socket breaks bad.Word untouched
-    (λ outcome. Told n notes note (λ before after. FollowsTo manner (begins before) names after held holds outcome))
-    (λ error. Told n notes note (λ before after. FailsToFollow manner (begins before) names after held holds error))
+    (λ outcome. Told n notes note (λ before after. ShowsStates text is_json before after held holds names outcome))
+    (λ error. Told n notes note (λ before after. FailsToShowStates text is_json before after held holds names error))
     result error receive receives send sends begun sent had whole is reached is_begun looks is_sent is_had over

@@ -8,11 +8,11 @@ use Rattle.hub_ask.specs.declared.fault.AskError.{AskError}
 use Rattle.hub_ask.specs.declared.outcome.Outcome.{Outcome}
 use Rattle.hub_look.specs.Streams.{streams}
 use Rattle.hub_server.specs.Sessions.{Writing}
-use Rattle.hub_commands.specs.Dialing.{Dialing}
+use Rattle.hub_dialing.specs.Dialing.{Dialing}
 use Rattle.hub_commands.specs.Making.{FailsToMakeEach, MakesAsTold, MakesEach, RefusesNames}
-use Rattle.hub_commands.specs.declared.ending.Ending.{Ending}
-use Rattle.hub_commands.specs.declared.ending.Ending.TheVariants.{Failed}
-use Rattle.hub_commands.specs.declared.fault.Fault.TheVariants.{Ask}
+use Rattle.hub_endings.specs.declared.ending.Ending.{Ending}
+use Rattle.hub_endings.specs.declared.ending.Ending.TheVariants.{Failed}
+use Rattle.hub_endings.specs.declared.fault.Fault.TheVariants.{Ask}
 use Rattle.hub_commands.proofs.Doing.{does_in_vain, does_so}
 
 -- it has an outcome

@@ -3,10 +3,10 @@ use Rattle.std.proofs.Common.{◌≡◌, ℕ, List, Option, Result, sym, subst}
 use Rattle.hub_arguments.specs.declared.command_line.Plan.{Plan}
 use Rattle.hub_ask.specs.Lines.{joined}
 use Rattle.hub_commands.specs.Asking.{Asks}
-use Rattle.hub_commands.specs.Calls.{Calling}
-use Rattle.hub_commands.specs.Dialing.{Dialing}
+use Rattle.hub_dialing.specs.Calls.{Calling}
+use Rattle.hub_dialing.specs.Dialing.{Dialing}
 use Rattle.hub_commands.specs.Running.{CarriesOut, Hands}
-use Rattle.hub_commands.specs.declared.ending.Ending.{Ending}
+use Rattle.hub_endings.specs.declared.ending.Ending.{Ending}
 use Rattle.hub_server.specs.Sessions.{Reading, Writing}
 
 -- what is done with a plan is done with the same plan
@@ -15,8 +15,8 @@ pub same_plan : {D SR SW CR CW R W F : Type 0} (d : Dialing D SR SW) (c : Callin
 same_plan d c r w n old new plan other result same carried = subst (λ it. CarriesOut d c r w n old new it result) (sym same) carried
 
 -- what is asked by some words is asked by the same words
-pub same_words : {D SR SW Word : Type 0} (text : Word → List ℕ) (d : Dialing D SR SW) (old new : D) (socket : List ℕ) (words others : List Word)
-    (untouched : Type 0) (held holds : Option (List ℕ)) (result : Result ℕ Ending) → others ≡ words
-    → Asks d old new socket (joined text others) untouched held holds result → Asks d old new socket (joined text words) untouched held holds result
-same_words text d old new socket words others untouched held holds result same asked =
-    subst (λ it. Asks d old new socket (joined text it) untouched held holds result) same asked
+pub same_words : {D SR SW F Word : Type 0} (text : Word → List ℕ) (d : Dialing D SR SW) (old new : D) (socket : List ℕ) (words others : List Word)
+    (n : Writing F) (notes note : F) (untouched : Type 0) (held holds : Option (List ℕ)) (result : Result ℕ Ending) → others ≡ words
+    → Asks d old new socket (joined text others) n notes note untouched held holds result → Asks d old new socket (joined text words) n notes note untouched held holds result
+same_words text d old new socket words others n notes note untouched held holds result same asked =
+    subst (λ it. Asks d old new socket (joined text it) n notes note untouched held holds result) same asked

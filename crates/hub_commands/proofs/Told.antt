@@ -15,11 +15,11 @@ use Rattle.hub_requests.specs.declared.reply.Reply.{Reply}
 use Rattle.hub_requests.specs.declared.reply.Reply.TheVariants as reply
 use Rattle.hub_protocol.specs.Replies.{Shows}
 use Rattle.hub_server.specs.Sessions.{Writing}
-use Rattle.hub_commands.specs.Dialing.{Dialing}
+use Rattle.hub_dialing.specs.Dialing.{Dialing}
 use Rattle.hub_commands.specs.Telling.{FailsToTell, IsTold, RefusesName, RepliesToTell, TellsAsTold, verdict_of}
-use Rattle.hub_commands.specs.declared.ending.Ending.{Ending}
-use Rattle.hub_commands.specs.declared.ending.Ending.TheVariants.{Failed}
-use Rattle.hub_commands.specs.declared.fault.Fault.TheVariants.{Ask}
+use Rattle.hub_endings.specs.declared.ending.Ending.{Ending}
+use Rattle.hub_endings.specs.declared.ending.Ending.TheVariants.{Failed}
+use Rattle.hub_endings.specs.declared.fault.Fault.TheVariants.{Ask}
 use Rattle.hub_commands.proofs.Doing.{does_in_vain, does_so}
 
 -- the reply that refuses

@@ -15,13 +15,13 @@ use Rattle.hub_requests.specs.declared.reply.Reply.{Reply}
 use Rattle.hub_requests.specs.declared.reply.Reply.TheVariants as reply
 use Rattle.hub_requests.specs.declared.reply.Refusal.{Refusal}
 use Rattle.hub_server.specs.Sessions.{Writing}
-use Rattle.hub_commands.specs.Dialing.{Dialing, OverOne}
+use Rattle.hub_dialing.specs.Dialing.{Dialing, OverOne}
 use Rattle.hub_commands.specs.Looking.{Told}
 use Rattle.hub_commands.specs.Notes.{reason_of}
-use Rattle.hub_commands.specs.declared.ending.BadWords.{BadWords}
-use Rattle.hub_commands.specs.declared.ending.Ending.{Ending}
-use Rattle.hub_commands.specs.declared.ending.Ending.TheVariants.{Refused, Stopped, Failed}
-use Rattle.hub_commands.specs.declared.fault.Fault.TheVariants.{Memory, Ask}
+use Rattle.hub_endings.specs.declared.ending.BadWords.{BadWords}
+use Rattle.hub_endings.specs.declared.ending.Ending.{Ending}
+use Rattle.hub_endings.specs.declared.ending.Ending.TheVariants.{Refused, Stopped, Failed}
+use Rattle.hub_endings.specs.declared.fault.Fault.TheVariants.{Memory, Ask}
 
 -- ---- one request
 

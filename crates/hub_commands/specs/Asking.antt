@@ -1,22 +1,25 @@
 -- What the subcommands do that send one request.
-use Rattle.std.specs.Prelude.{◌≡◌, ◌⊎◌, ℕ, ◌+◌, ◌<◌, ◌≤◌, true, false, List, Option, Result, Ok, Err}
-use Rattle.hub_ask.specs.Asking.{HasReply, HasNoReply}
-use Rattle.hub_ask.specs.Durations.{SpellsDuration}
-use Rattle.hub_ask.specs.Outcomes.{Tells, TellsOfWait, status_of}
-use Rattle.hub_ask.specs.Waiting.{Asking, IsWaited}
+use Rattle.std.specs.Prelude.{◌≡◌, ◌⊎◌, ℕ, ◌+◌, ◌≤◌, true, false, List, Option, Result, Ok, Err}
+use Rattle.hub_ask.specs.Asking.{HasNoReply, IsWritten}
+use Rattle.hub_ask.specs.Outcomes.{Tells, outcome_of, status_of}
 use Rattle.hub_ask.specs.declared.duration.TheConstants.{MOST_TURNS}
 use Rattle.hub_ask.specs.declared.exchanging.TheConstants.{ANSWER}
 use Rattle.hub_ask.specs.declared.fault.AskError.{AskError}
 use Rattle.hub_ask.specs.declared.outcome.Outcome.{Outcome}
-use Rattle.hub_ask.specs.declared.waiting.TheConstants.{GRACE}
 use Rattle.hub_client.specs.Passing.{has_lf}
-use Rattle.hub_commands.specs.Dialing.{Dialing, OverOne}
-use Rattle.hub_commands.specs.declared.ending.BadWords.{BadWords}
-use Rattle.hub_commands.specs.declared.ending.BadWords.TheVariants as bad
-use Rattle.hub_commands.specs.declared.ending.Ending.{Ending}
-use Rattle.hub_commands.specs.declared.ending.Ending.TheVariants.{Refused, Stopped, Failed}
-use Rattle.hub_commands.specs.declared.fault.Fault.{Fault}
-use Rattle.hub_commands.specs.declared.fault.Fault.TheVariants.{Memory, Ask}
+use Rattle.hub_dialing.specs.Dialing.{Dialing, OverOne}
+use Rattle.hub_commands.specs.Hints.{Hints, refusal_of}
+use Rattle.hub_endings.specs.declared.ending.BadWords.{BadWords}
+use Rattle.hub_endings.specs.declared.ending.BadWords.TheVariants as bad
+use Rattle.hub_endings.specs.declared.ending.Ending.{Ending}
+use Rattle.hub_endings.specs.declared.ending.Ending.TheVariants.{Refused, Stopped, Failed}
+use Rattle.hub_endings.specs.declared.fault.Fault.{Fault}
+use Rattle.hub_endings.specs.declared.fault.Fault.TheVariants.{Memory, Ask}
+use Rattle.hub_protocol.specs.Replies.{IsOfHub}
+use Rattle.hub_requests.specs.Texts.{text_of}
+use Rattle.hub_requests.specs.declared.reply.Refusal.{Refusal}
+use Rattle.hub_requests.specs.declared.reply.Reply.{Reply}
+use Rattle.hub_server.specs.Sessions.{Writing}
 
 -- what goes over a connection: what had been sent before and after, and what was left of the peer's bytes before and after
 abbrev pub Going : Type 1
@@ -48,35 +51,19 @@ abbrev pub AskRefuses : (line : List ℕ) → BadWords → Type 0
 AskRefuses line bad.Word = has_lf line ≡ true
 AskRefuses line other = ⊥
 
--- `ask` of this line. A hub has so many turns besides its ten seconds.
-abbrev pub Asks : {D SR SW : Type 0} → Dialing D SR SW → (old new : D) → (socket line : List ℕ) → (untouched : Type 0)
-    → (held holds : Option (List ℕ)) → Result ℕ Ending → Type 0
-Asks d old new socket line untouched held holds result = (turns : ℕ) × (turns ≤ MOST_TURNS) × Ends
-    d old new socket (turns + ANSWER) line (AskRefuses line) untouched
-    (λ outcome sent sends had has. HasReply Tells sent sends had has held holds line outcome)
-    (λ error sent sends had has. HasNoReply Tells sent sends had has held holds line error) result
+-- The line was sent, and the reply of a hub came and was written. The request went as the reply says, and so much was noted as there is to
+-- note if it is refused for this reason, or for none.
+pub record IsAsked (sent sends had has held holds : Option (List ℕ)) (line : List ℕ) (hints : Option Refusal → Type 0) (outcome : Outcome) : Type 0 where
+  pub reply : Reply
+  pub of_hub : IsOfHub reply
+  pub written : IsWritten sent sends had has held holds line (text_of reply)
+  pub went : outcome ≡ outcome_of reply
+  pub hinted : hints (refusal_of reply)
 
--- if its duration is one, `wait` refuses only a line with an LF in it
-abbrev pub WaitRefuses : (line : List ℕ) → BadWords → Type 0
-WaitRefuses line bad.Name = has_lf line ≡ true
-WaitRefuses line other = ⊥
-
--- `wait` for so many turns by this line, and what is asked after it
-abbrev pub Waits : {D SR SW : Type 0} → Dialing D SR SW → (old new : D) → (socket line : List ℕ) → (asks : Asking) → (turns : ℕ)
+-- `ask` of this line. A hub has so many turns besides its ten seconds. Only a refusal is noted, by its hint.
+abbrev pub Asks : {D SR SW F : Type 0} → Dialing D SR SW → (old new : D) → (socket line : List ℕ) → Writing F → (notes note : F)
     → (untouched : Type 0) → (held holds : Option (List ℕ)) → Result ℕ Ending → Type 0
-Waits d old new socket line asks turns untouched held holds result = Ends
-    d old new socket (turns + GRACE) line (WaitRefuses line) untouched
-    (λ outcome sent sends had has. IsWaited sent sends had has held holds line asks outcome)
-    (λ error sent sends had has. HasNoReply TellsOfWait sent sends had has held holds line error) result
-
--- no wait may take so long, or it is no duration
-abbrev pub IsNoPatience : (duration : List ℕ) → Type 0
-IsNoPatience duration = (turns : ℕ) → SpellsDuration duration turns → MOST_TURNS < turns
-
--- `wait` for as long as the duration says, by the line for so many turns. A duration that a wait can't have is refused, and
--- nothing is touched.
-abbrev pub WaitsFor : {D SR SW : Type 0} → Dialing D SR SW → (old new : D) → (socket duration : List ℕ) → (line : ℕ → List ℕ)
-    → (asks : Asking) → (untouched : Type 0) → (held holds : Option (List ℕ)) → Result ℕ Ending → Type 0
-WaitsFor d old new socket duration line asks untouched held holds result =
-    (IsNoPatience duration × (result ≡ Err (Refused bad.Duration)) × (new ≡ old) × untouched)
-    ⊎ ((turns : ℕ) × SpellsDuration duration turns × (turns ≤ MOST_TURNS) × Waits d old new socket (line turns) asks turns untouched held holds result)
+Asks d old new socket line n notes note untouched held holds result = (turns : ℕ) × (turns ≤ MOST_TURNS) × Ends
+    d old new socket (turns + ANSWER) line (AskRefuses line) (untouched × (note ≡ notes))
+    (λ outcome sent sends had has. IsAsked sent sends had has held holds line (Hints n notes note line) outcome)
+    (λ error sent sends had has. HasNoReply Tells sent sends had has held holds line error × (note ≡ notes)) result

@@ -16,10 +16,10 @@ use Rattle.hub_requests.specs.declared.reply.Refusal.{Refusal}
 use Rattle.hub_requests.specs.declared.will.Will.{Will}
 use Rattle.hub_server.specs.Sessions.{Reading, Writing}
 use Rattle.hub_commands.specs.Asked.{DoesWith, FailsOnce, IsRefused}
-use Rattle.hub_commands.specs.Dialing.{Dialing}
+use Rattle.hub_dialing.specs.Dialing.{Dialing}
 use Rattle.hub_commands.specs.Making.{RepliesToMake}
 use Rattle.hub_commands.specs.Telling.{FailsToTell, IsTold, RefusesName}
-use Rattle.hub_commands.specs.declared.ending.Ending.{Ending}
+use Rattle.hub_endings.specs.declared.ending.Ending.{Ending}
 
 -- ---- the will
 

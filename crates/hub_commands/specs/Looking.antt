@@ -4,19 +4,18 @@ use Rattle.hub_ask.specs.Outcomes.{status_of}
 use Rattle.hub_ask.specs.declared.exchanging.TheConstants.{ANSWER}
 use Rattle.hub_ask.specs.declared.fault.AskError.{AskError}
 use Rattle.hub_ask.specs.declared.outcome.Outcome.{Outcome}
-use Rattle.hub_look.specs.Follows.{Beginning, FailsToFollow, FollowsTo, Manner}
 use Rattle.hub_look.specs.Looks.{OnlyLooks}
 use Rattle.hub_look.specs.Streams.{Streams}
 use Rattle.hub_look.specs.Tables.{FailsToShowStates, ShowsStates}
 use Rattle.hub_server.specs.Sessions.{Writing}
 use Rattle.hub_commands.specs.Asking.{Going}
-use Rattle.hub_commands.specs.BadWords.{any_breaks}
-use Rattle.hub_commands.specs.Dialing.{Dialing, OverOne}
-use Rattle.hub_commands.specs.declared.ending.BadWords.{BadWords}
-use Rattle.hub_commands.specs.declared.ending.BadWords.TheVariants as bad
-use Rattle.hub_commands.specs.declared.ending.Ending.{Ending}
-use Rattle.hub_commands.specs.declared.ending.Ending.TheVariants.{Refused, Stopped, Failed}
-use Rattle.hub_commands.specs.declared.fault.Fault.TheVariants.{Ask}
+use Rattle.hub_commands.specs.Breaking.{any_breaks}
+use Rattle.hub_dialing.specs.Dialing.{Dialing, OverOne}
+use Rattle.hub_endings.specs.declared.ending.BadWords.{BadWords}
+use Rattle.hub_endings.specs.declared.ending.BadWords.TheVariants as bad
+use Rattle.hub_endings.specs.declared.ending.Ending.{Ending}
+use Rattle.hub_endings.specs.declared.ending.Ending.TheVariants.{Refused, Stopped, Failed}
+use Rattle.hub_endings.specs.declared.fault.Fault.TheVariants.{Ask}
 
 -- Over one connection nothing was sent but looks, and this went over it.
 abbrev pub LooksOver : {D SR SW : Type 0} → Dialing D SR SW → (old new : D) → (socket : List ℕ) → (went : Going) → Type 0
@@ -43,16 +42,8 @@ Told n notes note holds sent sends had has = holds
 
 -- `status` of these names, or of all
 abbrev pub ShowsStatus : {D SR SW F Name : Type 0} → Dialing D SR SW → (old new : D) → (socket : List ℕ) → Writing F → (notes note : F)
-    → (text : Name → List ℕ) → (names : List Name) → (untouched : Type 0) → (held holds : Option (List ℕ)) → Result ℕ Ending → Type 0
-ShowsStatus d old new socket n notes note text names untouched held holds result = LooksWith
+    → (text : Name → List ℕ) → (is_json : Bool) → (names : List Name) → (untouched : Type 0) → (held holds : Option (List ℕ)) → Result ℕ Ending → Type 0
+ShowsStatus d old new socket n notes note text is_json names untouched held holds result = LooksWith
     d old new socket (any_breaks text names) bad.Name untouched
-    (λ outcome. Told n notes note (λ before after. ShowsStates text before after held holds names outcome))
-    (λ error. Told n notes note (λ before after. FailsToShowStates text before after held holds names error)) result
-
--- `follow` of these names in this manner, after they were subscribed to so
-abbrev pub FollowsAsTold : {D SR SW F : Type 0} → Dialing D SR SW → (old new : D) → (socket : List ℕ) → Writing F → (notes note : F)
-    → (breaks : Bool) → Manner → (begins : Streams → Beginning) → (names : List (List ℕ)) → (untouched : Type 0) → (held holds : Option (List ℕ)) → Result ℕ Ending → Type 0
-FollowsAsTold d old new socket n notes note breaks manner begins names untouched held holds result = LooksWith
-    d old new socket breaks bad.Word untouched
-    (λ outcome. Told n notes note (λ before after. FollowsTo manner (begins before) names after held holds outcome))
-    (λ error. Told n notes note (λ before after. FailsToFollow manner (begins before) names after held holds error)) result
+    (λ outcome. Told n notes note (λ before after. ShowsStates text is_json before after held holds names outcome))
+    (λ error. Told n notes note (λ before after. FailsToShowStates text is_json before after held holds names error)) result

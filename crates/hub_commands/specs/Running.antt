@@ -1,24 +1,23 @@
 -- What the program does with a plan.
-use Rattle.std.specs.Prelude.{◌≡◌, ◌⊎◌, ℕ, List, All, IsOk, IfOk, IfErr, is_some, map, false, Result, Ok, Err}
+use Rattle.std.specs.Prelude.{◌≡◌, ◌⊎◌, ℕ, List, All, IsOk, IfOk, IfErr, true, false, Result, Ok, Err}
 use Rattle.hub_arguments.specs.declared.command_line.Plan.{Plan}
 use Rattle.hub_arguments.specs.declared.command_line.Plan.TheVariants as plan
 use Rattle.hub_ask.specs.Lines.{joined}
-use Rattle.hub_ask.specs.Waiting.{AsksAbout, wait_words}
-use Rattle.hub_commands.specs.Asking.{Asks, WaitsFor}
-use Rattle.hub_commands.specs.BadWords.{follow_breaks}
-use Rattle.hub_commands.specs.Calls.{Calling, IsCall}
-use Rattle.hub_commands.specs.Dialing.{Dialing}
+use Rattle.hub_commands.specs.Asking.{Asks}
+use Rattle.hub_dialing.specs.Calls.{Calling, IsCall}
+use Rattle.hub_dialing.specs.Dialing.{Dialing}
 use Rattle.hub_commands.specs.Holding.{HoldsAsTold}
-use Rattle.hub_commands.specs.Looking.{FollowsAsTold, ShowsStatus}
+use Rattle.hub_commands.specs.Following.{FollowsAsTold}
+use Rattle.hub_commands.specs.Looking.{ShowsStatus}
 use Rattle.hub_commands.specs.Making.{MakesAsTold}
 use Rattle.hub_commands.specs.Telling.{TellsAsTold}
-use Rattle.hub_commands.specs.declared.ending.BadWords.TheVariants as bad
-use Rattle.hub_commands.specs.declared.ending.Ending.{Ending}
-use Rattle.hub_commands.specs.declared.ending.Ending.TheVariants.{Refused, Stopped, Failed}
-use Rattle.hub_commands.specs.declared.fault.Fault.{Fault}
-use Rattle.hub_commands.specs.declared.fault.Fault.TheVariants.{Script, Memory}
+use Rattle.hub_commands.specs.Waiting.{WaitsAsTold, wishing}
+use Rattle.hub_endings.specs.declared.ending.BadWords.TheVariants as bad
+use Rattle.hub_endings.specs.declared.ending.Ending.{Ending}
+use Rattle.hub_endings.specs.declared.ending.Ending.TheVariants.{Refused, Stopped, Failed}
+use Rattle.hub_endings.specs.declared.fault.Fault.{Fault}
+use Rattle.hub_endings.specs.declared.fault.Fault.TheVariants.{Script, Memory}
 use Rattle.hub_io.specs.declared.fault.FrontError.{FrontError}
-use Rattle.hub_look.specs.Subscribing.{AreBegun}
 use Rattle.hub_script.specs.Output.{Serves, Stops}
 use Rattle.hub_server.specs.Sessions.{Reading, Writing}
 use Rattle.hub_server.specs.declared.report.Report.{Report}
@@ -77,23 +76,20 @@ CarriesOut d c r w n old new (plan.ServeForever options) result =
 CarriesOut d c r w n old new (plan.Call socket) result =
     Calls c old.dialer new.dialer socket.now r w old.input new.input old.output new.output result × (new.notes ≡ old.notes)
 CarriesOut d c r w n old new (plan.Ask socket words) result =
-    Asks d old.dialer new.dialer socket.now (joined (λ word. word.now) words.items) (new.output ≡ old.output)
+    Asks d old.dialer new.dialer socket.now (joined (λ word. word.now) words.items) n old.notes new.notes (new.output ≡ old.output)
     (w.contents old.output) (w.contents new.output) result
-    × (new.input ≡ old.input) × (new.notes ≡ old.notes)
+    × (new.input ≡ old.input)
 CarriesOut d c r w n old new (plan.Wait socket wish) result =
-    WaitsFor d old.dialer new.dialer socket.now wish.patience.now
-    (λ turns. wait_words wish.span.now wish.want.now turns (joined (λ name. name.now) wish.names.items))
-    (AsksAbout wish.want.now (λ name. name.now) wish.names.items)
+    WaitsAsTold d (wishing socket.now wish) (λ text. text.now) wish.timeout old.dialer new.dialer (new.output ≡ old.output)
+    (w.contents old.output) (w.contents new.output) ((new.output ≡ old.output) × (new.notes ≡ old.notes)) result
+    × (wish.is_quiet ≡ true → (new.output ≡ old.output) × (new.notes ≡ old.notes)) × (new.input ≡ old.input)
+CarriesOut d c r w n old new (plan.Status socket names is_json) result =
+    ShowsStatus d old.dialer new.dialer socket.now n old.notes new.notes (λ name. name.now) is_json names.items
     ((new.output ≡ old.output) × (new.notes ≡ old.notes)) (w.contents old.output) (w.contents new.output) result
     × (new.input ≡ old.input)
-CarriesOut d c r w n old new (plan.Status socket names) result =
-    ShowsStatus d old.dialer new.dialer socket.now n old.notes new.notes (λ name. name.now) names.items
-    ((new.output ≡ old.output) × (new.notes ≡ old.notes)) (w.contents old.output) (w.contents new.output) result
-    × (new.input ≡ old.input)
-CarriesOut d c r w n old new (plan.Follow socket names pattern is_plain is_once) result =
-    FollowsAsTold d old.dialer new.dialer socket.now n old.notes new.notes (follow_breaks (λ word. word.now) pattern names.items)
-    (record { is_hit = is_some pattern; is_plain = is_plain; is_once = is_once }) (AreBegun (λ word. word.now) pattern is_plain) (map (λ name. name.now) names.items)
-    ((new.output ≡ old.output) × (new.notes ≡ old.notes)) (w.contents old.output) (w.contents new.output) result
+CarriesOut d c r w n old new (plan.Follow socket follow) result =
+    FollowsAsTold d socket.now n (record { dialer = old.dialer; notes = old.notes; held = w.contents old.output })
+    (record { dialer = new.dialer; notes = new.notes; held = w.contents new.output }) follow (new.output ≡ old.output) result
     × (new.input ≡ old.input)
 CarriesOut d c r w n old new (plan.Tell socket name state) result =
     TellsAsTold d old.dialer new.dialer socket.now n old.notes new.notes name.now state result
@@ -105,10 +101,10 @@ CarriesOut d c r w n old new (plan.Make socket names shape) result =
     MakesAsTold d old.dialer new.dialer socket.now n old.notes new.notes (λ name. name.now) names.items shape result
     × (new.input ≡ old.input) × (new.output ≡ old.output)
 
--- How the program ends without a plan: its words ask for a text, are none or are refused, or there was a fault before.
+-- How the program ends without a plan: its words ask for a text, are none or are refused, lack a socket, or there was a fault before.
 abbrev pub EndsEarly : Result ℕ Ending → Type 0
 EndsEarly (Ok status) = (status ≡ 0) ⊎ (status ≡ 2)
-EndsEarly (Err (Refused words)) = words ≡ bad.NotText
+EndsEarly (Err (Refused words)) = (words ≡ bad.NotText) ⊎ (words ≡ bad.NoSocket)
 EndsEarly (Err (Stopped report)) = ⊥
 EndsEarly (Err (Failed fault)) = (fault ≡ Memory) ⊎ ((error : FrontError) × (fault ≡ Script error))
 

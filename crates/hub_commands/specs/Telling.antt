@@ -15,10 +15,10 @@ use Rattle.hub_requests.specs.declared.reply.Reply.TheVariants as reply
 use Rattle.hub_requests.specs.declared.reply.Refusal.{Refusal}
 use Rattle.hub_server.specs.Sessions.{Writing}
 use Rattle.hub_commands.specs.Asked.{DoesWith, FailsOnce, IsRefused}
-use Rattle.hub_commands.specs.Dialing.{Dialing}
-use Rattle.hub_commands.specs.declared.ending.BadWords.{BadWords}
-use Rattle.hub_commands.specs.declared.ending.BadWords.TheVariants as bad
-use Rattle.hub_commands.specs.declared.ending.Ending.{Ending}
+use Rattle.hub_dialing.specs.Dialing.{Dialing}
+use Rattle.hub_endings.specs.declared.ending.BadWords.{BadWords}
+use Rattle.hub_endings.specs.declared.ending.BadWords.TheVariants as bad
+use Rattle.hub_endings.specs.declared.ending.Ending.{Ending}
 
 -- what a reply says of a `tell`, as the code has it
 abbrev pub verdict_of : BorrowedReply → Option (Result (Unit {0}) Refusal)

@@ -1,7 +1,7 @@
 //! Words that would be several lines.
 ghost use Rattle.std.specs.Prelude.{◌≡◌};
 ghost use Rattle.hub_client.specs.Passing.{has_lf};
-ghost use Rattle.hub_commands.specs.BadWords.{any_breaks};
+ghost use Rattle.hub_commands.specs.Breaking.{any_breaks};
 
 /// Whether the word has a line feed.
 pub(crate) fn breaks(word: &str) -> bool

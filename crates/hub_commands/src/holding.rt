@@ -1,18 +1,17 @@
 //! The subcommand `hold`: a will for a service, for as long as standard input goes on.
 ghost use Rattle.std.specs.Prelude.{◌≡◌, ◌<◌, length, IfOk, IfErr, OnOk};
 ghost use Rattle.hub_look.specs.Streams.{streams};
-ghost use Rattle.hub_commands.specs.Dialing.{dialing};
+ghost use Rattle.hub_dialing.specs.Dialing.{dialing};
 ghost use Rattle.hub_commands.specs.Holding.{FailsToAskEach, FailsToLeave, FailsToRead, FailsToSay, HoldsAsTold, IsAsked, IsHeld, IsLeftSo, IsReadOut, IsSaid, request_of};
 
-use crate::dialing::Dial;
-use crate::ending::{BadWords, Ending};
 use crate::making::made_told;
 use crate::noting::note_refusal;
 use crate::telling::tell;
-use crate::tie::Tie;
 use hub_arguments::Hold;
 use hub_ask::{ANSWER, AskError, Client, Outcome, Replies, Requests};
 use hub_client::RelayError;
+use hub_dialing::{Dial, Tie};
+use hub_endings::{BadWords, Ending};
 use hub_io::{CHUNK, Sink, Source, new_chunk};
 use hub_letters::State;
 use hub_requests::{Name, Request};

@@ -4,15 +4,15 @@ ghost use Rattle.std.specs.List.{list_all};
 ghost use Rattle.hub_look.specs.Streams.{streams};
 ghost use Rattle.hub_requests.specs.Names.{is_name};
 ghost use Rattle.hub_requests.specs.declared.reply.Refusal.TheVariants.{Exists};
-ghost use Rattle.hub_commands.specs.Dialing.{dialing};
+ghost use Rattle.hub_dialing.specs.Dialing.{dialing};
 ghost use Rattle.hub_commands.specs.Making.{FailsToLook, FailsToMake, FailsToMakeEach, IsCompared, IsJudged, IsMade, MakesAsTold, MakesEach, about_told, made_told, outcome_after};
 
-use crate::dialing::Dial;
-use crate::ending::{BadWords, Ending};
 use crate::noting::{note, note_refusal};
 use crate::shaping::{request_for, shape_of, unlike_text};
 use hub_arguments::Shape;
 use hub_ask::{ANSWER, AskError, Client, Outcome, Replies, Requests};
+use hub_dialing::Dial;
+use hub_endings::{BadWords, Ending};
 use hub_io::Sink;
 use hub_protocol::BorrowedReply;
 use hub_requests::{About, Name, Refusal, Request};

@@ -18,8 +18,8 @@ fn begun(alloc: Global, name: &[u8]) -> Result<Vec<u8>, AllocError>
     Ok(line)
 }
 
-// Writes the line. That a write fails isn't told.
-fn write_line<F: Sink>(line: &[u8], notes: &mut F)
+/// Writes the line. That a write fails isn't told.
+pub(crate) fn write_line<F: Sink>(line: &[u8], notes: &mut F)
     ensures { IsToldTo (F.contents notes.old) (F.contents notes.new)
         (F.faults notes.old) (F.faults notes.new) line.now }
 {

@@ -1,27 +1,23 @@
 //! What the program does with the words of its command line.
-ghost use Rattle.hub_commands.specs.Calls.{calling};
-ghost use Rattle.hub_commands.specs.Dialing.{dialing};
+ghost use Rattle.hub_dialing.specs.Calls.{calling};
+ghost use Rattle.hub_dialing.specs.Dialing.{dialing};
 ghost use Rattle.hub_commands.specs.Running.{CarriesOut, Judges, Runs};
 
 use crate::asking::ask_words;
-use crate::calling::call;
-use crate::dialing::Dial;
-use crate::ending::{BadWords, Ending};
-use crate::fault::Fault;
 use crate::following::follow_as_told;
 use crate::holding::hold_as_told;
-use crate::living::serve_forever;
 use crate::making::make_fifodirs;
-use crate::serving::serve;
 use crate::showing::show_status;
 use crate::telling::tell_state;
 use crate::waiting::wait_as_told;
 use hub_arguments::{Plan, Start, begin, own_socket, own_words};
+use hub_dialing::{Dial, call};
+use hub_endings::{BadWords, Ending, Fault};
 use hub_io::{Sink, Source};
-use hub_look::Following;
 use hub_requests::Enter;
 use hub_script::script;
 use hub_server::Report;
+use hub_serving::{serve, serve_forever};
 use std::alloc::{AllocGlobal, Global};
 use std::fs::{File, Files};
 use std::io::ErrorKind;
@@ -83,13 +79,17 @@ where
             call(rt, alloc, dialer, socket, input, output)?;
             Ok(0)
         }
-        Plan::Ask { socket, words } => ask_words(rt, alloc, dialer, socket, &words, output),
+        Plan::Ask { socket, words } => {
+            ask_words(rt, alloc, dialer, socket, &words, output, notes)
+        }
         Plan::Wait { socket, wish } => {
             wait_as_told(rt, alloc, dialer, socket, &wish, output, notes)
         }
-        Plan::Status { socket, names } => {
-            show_status(rt, alloc, dialer, socket, &names, output, notes)
-        }
+        Plan::Status {
+            socket,
+            names,
+            is_json,
+        } => show_status(rt, alloc, dialer, socket, is_json, &names, output, notes),
         Plan::Make {
             socket,
             names,
@@ -101,20 +101,8 @@ where
             state,
         } => tell_state(rt, alloc, dialer, socket, name, state, notes),
         Plan::Hold { socket, hold } => hold_as_told(rt, alloc, dialer, socket, hold, input, notes),
-        Plan::Follow {
-            socket,
-            names,
-            pattern,
-            is_plain,
-            is_once,
-        } => {
-            let following = Following {
-                names,
-                pattern,
-                is_plain,
-                is_once,
-            };
-            follow_as_told(rt, alloc, dialer, socket, &following, output, notes)
+        Plan::Follow { socket, follow } => {
+            follow_as_told(rt, alloc, dialer, socket, follow, output, notes)
         }
     }
 }
@@ -162,9 +150,10 @@ where
         )),
         Err(_) => return Err(Ending::Refused(BadWords::NotText)),
     };
-    let known = own_socket(rt)?;
-    match begin(rt, alloc, words.as_slice(), known.as_deref())? {
+    let known = own_socket(rt, alloc, libc::geteuid())?;
+    match begin(rt, alloc, words.as_slice(), known.as_ref())? {
         Start::Run(plan) => carry_out(rt, alloc, dialer, plan, input, output, notes),
+        Start::NoSocket => Err(Ending::Refused(BadWords::NoSocket)),
         Start::End(status) => Ok(status),
     }
 }

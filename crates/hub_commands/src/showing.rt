@@ -1,24 +1,26 @@
 //! The subcommand `status`: how fifodirs are.
 ghost use Rattle.std.specs.Prelude.{◌≡◌};
-ghost use Rattle.hub_commands.specs.Dialing.{dialing};
+ghost use Rattle.hub_dialing.specs.Dialing.{dialing};
 ghost use Rattle.hub_commands.specs.Looking.{ShowsStatus};
 
 use crate::breaking::any_breaks;
-use crate::dialing::Dial;
-use crate::ending::{BadWords, Ending};
 use hub_ask::ANSWER;
+use hub_dialing::Dial;
+use hub_endings::{BadWords, Ending};
 use hub_io::Sink;
 use hub_look::{Peer, show_states};
 use std::alloc::Global;
 use std::sync::Wait;
 
-/// Writes how these fifodirs of the hub at the socket are, or all of the hub if none is named, and returns the exit status. `notes`
+/// Writes how these fifodirs of the hub at the socket are, or all of the hub if none is named, as a table or as objects of JSON, and
+/// returns the exit status. `notes`
 /// gets a line for each name that the hub refuses. Names with a line feed are refused.
 pub fn show_status<H: Wait, D: Dial, W: Sink, F: Sink>(
     rt: &H,
     alloc: Global,
     dialer: &mut D,
     socket: &str,
+    is_json: bool,
     names: &[&str],
     output: &mut W,
     notes: &mut F,
@@ -28,7 +30,7 @@ pub fn show_status<H: Wait, D: Dial, W: Sink, F: Sink>(
     ensures { ShowsStatus
         (dialing D.reaches D.Receiver.remaining D.Sender.contents) dialer.old dialer.new socket.now
         (record { contents = F.contents; faults = F.faults }) notes.old notes.new
-        (λ name. name.now) names.now ((output.new ≡ output.old) × (notes.new ≡ notes.old))
+        (λ name. name.now) is_json names.now ((output.new ≡ output.old) × (notes.new ≡ notes.old))
         (W.contents output.old) (W.contents output.new) result }
 {
     if any_breaks(names) {
@@ -36,6 +38,6 @@ pub fn show_status<H: Wait, D: Dial, W: Sink, F: Sink>(
     }
     let (receive, send) = dialer.dial(socket, ANSWER)?;
     let mut peer = Peer::new(receive, send);
-    let outcome = show_states(rt, alloc, names, &mut peer, output, notes)?;
+    let outcome = show_states(rt, alloc, is_json, names, &mut peer, output, notes)?;
     Ok(outcome.status())
 }

@@ -2,13 +2,13 @@
 ghost use Rattle.std.specs.Prelude.{◌≡◌, IfOk, IfErr};
 ghost use Rattle.hub_look.specs.Streams.{streams};
 ghost use Rattle.hub_requests.specs.declared.request.Request.TheVariants as request;
-ghost use Rattle.hub_commands.specs.Dialing.{dialing};
+ghost use Rattle.hub_dialing.specs.Dialing.{dialing};
 ghost use Rattle.hub_commands.specs.Telling.{FailsToTell, IsTold, TellsAsTold, verdict_of};
 
-use crate::dialing::Dial;
-use crate::ending::{BadWords, Ending};
 use crate::noting::note_refusal;
 use hub_ask::{ANSWER, AskError, Client, Outcome, Replies, Requests};
+use hub_dialing::Dial;
+use hub_endings::{BadWords, Ending};
 use hub_io::Sink;
 use hub_letters::State;
 use hub_protocol::BorrowedReply;

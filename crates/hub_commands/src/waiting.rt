@@ -1,22 +1,236 @@
-//! The subcommand `wait`: one wait for services.
-ghost use Rattle.std.specs.Prelude.{◌≡◌};
-ghost use Rattle.hub_ask.specs.Lines.{joined};
+//! The subcommand `wait`: one wait for services, for which the hub and the names may come to be there first.
+ghost use Rattle.std.specs.Prelude.{◌≡◌, ◌≤◌, ◌+◌, true, false, IfSome, MatchBool};
+ghost use Rattle.hub_ask.specs.Lines.{bytes_of, joined};
 ghost use Rattle.hub_ask.specs.Waiting.{AsksAbout, wait_words};
-ghost use Rattle.hub_commands.specs.Asking.{WaitsFor};
-ghost use Rattle.hub_commands.specs.Dialing.{dialing};
+ghost use Rattle.hub_ask.specs.declared.duration.TheConstants.{MOST_TURNS};
+ghost use Rattle.hub_ask.specs.declared.waiting.TheConstants.{GRACE};
+ghost use Rattle.hub_client.specs.Passing.{has_lf};
+ghost use Rattle.hub_dialing.specs.Dialing.{dialing};
+ghost use Rattle.hub_commands.specs.Waiting.{Begins, EndsTry, GoesOn, IsLimit, IsRestart, IsTried, WaitsAsTold, WaitsOn, wishing};
 
-use crate::dialing::Dial;
-use crate::ending::{BadWords, Ending};
+use crate::breaking::breaks;
+use crate::saying::Sayings;
 use hub_arguments::Wish;
-use hub_ask::{Client, GRACE, turns_of, wait_for, wait_line};
+use hub_ask::{
+    AskError, Client, Deadline, GRACE, Line, MOST_TURNS, Outcome, Replies, Requests, delay_of,
+    end_wait, millis_of, wait_line,
+};
+use hub_dialing::Dial;
+use hub_endings::{BadWords, Ending, Fault};
 use hub_io::Sink;
 use std::alloc::Global;
-use std::io::Write;
+use std::rt::Clock;
 use std::sync::Wait;
+use std::thread;
+use std::time::Duration;
 
-/// Waits as the wish says at the hub at the socket, writes the reply, and returns the exit status for it. `notes` gets a line for
-/// each service that isn't as wanted. A duration that a wait can't have is refused, and so are names with a line feed.
-pub fn wait_as_told<H: Wait, D: Dial, W: Sink, F: Write>(
+/// How many milliseconds pass before another try.
+const PAUSE: u64 = 100;
+
+/// For what the next try has to wait.
+#[derive(Clone, Copy, Debug, PartialEq, Eq)]
+pub(crate) enum Delay {
+    /// A hub has to be there, with room for one more connection.
+    Hub,
+    /// Names have to be made.
+    Names,
+    /// Nothing: the longest wait of a hub is over.
+    Time,
+}
+
+/// The milliseconds of this duration, if there is one. A text that is none is refused.
+pub(crate) fn limit_of(alloc: Global, timeout: Option<&str>) -> Result<Option<u64>, Ending>
+    ensures { IsLimit (λ text. text.now) timeout.entry result }
+{
+    let Some(text) = timeout else {
+        return Ok(None);
+    };
+    if let Some(millis) = millis_of(text) {
+        return Ok(Some(millis));
+    }
+    if breaks(text) {
+        return Err(Ending::Refused(BadWords::Word));
+    }
+    Err(Ending::Refused(BadWords::Duration(String::from_str(alloc, text)?)))
+}
+
+// Whether a service has to go down during the wait, so that two waits one after the other aren't one.
+fn is_restart(want: &str) -> bool
+    ensures { MatchBool result (IsRestart want.now) (IsRestart want.now → ⊥) }
+{
+    matches!(want, "restarted" | "restarted-ready")
+}
+
+// How many turns the first line has. A wait for a restart that is longer than one wait may be is refused.
+fn first_turns(limit: Option<u64>, want: &str) -> Result<u64, Ending>
+    ensures { Begins want.now limit result }
+{
+    let Some(millis) = limit else {
+        return Ok(MOST_TURNS);
+    };
+    if millis > MOST_TURNS && is_restart(want) {
+        return Err(Ending::Refused(BadWords::Restart));
+    }
+    Ok(millis.min(MOST_TURNS))
+}
+
+// Connects once, and sends the line. None if there is no hub yet.
+fn try_once<H: Wait, D: Dial>(
+    rt: &H,
+    alloc: Global,
+    dialer: &mut D,
+    socket: &str,
+    is_now: bool,
+    line: &Line,
+    turns: u64,
+) -> Result<Option<(Client<D::Receiver, D::Sender>, Vec<u8>)>, Ending>
+    requires { turns ≤ MOST_TURNS }
+    ensures { IsTried (dialing D.reaches D.Receiver.remaining D.Sender.contents)
+        dialer.old dialer.new socket.now (turns + GRACE) (bytes_of line.now) is_now
+        (λ reply. reply.items) result }
+{
+    let millis = turns + GRACE;
+    let reached = if is_now {
+        Some(dialer.dial(socket, millis)?)
+    } else {
+        dialer.dial_at_once(socket, millis)?
+    };
+    let Some((receiver, sender)) = reached else {
+        return Ok(None);
+    };
+    let mut client = Client::new(receiver, sender);
+    let reply = client.send(rt, alloc, line)?;
+    Ok(Some((client, reply)))
+}
+
+// For what a wait goes on after this try of so many turns. None if that was its last one.
+fn goes_on<SR, SW>(
+    tried: &Option<(Client<SR, SW>, Vec<u8>)>,
+    wish: &Wish<'_>,
+    turns: u64,
+) -> Option<Delay>
+    ensures { IfSome result (λ _. GoesOn wish.now.is_now wish.now.want.now turns
+        (λ reply. reply.items) tried.now) }
+{
+    if wish.is_now {
+        return None;
+    }
+    let Some((_, reply)) = tried else {
+        return Some(Delay::Hub);
+    };
+    match delay_of(reply)? {
+        hub_ask::Delay::Missing => Some(Delay::Names),
+        hub_ask::Delay::Late => {
+            if turns == MOST_TURNS && !is_restart(wish.want) {
+                Some(Delay::Time)
+            } else {
+                None
+            }
+        }
+    }
+}
+
+// Pauses, and tells how many turns the next line has: no more than these. None if the time is over.
+fn next_turns<C: Clock>(clock: &C, deadline: &Option<Deadline>, turns: u64) -> Option<u64>
+    ensures { IfSome result (λ next. next ≤ turns) }
+{
+    let pause = Duration::from_millis(PAUSE);
+    let Some(deadline) = deadline else {
+        thread::sleep(clock, pause);
+        return Some(turns);
+    };
+    thread::sleep(clock, deadline.left(clock)?.min(pause));
+    let left = deadline.left(clock).unwrap_or(Duration::ZERO);
+    Some(u64::try_from(left.as_millis()).unwrap_or(turns).min(turns))
+}
+
+// Ends a wait by this try: by its reply, or without a hub.
+fn end<H: Wait, SR: Replies + Drop, SW: Requests + Drop, W: Sink, F: Sink>(
+    rt: &H,
+    alloc: Global,
+    tried: Option<(Client<SR, SW>, Vec<u8>)>,
+    wish: &Wish<'_>,
+    output: &mut W,
+    notes: &mut F,
+) -> Result<u8, Ending>
+    ensures ended { EndsTry SR.remaining SW.contents wish.now.is_quiet
+        (AsksAbout wish.now.want.now (λ name. name.now) wish.now.names.items)
+        (output.new ≡ output.old)
+        (W.contents output.old) (W.contents output.new) (λ reply. reply.items) tried result }
+    ensures quiet { wish.now.is_quiet ≡ true
+        → (output.new ≡ output.old) × (notes.new ≡ notes.old) }
+{
+    let Some((mut client, reply)) = tried else {
+        return Err(Ending::Failed(Fault::Connect));
+    };
+    if wish.is_quiet {
+        let outcome = Outcome::of_wait(&reply).ok_or(AskError::Unknown)?;
+        return Ok(outcome.status());
+    }
+    let (want, names) = (wish.want, wish.names.as_slice());
+    let outcome = end_wait(rt, alloc, &reply, want, names, &mut client, output, notes)?;
+    Ok(outcome.status())
+}
+
+// Waits for so many turns at first. What isn't the end of the wait is tried again, until the deadline.
+fn wait_on<H: Wait + Clock, D: Dial, W: Sink, F: Sink>(
+    rt: &H,
+    alloc: Global,
+    dialer: &mut D,
+    socket: &str,
+    wish: &Wish<'_>,
+    deadline: &Option<Deadline>,
+    first: u64,
+    output: &mut W,
+    notes: &mut F,
+) -> Result<u8, Ending>
+    requires few { first ≤ MOST_TURNS }
+    requires cut { has_lf (wait_words wish.now.span.now wish.now.want.now first
+        (joined (λ name. name.now) wish.now.names.items)) ≡ false }
+    ensures goes { WaitsOn (dialing D.reaches D.Receiver.remaining D.Sender.contents)
+        (wishing socket.now wish.now) first dialer.old dialer.new (output.new ≡ output.old)
+        (W.contents output.old) (W.contents output.new) result }
+    ensures quiet { wish.now.is_quiet ≡ true
+        → (output.new ≡ output.old) × (notes.new ≡ notes.old) }
+{
+    let names = wish.names.as_slice();
+    let mut sayings = Sayings::new(wish.is_quiet);
+    let mut turns = first;
+    'tries: for _ in rt.forever() {
+        let Some(line) = wait_line(alloc, wish.span, wish.want, turns, names)? else {
+            unreachable!()
+        };
+        let tried = try_once(rt, alloc, dialer, socket, wish.is_now, &line, turns)?;
+        let Some((delay, next)) = next_try(rt, &tried, wish, deadline, turns) else {
+            return end(rt, alloc, tried, wish, output, notes);
+        };
+        sayings.say(rt, alloc, delay, socket, names, notes)?;
+        turns = next;
+    }
+    unreachable!()
+}
+
+// For what the next try has to wait, and how many turns its line has. None if there is no next one.
+fn next_try<C: Clock, SR, SW>(
+    clock: &C,
+    tried: &Option<(Client<SR, SW>, Vec<u8>)>,
+    wish: &Wish<'_>,
+    deadline: &Option<Deadline>,
+    turns: u64,
+) -> Option<(Delay, u64)>
+    ensures on { IfSome result (λ _. GoesOn wish.now.is_now wish.now.want.now turns
+        (λ reply. reply.items) tried.now) }
+    ensures fewer { IfSome result (λ next. next.1 ≤ turns) }
+{
+    let delay = goes_on(tried, wish, turns)?;
+    let next = next_turns(clock, deadline, turns)?;
+    Some((delay, next))
+}
+
+/// Waits as the wish says at the hub at the socket, writes the reply, and returns the exit status for it. Unless the wish says
+/// otherwise, a hub that isn't there and names that aren't made are waited for. `notes` gets a line about what is waited for, and one for
+/// each service that isn't as wanted. What isn't a duration is refused, and so are names with a line feed.
+pub fn wait_as_told<H: Wait + Clock, D: Dial, W: Sink, F: Sink>(
     rt: &H,
     alloc: Global,
     dialer: &mut D,
@@ -25,30 +239,25 @@ pub fn wait_as_told<H: Wait, D: Dial, W: Sink, F: Write>(
     output: &mut W,
     notes: &mut F,
 ) -> Result<u8, Ending>
-    // If the words are refused, no connection is made, and nothing is written. Else one connection is made, over which the line of
-    // the wait goes, for as many turns as the duration says, and then at most the questions about its services. The reply is
-    // written, and has the status.
-    ensures { WaitsFor (dialing D.reaches D.Receiver.remaining D.Sender.contents)
-        dialer.old dialer.new socket.now wish.now.patience.now
-        (λ turns. wait_words wish.now.span.now wish.now.want.now turns
-        (joined (λ name. name.now) wish.now.names.items))
-        (AsksAbout wish.now.want.now (λ name. name.now) wish.now.names.items)
-        ((output.new ≡ output.old) × (notes.new ≡ notes.old))
-        (W.contents output.old) (W.contents output.new) result }
+    // If the words are refused, no connection is made, and nothing is written. Else connections are made to this socket one after the
+    // other, until a reply is the end of the wait. Over each the line goes once, with no more turns than before. Only the last reply is
+    // written, and has the status. After it at most the questions about its services follow.
+    ensures waits { WaitsAsTold (dialing D.reaches D.Receiver.remaining D.Sender.contents)
+        (wishing socket.now wish.now) (λ text. text.now) wish.now.timeout dialer.old dialer.new
+        (output.new ≡ output.old) (W.contents output.old) (W.contents output.new)
+        ((output.new ≡ output.old) × (notes.new ≡ notes.old)) result }
+    // If it is to be quiet, nothing is written.
+    ensures quiet { wish.now.is_quiet ≡ true
+        → (output.new ≡ output.old) × (notes.new ≡ notes.old) }
 {
-    let Some(turns) = turns_of(wish.patience) else {
-        return Err(Ending::Refused(BadWords::Duration));
-    };
-    let (want, names) = (wish.want, wish.names.as_slice());
-    let Some(line) = wait_line(alloc, wish.span, want, turns, names)? else {
+    let limit = limit_of(alloc, wish.timeout)?;
+    let turns = first_turns(limit, wish.want)?;
+    let names = wish.names.as_slice();
+    if wait_line(alloc, wish.span, wish.want, turns, names)?.is_none() {
         return Err(Ending::Refused(BadWords::Name));
-    };
-    let (receiver, sender) = dialer.dial(socket, turns + GRACE)?;
-    let mut client = Client {
-        receiver,
-        sender,
-        is_broken: false,
-    };
-    let outcome = wait_for(rt, alloc, &line, want, names, &mut client, output, notes)?;
-    Ok(outcome.status())
+    }
+    let deadline = limit.map(|millis| Deadline::after(rt, millis));
+    wait_on(
+        rt, alloc, dialer, socket, wish, &deadline, turns, output, notes,
+    )
 }

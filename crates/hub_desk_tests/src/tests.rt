@@ -2,6 +2,7 @@ mod abouts;
 mod awaits;
 mod desks;
 mod ended;
+mod id_limits;
 mod listeners;
 mod many_wills;
 mod names;

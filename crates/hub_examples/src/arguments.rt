@@ -1,5 +1,5 @@
 // crates.txt: YOURS: hub_arguments
-use hub_arguments::{HubOptions, Plan, read_words, status_of};
+use hub_arguments::{HubOptions, OwnSocket, Plan, WordsError, read_words, status_of};
 use std::alloc::Global;
 
 /// The socket that the words name, or `known` if they may do without one. None if they need none. The first word is the program's
@@ -7,7 +7,7 @@ use std::alloc::Global;
 pub fn socket_of<'a>(
     alloc: Global,
     words: &'a [String],
-    known: Option<&'a str>,
+    known: Option<&'a OwnSocket>,
 ) -> Result<Option<&'a str>, u8> {
     match read_words(alloc, words, known) {
         Ok(
@@ -23,6 +23,7 @@ pub fn socket_of<'a>(
             | Plan::Follow { socket, .. },
         ) => Ok(Some(socket)),
         Ok(Plan::Script) => Ok(None),
-        Err(error) => Err(status_of(&error)),
+        Err(WordsError::Text(error)) => Err(status_of(&error)),
+        Err(WordsError::NoSocket) => Err(2),
     }
 }

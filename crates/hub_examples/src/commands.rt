@@ -1,22 +1,20 @@
-// crates.txt: YOURS: hub_commands
-use hub_commands::{Enter, Fault, serve, tell_faults};
+// crates.txt: YOURS: hub_commands hub_dialing hub_endings
+use hub_commands::ask_words;
+use hub_dialing::Dial;
+use hub_endings::Ending;
 use std::alloc::Global;
-use std::fs::Files;
-use std::io::Stderr;
-use std::net::Net;
-use std::rt::Clock;
 use std::sync::Wait;
-use std::thread::Threads;
 
-/// Serves 8 connections at a socket, and writes a line for each that stopped. Answers whether none did and all lines were
-/// written.
-pub fn serve_at<H>(rt: &H, alloc: Global, socket: &str, errors: &mut Stderr) -> Result<bool, Fault>
-where
-    H: Files + Net + Clock + Threads + Wait + Enter + Copy + Send + 'static,
-{
-    let report = serve(rt, alloc, socket, 8)?;
-    match tell_faults(alloc, &report, errors) {
-        Ok(()) => Ok(report.is_clean()),
-        Err(_) => Ok(false),
-    }
+/// Asks the hub at a socket how a fifodir is, and puts its reply behind `reply`. If the hub refuses, what to do about it comes behind
+/// `hints`. Answers the exit status for it.
+pub fn ask_status<H: Wait>(
+    rt: &H,
+    alloc: Global,
+    dialer: &mut impl Dial,
+    socket: &str,
+    name: &str,
+    reply: &mut Vec<u8>,
+    hints: &mut Vec<u8>,
+) -> Result<u8, Ending> {
+    ask_words(rt, alloc, dialer, socket, &["status", name], reply, hints)
 }

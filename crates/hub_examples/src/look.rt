@@ -1,6 +1,6 @@
 // crates.txt: YOURS: hub_look hub_ask
 use hub_ask::{AskError, Outcome, Replies, Requests};
-use hub_look::{Following, Peer, follow};
+use hub_look::{Following, Form, Peer, follow};
 use std::alloc::Global;
 use std::rt::Clock;
 use std::sync::Wait;
@@ -21,8 +21,10 @@ pub fn next_letter<H: Wait + Clock>(
     let following = Following {
         names,
         pattern: None,
-        is_plain: true,
+        form: Form::Plain,
         is_once: true,
+        until: None,
+        is_again: false,
     };
     let mut peer = Peer::new(receiver, sender);
     follow(rt, alloc, &following, &mut peer, letters, notes)

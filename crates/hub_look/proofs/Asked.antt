@@ -1,13 +1,14 @@
 -- One more question about a fifodir that is followed.
-use Rattle.std.proofs.Common.{◌≡◌, ℕ, suc, zero, ◌<◌, List, ◌∷◌, ◌++◌, length, take, drop, get_or, set, false, Option, map, Result, Ok, Err, OnOk, IfOk, IfErr, MatchResult, IsErrAnd, refl, sym, ap, ◌∙◌, subst, inl, inr, arith, take_all, take-append-drop, drop-cons}
+use Rattle.std.proofs.Common.{◌≡◌, ℕ, suc, zero, ◌<◌, List, ◌∷◌, ◌++◌, length, take, drop, get_or, set, Bool, true, false, MatchBool, Option, map, Result, Ok, Err, OnOk, IfOk, IfErr, MatchResult, IsErrAnd, refl, sym, ap, ◌∙◌, subst, inl, inr, arith, take_all, take-append-drop, drop-cons}
 use Rattle.std.proofs.lemmas.List.{set-get_or, set_split, take-append-le}
 use Rattle.hub_requests.specs.declared.reply.Reply.{Reply}
 use Rattle.hub_ask.specs.declared.fault.AskError.{AskError}
 use Rattle.hub_ask.specs.declared.outcome.Outcome.{Outcome}
-use Rattle.hub_look.specs.Stops.{IsOwnStop}
-use Rattle.hub_look.specs.Streams.{Streams}
-use Rattle.hub_look.specs.Follows.{Beginning, Manner, Scene, EndsFollow, EndsLookAt, FollowsTo, GoesOn, IsSeenTo, IsUnderWay, LooksOn, AreAsked, IsTaken, EndsLooks, EndsTake, scene}
-use Rattle.hub_look.specs.Subscribing.{name_of}
+use Rattle.hub_look.specs.Stops.{IsOwnStop, StopsWith}
+use Rattle.hub_look.specs.Streams.{IsToldTo, Streams}
+use Rattle.hub_look.specs.Follows.{Beginning, Manner, Scene, EndsFollow, EndsLookAt, FollowsTo, GoesOn, IsSeenTo, IsUnderWay, LooksOn, AreAsked, IsSaid, IsTaken, EndsLooks, EndsTake, again_line, begins_by, scene}
+use Rattle.hub_look.specs.Subscribing.{AreBegun, name_of}
+use Rattle.hub_look.specs.declared.following.Following.{Following}
 use Rattle.hub_look.specs.declared.stop.Stop.{Stop}
 use Rattle.hub_look.specs.declared.stop.Stop.TheVariants as stops
 use Rattle.hub_look.specs.declared.subscribing.Followed.{Followed}
@@ -129,12 +130,12 @@ ends_round manner before between after holds (Err other) stop is first ends =
     subst (EndsLooks manner before after holds) (sym is) (ends_on manner first.0 before between after holds stop first.1 ends)
 
 pub outcome_of_stop : (manner : Manner) (begun : Beginning) (names : List (List ℕ)) (after : Streams) (held holds : Option (List ℕ)) (result : Result Outcome AskError) (stop : Stop)
-    → MatchResult result (λ it. stop ≡ stops.Reply it) (λ error. stop ≡ stops.Fault error) → EndsFollow manner begun names after held holds stop → IfOk result (FollowsTo manner begun names after held holds)
-outcome_of_stop manner begun names after held holds (Ok it) stop is h = inr (subst (EndsFollow manner begun names after held holds) is h)
+    → MatchResult result (StopsWith manner.is_timed stop) (λ error. stop ≡ stops.Fault error) → EndsFollow manner begun names after held holds stop → IfOk result (FollowsTo manner begun names after held holds)
+outcome_of_stop manner begun names after held holds (Ok it) stop is h = inr (stop, is, h)
 outcome_of_stop manner begun names after held holds (Err error) stop is h = tt
 
 pub fault_of_stop : (manner : Manner) (begun : Beginning) (names : List (List ℕ)) (after : Streams) (held holds : Option (List ℕ)) (result : Result Outcome AskError) (stop : Stop)
-    → MatchResult result (λ it. stop ≡ stops.Reply it) (λ error. stop ≡ stops.Fault error) → EndsFollow manner begun names after held holds stop
+    → MatchResult result (StopsWith manner.is_timed stop) (λ error. stop ≡ stops.Fault error) → EndsFollow manner begun names after held holds stop
     → IfErr result (λ error. EndsFollow manner begun names after held holds (stops.Fault error))
 fault_of_stop manner begun names after held holds (Ok it) stop is h = tt
 fault_of_stop manner begun names after held holds (Err error) stop is h = subst (EndsFollow manner begun names after held holds) is h
@@ -161,3 +162,15 @@ pub ends_after_by : {T : Type 0} (manner : Manner) (begun : Beginning) (names : 
 ends_after_by manner begun names all slice before after held between holds result stop same is h ends =
     ends_after manner begun names (record { all = slice; streams = before; held = between }) after held holds result stop is
     (subst (λ it. IsUnderWay manner begun names held (record { all = it; streams = before; held = between })) (sym same) h) ends
+
+-- ---- what is said at the beginning
+
+pub said_so : {F : Type 0} (contents : F → Option (List ℕ)) (failures : F → Option ℕ) (is_again : Bool) (sent had : Option (List ℕ)) (notes note : F)
+    → MatchBool is_again (IsToldTo (contents notes) (contents note) (failures notes) (failures note) again_line) (note ≡ notes)
+    → IsSaid is_again (record { sent = sent; had = had; noted = contents notes; faults = failures notes }) (record { sent = sent; had = had; noted = contents note; faults = failures note })
+said_so contents failures true sent had notes note h = record { sent = refl; had = refl; noted = h }
+said_so contents failures false sent had notes note h = ap (λ it. record { sent = sent; had = had; noted = contents it; faults = failures it }) h
+
+pub begun_so : (following : Following) (before between after : Streams) (names : List (List ℕ)) (all : List Followed)
+    → AreBegun (λ word. word.now) following.pattern following.form before between names all → IsSaid following.is_again between after → begins_by following before after names all
+begun_so following before between after names all begun said = (between, begun, said)

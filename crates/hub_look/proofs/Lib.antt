@@ -3,6 +3,8 @@ pub mod Asks
 pub mod Judged
 pub mod Listed
 pub mod LinesSoFar
+pub mod Looked
 pub mod Refusals
+pub mod ServiceStates
 pub mod Subscribed
 pub mod Takes

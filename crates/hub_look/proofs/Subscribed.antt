@@ -1,5 +1,5 @@
 -- How a fifodir was subscribed to.
-use Rattle.std.proofs.Common.{◌≡◌, ◌≢◌, ℕ, ◌+◌, suc, ◌<◌, List, [], ◌∷◌, ◌++◌, Bool, true, false, Option, None, Some, MatchOption, Result, Ok, Err, IfOk, map, length, take, get_or, refl, sym, ap, ◌∙◌, subst, inl, inr}
+use Rattle.std.proofs.Common.{◌≡◌, ◌≢◌, ℕ, ◌+◌, suc, ◌<◌, List, [], ◌∷◌, ◌++◌, Option, None, Some, MatchOption, Result, Ok, Err, IfOk, map, length, take, get_or, refl, sym, ap, ◌∙◌, subst, inl, inr}
 use Rattle.std.proofs.lemmas.List.{take_more}
 use Rattle.hub_requests.specs.declared.request.Request.{Request}
 use Rattle.hub_requests.specs.declared.request.Request.TheVariants as request
@@ -14,6 +14,8 @@ use Rattle.hub_look.specs.Looking.{LooksBy}
 use Rattle.hub_look.specs.Streams.{IsHeard, Streams}
 use Rattle.hub_look.specs.Subscribing.{AreBegun, AreCancelled, IsBegun, IsBetween, IsCancelled, IsHandled, IsNew, IsNumbered, IsSubscribed, IsTried, name_of, sub_line}
 use Rattle.hub_look.specs.Tables.{IsJudged, Verdict}
+use Rattle.hub_look.specs.declared.following.Form.{Form}
+use Rattle.hub_look.specs.declared.following.Form.TheVariants.{Line, Plain, Json}
 use Rattle.hub_look.specs.declared.stop.Stop.{Stop}
 use Rattle.hub_look.specs.declared.subscribing.Followed.{Followed}
 use Rattle.hub_look.proofs.Listed.{replied_so}
@@ -100,42 +102,46 @@ tried_ok before now after name (Err stop) so_far last = tt
 
 -- ---- each of them
 
-named_so : {Word : Type 0} (text : Word → List ℕ) (pattern : Option Word) (is_plain : Bool) (before after : Streams) (name : List ℕ) (followed : Followed)
-    → IsBegun text pattern is_plain before after name followed → name_of followed ≡ name
-named_so text (Some pattern) is_plain before after name followed h = h.new.named
-named_so text None true before after name followed h = h.new.named
-named_so text None false before after name followed h = elim (h.last) [
+tried_named : (before after : Streams) (name : List ℕ) (followed : Followed) → IsTried before after name followed → name_of followed ≡ name
+tried_named before after name followed h = elim (h.last) [
   | inl numbered ↦ numbered.new.named
   | inr subscribed ↦ subscribed.new.named
 ]
 
-pub begun_named : {Word : Type 0} (text : Word → List ℕ) (pattern : Option Word) (is_plain : Bool) (before after : Streams) (names : List (List ℕ)) (all : List Followed)
-    → AreBegun text pattern is_plain before after names all → map name_of all ≡ names
-begun_named text pattern is_plain before after [] [] h = refl
-begun_named text pattern is_plain before after [] (f ∷ all) h = absurd h
-begun_named text pattern is_plain before after (n ∷ names) [] h = absurd h
-begun_named text pattern is_plain before after (n ∷ names) (f ∷ all) h =
-    ap (λ it. it ∷ map name_of all) (named_so text pattern is_plain before h.0 n f h.1) ∙ ap (λ it. n ∷ it) (begun_named text pattern is_plain h.0 after names all h.2)
+named_so : {Word : Type 0} (text : Word → List ℕ) (pattern : Option Word) (form : Form) (before after : Streams) (name : List ℕ) (followed : Followed)
+    → IsBegun text pattern form before after name followed → name_of followed ≡ name
+named_so text (Some pattern) form before after name followed h = h.new.named
+named_so text None Plain before after name followed h = h.new.named
+named_so text None Line before after name followed h = tried_named before after name followed h
+named_so text None Json before after name followed h = tried_named before after name followed h
 
-begun_more : {Word : Type 0} (text : Word → List ℕ) (pattern : Option Word) (is_plain : Bool) (before now after : Streams) (names : List (List ℕ)) (all : List Followed) (name : List ℕ) (followed : Followed)
-    → AreBegun text pattern is_plain before now names all → IsBegun text pattern is_plain now after name followed
-    → AreBegun text pattern is_plain before after (names ++ name ∷ []) (all ++ followed ∷ [])
-begun_more text pattern is_plain before now after [] [] name followed same more =
-    (after, subst (λ it. IsBegun text pattern is_plain it after name followed) same more, refl)
-begun_more text pattern is_plain before now after [] (f ∷ all) name followed h more = absurd h
-begun_more text pattern is_plain before now after (n ∷ names) [] name followed h more = absurd h
-begun_more text pattern is_plain before now after (n ∷ names) (f ∷ all) name followed h more =
-    (h.0, h.1, begun_more text pattern is_plain h.0 now after names all name followed h.2 more)
+pub begun_named : {Word : Type 0} (text : Word → List ℕ) (pattern : Option Word) (form : Form) (before after : Streams) (names : List (List ℕ)) (all : List Followed)
+    → AreBegun text pattern form before after names all → map name_of all ≡ names
+begun_named text pattern form before after [] [] h = refl
+begun_named text pattern form before after [] (f ∷ all) h = absurd h
+begun_named text pattern form before after (n ∷ names) [] h = absurd h
+begun_named text pattern form before after (n ∷ names) (f ∷ all) h =
+    ap (λ it. it ∷ map name_of all) (named_so text pattern form before h.0 n f h.1) ∙ ap (λ it. n ∷ it) (begun_named text pattern form h.0 after names all h.2)
+
+begun_more : {Word : Type 0} (text : Word → List ℕ) (pattern : Option Word) (form : Form) (before now after : Streams) (names : List (List ℕ)) (all : List Followed) (name : List ℕ) (followed : Followed)
+    → AreBegun text pattern form before now names all → IsBegun text pattern form now after name followed
+    → AreBegun text pattern form before after (names ++ name ∷ []) (all ++ followed ∷ [])
+begun_more text pattern form before now after [] [] name followed same more =
+    (after, subst (λ it. IsBegun text pattern form it after name followed) same more, refl)
+begun_more text pattern form before now after [] (f ∷ all) name followed h more = absurd h
+begun_more text pattern form before now after (n ∷ names) [] name followed h more = absurd h
+begun_more text pattern form before now after (n ∷ names) (f ∷ all) name followed h more =
+    (h.0, h.1, begun_more text pattern form h.0 now after names all name followed h.2 more)
 
 map_more : {A B : Type 0} (f : A → B) (xs : List A) (x : A) → map f (xs ++ x ∷ []) ≡ map f xs ++ f x ∷ []
 map_more f [] x = refl
 map_more f (y ∷ xs) x = ap (λ it. f y ∷ it) (map_more f xs x)
 
 -- one fifodir more
-pub one_begun : {Word Name : Type 0} (text : Word → List ℕ) (bytes : Name → List ℕ) (pattern : Option Word) (is_plain : Bool) (before now after : Streams) (names : List Name) (at : ℕ) (d : Name) (all grown : List Followed) (followed : Followed)
-    → at < length names → AreBegun text pattern is_plain before now (map bytes (take at names)) all → IsBegun text pattern is_plain now after (bytes (get_or names at d)) followed → grown ≡ all ++ followed ∷ []
-    → AreBegun text pattern is_plain before after (map bytes (take (at + 1) names)) grown
-one_begun text bytes pattern is_plain before now after names at d all grown followed within h more grows =
-    subst (λ it. AreBegun text pattern is_plain before after it grown) (sym (ap (map bytes) (take_more names at d within) ∙ map_more bytes (take at names) (get_or names at d)))
-    (subst (AreBegun text pattern is_plain before after (map bytes (take at names) ++ bytes (get_or names at d) ∷ [])) (sym grows)
-    (begun_more text pattern is_plain before now after (map bytes (take at names)) all (bytes (get_or names at d)) followed h more))
+pub one_begun : {Word Name : Type 0} (text : Word → List ℕ) (bytes : Name → List ℕ) (pattern : Option Word) (form : Form) (before now after : Streams) (names : List Name) (at : ℕ) (d : Name) (all grown : List Followed) (followed : Followed)
+    → at < length names → AreBegun text pattern form before now (map bytes (take at names)) all → IsBegun text pattern form now after (bytes (get_or names at d)) followed → grown ≡ all ++ followed ∷ []
+    → AreBegun text pattern form before after (map bytes (take (at + 1) names)) grown
+one_begun text bytes pattern form before now after names at d all grown followed within h more grows =
+    subst (λ it. AreBegun text pattern form before after it grown) (sym (ap (map bytes) (take_more names at d within) ∙ map_more bytes (take at names) (get_or names at d)))
+    (subst (AreBegun text pattern form before after (map bytes (take at names) ++ bytes (get_or names at d) ∷ [])) (sym grows)
+    (begun_more text pattern form before now after (map bytes (take at names)) all (bytes (get_or names at d)) followed h more))

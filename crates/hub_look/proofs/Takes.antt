@@ -23,6 +23,7 @@ use Rattle.hub_look.specs.Follows.{Manner, IsTaken, IsWrittenFor, EndsTake, Fail
 use Rattle.hub_look.specs.Subscribing.{name_of}
 use Rattle.hub_look.specs.Streams.{IsNoted, IsReplied, IsToldTo, Streams}
 use Rattle.hub_look.specs.Tables.{note_of, reason_of}
+use Rattle.hub_look.specs.declared.following.Form.{Form}
 use Rattle.hub_look.specs.declared.stop.Stop.{Stop}
 use Rattle.hub_look.specs.declared.stop.Stop.TheVariants as stops
 use Rattle.hub_look.specs.declared.subscribing.Followed.{Followed}
@@ -132,17 +133,17 @@ hit_shown letters it h = absurd h
 pub took_letters : (manner : Manner) (turns : ℕ) (sent sends had has noted held holds : Option (List ℕ)) (faults : Option ℕ) (followed later : Followed) (text : List ℕ) (letters : Bor (List ℕ)) (some : List ℕ)
     → IsAnswered sent sends had has (spelling (form_of (request.Next followed.handle turns))) text → IsShown text (shown.Got letters)
     → some ≡ written_of manner.is_once letters.now
-    → (lines : List ℕ) × IsTextOf manner.is_hit manner.is_plain (name_of followed) followed.next some lines × Appends held holds lines
+    → (lines : List ℕ) × IsTextOf manner.is_hit manner.form (name_of followed) followed.next some lines × Appends held holds lines
     → later ≡ record followed { next = number_after followed.next (length some) }
     → IsTaken manner turns followed later (record { sent = sent; had = had; noted = noted; faults = faults }) (record { sent = sends; had = has; noted = noted; faults = faults }) held holds (reply.Got letters.now)
 took_letters manner turns sent sends had has noted held holds faults followed later text letters some answered h are written moved =
     took manner turns sent sends had has noted held holds faults followed later text (shown.Got letters) (reply.Got letters.now) h (got_shown letters h.reply h.shows) answered refl
-    (subst (λ it. (lines : List ℕ) × IsTextOf manner.is_hit manner.is_plain (name_of followed) followed.next it lines × Appends held holds lines) are written)
+    (subst (λ it. (lines : List ℕ) × IsTextOf manner.is_hit manner.form (name_of followed) followed.next it lines × Appends held holds lines) are written)
     (moved ∙ ap (λ it. record followed { next = number_after followed.next (length it) }) are)
 
 pub took_hit : (manner : Manner) (turns : ℕ) (sent sends had has noted held holds : Option (List ℕ)) (faults : Option ℕ) (followed later : Followed) (text : List ℕ) (letters : Bor (List ℕ))
     → IsAnswered sent sends had has (spelling (form_of (request.Next followed.handle turns))) text → IsShown text (shown.Hit letters)
-    → (lines : List ℕ) × IsTextOf manner.is_hit manner.is_plain (name_of followed) followed.next letters.now lines × Appends held holds lines
+    → (lines : List ℕ) × IsTextOf manner.is_hit manner.form (name_of followed) followed.next letters.now lines × Appends held holds lines
     → later ≡ record followed { next = number_after followed.next (length letters.now) }
     → IsTaken manner turns followed later (record { sent = sent; had = had; noted = noted; faults = faults }) (record { sent = sends; had = has; noted = noted; faults = faults }) held holds (reply.Hit letters.now)
 took_hit manner turns sent sends had has noted held holds faults followed later text letters answered h written moved =
@@ -158,14 +159,14 @@ goes_on manner turns followed later before after held holds true result it is go
 goes_on manner turns followed later before after held holds false result it is goes h =
     subst (λ r. OnOk r ((it : Reply) × IsTaken manner turns followed later before after held holds it × GoesOn false it)) (sym is) (it, h, goes)
 
-pub ends_there : (is_hit is_plain is_once : Bool) (turns : ℕ) (followed later : Followed) (before after : Streams) (held holds : Option (List ℕ)) (result : Result Bool Stop) (it : Reply)
+pub ends_there : (is_hit is_timed : Bool) (form : Form) (is_once : Bool) (turns : ℕ) (followed later : Followed) (before after : Streams) (held holds : Option (List ℕ)) (result : Result Bool Stop) (it : Reply)
     → result ≡ (if is_once then Err (stops.Reply outcome.Done) else Ok true) → ends_by is_once it ≡ (if is_once then Some outcome.Done else None)
-    → IsTaken (record { is_hit = is_hit; is_plain = is_plain; is_once = is_once }) turns followed later before after held holds it
-    → IfErr result (EndsTake (record { is_hit = is_hit; is_plain = is_plain; is_once = is_once }) turns followed later before after held holds)
-ends_there is_hit is_plain true turns followed later before after held holds result it is ends h =
-    subst (λ r. IfErr r (EndsTake (record { is_hit = is_hit; is_plain = is_plain; is_once = true }) turns followed later before after held holds)) (sym is) (it, h, ends)
-ends_there is_hit is_plain false turns followed later before after held holds result it is ends h =
-    subst (λ r. IfErr r (EndsTake (record { is_hit = is_hit; is_plain = is_plain; is_once = false }) turns followed later before after held holds)) (sym is) tt
+    → IsTaken (record { is_hit = is_hit; form = form; is_once = is_once; is_timed = is_timed }) turns followed later before after held holds it
+    → IfErr result (EndsTake (record { is_hit = is_hit; form = form; is_once = is_once; is_timed = is_timed }) turns followed later before after held holds)
+ends_there is_hit is_timed form true turns followed later before after held holds result it is ends h =
+    subst (λ r. IfErr r (EndsTake (record { is_hit = is_hit; form = form; is_once = true; is_timed = is_timed }) turns followed later before after held holds)) (sym is) (it, h, ends)
+ends_there is_hit is_timed form false turns followed later before after held holds result it is ends h =
+    subst (λ r. IfErr r (EndsTake (record { is_hit = is_hit; form = form; is_once = false; is_timed = is_timed }) turns followed later before after held holds)) (sym is) tt
 
 -- ---- faults
 

@@ -12,23 +12,25 @@ use Rattle.hub_ask.specs.declared.fault.AskError.TheVariants.{Relay}
 use Rattle.hub_ask.specs.declared.outcome.Outcome.{Outcome}
 use Rattle.hub_ask.specs.declared.outcome.Outcome.TheVariants as outcome
 use Rattle.hub_look.specs.EventLines.{IsTextOf, number_after}
-use Rattle.hub_look.specs.Stops.{IsOwnStop}
+use Rattle.hub_look.specs.Stops.{IsOwnStop, StopsWith}
 use Rattle.hub_look.specs.Streams.{Streams, IsReplied, IsNoted}
 use Rattle.hub_look.specs.Subscribing.{AreBegun, name_of}
 use Rattle.hub_look.specs.Tables.{note_of, reason_of}
 use Rattle.hub_look.specs.declared.following.Following.{Following}
+use Rattle.hub_look.specs.declared.following.Form.{Form}
 use Rattle.hub_look.specs.declared.subscribing.Followed.{Followed}
 use Rattle.hub_look.specs.declared.stop.Stop.{Stop}
 use Rattle.hub_look.specs.declared.stop.Stop.TheVariants as stops
 
--- how letters are followed: by the hits of a pattern, with nothing else on a line, and until the first ones came
+-- how letters are followed: by the hits of a pattern, how they are written, until the first ones came, and until a deadline
 pub record Manner : Type 0 where
   pub is_hit : Bool
-  pub is_plain : Bool
+  pub form : Form
   pub is_once : Bool
+  pub is_timed : Bool
 
 abbrev pub manner_of : Following → Manner
-manner_of following = record { is_hit = is_some following.pattern; is_plain = following.is_plain; is_once = following.is_once }
+manner_of following = record { is_hit = is_some following.pattern; form = following.form; is_once = following.is_once; is_timed = is_some following.until }
 
 -- the names of the fifodirs that are followed
 abbrev pub names_of : Following → List (List ℕ)
@@ -42,9 +44,9 @@ written_of false letters = letters
 -- The letters of a reply, or the hit, are written once, as those of the fifodir, and nothing is written for another reply.
 abbrev pub IsWrittenFor : Manner → Followed → Reply → (held holds : Option (List ℕ)) → Type 0
 IsWrittenFor manner followed (reply.Got letters) held holds =
-    (text : List ℕ) × IsTextOf manner.is_hit manner.is_plain (name_of followed) followed.next (written_of manner.is_once letters) text × Appends held holds text
+    (text : List ℕ) × IsTextOf manner.is_hit manner.form (name_of followed) followed.next (written_of manner.is_once letters) text × Appends held holds text
 IsWrittenFor manner followed (reply.Hit letters) held holds =
-    (text : List ℕ) × IsTextOf manner.is_hit manner.is_plain (name_of followed) followed.next letters text × Appends held holds text
+    (text : List ℕ) × IsTextOf manner.is_hit manner.form (name_of followed) followed.next letters text × Appends held holds text
 IsWrittenFor manner followed other held holds = holds ≡ held
 
 -- what is known of the fifodir after a reply: letters that are written move the number of the next one, and after an end nothing comes
@@ -89,7 +91,7 @@ pub record IsTaken (manner : Manner) (turns : ℕ) (followed later : Followed) (
 pub record IsCutShort (manner : Manner) (followed : Followed) (held holds : Option (List ℕ)) : Type 0 where
   pub letters : List ℕ
   pub text : List ℕ
-  pub lines : IsTextOf manner.is_hit manner.is_plain (name_of followed) followed.next letters text
+  pub lines : IsTextOf manner.is_hit manner.form (name_of followed) followed.next letters text
   pub written : AppendsPart held holds text
 
 -- How letters aren't written: of their text a part was, if the output failed, and else nothing.
@@ -172,9 +174,20 @@ pub record EndsLooks (manner : Manner) (before : Scene) (after : Streams) (holds
 abbrev pub Beginning : Type 1
 Beginning = (after : Streams) → (names : List (List ℕ)) → List Followed → Type 0
 
--- They were subscribed to as they are to be followed. These were the streams before.
+-- what is said once all are followed again
+abbrev pub again_line : List ℕ
+again_line = codes "ftrighub: following again; events may lie between\n"
+
+-- If they were followed before, that was said once.
+abbrev pub IsSaid : (is_again : Bool) → (before after : Streams) → Type 0
+IsSaid false before after = after ≡ before
+IsSaid true before after = IsNoted before after again_line
+
+-- They were subscribed to as they are to be followed, and if they were followed before, that was said then. These were the streams
+-- before.
 abbrev pub begins_by : Following → (before : Streams) → Beginning
-begins_by following before after names all = AreBegun (λ word. word.now) following.pattern following.is_plain before after names all
+begins_by following before after names all = (between : Streams)
+    × AreBegun (λ word. word.now) following.pattern following.form before between names all × IsSaid following.is_again between after
 
 -- Each fifodir is followed by its name, and some of them were looked at, one after another. between is how the streams were when all
 -- were subscribed to.
@@ -207,10 +220,16 @@ abbrev pub EndsFollow : Manner → (begins : Beginning) → (names : List (List 
 EndsFollow manner begins names after held holds stop =
     (IsOwnStop stop × (holds ≡ held)) ⊎ EndsUnderWay manner begins names after held holds stop
 
--- A follow has this outcome: nothing will come any more, or a reply ended it.
+-- It ended without a reply or a fault: nothing will come any more, or its time was over.
+abbrev pub EndsByItself : Manner → (begins : Beginning) → (names : List (List ℕ)) → (after : Streams) → (held holds : Option (List ℕ)) → Outcome → Type 0
+EndsByItself manner begins names after held holds went =
+    ((went ≡ outcome.Nothing) × IsFollowed manner begins names after held holds)
+    ⊎ ((went ≡ outcome.Late) × (manner.is_timed ≡ true) × ((all : List Followed) × IsUnderWay manner begins names held (scene all after holds)))
+
+-- A follow has this outcome. A reply ended it, or it ended by itself, or no answer came by its time.
 abbrev pub FollowsTo : Manner → (begins : Beginning) → (names : List (List ℕ)) → (after : Streams) → (held holds : Option (List ℕ)) → Outcome → Type 0
-FollowsTo manner begins names after held holds went =
-    ((went ≡ outcome.Nothing) × IsFollowed manner begins names after held holds) ⊎ EndsFollow manner begins names after held holds (stops.Reply went)
+FollowsTo manner begins names after held holds went = EndsByItself manner begins names after held holds went
+    ⊎ ((stop : Stop) × StopsWith manner.is_timed stop went × EndsFollow manner begins names after held holds stop)
 
 -- A follow fails so.
 abbrev pub FailsToFollow : Manner → (begins : Beginning) → (names : List (List ℕ)) → (after : Streams) → (held holds : Option (List ℕ)) → AskError → Type 0

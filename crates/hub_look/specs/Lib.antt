@@ -2,7 +2,10 @@ pub mod Looking
 pub mod Looks
 pub mod Streams
 pub mod Stops
+pub mod ServiceStates
+pub mod Descriptions
 pub mod Tables
+pub mod Json
 pub mod EventLines
 pub mod Subscribing
 pub mod Follows

@@ -1,9 +1,10 @@
 -- Why a command ends before its work is done.
-use Rattle.std.specs.Prelude.{◌≡◌, ◌≢◌, ◌⊎◌}
+use Rattle.std.specs.Prelude.{◌≡◌, ◌≢◌, ◌⊎◌, Bool, true}
 use Rattle.hub_client.specs.declared.fault.RelayError.TheVariants as relay
 use Rattle.hub_ask.specs.declared.fault.AskError.{AskError}
 use Rattle.hub_ask.specs.declared.fault.AskError.TheVariants as ask
-use Rattle.hub_ask.specs.declared.outcome.Outcome.TheVariants.{Refused}
+use Rattle.hub_ask.specs.declared.outcome.Outcome.{Outcome}
+use Rattle.hub_ask.specs.declared.outcome.Outcome.TheVariants.{Late, Refused}
 use Rattle.hub_look.specs.declared.stop.Stop.{Stop}
 use Rattle.hub_look.specs.declared.stop.Stop.TheVariants.{Fault, Reply}
 
@@ -22,3 +23,7 @@ IsRefusal stop holds = (stop ≡ Reply Refused) × holds
 -- a fault that isn't of the output, or a refusal
 abbrev pub IsOwnStop : Stop → Type 0
 IsOwnStop stop = IsOwnFault stop ⊎ (stop ≡ Reply Refused)
+
+-- A stop has this outcome: the one of its reply. Or no answer came, and there was a time that was over.
+abbrev pub StopsWith : (is_timed : Bool) → Stop → Outcome → Type 0
+StopsWith is_timed stop went = (stop ≡ Reply went) ⊎ ((went ≡ Late) × (is_timed ≡ true) × (stop ≡ Fault ask.NoAnswer))

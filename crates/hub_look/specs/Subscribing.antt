@@ -1,5 +1,5 @@
 -- How a follow subscribes to its fifodirs.
-use Rattle.std.specs.Prelude.{◌≡◌, ◌≢◌, ◌⊎◌, ℕ, zero, suc, List, [], ◌∷◌, codes, Bool, true, false, Option, None, Some, Ok}
+use Rattle.std.specs.Prelude.{◌≡◌, ◌≢◌, ◌⊎◌, ℕ, zero, suc, List, [], ◌∷◌, codes, false, Option, None, Some, Ok}
 use Rattle.hub_requests.specs.declared.request.Request.{Request}
 use Rattle.hub_requests.specs.declared.request.Request.TheVariants as request
 use Rattle.hub_requests.specs.declared.reply.Reply.{Reply}
@@ -9,6 +9,8 @@ use Rattle.hub_ask.specs.Lines.{joined}
 use Rattle.hub_look.specs.Looking.{LooksBy}
 use Rattle.hub_look.specs.Streams.{Streams, IsReplied}
 use Rattle.hub_look.specs.Tables.{IsJudged}
+use Rattle.hub_look.specs.declared.following.Form.{Form}
+use Rattle.hub_look.specs.declared.following.Form.TheVariants.{Line, Plain, Json}
 use Rattle.hub_look.specs.declared.subscribing.Followed.{Followed}
 
 -- the name of a fifodir that is followed
@@ -82,16 +84,17 @@ pub record IsTried (before after : Streams) (name : List ℕ) (followed : Follow
   pub last : IsNumbered between after name followed ⊎ IsSubscribed between after (sub_line name) name followed
 
 -- It is subscribed to as it is to be followed: by the hits of a pattern, with letters alone, or with their numbers.
-abbrev pub IsBegun : {Word : Type 0} → (text : Word → List ℕ) → (pattern : Option Word) → (is_plain : Bool) → (before after : Streams)
+abbrev pub IsBegun : {Word : Type 0} → (text : Word → List ℕ) → (pattern : Option Word) → Form → (before after : Streams)
     → (name : List ℕ) → Followed → Type 0
-IsBegun text (Some pattern) is_plain before after name followed = IsSubscribed before after (listen_line name (text pattern)) name followed
-IsBegun text None true before after name followed = IsSubscribed before after (sub_line name) name followed
-IsBegun text None false before after name followed = IsTried before after name followed
+IsBegun text (Some pattern) form before after name followed = IsSubscribed before after (listen_line name (text pattern)) name followed
+IsBegun text None Plain before after name followed = IsSubscribed before after (sub_line name) name followed
+IsBegun text None Line before after name followed = IsTried before after name followed
+IsBegun text None Json before after name followed = IsTried before after name followed
 
 -- Each is subscribed to, one after another.
-abbrev pub AreBegun : {Word : Type 0} → (text : Word → List ℕ) → (pattern : Option Word) → (is_plain : Bool) → (before after : Streams)
+abbrev pub AreBegun : {Word : Type 0} → (text : Word → List ℕ) → (pattern : Option Word) → Form → (before after : Streams)
     → (names : List (List ℕ)) → List Followed → Type 0
-AreBegun text pattern is_plain before after [] [] = after ≡ before
-AreBegun text pattern is_plain before after (name ∷ names) (followed ∷ all) =
-    (between : Streams) × IsBegun text pattern is_plain before between name followed × AreBegun text pattern is_plain between after names all
-AreBegun text pattern is_plain before after names all = ⊥
+AreBegun text pattern form before after [] [] = after ≡ before
+AreBegun text pattern form before after (name ∷ names) (followed ∷ all) =
+    (between : Streams) × IsBegun text pattern form before between name followed × AreBegun text pattern form between after names all
+AreBegun text pattern form before after names all = ⊥

@@ -1,28 +1,36 @@
--- How fifodirs are, and the table of it.
-use Rattle.std.specs.Prelude.{◌≡◌, ◌⊎◌, ℕ, ◌+◌, ◌-◌, max, List, [], ◌∷◌, ◌++◌, length, replicate, codes, Bool, true, false, if◌then◌else◌, Option, Result, Ok, Err}
-use Rattle.std.specs.Fmt.{decimal}
-use Rattle.hub_letters.specs.declared.flags.Flags.{Flags}
+-- How fifodirs are, and what is shown of it.
+use Rattle.std.specs.Prelude.{◌≡◌, ◌⊎◌, ℕ, ◌+◌, max, List, [], ◌∷◌, ◌++◌, length, codes, Bool, if◌then◌else◌, Option, Result, Ok, Err, MatchResult}
 use Rattle.std.specs.Io.KnownBytes.{Appends}
 use Rattle.hub_io.specs.Faults.{AppendsPart}
 use Rattle.hub_client.specs.declared.fault.RelayError.TheVariants as relay
 use Rattle.hub_ask.specs.declared.fault.AskError.{AskError}
 use Rattle.hub_ask.specs.declared.fault.AskError.TheVariants.{Relay}
 use Rattle.hub_requests.specs.Listings.{joined}
-use Rattle.hub_requests.specs.Texts.{openness, word_of}
+use Rattle.hub_requests.specs.Texts.{word_of}
+use Rattle.hub_requests.specs.declared.about.About.{About}
+use Rattle.hub_requests.specs.declared.request.Request.{Request}
 use Rattle.hub_requests.specs.declared.request.Request.TheVariants as request
 use Rattle.hub_requests.specs.declared.reply.Reply.TheVariants as reply
 use Rattle.hub_requests.specs.declared.reply.Refusal.{Refusal}
 use Rattle.hub_requests.specs.declared.reply.Refusal.TheVariants.{Name, Closed}
 use Rattle.hub_protocol.specs.Spelling.{form_of, spelling}
 use Rattle.hub_record.specs.declared.Status.{Status}
+use Rattle.hub_ask.specs.Hearing.{line_of}
+use Rattle.hub_ask.specs.declared.heard.Heard.{Heard}
 use Rattle.hub_ask.specs.declared.outcome.Outcome.{Outcome}
 use Rattle.hub_ask.specs.declared.outcome.Outcome.TheVariants.{Done, Refused}
+use Rattle.hub_look.specs.Descriptions.{columns_of, object_of, row_of}
 use Rattle.hub_look.specs.Looking.{LooksBy}
-use Rattle.hub_look.specs.Streams.{Streams, IsReplied, IsNoted}
+use Rattle.hub_look.specs.Streams.{Streams, IsHeard, IsReplied, IsNoted}
+use Rattle.hub_look.specs.declared.describing.Description.{Description}
 
--- what a hub says of a name: how the fifodir is, or why it doesn't say
+-- how the fifodir of a name is, or why the hub doesn't say
 abbrev pub Verdict : Type 0
 Verdict = Result Status Refusal
+
+-- how it is and what it is, or why the hub doesn't say
+abbrev pub Finding : Type 0
+Finding = Result Description Refusal
 
 -- ---- notes
 
@@ -39,34 +47,50 @@ note_of name reason = name ++ (codes ": " ++ (reason ++ 10 ∷ []))
 -- ---- what is asked
 
 -- The hub refused the look at a name, or a hub would refuse its line, and then nothing was sent. There is one note of it.
-pub record IsRefused (before after : Streams) (name : List ℕ) (refusal : Refusal) : Type 0 where
+pub record IsRefused (before after : Streams) (asked : Request) (name : List ℕ) (refusal : Refusal) : Type 0 where
   pub between : Streams
-  pub why : IsReplied before between (request.Status name) (reply.No refusal)
-      ⊎ ((between ≡ before) × LooksBy (spelling (form_of (request.Status name))) (Err refusal))
+  pub why : IsReplied before between asked (reply.No refusal)
+      ⊎ ((between ≡ before) × LooksBy (spelling (form_of asked)) (Err refusal))
   pub told : IsNoted between after (note_of name (reason_of refusal))
+
+-- The look was sent once, and this was heard, which is no refusal. Or it is refused.
+abbrev pub IsLookedUp : (before after : Streams) (asked : Request) (name : List ℕ) → Result Heard Refusal → Type 0
+IsLookedUp before after asked name looked =
+    MatchResult looked (λ heard. IsHeard before after asked (line_of heard)) (IsRefused before after asked name)
 
 -- The status of the name was asked for once, and this is what the hub says of it.
 abbrev pub IsJudged : (before after : Streams) (name : List ℕ) → Verdict → Type 0
 IsJudged before after name (Ok status) = IsReplied before after (request.Status name) (reply.State status)
-IsJudged before after name (Err refusal) = IsRefused before after name refusal
+IsJudged before after name (Err refusal) = IsRefused before after (request.Status name) name refusal
 
--- Each of the names was asked for once, one after another, and these are what the hub says of them. text gives the bytes of a name.
-abbrev pub AreJudged : {Word : Type 0} → (text : Word → List ℕ) → (before after : Streams) → List Word → List Verdict → Type 0
-AreJudged text before after [] [] = after ≡ before
-AreJudged text before after (name ∷ names) (verdict ∷ verdicts) =
-    (between : Streams) × IsJudged before between (text name) verdict × AreJudged text between after names verdicts
-AreJudged text before after names verdicts = ⊥
+-- The hub was asked once what the name is, and this is what it says.
+abbrev pub IsAbout : (before after : Streams) (name : List ℕ) → Result About Refusal → Type 0
+IsAbout before after name (Ok about) = IsReplied before after (request.About name) (reply.About about)
+IsAbout before after name (Err refusal) = IsRefused before after (request.About name) name refusal
+
+-- The hub was asked once what the name is, and then for its status, unless it refused the former. This is what it says of both.
+abbrev pub IsDescribed : (before after : Streams) (name : List ℕ) → Finding → Type 0
+IsDescribed before after name (Ok it) = (between : Streams) × IsAbout before between name (Ok it.about) × IsJudged between after name (Ok it.status)
+IsDescribed before after name (Err refusal) = IsAbout before after name (Err refusal)
+    ⊎ ((between : Streams) × (about : About) × IsAbout before between name (Ok about) × IsJudged between after name (Err refusal))
+
+-- Each of the names was asked about once, one after another, and these are what the hub says of them. text gives the bytes of a name.
+abbrev pub AreDescribed : {Word : Type 0} → (text : Word → List ℕ) → (before after : Streams) → List Word → List Finding → Type 0
+AreDescribed text before after [] [] = after ≡ before
+AreDescribed text before after (name ∷ names) (finding ∷ findings) =
+    (between : Streams) × IsDescribed before between (text name) finding × AreDescribed text between after names findings
+AreDescribed text before after names findings = ⊥
 
 -- a refusal after one that is refused
-abbrev pub outcome_after : Outcome → Verdict → Outcome
-outcome_after outcome (Ok status) = outcome
+abbrev pub outcome_after : Outcome → Finding → Outcome
+outcome_after outcome (Ok it) = outcome
 outcome_after outcome (Err refusal) = Refused
 
 -- a refusal if one of them is refused
-abbrev pub outcome_of_all : List Verdict → Outcome
+abbrev pub outcome_of_all : List Finding → Outcome
 outcome_of_all [] = Done
-outcome_of_all (Ok status ∷ verdicts) = outcome_of_all verdicts
-outcome_of_all (Err refusal ∷ verdicts) = Refused
+outcome_of_all (Ok it ∷ findings) = outcome_of_all findings
+outcome_of_all (Err refusal ∷ findings) = Refused
 
 -- The hub was asked for its names from this place on, by one request after another, until it listed none. These are the names of each
 -- reply.
@@ -81,104 +105,84 @@ pub record ListsNames (before after : Streams) (names : List (List ℕ)) : Type 
   pub listed : AreListed before after 0 pages
   pub all : names ≡ joined pages
 
--- ---- the table
+-- ---- what is shown
 
--- the word, and spaces behind it up to the width
-abbrev pub in_column : (width : ℕ) (word : List ℕ) → List ℕ
-in_column width word = word ++ replicate (width - length word) 32
+-- the row of a name, or its object, if the hub says how it is
+abbrev pub row_by : (is_json : Bool) (width : ℕ) (name : List ℕ) → Finding → List ℕ
+row_by is_json width name (Ok it) = if is_json then object_of name it else row_of width name (columns_of it)
+row_by is_json width name (Err refusal) = []
 
--- the same, and two spaces before what is right of it
-abbrev pub beside : (width : ℕ) (word right : List ℕ) → List ℕ
-beside width word right = in_column width word ++ (32 ∷ 32 ∷ right)
-
-abbrev pub yes_or_no : Bool → List ℕ
-yes_or_no true = codes "yes"
-yes_or_no false = codes "no"
-
--- whether the process runs
-abbrev pub running : Flags → List ℕ
-running flags = if flags.up then codes "up" else codes "down"
-
--- whether the service is on its way up or down, and else where it is
-abbrev pub readiness : Flags → List ℕ
-readiness flags = if flags.settled then (if flags.up then codes "ready" else codes "settled") else codes "settling"
-
--- what is behind the name
-abbrev pub columns_of : Status → List ℕ
-columns_of status =
-    beside 5 (running status.flags) (beside 8 (readiness status.flags) (beside 10 (yes_or_no status.flags.supervised)
-    (beside 6 (yes_or_no status.flags.failed) (beside 6 (openness status.closed) (decimal status.number)))))
-
--- a line of the table
-abbrev pub row_of : (width : ℕ) (name columns : List ℕ) → List ℕ
-row_of width name columns = beside width name (columns ++ 10 ∷ [])
-
--- the row of a name, if the hub says how it is
-abbrev pub row_by : (width : ℕ) (name : List ℕ) → Verdict → List ℕ
-row_by width name (Ok status) = row_of width name (columns_of status)
-row_by width name (Err refusal) = []
-
--- the rows of these names
-abbrev pub rows_of : {Word : Type 0} → (text : Word → List ℕ) → (width : ℕ) → List Word → List Verdict → List ℕ
-rows_of text width (name ∷ names) (verdict ∷ verdicts) = row_by width (text name) verdict ++ rows_of text width names verdicts
-rows_of text width names verdicts = []
+-- those of these names
+abbrev pub rows_of : {Word : Type 0} → (text : Word → List ℕ) → (is_json : Bool) (width : ℕ) → List Word → List Finding → List ℕ
+rows_of text is_json width (name ∷ names) (finding ∷ findings) =
+    row_by is_json width (text name) finding ++ rows_of text is_json width names findings
+rows_of text is_json width names findings = []
 
 -- the headings
 abbrev pub head_of : (width : ℕ) → List ℕ
-head_of width = row_of width (codes "NAME") (codes "STATE  READY     SUPERVISED  FAILED  OPEN    EVENTS")
+head_of width = row_of width (codes "NAME") (codes "KIND     STATE            EVENTS     SUBSCRIBERS  PENDING       POLICY")
 
 -- the longest of the names and of their heading
 abbrev pub width_of : {Word : Type 0} → (text : Word → List ℕ) → List Word → ℕ
 width_of text [] = 4
 width_of text (name ∷ names) = max (length (text name)) (width_of text names)
 
--- the table of these names
-abbrev pub table_of : {Word : Type 0} → (text : Word → List ℕ) → List Word → List Verdict → List ℕ
-table_of text names verdicts = head_of (width_of text names) ++ rows_of text (width_of text names) names verdicts
+-- the headings, or words if there is no name
+abbrev pub headings_of : {Word : Type 0} → (text : Word → List ℕ) → List Word → List ℕ
+headings_of text [] = codes "no services" ++ 10 ∷ []
+headings_of text names = head_of (width_of text names)
 
--- Each of the names was asked for once, in order. This is the table of what the hub says of them, and how the command went.
-pub record IsTable {Word : Type 0} (text : Word → List ℕ) (before after : Streams) (names : List Word) (table : List ℕ) (outcome : Outcome) : Type 0 where
-  pub verdicts : List Verdict
-  pub judged : AreJudged text before after names verdicts
-  pub shown : table ≡ table_of text names verdicts
-  pub went : outcome ≡ outcome_of_all verdicts
+-- what is above the rows; nothing is above objects
+abbrev pub top_of : {Word : Type 0} → (text : Word → List ℕ) → (is_json : Bool) → List Word → List ℕ
+top_of text is_json names = if is_json then [] else headings_of text names
+
+-- the table of these names, or their objects
+abbrev pub table_of : {Word : Type 0} → (text : Word → List ℕ) → (is_json : Bool) → List Word → List Finding → List ℕ
+table_of text is_json names findings = top_of text is_json names ++ rows_of text is_json (width_of text names) names findings
+
+-- Each of the names was asked about once, in order. This is the table of what the hub says of them, and how the command went.
+pub record IsTable {Word : Type 0} (text : Word → List ℕ) (is_json : Bool) (before after : Streams) (names : List Word) (table : List ℕ) (outcome : Outcome) : Type 0 where
+  pub findings : List Finding
+  pub described : AreDescribed text before after names findings
+  pub shown : table ≡ table_of text is_json names findings
+  pub went : outcome ≡ outcome_of_all findings
 
 -- A table was written, once and whole.
-pub record ShowsTable {Word : Type 0} (text : Word → List ℕ) (before after : Streams) (held holds : Option (List ℕ)) (names : List Word) (outcome : Outcome) : Type 0 where
+pub record ShowsTable {Word : Type 0} (text : Word → List ℕ) (is_json : Bool) (before after : Streams) (held holds : Option (List ℕ)) (names : List Word) (outcome : Outcome) : Type 0 where
   pub table : List ℕ
   pub written : Appends held holds table
-  pub is : IsTable text before after names table outcome
+  pub is : IsTable text is_json before after names table outcome
 
 -- The hub listed its names, and then their table was written. Or it refused that, and nothing was written.
-abbrev pub ShowsAll : (before after : Streams) (held holds : Option (List ℕ)) → Outcome → Type 0
-ShowsAll before after held holds outcome =
-    ((names : List (List ℕ)) × (between : Streams) × ListsNames before between names × ShowsTable (λ name. name) between after held holds names outcome)
+abbrev pub ShowsAll : (is_json : Bool) (before after : Streams) (held holds : Option (List ℕ)) → Outcome → Type 0
+ShowsAll is_json before after held holds outcome =
+    ((names : List (List ℕ)) × (between : Streams) × ListsNames before between names × ShowsTable (λ name. name) is_json between after held holds names outcome)
     ⊎ ((outcome ≡ Refused) × (holds ≡ held))
 
 -- What is shown of these names; of all names of the hub if there is none.
-abbrev pub ShowsStates : {Word : Type 0} → (text : Word → List ℕ) → (before after : Streams) → (held holds : Option (List ℕ)) → List Word → Outcome → Type 0
-ShowsStates text before after held holds [] outcome = ShowsAll before after held holds outcome
-ShowsStates text before after held holds names outcome = ShowsTable text before after held holds names outcome
+abbrev pub ShowsStates : {Word : Type 0} → (text : Word → List ℕ) → (is_json : Bool) → (before after : Streams) → (held holds : Option (List ℕ)) → List Word → Outcome → Type 0
+ShowsStates text is_json before after held holds [] outcome = ShowsAll is_json before after held holds outcome
+ShowsStates text is_json before after held holds names outcome = ShowsTable text is_json before after held holds names outcome
 
 -- Only a part of a table was written.
-pub record CutsTable {Word : Type 0} (text : Word → List ℕ) (before after : Streams) (held holds : Option (List ℕ)) (names : List Word) : Type 0 where
+pub record CutsTable {Word : Type 0} (text : Word → List ℕ) (is_json : Bool) (before after : Streams) (held holds : Option (List ℕ)) (names : List Word) : Type 0 where
   pub table : List ℕ
   pub outcome : Outcome
   pub written : AppendsPart held holds table
-  pub is : IsTable text before after names table outcome
+  pub is : IsTable text is_json before after names table outcome
 
 -- How the table of these names isn't shown: a part of it was written, and else nothing.
-abbrev pub FailsToShow : {Word : Type 0} → (text : Word → List ℕ) → (before after : Streams) → (held holds : Option (List ℕ)) → List Word → AskError → Type 0
-FailsToShow text before after held holds names (Relay relay.Output) = CutsTable text before after held holds names
-FailsToShow text before after held holds names error = holds ≡ held
+abbrev pub FailsToShow : {Word : Type 0} → (text : Word → List ℕ) → (is_json : Bool) → (before after : Streams) → (held holds : Option (List ℕ)) → List Word → AskError → Type 0
+FailsToShow text is_json before after held holds names (Relay relay.Output) = CutsTable text is_json before after held holds names
+FailsToShow text is_json before after held holds names error = holds ≡ held
 
 -- How the table of all names of the hub isn't shown.
-abbrev pub FailsToShowAll : (before after : Streams) → (held holds : Option (List ℕ)) → AskError → Type 0
-FailsToShowAll before after held holds (Relay relay.Output) =
-    (names : List (List ℕ)) × (between : Streams) × ListsNames before between names × CutsTable (λ name. name) between after held holds names
-FailsToShowAll before after held holds error = holds ≡ held
+abbrev pub FailsToShowAll : (is_json : Bool) (before after : Streams) → (held holds : Option (List ℕ)) → AskError → Type 0
+FailsToShowAll is_json before after held holds (Relay relay.Output) =
+    (names : List (List ℕ)) × (between : Streams) × ListsNames before between names × CutsTable (λ name. name) is_json between after held holds names
+FailsToShowAll is_json before after held holds error = holds ≡ held
 
 -- How these names aren't shown.
-abbrev pub FailsToShowStates : {Word : Type 0} → (text : Word → List ℕ) → (before after : Streams) → (held holds : Option (List ℕ)) → List Word → AskError → Type 0
-FailsToShowStates text before after held holds [] error = FailsToShowAll before after held holds error
-FailsToShowStates text before after held holds names error = FailsToShow text before after held holds names error
+abbrev pub FailsToShowStates : {Word : Type 0} → (text : Word → List ℕ) → (is_json : Bool) → (before after : Streams) → (held holds : Option (List ℕ)) → List Word → AskError → Type 0
+FailsToShowStates text is_json before after held holds [] error = FailsToShowAll is_json before after held holds error
+FailsToShowStates text is_json before after held holds names error = FailsToShow text is_json before after held holds names error

@@ -1,5 +1,6 @@
 //! Looks at one fifodir.
 ghost use Rattle.std.specs.Prelude.{◌≡◌, IfOk, IfErr};
+ghost use Rattle.hub_requests.specs.declared.request.Request.{Request as request};
 ghost use Rattle.hub_protocol.specs.Spelling.{form_of, spelling};
 ghost use Rattle.hub_ask.specs.Asking.{IsAnswered};
 ghost use Rattle.hub_ask.specs.Hearing.{line_of};
@@ -7,7 +8,7 @@ ghost use Rattle.hub_ask.specs.Lines.{joined};
 ghost use Rattle.hub_look.specs.Stops.{IsOwnFault, IsOwnStop};
 ghost use Rattle.hub_look.specs.Streams.{IsHeard, streams};
 ghost use Rattle.hub_look.specs.Subscribing.{IsHandled};
-ghost use Rattle.hub_look.specs.Tables.{IsJudged};
+ghost use Rattle.hub_look.specs.Tables.{IsJudged, IsLookedUp};
 ghost use Rattle.hub_look.specs.Looking.{IsLook};
 
 use crate::look::look_of;
@@ -95,6 +96,38 @@ pub(crate) fn handle_for<H: Wait, SR: Replies, SW: Requests, F: Sink>(
     }
 }
 
+/// Sends the look at this name that these words spell, and returns the reply, or the refusal, which is told.
+pub(crate) fn look_up<H: Wait, SR: Replies, SW: Requests, F: Sink>(
+    rt: &H,
+    alloc: Global,
+    words: &[&str],
+    name: &str,
+    peer: &mut Peer<SR, SW>,
+    notes: &mut F,
+) -> Result<Result<Heard, Refusal>, Stop>
+    ensures begun { peer.new.begun ≡ peer.old.begun }
+    ensures ok { (asked : request) → spelling (form_of asked) ≡ joined (λ word. word.now) words.now
+        → IfOk result (IsLookedUp
+        (streams SW.contents SR.remaining F.contents F.faults peer.old.client notes.old)
+        (streams SW.contents SR.remaining F.contents F.faults peer.new.client notes.new)
+        asked name.now) }
+    ensures err { IfErr result IsOwnFault }
+{
+    let request = match look_of(alloc, words)? {
+        Ok(request) => request,
+        Err(refusal) => {
+            tell_refusal(alloc, name, refusal, notes)?;
+            return Ok(Err(refusal));
+        }
+    };
+    let heard = peer.ask(rt, alloc, &request)?;
+    if let BorrowedReply::No(refusal) = heard.reply() {
+        tell_refusal(alloc, name, refusal, notes)?;
+        return Ok(Err(refusal));
+    }
+    Ok(Ok(heard))
+}
+
 /// How the fifodir is, or why the hub doesn't say, which is told.
 pub(crate) fn state_of<H: Wait, SR: Replies, SW: Requests, F: Sink>(
     rt: &H,
@@ -110,20 +143,12 @@ pub(crate) fn state_of<H: Wait, SR: Replies, SW: Requests, F: Sink>(
         name.now) }
     ensures err { IfErr result IsOwnFault }
 {
-    let request = match look_of(alloc, &["status", name])? {
-        Ok(request) => request,
-        Err(refusal) => {
-            tell_refusal(alloc, name, refusal, notes)?;
-            return Ok(Err(refusal));
-        }
+    let heard = match look_up(rt, alloc, &["status", name], name, peer, notes)? {
+        Ok(heard) => heard,
+        Err(refusal) => return Ok(Err(refusal)),
     };
-    let heard = peer.ask(rt, alloc, &request)?;
     match heard.reply() {
         BorrowedReply::State(status) => Ok(Ok(status)),
-        BorrowedReply::No(refusal) => {
-            tell_refusal(alloc, name, refusal, notes)?;
-            Ok(Err(refusal))
-        }
         _ => Err(Stop::Fault(AskError::Unknown)),
     }
 }

@@ -1,26 +1,29 @@
 //! The lines of letters that came.
-ghost use Rattle.std.specs.Prelude.{◌≡◌, ◌++◌, ◌∷◌, [], IfOk, OnOk, true};
+ghost use Rattle.std.specs.Prelude.{◌≡◌, ◌++◌, IfOk, OnOk, true};
 ghost use Rattle.std.specs.List.{list_all};
+ghost use Rattle.std.specs.Option.{option_map};
 ghost use Rattle.hub_requests.specs.Texts.{number_or_dash};
-ghost use Rattle.hub_look.specs.EventLines.{IsStamp, head_of, is_stamp_byte, line_of, lines_of, meaning_of, number_after, plain_lines_of};
+ghost use Rattle.hub_look.specs.EventLines.{IsStamp, behind, head_of, hit_line, is_stamp_byte, letter_line, lettering, line_of, lines_of, meaning_of, number_after, numbering, object_of, opening_of, saying};
 
+use crate::following::Form;
+use crate::json::{put_number_or_null, put_string, put_string_or_null};
 use jiff::Timestamp;
 use std::alloc::{AllocError, Global};
 use std::rt::Clock;
 
-/// What a letter of a service says of it. Empty for other letters.
-fn meaning_of(letter: u8) -> &'static str
-    ensures { result.now ≡ meaning_of letter }
+/// What a letter of a service says of it. None for other letters.
+fn meaning_of(letter: u8) -> Option<&'static str>
+    ensures { option_map (λ it. it.now) result ≡ meaning_of letter }
 {
     match letter {
-        b's' => " supervised",
-        b'u' => " up",
-        b'U' => " ready",
-        b'd' => " down",
-        b'D' => " finished",
-        b'O' => " failed",
-        b'x' => " unsupervised",
-        _ => "",
+        b's' => Some("supervised"),
+        b'u' => Some("up"),
+        b'U' => Some("ready"),
+        b'd' => Some("down"),
+        b'D' => Some("finished"),
+        b'O' => Some("failed"),
+        b'x' => Some("unsupervised"),
+        _ => None,
     }
 }
 
@@ -75,6 +78,18 @@ fn put_number(alloc: Global, number: Option<u64>, lines: &mut Vec<u8>) -> Result
     }
 }
 
+// Puts a word behind these lines, with a space before it, if there is one.
+fn put_behind(word: Option<&str>, lines: &mut Vec<u8>) -> Result<(), AllocError>
+    ensures { OnOk result (lines.new.items
+        ≡ lines.old.items ++ behind (option_map (λ it. it.now) word.entry)) }
+{
+    let Some(word) = word else {
+        return Ok(());
+    };
+    lines.extend_from_slice(b" ")?;
+    lines.extend_from_slice(word.as_bytes())
+}
+
 // Puts the line of a letter behind these lines.
 fn put_line(
     alloc: Global,
@@ -90,8 +105,81 @@ fn put_line(
     put_head(stamp, name, lines)?;
     put_number(alloc, number, lines)?;
     lines.extend_from_slice(&[b' ', letter])?;
-    lines.extend_from_slice(meaning_of(letter).as_bytes())?;
+    put_behind(meaning_of(letter), lines)?;
     lines.extend_from_slice(b"\n")
+}
+
+// The beginning of an object: when something came, and whose it is.
+fn put_opening(stamp: &str, name: &str, lines: &mut Vec<u8>) -> Result<(), AllocError>
+    ensures { OnOk result (lines.new.items ≡ lines.old.items ++ opening_of stamp.now name.now) }
+{
+    lines.extend_from_slice(b"{\"time\":")?;
+    put_string(stamp.as_bytes(), lines)?;
+    lines.extend_from_slice(b",\"name\":")?;
+    put_string(name.as_bytes(), lines)
+}
+
+// The member for the number of a letter.
+fn put_numbering(alloc: Global, number: Option<u64>, lines: &mut Vec<u8>) -> Result<(), AllocError>
+    ensures { OnOk result (lines.new.items ≡ lines.old.items ++ numbering number) }
+{
+    lines.extend_from_slice(b",\"number\":")?;
+    put_number_or_null(alloc, number, lines)
+}
+
+// The member for a letter.
+fn put_lettering(letter: u8, lines: &mut Vec<u8>) -> Result<(), AllocError>
+    ensures { OnOk result (lines.new.items ≡ lines.old.items ++ lettering letter) }
+{
+    lines.extend_from_slice(b",\"letter\":")?;
+    put_string(&[letter], lines)
+}
+
+// The member for what a letter says.
+fn put_saying(letter: u8, lines: &mut Vec<u8>) -> Result<(), AllocError>
+    ensures { OnOk result (lines.new.items ≡ lines.old.items ++ saying letter) }
+{
+    lines.extend_from_slice(b",\"says\":")?;
+    put_string_or_null(meaning_of(letter), lines)
+}
+
+// Puts a letter as an object behind these lines.
+fn put_object(
+    alloc: Global,
+    stamp: &str,
+    name: &str,
+    number: Option<u64>,
+    letter: u8,
+    lines: &mut Vec<u8>,
+) -> Result<(), AllocError>
+    ensures { OnOk result (lines.new.items
+        ≡ lines.old.items ++ object_of stamp.now name.now number letter) }
+{
+    put_opening(stamp, name, lines)?;
+    put_numbering(alloc, number, lines)?;
+    put_lettering(letter, lines)?;
+    put_saying(letter, lines)?;
+    lines.extend_from_slice(b"}\n")
+}
+
+// Puts a letter in this form behind these lines.
+fn put_letter(
+    alloc: Global,
+    form: Form,
+    stamp: &str,
+    name: &str,
+    number: Option<u64>,
+    letter: u8,
+    lines: &mut Vec<u8>,
+) -> Result<(), AllocError>
+    ensures { OnOk result (lines.new.items
+        ≡ lines.old.items ++ letter_line form stamp.now name.now number letter) }
+{
+    match form {
+        Form::Line => put_line(alloc, stamp, name, number, letter, lines),
+        Form::Plain => lines.extend_from_slice(&[letter, b'\n']),
+        Form::Json => put_object(alloc, stamp, name, number, letter, lines),
+    }
 }
 
 /// The number of an event so many after the one of this number, if there is one.
@@ -104,58 +192,67 @@ pub(crate) fn number_after(number: Option<u64>, count: u64) -> Option<u64>
     }
 }
 
-/// A line for each letter: when it came, its name, its number if that is known, the letter, and what it says.
+/// A line for each letter, in this form. `first` is the number of the first one, if it is known.
 pub(crate) fn lines_of(
     alloc: Global,
+    form: Form,
     stamp: &str,
     name: &str,
     first: Option<u64>,
     letters: &[u8],
 ) -> Result<Vec<u8>, AllocError>
-    ensures { IfOk result (λ it. it.items ≡ lines_of stamp.now name.now first letters.now) }
+    ensures { IfOk result (λ it. it.items ≡ lines_of form stamp.now name.now first letters.now) }
 {
     let mut lines = Vec::new(alloc);
     let mut next = first;
     'letters: for letter in letters {
-        put_line(alloc, stamp, name, next, *letter, &mut lines)?;
+        put_letter(alloc, form, stamp, name, next, *letter, &mut lines)?;
         next = number_after(next, 1);
     }
     Ok(lines)
 }
 
-/// Each letter on a line of its own.
-pub(crate) fn plain_lines_of(alloc: Global, letters: &[u8]) -> Result<Vec<u8>, AllocError>
-    ensures { IfOk result (λ it. it.items ≡ plain_lines_of letters.now) }
+// Puts the line of a hit, in this form, behind these lines.
+fn put_hit(
+    form: Form,
+    stamp: &str,
+    name: &str,
+    letters: &[u8],
+    line: &mut Vec<u8>,
+) -> Result<(), AllocError>
+    ensures { OnOk result (line.new.items
+        ≡ line.old.items ++ hit_line form stamp.now name.now letters.now) }
 {
-    let mut lines = Vec::new(alloc);
-    'letters: for letter in letters {
-        lines.extend_from_slice(&[*letter, b'\n'])?;
+    match form {
+        Form::Line => {
+            put_head(stamp, name, line)?;
+            line.extend_from_slice(letters)?;
+            line.extend_from_slice(b"\n")
+        }
+        Form::Plain => {
+            line.extend_from_slice(letters)?;
+            line.extend_from_slice(b"\n")
+        }
+        Form::Json => {
+            put_opening(stamp, name, line)?;
+            line.extend_from_slice(b",\"letters\":")?;
+            put_string(letters, line)?;
+            line.extend_from_slice(b"}\n")
+        }
     }
-    Ok(lines)
 }
 
-/// The line of a hit: when it came, its name, and its letters.
+/// The line of a hit, in this form.
 pub(crate) fn hit_line(
     alloc: Global,
+    form: Form,
     stamp: &str,
     name: &str,
     letters: &[u8],
 ) -> Result<Vec<u8>, AllocError>
-    ensures { IfOk result (λ it. it.items
-        ≡ head_of stamp.now name.now ++ (letters.now ++ 10 ∷ [])) }
+    ensures { IfOk result (λ it. it.items ≡ hit_line form stamp.now name.now letters.now) }
 {
     let mut line = Vec::new(alloc);
-    put_head(stamp, name, &mut line)?;
-    line.extend_from_slice(letters)?;
-    line.extend_from_slice(b"\n")?;
-    Ok(line)
-}
-
-/// The letters of a hit on one line.
-pub(crate) fn plain_hit_line(alloc: Global, letters: &[u8]) -> Result<Vec<u8>, AllocError>
-    ensures { IfOk result (λ it. it.items ≡ letters.now ++ 10 ∷ []) }
-{
-    let mut line = Vec::from_slice(alloc, letters)?;
-    line.extend_from_slice(b"\n")?;
+    put_hit(form, stamp, name, letters, &mut line)?;
     Ok(line)
 }

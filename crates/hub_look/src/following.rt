@@ -1,25 +1,65 @@
 //! What is followed, and how it is written.
-ghost use Rattle.std.specs.Prelude.{IfOk, is_some};
+ghost use Rattle.std.specs.Prelude.{◌≡◌, IfNone, IfOk, MatchResult, is_some, true};
 ghost use Rattle.hub_look.specs.EventLines.{IsTextOf};
+ghost use Rattle.hub_look.specs.Stops.{StopsWith};
+ghost use Rattle.hub_look.specs.declared.stop.Stop.TheVariants as stops;
 
-use crate::events::{hit_line, lines_of, plain_hit_line, plain_lines_of, stamp};
+use crate::events::{hit_line, lines_of, stamp};
+use crate::limited::millis_left;
+use crate::stop::Stop;
+use hub_ask::{AskError, Deadline, Outcome};
 use std::alloc::{AllocError, Global};
 use std::rt::Clock;
 
+/// How a letter or a hit is written: on a line of its own.
+#[derive(Clone, Copy, Debug, PartialEq, Eq)]
+pub enum Form {
+    /// With its time and its name. A letter has its number besides, and what it says of a service.
+    Line,
+    /// Nothing but the letters.
+    Plain,
+    /// The same as in a line, as an object of JSON.
+    Json,
+}
+
 /// What is followed, and how it is written.
-#[derive(Drop, Debug, PartialEq, Eq)]
+#[derive(Drop, Debug)]
 pub struct Following<'a> {
     /// The fifodirs.
     pub names: Vec<&'a str>,
     /// The hits of this pattern are written, and not each letter.
     pub pattern: Option<&'a str>,
-    /// Only letters are written, and nothing else about them.
-    pub is_plain: bool,
+    /// How they are written.
+    pub form: Form,
     /// It ends with the first letter, or the first hit.
     pub is_once: bool,
+    /// By then it ends, if there is a time for it.
+    pub until: Option<Deadline>,
+    /// They were followed before. Once they are followed again, that is said.
+    pub is_again: bool,
 }
 
 impl Following<'_> {
+    /// How many milliseconds it has. None if its time is over.
+    pub fn millis_left<C: Clock>(&self, clock: &C) -> Option<u64>
+        ensures { IfNone result (is_some self.now.until ≡ true) }
+    {
+        millis_left(self.until, clock)
+    }
+
+    /// How it went that stopped so. If no answer came by its deadline, its time was over.
+    pub(crate) fn outcome_of<C: Clock>(&self, clock: &C, stop: Stop) -> Result<Outcome, AskError>
+        ensures { MatchResult result (λ it. StopsWith (is_some self.now.until) stop it)
+            (λ error. stop ≡ stops.Fault error) }
+    {
+        match stop {
+            Stop::Fault(AskError::NoAnswer) if self.millis_left(clock).is_none() => Ok(
+                Outcome::Late,
+            ),
+            stop => stop.outcome(),
+        }
+    }
+
     /// The lines of these letters of a fifodir, or of this hit. `next` is the number of the first letter, if it is known.
     pub(crate) fn lines<C: Clock>(
         &self,
@@ -29,20 +69,14 @@ impl Following<'_> {
         next: Option<u64>,
         letters: &[u8],
     ) -> Result<Vec<u8>, AllocError>
-        ensures { IfOk result (λ it. IsTextOf (is_some self.now.pattern) self.now.is_plain
+        ensures { IfOk result (λ it. IsTextOf (is_some self.now.pattern) self.now.form
             name.now next letters.now it.items) }
     {
-        match (self.pattern.is_some(), self.is_plain) {
-            (true, true) => plain_hit_line(alloc, letters),
-            (false, true) => plain_lines_of(alloc, letters),
-            (true, false) => {
-                let stamp = stamp(clock, alloc)?;
-                hit_line(alloc, stamp.as_str(), name, letters)
-            }
-            (false, false) => {
-                let stamp = stamp(clock, alloc)?;
-                lines_of(alloc, stamp.as_str(), name, next, letters)
-            }
+        let stamp = stamp(clock, alloc)?;
+        if self.pattern.is_some() {
+            hit_line(alloc, self.form, stamp.as_str(), name, letters)
+        } else {
+            lines_of(alloc, self.form, stamp.as_str(), name, next, letters)
         }
     }
 }

@@ -19,6 +19,7 @@ fn is_look(request: &Request) -> bool
     match request {
         Request::Names { .. }
         | Request::Status { .. }
+        | Request::About { .. }
         | Request::Sub { .. }
         | Request::Listen { .. }
         | Request::Next { .. }

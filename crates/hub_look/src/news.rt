@@ -1,13 +1,14 @@
 //! The letters of fifodirs as they come.
-ghost use Rattle.std.specs.Prelude.{◌≡◌, length, IfOk, IfErr, OnOk};
+ghost use Rattle.std.specs.Prelude.{◌≡◌, length, map, IfOk, IfErr, MatchBool, OnOk};
 ghost use Rattle.std.specs.List.{list_all};
-ghost use Rattle.hub_ask.specs.declared.outcome.Outcome.TheVariants as outcome;
-ghost use Rattle.hub_look.specs.Follows.{EndsFollow, EndsLookAt, EndsLooks, FailsToFollow, FollowsTo, IsFollowed, IsSeenTo, LooksOn, begins_by, manner_of, names_of, scene};
-ghost use Rattle.hub_look.specs.Streams.{streams};
+ghost use Rattle.hub_look.specs.Follows.{EndsByItself, EndsFollow, EndsLookAt, EndsLooks, FailsToFollow, FollowsTo, IsSeenTo, LooksOn, again_line, begins_by, manner_of, names_of, scene};
+ghost use Rattle.hub_look.specs.Stops.{IsOwnStop};
+ghost use Rattle.hub_look.specs.Streams.{IsToldTo, streams};
+ghost use Rattle.hub_look.specs.Subscribing.{name_of};
 
 use crate::following::Following;
 use crate::peer::Peer;
-use crate::stop::Stop;
+use crate::stop::{Stop, write_note};
 use crate::subscribing::{Followed, subscribe_to_all};
 use crate::taking::take_and_write;
 use hub_ask::{AskError, Outcome, Replies, Requests};
@@ -15,6 +16,9 @@ use hub_io::Sink;
 use std::alloc::Global;
 use std::rt::Clock;
 use std::sync::Wait;
+
+/// What is said once they are followed again.
+const AGAIN: &[u8] = b"ftrighub: following again; events may lie between\n";
 
 /// How many turns it takes at most to look at each of several fifodirs once, if nothing comes.
 const ROUND: u64 = 200;
@@ -103,7 +107,40 @@ fn are_over(all: &[Followed]) -> bool
     all.iter().all(|followed| followed.is_over)
 }
 
-// Follows until a reply ends it. That all are closed is such a reply.
+// Subscribes to each, and says so if they were followed before.
+fn begin<H: Wait, SR: Replies, SW: Requests, F: Sink>(
+    rt: &H,
+    alloc: Global,
+    following: &Following<'_>,
+    peer: &mut Peer<SR, SW>,
+    notes: &mut F,
+) -> Result<Vec<Followed>, Stop>
+    ensures begun { peer.new.begun ≡ peer.old.begun }
+    ensures names { IfOk result (λ all. map name_of all.items ≡ names_of following.now) }
+    ensures ok { IfOk result (λ all. begins_by following.now
+        (streams SW.contents SR.remaining F.contents F.faults peer.old.client notes.old)
+        (streams SW.contents SR.remaining F.contents F.faults peer.new.client notes.new)
+        (names_of following.now) all.items) }
+    ensures err { IfErr result IsOwnStop }
+{
+    let all = subscribe_to_all(rt, alloc, following, peer, notes)?;
+    say_again(following.is_again, notes);
+    Ok(all)
+}
+
+// Says that they are followed again, if they are.
+fn say_again<F: Sink>(is_again: bool, notes: &mut F)
+    ensures { MatchBool is_again
+        (IsToldTo (F.contents notes.old) (F.contents notes.new)
+        (F.faults notes.old) (F.faults notes.new) again_line)
+        (notes.new ≡ notes.old) }
+{
+    if is_again {
+        write_note(AGAIN, notes);
+    }
+}
+
+// Follows until a reply ends it, or all are over, or its time.
 fn follow_on<H: Wait + Clock, SR: Replies, SW: Requests, W: Sink, F: Sink>(
     rt: &H,
     alloc: Global,
@@ -113,7 +150,7 @@ fn follow_on<H: Wait + Clock, SR: Replies, SW: Requests, W: Sink, F: Sink>(
     notes: &mut F,
 ) -> Result<Outcome, Stop>
     ensures begun { peer.new.begun ≡ peer.old.begun }
-    ensures ok { IfOk result (λ went. (went ≡ outcome.Nothing) × IsFollowed (manner_of following.now)
+    ensures ok { IfOk result (EndsByItself (manner_of following.now)
         (begins_by following.now
         (streams SW.contents SR.remaining F.contents F.faults peer.old.client notes.old))
         (names_of following.now)
@@ -126,19 +163,23 @@ fn follow_on<H: Wait + Clock, SR: Replies, SW: Requests, W: Sink, F: Sink>(
         (streams SW.contents SR.remaining F.contents F.faults peer.new.client notes.new)
         (W.contents output.old) (W.contents output.new)) }
 {
-    let mut all = subscribe_to_all(rt, alloc, following, peer, notes)?;
+    let mut all = begin(rt, alloc, following, peer, notes)?;
     let mut came = false;
     'rounds: for _ in rt.forever() {
         if are_over(&all) {
             return Ok(Outcome::Nothing);
         }
-        let turns = turns_each(open_count(&all), came);
+        let Some(left) = following.millis_left(rt) else {
+            return Ok(Outcome::Late);
+        };
+        let turns = turns_each(open_count(&all), came).min(left);
         came = look_at_each(rt, alloc, following, turns, &mut all, peer, output, notes)?;
     }
     unreachable!()
 }
 
-/// Writes each letter of the fifodirs, or each hit, as it comes, until all of them are closed or one of them evicts it. `notes` gets
+/// Writes each letter of the fifodirs, or each hit, as it comes, until all of them are closed, or one of them evicts it, or its time
+/// is over. That ends it by itself only between two looks: the peer's streams are [`Limited`](crate::Limited) as well. `notes` gets
 /// a line on a name that the hub refuses, or that it was evicted from. With several fifodirs it looks at one after the other, and at
 /// all of them within about a fifth of a second.
 pub fn follow<H: Wait + Clock, SR: Replies, SW: Requests, W: Sink, F: Sink>(
@@ -168,6 +209,6 @@ pub fn follow<H: Wait + Clock, SR: Replies, SW: Requests, W: Sink, F: Sink>(
 {
     match follow_on(rt, alloc, following, peer, output, notes) {
         Ok(outcome) => Ok(outcome),
-        Err(stop) => stop.outcome(),
+        Err(stop) => following.outcome_of(rt, stop),
     }
 }

@@ -1,11 +1,12 @@
 //! The rows of a table of fifodirs.
 ghost use Rattle.std.specs.Prelude.{◌≡◌, ◌++◌, [], IfOk, OnOk};
-ghost use Rattle.hub_requests.specs.Texts.{openness};
-ghost use Rattle.hub_look.specs.Tables.{beside, columns_of, readiness, row_by, row_of, running, yes_or_no};
+ghost use Rattle.hub_requests.specs.Texts.{word_of_policy};
+ghost use Rattle.hub_look.specs.Descriptions.{beside, closed_mark, columns_of, kind_word, pending_column, plain_column, row_of, state_column};
 
-use hub_letters::Flags;
-use hub_record::Status;
-use hub_requests::Refusal;
+use crate::describing::Description;
+use crate::states::state_word;
+use hub_record::{Kind, Policy, Status};
+use hub_requests::About;
 use std::alloc::{AllocError, Global};
 
 // Puts a word behind the line, with spaces up to the width of its column, and two before the next one.
@@ -22,46 +23,92 @@ fn put_column(width: usize, word: &str, line: &mut String) -> Result<(), AllocEr
     line.push_str("  ")
 }
 
-fn running(flags: Flags) -> &'static str
-    ensures { result.now ≡ running flags }
+/// The word for this kind of fifodir.
+pub(crate) fn kind_word(kind: Kind) -> &'static str
+    ensures { result.now ≡ kind_word kind }
 {
-    if flags.up { "up" } else { "down" }
-}
-
-fn readiness(flags: Flags) -> &'static str
-    ensures { result.now ≡ readiness flags }
-{
-    match (flags.settled, flags.up) {
-        (true, true) => "ready",
-        (true, false) => "settled",
-        (false, _) => "settling",
+    match kind {
+        Kind::Plain => "plain",
+        Kind::Service => "service",
     }
 }
 
-fn yes_or_no(answer: bool) -> &'static str
-    ensures { result.now ≡ yes_or_no answer }
+/// The word for this policy.
+pub(crate) fn policy_word(policy: Policy) -> &'static str
+    ensures { result.now ≡ word_of_policy policy }
 {
-    if answer { "yes" } else { "no" }
+    match policy {
+        Policy::Hold => "hold",
+        Policy::Evict => "evict",
+    }
 }
 
-fn openness(is_closed: bool) -> &'static str
-    ensures { result.now ≡ openness is_closed }
+fn plain_column(is_closed: bool) -> &'static str
+    ensures { result.now ≡ plain_column is_closed }
 {
-    if is_closed { "closed" } else { "open" }
+    if is_closed { "closed" } else { "-" }
 }
 
-// The columns of a fifodir in this state.
-fn columns_of(alloc: Global, status: Status) -> Result<String, AllocError>
-    ensures { IfOk result (λ it. it.bytes.items ≡ columns_of status) }
+fn closed_mark(is_closed: bool) -> &'static str
+    ensures { result.now ≡ closed_mark is_closed }
 {
-    let flags = status.flags;
+    if is_closed { ",closed" } else { "" }
+}
+
+// Puts the column of the state of a fifodir of this kind behind the line.
+fn put_state_column(kind: Kind, status: Status, line: &mut String) -> Result<(), AllocError>
+    ensures { OnOk result (line.new.bytes.items
+        ≡ line.old.bytes.items ++ state_column kind status) }
+{
+    match kind {
+        Kind::Plain => line.push_str(plain_column(status.closed)),
+        Kind::Service => {
+            line.push_str(state_word(status.flags))?;
+            line.push_str(closed_mark(status.closed))
+        }
+    }
+}
+
+// The column of the state of a fifodir of this kind.
+fn state_column(alloc: Global, kind: Kind, status: Status) -> Result<String, AllocError>
+    ensures { IfOk result (λ it. it.bytes.items ≡ state_column kind status) }
+{
+    let mut column = String::new(alloc);
+    put_state_column(kind, status, &mut column)?;
+    Ok(column)
+}
+
+// The column of what is pending.
+fn pending_column(alloc: Global, about: About) -> Result<String, AllocError>
+    ensures { IfOk result (λ it. it.bytes.items ≡ pending_column about) }
+{
+    let mut column = String::new(alloc);
+    column.push_str(about.pending.to_string(alloc)?.as_str())?;
+    column.push_str(" of ")?;
+    column.push_str(about.waiting.to_string(alloc)?.as_str())?;
+    Ok(column)
+}
+
+// The columns behind the name.
+fn columns_of(alloc: Global, it: Description) -> Result<String, AllocError>
+    ensures { IfOk result (λ columns. columns.bytes.items ≡ columns_of it) }
+{
+    let Description { about, status } = it;
     let mut columns = String::new(alloc);
-    put_column(5, running(flags), &mut columns)?;
-    put_column(8, readiness(flags), &mut columns)?;
-    put_column(10, yes_or_no(flags.supervised), &mut columns)?;
-    put_column(6, yes_or_no(flags.failed), &mut columns)?;
-    put_column(6, openness(status.closed), &mut columns)?;
-    columns.push_str(status.number.to_string(alloc)?.as_str())?;
+    put_column(7, kind_word(about.kind), &mut columns)?;
+    put_column(
+        15,
+        state_column(alloc, about.kind, status)?.as_str(),
+        &mut columns,
+    )?;
+    put_column(9, status.number.to_string(alloc)?.as_str(), &mut columns)?;
+    put_column(
+        11,
+        about.subscriptions.to_string(alloc)?.as_str(),
+        &mut columns,
+    )?;
+    put_column(12, pending_column(alloc, about)?.as_str(), &mut columns)?;
+    columns.push_str(policy_word(about.policy))?;
     Ok(columns)
 }
 
@@ -80,20 +127,17 @@ pub(crate) fn put_row(
     table.push_str("\n")
 }
 
-/// Puts the row of a name behind the table, if the hub says how it is.
-pub(crate) fn put_verdict(
+/// Puts the row of a fifodir with this name behind the table.
+pub(crate) fn put_described(
     alloc: Global,
     width: usize,
     name: &str,
-    verdict: &Result<Status, Refusal>,
+    it: Description,
     table: &mut String,
 ) -> Result<(), AllocError>
     ensures { OnOk result (table.new.bytes.items
-        ≡ table.old.bytes.items ++ row_by width name.now verdict.now) }
+        ≡ table.old.bytes.items ++ row_of width name.now (columns_of it)) }
 {
-    if let Ok(status) = verdict {
-        let columns = columns_of(alloc, *status)?;
-        put_row(width, name, columns.as_str(), table)?;
-    }
-    Ok(())
+    let columns = columns_of(alloc, it)?;
+    put_row(width, name, columns.as_str(), table)
 }

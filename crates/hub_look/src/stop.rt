@@ -65,8 +65,8 @@ pub(crate) fn write_text<W: Sink>(output: &mut W, text: &[u8]) -> Result<(), Sto
     }
 }
 
-// Writes a note. That a write fails isn't told.
-fn write_note<F: Sink>(note: &[u8], notes: &mut F)
+/// Writes a note. That a write fails isn't told.
+pub(crate) fn write_note<F: Sink>(note: &[u8], notes: &mut F)
     ensures { IsToldTo (F.contents notes.old) (F.contents notes.new)
         (F.faults notes.old) (F.faults notes.new) note.now }
 {

@@ -8,7 +8,7 @@ ghost use Rattle.hub_look.specs.Subscribing.{AreBegun, IsBegun, IsCancelled, IsN
 ghost use Rattle.hub_look.specs.Tables.{IsJudged};
 
 use crate::asking::{ask_about, handle_for, state_of};
-use crate::following::Following;
+use crate::following::{Following, Form};
 use crate::peer::Peer;
 use crate::stop::Stop;
 use hub_ask::{AskError, Outcome, Replies, Requests};
@@ -149,19 +149,19 @@ fn subscribe<H: Wait, SR: Replies, SW: Requests, F: Sink>(
 ) -> Result<Followed, Stop>
     ensures begun { peer.new.begun ≡ peer.old.begun }
     ensures ok { IfOk result (IsBegun
-        (λ word. word.now) following.now.pattern following.now.is_plain
+        (λ word. word.now) following.now.pattern following.now.form
         (streams SW.contents SR.remaining F.contents F.faults peer.old.client notes.old)
         (streams SW.contents SR.remaining F.contents F.faults peer.new.client notes.new)
         name.now) }
     ensures err { IfErr result IsOwnStop }
 {
-    match following.pattern {
-        Some(pattern) => {
+    match (following.pattern, following.form) {
+        (Some(pattern), _) => {
             let words = ["listen", name, "repeat", pattern];
             subscribe_by(rt, alloc, &words, name, peer, notes)
         }
-        None if following.is_plain => { subscribe_by(rt, alloc, &["sub", name], name, peer, notes) }
-        None => subscribe_numbered(rt, alloc, name, peer, notes),
+        (None, Form::Plain) => subscribe_by(rt, alloc, &["sub", name], name, peer, notes),
+        (None, Form::Line | Form::Json) => subscribe_numbered(rt, alloc, name, peer, notes),
     }
 }
 
@@ -185,7 +185,7 @@ pub(crate) fn subscribe_to_all<H: Wait, SR: Replies, SW: Requests, F: Sink>(
     ensures names { IfOk result (λ all. map name_of all.items
         ≡ map (λ name. name.now) following.now.names.items) }
     ensures ok { IfOk result (λ all. AreBegun
-        (λ word. word.now) following.now.pattern following.now.is_plain
+        (λ word. word.now) following.now.pattern following.now.form
         (streams SW.contents SR.remaining F.contents F.faults peer.old.client notes.old)
         (streams SW.contents SR.remaining F.contents F.faults peer.new.client notes.new)
         (map (λ name. name.now) following.now.names.items) all.items) }

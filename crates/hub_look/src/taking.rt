@@ -33,7 +33,7 @@ fn write_letters<C: Clock, W: Sink>(
     output: &mut W,
 ) -> Result<(), Stop>
     ensures ok { OnOk result ((text : List ℕ)
-        × IsTextOf (is_some following.now.pattern) following.now.is_plain
+        × IsTextOf (is_some following.now.pattern) following.now.form
         (name_of followed.old) followed.old.next letters.now text
         × Appends (W.contents output.old) (W.contents output.new) text) }
     ensures moved { OnOk result (followed.new ≡ record followed.old

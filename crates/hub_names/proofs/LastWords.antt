@@ -8,10 +8,11 @@ use Rattle.hub_letters.specs.States.{is_at_end}
 use Rattle.hub_record.specs.World.{as_events, letters}
 use Rattle.hub_record.specs.declared.Event.{Event}
 use Rattle.hub_record.specs.declared.PubError.{PubError}
+use Rattle.hub_record.specs.declared.PubError.TheVariants as post
 use Rattle.hub_requests.specs.declared.will.Will.{Will}
 use Rattle.hub_fifodir.specs.declared.fifodir.Fifodir.{Fifodir}
 use Rattle.hub_fifodir.specs.declared.publisher.Publisher.{Publisher}
-use Rattle.hub_fifodir.specs.Passes.{HasPublished, IsLast, IsRefusedAt, Remains, WasLast, mine, publisher_number, publisher_sight, publisher_view, seen_by, word_told, word_to_tell}
+use Rattle.hub_fifodir.specs.Passes.{HasPublished, IsLast, IsRefusedAt, KnewOwnClose, Remains, WasLast, closed_mark, mine, publisher_number, publisher_sight, publisher_view, seen_by, word_told, word_to_tell}
 use Rattle.hub_fifodir.proofs.Meeting.{grows_through}
 use Rattle.hub_names.specs.declared.fifodirs.Fifodirs.{Fifodirs}
 use Rattle.hub_names.specs.Wills.{AreCarriedOut, IsCarriedOut, counted, finds_no_room, says_as_last}
@@ -19,10 +20,10 @@ use Rattle.hub_names.specs.Wills.{AreCarriedOut, IsCarriedOut, counted, finds_no
 -- what a fifodir answers
 pub says_last : (state : State) (p q : Publisher) (told : Option (Result ℕ PubError)) → IfSome told (λ told. IfOk told (λ n. WasLast n q)) → IfSome told (λ told. IfOk told (λ n. HasPublished p (word_told state n q) n q))
     → IfSome told (λ told. OnOk told (is_at_end state (letters (seen_by q)) ≡ true)) → IfSome told (λ told. OnErr told (IsLast q × (mine q ≡ mine p)))
-    → IfSome told (λ told. IfErr told (IsRefusedAt q (word_to_tell state q))) → IfNone told ((IsLast q → ⊥) × (mine q ≡ mine p)) → says_as_last state p told q
-says_last state p q (Some (Ok n)) last ok there err refused none = (last, ok, there)
-says_last state p q (Some (Err error)) last ok there err refused none = (err.0, refused, err.1)
-says_last state p q None last ok there err refused none = none
+    → IfSome told (λ told. IfErr told (IsRefusedAt q (word_to_tell state q))) → IfNone told ((IsLast q → ⊥) × (mine q ≡ mine p)) → KnewOwnClose p q → says_as_last state p told q
+says_last state p q (Some (Ok n)) last ok there err refused none own = (last, ok, there)
+says_last state p q (Some (Err error)) last ok there err refused none own = (err.0, refused, err.1, own)
+says_last state p q None last ok there err refused none own = (none.0, none.1, own)
 
 -- ---- told once more, by a publisher that had told nothing
 
@@ -48,16 +49,23 @@ published_on f p q r message n a still (unclosed, ends, own, (others, seen)) =
       ),
     )
 
-pub says_on : (f : Fifodir) (state : State) (p q r : Publisher) (told : Option (Result ℕ PubError)) → Remains f (publisher_view p) (publisher_view q) → mine q ≡ mine p → says_as_last state q told r → says_as_last state p told r
-says_on f state p q r (Some (Ok n)) a still (last, published, there) = (last, published_on f p q r (word_told state n r) n a still published, there)
-says_on f state p q r (Some (Err error)) a still (last, refused, same) = (last, refused, same ∙ still)
-says_on f state p q r None a still (other, same) = (other, same ∙ still)
+-- who had seen it open, and knew of its own close since, closed nothing
+open_before : (p q r : Publisher) → closed_mark q ≡ 0 → KnewOwnClose q r → KnewOwnClose p r
+open_before p q r unclosed own = λ closes. absurd (own closes unclosed)
 
--- who finds no room has told nothing
-nothing_told : (state : State) (p q : Publisher) (told : Option (Result ℕ PubError)) → finds_no_room told ≡ true → says_as_last state p told q → mine q ≡ mine p
+pub says_on : (f : Fifodir) (state : State) (p q r : Publisher) (told : Option (Result ℕ PubError)) → Remains f (publisher_view p) (publisher_view q) → (mine q ≡ mine p) × (closed_mark q ≡ 0) → says_as_last state q told r → says_as_last state p told r
+says_on f state p q r (Some (Ok n)) a still (last, published, there) = (last, published_on f p q r (word_told state n r) n a still.0 published, there)
+says_on f state p q r (Some (Err error)) a still (last, refused, same, own) = (last, refused, same ∙ still.0, open_before p q r still.1 own)
+says_on f state p q r None a still (other, same, own) = (other, same ∙ still.0, open_before p q r still.1 own)
+
+-- who finds no room has told nothing, and has seen the fifodir open
+nothing_told : (state : State) (p q : Publisher) (told : Option (Result ℕ PubError)) → finds_no_room told ≡ true → says_as_last state p told q → (mine q ≡ mine p) × (closed_mark q ≡ 0)
 nothing_told state p q (Some (Ok n)) full said = absurd (true≢false (sym full))
-nothing_told state p q (Some (Err error)) full said = said.2
-nothing_told state p q None full said = said.1
+nothing_told state p q (Some (Err post.Full)) full said = (said.2, said.1.0)
+nothing_told state p q (Some (Err post.Closed)) full said = absurd (true≢false (sym full))
+nothing_told state p q (Some (Err (post.Unlawful i))) full said = absurd (true≢false (sym full))
+nothing_told state p q (Some (Err post.Spent)) full said = absurd (true≢false (sym full))
+nothing_told state p q None full said = absurd (true≢false (sym full))
 
 pub says_again : (f : Fifodir) (state : State) (p q r : Publisher) (before told : Option (Result ℕ PubError)) → finds_no_room before ≡ true → says_as_last state p before q → Remains f (publisher_view p) (publisher_view q)
     → says_as_last state q told r → says_as_last state p told r

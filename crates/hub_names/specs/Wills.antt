@@ -12,7 +12,7 @@ use Rattle.hub_requests.specs.declared.reply.Refusal.TheVariants as no
 use Rattle.hub_requests.specs.declared.reply.Reply.{Reply}
 use Rattle.hub_requests.specs.declared.reply.Reply.TheVariants.{Done, No}
 use Rattle.hub_fifodir.specs.declared.publisher.Publisher.{Publisher}
-use Rattle.hub_fifodir.specs.Passes.{HasPublished, IsLast, IsRefusedAt, WasLast, kind_of, mine, seen_by, word_told, word_to_tell}
+use Rattle.hub_fifodir.specs.Passes.{HasPublished, IsLast, IsRefusedAt, KnewOwnClose, WasLast, kind_of, mine, seen_by, word_told, word_to_tell}
 use Rattle.hub_names.specs.declared.fifodirs.Fifodirs.{Fifodirs}
 use Rattle.hub_names.specs.declared.hub.Hub.{Hub}
 use Rattle.hub_names.specs.declared.joined.Joined.{Joined}
@@ -49,11 +49,11 @@ wills_after name will reply wills = wills
 -- ---- a will is carried out
 
 -- A publisher that was `p` and is `q` told the state as the last one to publish: the service is there, or the word for it was refused.
--- Or the last event is another's, and nothing was told.
+-- Or the last event is another's, and nothing was told. It closes nothing.
 abbrev pub says_as_last : State → Publisher → Option (Result ℕ PubError) → Publisher → Type 0
 says_as_last state p (Some (Ok n)) q = WasLast n q × HasPublished p (word_told state n q) n q × (is_at_end state (letters (seen_by q)) ≡ true)
-says_as_last state p (Some (Err error)) q = IsLast q × IsRefusedAt q (word_to_tell state q) error × (mine q ≡ mine p)
-says_as_last state p None q = (IsLast q → ⊥) × (mine q ≡ mine p)
+says_as_last state p (Some (Err error)) q = IsLast q × IsRefusedAt q (word_to_tell state q) error × (mine q ≡ mine p) × KnewOwnClose p q
+says_as_last state p None q = (IsLast q → ⊥) × (mine q ≡ mine p) × KnewOwnClose p q
 
 -- whether it may be told a moment later
 abbrev pub finds_no_room : Option (Result ℕ PubError) → Bool

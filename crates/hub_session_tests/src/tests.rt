@@ -5,6 +5,7 @@ mod dialers;
 mod doors;
 mod faults;
 mod gates;
+mod limits;
 mod memory;
 mod sockets;
 mod waits;

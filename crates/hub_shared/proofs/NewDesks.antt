@@ -17,4 +17,5 @@ still_new hub pause client old new is watches = record {
   handles = subst HoldsNone (sym watches.handles) is.handles;
   given = ap given_of watches.handles ∙ is.given;
   wills = ap wills_in watches.wills ∙ is.wills;
+  lost = watches.lost ∙ is.lost;
 }

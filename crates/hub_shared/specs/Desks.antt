@@ -94,6 +94,7 @@ pub record IsNewDesk {P : Type 0} (hub : Hub) (pause : P) (desk : SharedDesk P) 
   pub handles : HoldsNone desk.handles
   pub given : given_of desk.handles ≡ 0
   pub wills : wills_in desk.wills ≡ []
+  pub lost : desk.lost ≡ 0
 
 -- the desk looks at this client from now on, and nothing else has changed
 pub record Watches {P : Type 0} (old : SharedDesk P) (client : Option Client) (new : SharedDesk P) : Type 0 where
@@ -103,12 +104,14 @@ pub record Watches {P : Type 0} (old : SharedDesk P) (client : Option Client) (n
   pub fifodirs : new.fifodirs ≡ old.fifodirs
   pub handles : new.handles ≡ old.handles
   pub wills : new.wills ≡ old.wills
+  pub lost : new.lost ≡ old.lost
 
--- the desk answers so and goes on, over the same hub, with the same pause and for the same client
+-- the desk answers so and goes on, over the same hub, with the same pause and for the same client; no will is carried out
 pub record Asks {P : Type 0} (old : SharedDesk P) (request : Request) (reply : Reply) (new : SharedDesk P) : Type 0 where
   pub hub : new.hub ≡ old.hub
   pub pause : new.pause ≡ old.pause
   pub client : new.client ≡ old.client
+  pub lost : new.lost ≡ old.lost
   pub answers : CarriesOut (arc_value old.hub) old.fifodirs old.handles request reply new.fifodirs new.handles
   pub wills : wills_in new.wills ≡ wills_left request reply (wills_in old.wills)
 

@@ -1,7 +1,8 @@
 mod rows;
 
-use self::rows::PLANS;
-use super::{early_status, read_words};
+use self::rows::{PLANS, ROOT_PLANS};
+use super::{WordsError, early_status, read_words};
+use crate::socket::OwnSocket;
 use std::alloc::{AllocError, Global};
 use std::process::Abort;
 use std::test::Fail;
@@ -16,6 +17,12 @@ fn words_of(alloc: Global, line: &str) -> Result<Vec<String>, AllocError> {
 
 /// These ask for help or for the version.
 static HELP: &str = "
+    ftrighub
+    ftrighub help
+    ftrighub help script
+    ftrighub help wait
+    ftrighub help wait all
+    ftrighub help help
     ftrighub --help
     ftrighub -h
     ftrighub --version
@@ -37,7 +44,10 @@ static HELP: &str = "
 
 /// These are refused.
 static WRONG: &str = "
-    ftrighub
+    ftrighub stauts
+    ftrighub help stauts
+    ftrighub help --socket
+    ftrighub status --scoket s
     ftrighub script --version
     ftrighub script now
     ftrighub now
@@ -78,11 +88,20 @@ static WRONG: &str = "
     ftrighub ask --socket s --socket s names 0
     ftrighub ask --other names 0
     ftrighub wait all up --for 5s db
-    ftrighub wait --socket s all up db
+    ftrighub wait --socket s
+    ftrighub wait --socket s all
+    ftrighub wait --socket s up
+    ftrighub wait --socket s all up
+    ftrighub wait --socket s any any up db
     ftrighub wait --socket s all up --for 5s
     ftrighub wait --socket s most up --for 5s db
     ftrighub wait --socket s all away --for 5s db
+    ftrighub wait --socket s away db
     ftrighub wait --socket s all up --for 5s --for 6s db
+    ftrighub wait --socket s up --timeout 5s --for 6s db
+    ftrighub wait --socket s up db --timeout
+    ftrighub wait --socket s up db --now=yes
+    ftrighub wait --socket s up db --now --now
     ftrighub status
     ftrighub status db
     ftrighub status --socket
@@ -91,6 +110,8 @@ static WRONG: &str = "
     ftrighub follow db
     ftrighub follow --socket s --pattern db
     ftrighub follow --socket s --once=yes db
+    ftrighub follow --socket s --plain --json db
+    ftrighub follow --socket s --timeout
     ftrighub tell
     ftrighub tell db ready
     ftrighub tell --socket s
@@ -141,12 +162,17 @@ static RUN: &str = "
     ftrighub ask --socket s names 0
     ftrighub ask --socket s pub web --
     ftrighub ask --socket s status --help
+    ftrighub wait --socket s all up db
+    ftrighub wait --socket s up db
+    ftrighub wait --socket s up db --now -q --timeout 5x
     ftrighub wait --socket s all up --for 5s db
     ftrighub wait --for 5s any restarted-ready db web log --socket s
     ftrighub status --socket s
     ftrighub status db web --socket s
     ftrighub follow --socket s db
     ftrighub follow db web --once --plain --socket s --pattern u
+    ftrighub follow --json --once --socket s db
+    ftrighub follow --timeout 5s db --socket s --retry
     ftrighub tell --socket s db ready
     ftrighub tell db off --socket s
     ftrighub hold --socket s db
@@ -157,15 +183,29 @@ static RUN: &str = "
     ftrighub make db --waiting 4096 --total 1000000000000 --socket s
 ";
 
+/// These are refused though a socket is known.
+static WRONG_STILL: &str = "
+    ftrighub serve
+    ftrighub serve --sessions 2
+    ftrighub serve --mode 0660
+    ftrighub serve --forever s t
+    ftrighub call s t
+    ftrighub ask
+    ftrighub wait all up --for 5s
+    ftrighub make
+    ftrighub script s
+";
+
 fn expect_status(
     rt: &impl Abort,
     alloc: Global,
     lines: &str,
+    known: Option<&OwnSocket>,
     status: Option<u8>,
 ) -> Result<(), AllocError> {
     for line in lines.trim().lines() {
         let words = words_of(alloc, line.trim())?;
-        let found = early_status(alloc, words.as_slice(), None)?;
+        let found = early_status(alloc, words.as_slice(), known)?;
         assert_eq!(rt; found, status, "at {line}");
     }
     Ok(())
@@ -173,23 +213,68 @@ fn expect_status(
 
 #[test]
 fn early_statuses(rt: HostRuntime) -> Result<(), Fail> {
-    expect_status(&rt, rt.alloc(), HELP, Some(0))?;
-    expect_status(&rt, rt.alloc(), WRONG, Some(2))?;
-    expect_status(&rt, rt.alloc(), RUN, None)?;
+    expect_status(&rt, rt.alloc(), HELP, None, Some(0))?;
+    expect_status(&rt, rt.alloc(), WRONG, None, Some(2))?;
+    expect_status(
+        &rt,
+        rt.alloc(),
+        WRONG_STILL,
+        Some(&OwnSocket::OfRoot),
+        Some(2),
+    )?;
+    expect_status(&rt, rt.alloc(), RUN, None, None)?;
     Ok(())
 }
 
-fn plan_of(alloc: Global, line: &str, known: Option<&str>) -> Result<String, Fail> {
+fn plan_of(alloc: Global, line: &str, known: Option<&OwnSocket>) -> Result<String, Fail> {
     let words = words_of(alloc, line)?;
     let plan = read_words(alloc, words.as_slice(), known)?;
     Ok(format!(in alloc; "{plan:?}")?)
 }
 
+fn named(alloc: Global, known: Option<&str>) -> Result<Option<OwnSocket>, AllocError> {
+    match known {
+        Some(path) => Ok(Some(OwnSocket::Named(String::from_str(alloc, path)?))),
+        None => Ok(None),
+    }
+}
+
 #[test]
 fn plans(rt: HostRuntime) -> Result<(), Fail> {
     for (line, known, plan) in &PLANS {
-        let found = plan_of(rt.alloc(), line, *known)?;
+        let known = named(rt.alloc(), *known)?;
+        let found = plan_of(rt.alloc(), line, known.as_ref())?;
         assert_eq!(rt; found.as_str(), *plan, "at {line}");
+    }
+    for (line, plan) in &ROOT_PLANS {
+        let found = plan_of(rt.alloc(), line, Some(&OwnSocket::OfRoot))?;
+        assert_eq!(rt; found.as_str(), *plan, "of root, at {line}");
+    }
+    Ok(())
+}
+
+/// Each needs a socket, and names none.
+static WITHOUT: [&str; 9] = [
+    "ftrighub serve --forever",
+    "ftrighub call",
+    "ftrighub ask names 0",
+    "ftrighub make db",
+    "ftrighub tell db ready",
+    "ftrighub hold db",
+    "ftrighub wait all up --for 5s db",
+    "ftrighub status",
+    "ftrighub follow db",
+];
+
+#[test]
+fn no_socket(rt: HostRuntime) -> Result<(), Fail> {
+    for line in &WITHOUT {
+        let words = words_of(rt.alloc(), line)?;
+        let lacks = matches!(
+            read_words(rt.alloc(), words.as_slice(), None),
+            Err(WordsError::NoSocket)
+        );
+        assert!(rt; lacks, "at {line}");
     }
     Ok(())
 }

@@ -27,6 +27,20 @@ static MADE: &str = "
     about db -> ok svc 0 4096 1000000000000 hold 0 0 0
 ";
 
+/// Two fifodirs that are made alike, and that one session finds.
+static ALIKE: &str = "
+    dir web 8 100 -> ok
+    dir log 8 100 -> ok
+    sub log -> ok 1
+    sub log -> ok 2
+    sub web -> ok 3
+    about web -> ok dir 0 8 100 hold 1 0 0
+    about log -> ok dir 0 8 100 hold 2 0 0
+    cancel 3 -> ok
+    about log -> ok dir 0 8 100 hold 2 0 0
+    about web -> ok dir 0 8 100 hold 0 0 0
+";
+
 /// The slowest of two subscriptions, which take and end.
 static HELD: &str = "
     dir web 64 1000 -> ok
@@ -114,7 +128,7 @@ static LEFT: &str = "
 
 #[test]
 fn a_fifodir_is_told_as_it_was_made(rt: HostRuntime) {
-    run_each(&rt, &[MADE]);
+    run_each(&rt, &[MADE, ALIKE]);
 }
 
 #[test]

@@ -1,17 +1,24 @@
 //! The end of a desk, an `await`, an `about` of a name that the desk knows, what lends the parts of a request, and a shared desk's
-//! `take`, `poll` and `next` where nothing waits take no memory. It is counted by `tests/no-memory`, which runs this program over a
-//! `malloc` that counts (`tests/count.c`): it counts between two marks.
+//! `take`, `poll` and `next` where nothing waits take no memory. Nor does any call of a record with eight subscriptions, or what eight
+//! of a session are told, but the letters of a reply. It is counted by `tests/no-memory`, which runs this program over a `malloc` that
+//! counts (`tests/count.c`): it counts between two marks.
+mod cursors;
+
 use crate::tests::desks::{alone, new_local};
-use crate::tests::rows::{name_of, run};
+use crate::tests::no_memory::cursors::{eight_are_evicted, eight_hold};
+use crate::tests::rows::{many_letters, name_of, run};
 use hub_letters::Letter;
-use hub_requests::{Desk, Enter, Excerpt, Name, Names, Numbers, PatternText, Reply, Request};
-use std::alloc::{AllocError, Global};
+use hub_requests::{
+    Desk, Enter, Excerpt, Name, Names, Numbers, PatternText, Refusal, Reply, Request,
+};
+use std::alloc::{AllocError, AllocGlobal, Global};
+use std::process::Abort;
 use std::sync::Wait;
 use std::test::Fail;
 use std::thread;
 
 /// The counting `malloc` knows a mark by the call of the system that it makes.
-fn mark() {
+pub(crate) fn mark() {
     thread::yield_now();
 }
 
@@ -63,6 +70,57 @@ fn tells<H: Wait + Enter, D: Desk>(rt: &H, desk: &mut D, name: Name) -> bool {
     matches!(reply, Reply::About(_))
 }
 
+/// A session with eight subscriptions to a fifodir for which three letters are pending.
+static EIGHT: &str = "
+    dir web 4 1000 -> ok
+    sub web -> ok 1; sub web -> ok 2; sub web -> ok 3; sub web -> ok 4
+    sub web -> ok 5; sub web -> ok 6; sub web -> ok 7; sub web -> ok 8
+    pub web aaa -> ok 0
+";
+
+static OTHERS_TAKE: &str = "
+    take 2 9 -> got aaa; take 3 9 -> got aaa; take 4 9 -> got aaa
+    take 5 9 -> got aaa; take 6 9 -> got aaa; take 7 9 -> got aaa
+";
+
+/// Whether a subscription takes what is pending for it.
+fn takes<H: Wait + Enter, D: Desk>(rt: &H, desk: &mut D, id: u64) -> bool {
+    let take = Request::Take { id, max: 256 };
+    mark();
+    let reply = desk.ask(rt, &take);
+    mark();
+    matches!(reply, Reply::Got(_))
+}
+
+/// Whether letters are pending for eight subscriptions, and then for seven.
+fn eight_are_served<H: AllocGlobal + Abort + Wait + Enter, D: Desk>(rt: &H, desk: &mut D) -> bool {
+    let message = many_letters(rt, rt.alloc(), 2);
+    mark();
+    let sent = (desk.ask(rt, &message), desk.ask(rt, &message));
+    let full = desk.ask(rt, &message);
+    let replies = (
+        desk.ask(rt, &Request::Await { id: 8, turns: 0 }),
+        desk.ask(rt, &Request::Cancel { id: 8 }),
+        desk.ask(rt, &Request::Cancel { id: 8 }),
+    );
+    mark();
+    matches!(sent, (Reply::Number(3), Reply::Number(5)))
+        && matches!(full, Reply::No(Refusal::Full))
+        && matches!(replies, (Reply::Done, Reply::Done, Reply::No(Refusal::Id)))
+}
+
+/// Whether a session serves its eight subscriptions so.
+fn eight_of_a_session<H: AllocGlobal + Abort + Wait + Enter>(rt: &H) -> bool {
+    let mut desk = alone(rt);
+    run(rt, &mut desk, EIGHT);
+    let first = takes(rt, &mut desk, 1);
+    let last = takes(rt, &mut desk, 8);
+    run(rt, &mut desk, OTHERS_TAKE);
+    let are_served = eight_are_served(rt, &mut desk);
+    desk.release(rt);
+    first && last && are_served
+}
+
 fn end<H: Wait, D: Desk>(rt: &H, desk: &mut D) {
     mark();
     desk.end(rt);
@@ -98,6 +156,9 @@ fn parts_are_lent(alloc: Global, name: Name) -> Result<bool, AllocError> {
 fn these_calls_take_no_memory(rt: HostRuntime) -> Result<(), Fail> {
     let name = name_of(&rt, rt.alloc(), "web")?;
     assert!(rt; parts_are_lent(rt.alloc(), name)?);
+    assert!(rt; eight_hold(rt.alloc())?, "a record that holds");
+    assert!(rt; eight_are_evicted(rt.alloc())?, "a record that evicts");
+    assert!(rt; eight_of_a_session(&rt), "eight of a session");
     let known = name_of(&rt, rt.alloc(), "web")?;
     let also = name_of(&rt, rt.alloc(), "web")?;
     let mut local = new_local(&rt);

@@ -1,5 +1,7 @@
 //! A call of a server in the same process.
-use hub_commands::{Dialer, Enter, Fault, call, serve};
+use hub_dialing::{Dialer, call};
+use hub_endings::Fault;
+use hub_serving::{Enter, serve};
 use std::alloc::Global;
 use std::fs::Files;
 use std::net::Net;

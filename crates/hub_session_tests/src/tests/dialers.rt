@@ -1,5 +1,6 @@
 //! What the program's own dialer does at sockets.
-use hub_commands::{Dial, Dialer, Fault};
+use hub_dialing::{Dial, Dialer};
+use hub_endings::Fault;
 use hub_io::{Sink, Source};
 use std::fs::Files;
 use std::io::{ErrorKind, Read, Write};

@@ -1,6 +1,6 @@
 //! The lines of faults on standard error.
 use hub_client::RelayError;
-use hub_commands::{Fault, tell_faults};
+use hub_endings::{Fault, tell_faults};
 use hub_fakes::Narrow;
 use hub_io::FrontError;
 use hub_server::{Report, ServeError};

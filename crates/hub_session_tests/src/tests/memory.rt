@@ -2,10 +2,10 @@
 ghost use Rattle.std.specs.Prelude.{None};
 
 use crate::tests::gates::{Listed, Telling};
-use hub_commands::{Enter, serve_all};
 use hub_fakes::Dripping;
 use hub_io::{FrontError, Sink, Source};
 use hub_server::{Gate, Report};
+use hub_serving::{Enter, serve_all};
 use hub_shared::Hub;
 use hub_wait::Patience;
 use std::alloc::{AllocError, Global};
@@ -68,6 +68,25 @@ fn the_gate_fails_is_over_or_is_asked_enough(rt: HostRuntime) -> Result<(), Fail
         assert_eq!(rt; report.gate_failed, *gate_failed, "{given} of {sessions}");
         assert_eq!(rt; gate.asked, *asked, "{given} of {sessions}");
         assert!(rt; gate.was_closed_once_at(*asked), "{given} of {sessions}");
+    }
+    Ok(())
+}
+
+/// One more than the most sessions of a hub that serves so many and ends.
+const MANY: u64 = 65;
+
+// There is ample memory, so an error is a failure.
+#[test]
+fn sessions_of_each_number(rt: HostRuntime) -> Result<(), Fail> {
+    for count in 0..=MANY {
+        let mut silent: Vec<(&'static [u8], Vec<u8>)> = Vec::new(rt.alloc());
+        for _ in 0..count {
+            silent.push((b"".as_slice(), Vec::new(rt.alloc())))?;
+        }
+        let mut gate = Listed::new(rt.alloc(), silent, false);
+        let report = serve_gate(&rt, rt.alloc(), &mut gate, count)?;
+        assert!(rt; have_ended(&report, count as usize, 0), "{count} sessions");
+        assert!(rt; gate.was_closed_once_at(count), "{count} sessions");
     }
     Ok(())
 }

@@ -1,8 +1,8 @@
 //! Sessions over Unix sockets.
 use crate::tests::clients::Client;
 use crate::tests::gates::Door;
-use hub_commands::{Enter, serve_all};
 use hub_server::Report;
+use hub_serving::{Enter, serve_all};
 use hub_shared::Hub;
 use hub_wait::Patience;
 use std::alloc::Global;

@@ -2,7 +2,7 @@ use Rattle.std.proofs.Common.{◌≡◌, ◌∙◌, inl, inr, refl, true, false,
 use Rattle.hub_look.specs.Streams.{streams}
 use Rattle.hub_requests.specs.Names.{is_name}
 use Rattle.hub_requests.specs.declared.request.Request.TheVariants as request
-use Rattle.hub_commands.specs.Dialing.{dialing}
+use Rattle.hub_dialing.specs.Dialing.{dialing}
 use Rattle.hub_commands.specs.Holding.{IsAsked}
 use Rattle.hub_commands.proofs.Held.{holds_in_vain, holds_so}
 use Rattle.hub_commands.proofs.holding.hold_as_told.Goals as goal

@@ -1,5 +1,5 @@
 use Rattle.std.proofs.Common.{◌≡◌, ◌∙◌, IfSome, map, subst}
-use Rattle.hub_commands.specs.Dialing.{dialing}
+use Rattle.hub_dialing.specs.Dialing.{dialing}
 use Rattle.hub_commands.proofs.Makes.{makes_in_vain, makes_so}
 use Rattle.hub_commands.proofs.making.make_fifodirs.Goals as goal
 

@@ -1,6 +1,6 @@
 use Rattle.std.proofs.Common.{◌≡◌, ◌∙◌, true, false, subst, MatchOption}
 use Rattle.hub_requests.specs.Names.{is_name}
-use Rattle.hub_commands.specs.Dialing.{dialing}
+use Rattle.hub_dialing.specs.Dialing.{dialing}
 use Rattle.hub_commands.proofs.Told.{tells_in_vain, tells_so}
 use Rattle.hub_commands.proofs.telling.tell_state.Goals as goal
 

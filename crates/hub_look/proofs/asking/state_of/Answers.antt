@@ -1,10 +1,11 @@
-use Rattle.hub_look.proofs.Refusals.{refused_here, refused_there}
+use Rattle.hub_requests.specs.declared.request.Request.TheVariants as request
+use Rattle.hub_look.proofs.Looked.{refused_so, spelled_status, state_told}
 use Rattle.hub_look.proofs.asking.state_of.Goals as goal
 
 pub returns-in-Err-clause-ok : goal.returns-in-Err-clause-ok
 returns-in-Err-clause-ok g c =
-    refused_here _ _ _ _ _ _ c.args.name.now c.in_ok-request.field-0 c.in-Err.refusal c.in_ok-request.ensures.ok c.in-Err.is c.in_ok-tell_refusal-in-Err.ensures.ok
+    refused_so _ _ (request.Status c.args.name.now) c.args.name.now c.in_ok-heard.field-0 c.in-Err.refusal (c.in_ok-heard.ensures.ok (request.Status c.args.name.now) (spelled_status c.args.name.now)) c.in-Err.is
 
-pub returns-in-No-clause-ok : goal.returns-in-No-clause-ok
-returns-in-No-clause-ok g c =
-    refused_there _ _ _ _ _ _ _ _ c.args.name.now _ c.in_ok-request.field-0 c.in-Ok.request c.in-No.refusal c.in_ok-request.ensures.ok c.in-Ok.is c.in_ok-heard.ensures.ok c.in-No.ensures c.in_ok-tell_refusal-in-No.ensures.ok
+pub returns-in-State-clause-ok : goal.returns-in-State-clause-ok
+returns-in-State-clause-ok g c =
+    state_told _ _ c.args.name.now c.in_ok-heard.field-0 c.in-Ok.heard c.in-State.status (c.in_ok-heard.ensures.ok (request.Status c.args.name.now) (spelled_status c.args.name.now)) c.in-Ok.is c.in-State.ensures

@@ -1,5 +1,5 @@
 use Rattle.std.proofs.Common.{◌≡◌, ◌++◌, replicate}
-use Rattle.hub_look.specs.Tables.{in_column}
+use Rattle.hub_look.specs.Descriptions.{in_column}
 use Rattle.hub_look.proofs.rows.put_column.Given as goal
 
 -- with the spaces that are missing, the column is full

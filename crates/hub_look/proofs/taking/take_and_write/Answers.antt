@@ -11,7 +11,7 @@ returns-in-Got-clause-ok g c =
 
 pub returns-in-Got-clause-err : goal.returns-in-Got-clause-err
 returns-in-Got-clause-err g c =
-    ends_there (is_some c.args.following.now.pattern) c.args.following.now.is_plain c.args.following.now.is_once c.args.turns _ _ _ _ _ _ c.after_letters.result (reply.Got c.in-Got.letters.now) c.after_letters.ensures refl
+    ends_there (is_some c.args.following.now.pattern) (is_some c.args.following.now.until) c.args.following.now.form c.args.following.now.is_once c.args.turns _ _ _ _ _ _ c.after_letters.result (reply.Got c.in-Got.letters.now) c.after_letters.ensures refl
     (took_letters (manner_of c.args.following.now) c.args.turns _ _ _ _ _ _ _ _ c.args.followed.now c.write_letters.new.followed _ c.in-Got.letters c.written_of-letters.result.now c.in_ok-heard.ensures.ok c.in-Got.ensures c.written_of-letters.ensures c.in_ok-write_letters-in-Got.ensures.ok c.in_ok-write_letters-in-Got.ensures.moved)
 
 pub returns-in-Hit-clause-ok : goal.returns-in-Hit-clause-ok
@@ -21,7 +21,7 @@ returns-in-Hit-clause-ok g c =
 
 pub returns-in-Hit-clause-err : goal.returns-in-Hit-clause-err
 returns-in-Hit-clause-err g c =
-    ends_there (is_some c.args.following.now.pattern) c.args.following.now.is_plain c.args.following.now.is_once c.args.turns _ _ _ _ _ _ c.after_letters-in-Hit.result (reply.Hit c.in-Hit.letters.now) c.after_letters-in-Hit.ensures refl
+    ends_there (is_some c.args.following.now.pattern) (is_some c.args.following.now.until) c.args.following.now.form c.args.following.now.is_once c.args.turns _ _ _ _ _ _ c.after_letters-in-Hit.result (reply.Hit c.in-Hit.letters.now) c.after_letters-in-Hit.ensures refl
     (took_hit (manner_of c.args.following.now) c.args.turns _ _ _ _ _ _ _ _ c.args.followed.now c.write_letters-in-Hit.new.followed _ c.in-Hit.letters c.in_ok-heard.ensures.ok c.in-Hit.ensures c.in_ok-write_letters-in-Hit.ensures.ok c.in_ok-write_letters-in-Hit.ensures.moved)
 
 pub returns-in-Evicted-clause-err : goal.returns-in-Evicted-clause-err

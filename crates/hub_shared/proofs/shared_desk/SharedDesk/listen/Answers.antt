@@ -9,4 +9,4 @@ pub returns-in-Ok : goal.returns-in-Ok
 returns-in-Ok g c =
     let kept = subst (λ (hub : Hub). KeepsAll hub c.args.self.now.fifodirs c.find.new.self) c.deref.ensures c.in-Ok.ensures.kept in
     let given = listens_to (arc_value c.args.self.now.hub) c.find.new.self c.args.name.now c.in-Ok.found c.args.mode c.args.pattern.now c.args.self.now.handles c.listen.new.self c.listen.result c.in-Ok.ensures.ok c.listen.ensures in
-    record { hub = refl; pause = refl; client = refl; answers = (kept, given); wills = refl }
+    record { hub = refl; pause = refl; client = refl; lost = refl; answers = (kept, given); wills = refl }

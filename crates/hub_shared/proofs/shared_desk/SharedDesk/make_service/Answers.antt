@@ -9,4 +9,4 @@ returns g c =
     let limits = c.limits-limits in
     let handles = c.args.self.now.handles in
     let made = subst (λ (hub : Hub). MakesName hub Service limits.result c.args.notifies c.args.self.now.fifodirs c.args.name.now c.make.result c.make.new.self) c.deref.ensures c.make.ensures in
-    record { hub = refl; pause = refl; client = refl; answers = ((limits.result, limits.ensures, made), refl {a = handles}); wills = refl }
+    record { hub = refl; pause = refl; client = refl; lost = refl; answers = ((limits.result, limits.ensures, made), refl {a = handles}); wills = refl }

@@ -13,4 +13,4 @@ returns-in-None g c =
     let new = c.first_status.new.self in
     let said = subst (λ (hub : Hub). AsksByName hub says_status c.status.new.self c.args.name.now c.first_status.result new) c.deref.ensures c.first_status.ensures in
     let asked = asks_as_before (arc_value c.args.self.now.hub) says_status fifodirs c.status.new.self new c.args.name.now c.first_status.result c.in-None.ensures.none.1 said in
-    record { hub = refl; pause = refl; client = refl; answers = (asked, refl {a = handles}); wills = refl }
+    record { hub = refl; pause = refl; client = refl; lost = refl; answers = (asked, refl {a = handles}); wills = refl }

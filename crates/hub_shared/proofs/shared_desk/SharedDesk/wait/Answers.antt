@@ -17,4 +17,4 @@ returns-in-Ok g c =
       settled = c.settle.ensures;
     } in
     let settled = subst (λ (names : List (List ℕ)). WaitsFor fifodirs c.args.span c.args.want names c.settle.result) c.items.ensures waits in
-    record { hub = refl; pause = refl; client = refl; answers = (kept, inl settled, refl {a = handles}); wills = refl }
+    record { hub = refl; pause = refl; client = refl; lost = refl; answers = (kept, inl settled, refl {a = handles}); wills = refl }

@@ -1,4 +1,4 @@
-use Rattle.hub_commands.proofs.Results.{no_desk}
+use Rattle.hub_serving.proofs.Results.{no_desk}
 use Rattle.hub_session_tests.proofs.tests.workers.BareDesks.serve.Goals as goal
 
 pub returns : goal.returns

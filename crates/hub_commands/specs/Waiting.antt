@@ -1,0 +1,224 @@
+-- What `wait` does.
+use Rattle.std.specs.Prelude.{◌≡◌, ◌⊎◌, ⊤, ℕ, ◌+◌, ◌<◌, ◌≤◌, min, true, false, Bool, List, [], ◌∷◌, codes, Option, None, Some, Result, Ok, Err}
+use Rattle.hub_arguments.specs.declared.asking.Wish.{Wish}
+use Rattle.hub_ask.specs.Asking.{IsAnswered, IsBrokenOff}
+use Rattle.hub_ask.specs.Durations.{SpellsDuration}
+use Rattle.hub_ask.specs.Lines.{joined}
+use Rattle.hub_ask.specs.Outcomes.{TellsOfWait, status_of}
+use Rattle.hub_ask.specs.Waiting.{Asking, AsksAbout, FailsToEnd, IsEnded, reply_of, wait_words}
+use Rattle.hub_ask.specs.declared.client.Client.{Client}
+use Rattle.hub_ask.specs.declared.duration.TheConstants.{MOST_MILLIS, MOST_TURNS}
+use Rattle.hub_ask.specs.declared.fault.AskError.{AskError}
+use Rattle.hub_ask.specs.declared.fault.AskError.TheVariants as ask
+use Rattle.hub_ask.specs.declared.outcome.Outcome.{Outcome}
+use Rattle.hub_ask.specs.declared.waiting.Delay.{Delay}
+use Rattle.hub_ask.specs.declared.waiting.Delay.TheVariants.{Missing, Late}
+use Rattle.hub_ask.specs.declared.waiting.TheConstants.{GRACE}
+use Rattle.hub_client.specs.Passing.{has_lf}
+use Rattle.hub_requests.specs.Texts.{text_of}
+use Rattle.hub_commands.specs.Asking.{Ends}
+use Rattle.hub_dialing.specs.Dialing.{Dialing, OverOne}
+use Rattle.hub_endings.specs.declared.ending.BadWords.{BadWords}
+use Rattle.hub_endings.specs.declared.ending.BadWords.TheVariants as bad
+use Rattle.hub_endings.specs.declared.ending.Ending.{Ending}
+use Rattle.hub_endings.specs.declared.ending.Ending.TheVariants.{Refused, Stopped, Failed}
+use Rattle.hub_endings.specs.declared.fault.Fault.TheVariants.{Memory, Connect, Ask}
+
+-- ---- its words
+
+-- it is no duration, or one that is too long
+abbrev pub IsNoDuration : (duration : List ℕ) → Type 0
+IsNoDuration duration = (millis : ℕ) → SpellsDuration duration millis → MOST_MILLIS < millis
+
+-- the words are refused by the name of this duration, unless it has an LF
+abbrev pub NamesDuration : (duration : List ℕ) → BadWords → Type 0
+NamesDuration duration bad.Word = has_lf duration ≡ true
+NamesDuration duration (bad.Duration text) = (has_lf duration ≡ false) × (text.bytes.items ≡ duration)
+NamesDuration duration other = ⊥
+
+-- the milliseconds of a duration
+abbrev pub IsLimitOf : (duration : List ℕ) → Result (Option ℕ) Ending → Type 0
+IsLimitOf duration (Ok None) = ⊥
+IsLimitOf duration (Ok (Some millis)) = SpellsDuration duration millis × (millis ≤ MOST_MILLIS)
+IsLimitOf duration (Err (Refused words)) = IsNoDuration duration × NamesDuration duration words
+IsLimitOf duration (Err (Stopped report)) = ⊥
+IsLimitOf duration (Err (Failed fault)) = IsNoDuration duration × (fault ≡ Memory)
+
+-- those of the duration that is told, or none if none is told; text gives its bytes
+abbrev pub IsLimit : {T : Type 0} → (text : T → List ℕ) → Option T → Result (Option ℕ) Ending → Type 0
+IsLimit text None result = result ≡ Ok None
+IsLimit text (Some duration) result = IsLimitOf (text duration) result
+
+-- a wait for this isn't the same as two of them one after the other
+abbrev pub IsRestart : (want : List ℕ) → Type 0
+IsRestart want = (want ≡ codes "restarted") ⊎ (want ≡ codes "restarted-ready")
+
+-- a limit is longer than one wait may be
+abbrev pub IsLong : Option ℕ → Type 0
+IsLong None = ⊥
+IsLong (Some millis) = MOST_TURNS < millis
+
+-- the turns of the first line
+abbrev pub turns_by : Option ℕ → ℕ
+turns_by None = MOST_TURNS
+turns_by (Some millis) = min millis MOST_TURNS
+
+-- How a wait with this limit begins: with a line of so many turns. Only a wait for a restart may be too long, and is refused.
+abbrev pub Begins : (want : List ℕ) → (limit : Option ℕ) → Result ℕ Ending → Type 0
+Begins want limit (Ok turns) = (turns ≡ turns_by limit) × (IsRestart want → IsLong limit → ⊥)
+Begins want limit (Err ending) = IsRestart want × IsLong limit × (ending ≡ Refused bad.Restart)
+
+-- ---- one wait
+
+-- what is waited for: the socket of the hub, the line for so many turns, what may be asked after it, and how
+pub record Wishing : Type 1 where
+  pub socket : List ℕ
+  pub want : List ℕ
+  pub line : (turns : ℕ) → List ℕ
+  pub asks : Asking
+  pub is_now : Bool
+  pub is_quiet : Bool
+
+abbrev pub wishing : (socket : List ℕ) → Wish → Wishing
+wishing socket wish = record {
+  socket = socket;
+  want = wish.want.now;
+  line = λ turns. wait_words wish.span.now wish.want.now turns (joined (λ name. name.now) wish.names.items);
+  asks = AsksAbout wish.want.now (λ name. name.now) wish.names.items;
+  is_now = wish.is_now;
+  is_quiet = wish.is_quiet;
+}
+
+-- ---- one try
+
+-- over a connection that was made to this socket and for so many milliseconds, the line was sent, and this reply came
+pub record IsReplied {D SR SW : Type 0} (d : Dialing D SR SW) (old new : D) (socket : List ℕ) (millis : ℕ) (line : List ℕ) (client : Client SR SW) (reply : List ℕ) : Type 0 where
+  pub receive : SR
+  pub send : SW
+  pub reached : d.reaches old socket millis (Ok (receive, send)) new
+  pub answered : IsAnswered (d.contents send) (d.contents client.sender) (d.remaining receive) (d.remaining client.receiver) line reply
+
+-- A try: a reply came, or there was no hub, or it went wrong; `text` gives the bytes of a reply.
+abbrev pub IsTried : {D SR SW T : Type 0} → Dialing D SR SW → (old new : D) → (socket : List ℕ) → (millis : ℕ) → (line : List ℕ) → (is_now : Bool) → (text : T → List ℕ)
+    → Result (Option (Client SR SW × T)) Ending → Type 0
+IsTried d old new socket millis line is_now text (Ok None) = (is_now ≡ false) × d.reaches old socket millis (Err Connect) new
+IsTried d old new socket millis line is_now text (Ok (Some it)) = IsReplied d old new socket millis line it.0 (text it.1)
+IsTried d old new socket millis line is_now text (Err (Refused _)) = ⊥
+IsTried d old new socket millis line is_now text (Err (Stopped report)) = ⊥
+IsTried d old new socket millis line is_now text (Err (Failed fault)) = d.reaches old socket millis (Err fault) new
+    ⊎ ((error : AskError) × (fault ≡ Ask error) × OverOne d old new socket millis (λ sent sends had has. IsBrokenOff sent sends had has line))
+
+-- A name that isn't made is waited for. After `late` a wait goes on only if it was one of the longest, and not for a restart.
+abbrev pub MayDelay : (want : List ℕ) → (turns : ℕ) → Delay → Type 0
+MayDelay want turns Missing = ⊤
+MayDelay want turns Late = (turns ≡ MOST_TURNS) × (IsRestart want → ⊥)
+
+-- the reply isn't the end of a wait for this whose line had so many turns
+abbrev pub Delays : (want : List ℕ) → (turns : ℕ) → (reply : List ℕ) → Type 0
+Delays want turns reply = (delay : Delay) × (reply ≡ text_of (reply_of delay)) × MayDelay want turns delay
+
+-- the wait goes on after this
+abbrev pub GoesOn : {C T : Type 0} → (is_now : Bool) → (want : List ℕ) → (turns : ℕ) → (text : T → List ℕ) → Option (C × T) → Type 0
+GoesOn is_now want turns text None = is_now ≡ false
+GoesOn is_now want turns text (Some it) = (is_now ≡ false) × Delays want turns (text it.1)
+
+-- ---- the tries
+
+-- A try with so many turns that came to nothing yet, since the wait isn't to end at once: no hub was there, or its reply isn't the end.
+abbrev pub PutsOff : {D SR SW : Type 0} → Dialing D SR SW → Wishing → (turns : ℕ) → (old new : D) → Type 0
+PutsOff d w turns old new = (w.is_now ≡ false)
+    × (d.reaches old w.socket (turns + GRACE) (Err Connect) new
+    ⊎ OverOne d old new w.socket (turns + GRACE) (λ sent sends had has. (reply : List ℕ) × IsAnswered sent sends had has (w.line turns) reply × Delays w.want turns reply))
+
+-- the first line has all turns, and each other one no more than the one before it
+abbrev pub IsNext : (first : ℕ) → (before : List ℕ) → (turns : ℕ) → Type 0
+IsNext first [] turns = turns ≡ first
+IsNext first (last ∷ before) turns = turns ≤ last
+
+-- Tries that came to nothing were made one after the other; `before` has their turns, the last one first.
+abbrev pub AreTried : {D SR SW : Type 0} → Dialing D SR SW → Wishing → (first : ℕ) → (old : D) → (before : List ℕ) → (new : D) → Type 0
+AreTried d w first old [] new = new ≡ old
+AreTried {D} d w first old (turns ∷ before) new =
+    (between : D) × AreTried d w first old before between × IsNext first before turns × PutsOff d w turns between new
+
+-- Some tries came to nothing, and the next line has so many turns.
+pub record IsAt {D SR SW : Type 0} (d : Dialing D SR SW) (w : Wishing) (first : ℕ) (old new : D) (turns : ℕ) : Type 0 where
+  pub before : List ℕ
+  pub tried : AreTried d w first old before new
+  pub next : IsNext first before turns
+
+-- ---- the last one
+
+-- The reply was written, and at most these questions were asked. If nothing is to be written, nothing was, and nothing was asked.
+abbrev pub EndsSo : (is_quiet : Bool) → (sent sends had has held holds : Option (List ℕ)) → (reply : List ℕ) → Asking → Outcome → Type 0
+EndsSo false sent sends had has held holds reply asks outcome = IsEnded sent sends had has held holds reply asks outcome
+EndsSo true sent sends had has held holds reply asks outcome = TellsOfWait reply (Some outcome) × (sends ≡ sent) × (has ≡ had) × (holds ≡ held)
+
+-- the reply tells no outcome, or couldn't be written
+abbrev pub EndsInVain : (is_quiet : Bool) → (held holds : Option (List ℕ)) → (reply : List ℕ) → AskError → Type 0
+EndsInVain false held holds reply error = FailsToEnd held holds reply error
+EndsInVain true held holds reply error = (error ≡ ask.Unknown) × TellsOfWait reply None × (holds ≡ held)
+
+-- how a wait ended after this try; `text` gives the bytes of a reply
+abbrev pub EndsTry : {SR SW T : Type 0} → (remaining : SR → Option (List ℕ)) → (contents : SW → Option (List ℕ)) → (is_quiet : Bool) → Asking → (untouched : Type 0)
+    → (held holds : Option (List ℕ)) → (text : T → List ℕ) → Option (Client SR SW × T) → Result ℕ Ending → Type 0
+EndsTry remaining contents is_quiet asks untouched held holds text None result = (result ≡ Err (Failed Connect)) × untouched
+EndsTry {SR} {SW} remaining contents is_quiet asks untouched held holds text (Some it) (Ok status) = (outcome : Outcome) × (status ≡ status_of outcome)
+    × (later : Client SR SW) × EndsSo is_quiet (contents it.0.sender) (contents later.sender) (remaining it.0.receiver) (remaining later.receiver) held holds (text it.1) asks outcome
+EndsTry remaining contents is_quiet asks untouched held holds text (Some it) (Err (Failed fault)) = (error : AskError) × (fault ≡ Ask error) × EndsInVain is_quiet held holds (text it.1) error
+EndsTry remaining contents is_quiet asks untouched held holds text (Some it) other = ⊥
+
+-- the last line was sent once, and so the wait ended: sends' and has' are the streams between the reply and the questions
+pub record GoesSo (w : Wishing) (turns : ℕ) (sent sends had has held holds : Option (List ℕ)) (outcome : Outcome) : Type 0 where
+  pub reply : List ℕ
+  pub sends' : Option (List ℕ)
+  pub has' : Option (List ℕ)
+  pub answered : IsAnswered sent sends' had has' (w.line turns) reply
+  pub ended : EndsSo w.is_quiet sends' sends has' has held holds reply w.asks outcome
+
+-- It went wrong: the last line was sent once at most, and no whole reply came, or one that tells no outcome, or couldn't be written.
+abbrev pub GoesWrong : (w : Wishing) → (turns : ℕ) → (sent sends had has held holds : Option (List ℕ)) → AskError → Type 0
+GoesWrong w turns sent sends had has held holds error = (IsBrokenOff sent sends had has (w.line turns) × (holds ≡ held))
+    ⊎ ((reply : List ℕ) × IsAnswered sent sends had has (w.line turns) reply × EndsInVain w.is_quiet held holds reply error)
+
+-- ---- the whole command
+
+-- no words are refused after the first try
+abbrev pub RefusesNone : BadWords → Type 0
+RefusesNone _ = ⊥
+
+-- A wait of so many turns at first. Over each connection but the last, the line was sent once, and the reply isn't its end. Only the last
+-- reply is written, and has the status.
+pub record WaitsOn {D SR SW : Type 0} (d : Dialing D SR SW) (w : Wishing) (first : ℕ) (old new : D) (untouched : Type 0) (held holds : Option (List ℕ)) (result : Result ℕ Ending) : Type 0 where
+  pub between : D
+  pub turns : ℕ
+  pub at : IsAt d w first old between turns
+  pub last : Ends d between new w.socket (turns + GRACE) (w.line turns) RefusesNone untouched
+      (λ outcome sent sends had has. GoesSo w turns sent sends had has held holds outcome)
+      (λ error sent sends had has. GoesWrong w turns sent sends had has held holds error) result
+
+-- Before there is a first line, the words are refused or memory runs out. Then no connection is made, and nothing is touched.
+abbrev pub EndsBefore : (w : Wishing) → (limit : Option ℕ) → Result ℕ Ending → Type 0
+EndsBefore w limit (Ok status) = ⊥
+EndsBefore w limit (Err (Refused words)) = (IsRestart w.want × IsLong limit × (words ≡ bad.Restart))
+    ⊎ ((has_lf (w.line (turns_by limit)) ≡ true) × (words ≡ bad.Name))
+EndsBefore w limit (Err (Stopped report)) = ⊥
+EndsBefore w limit (Err (Failed fault)) = fault ≡ Memory
+
+-- a wait with this limit
+abbrev pub WaitsFor : {D SR SW : Type 0} → Dialing D SR SW → Wishing → (limit : Option ℕ) → (old new : D) → (untouched : Type 0) → (held holds : Option (List ℕ))
+    → (nothing : Type 0) → Result ℕ Ending → Type 0
+WaitsFor d w limit old new untouched held holds nothing result =
+    (EndsBefore w limit result × (new ≡ old) × nothing) ⊎ WaitsOn d w (turns_by limit) old new untouched held holds result
+
+-- the command ended so by what came of its duration
+abbrev pub EndsBy : {D SR SW : Type 0} → Dialing D SR SW → Wishing → (old new : D) → (untouched : Type 0) → (held holds : Option (List ℕ))
+    → (nothing : Type 0) → Result ℕ Ending → (limit : Result (Option ℕ) Ending) → Type 0
+EndsBy d w old new untouched held holds nothing result (Ok limit) = WaitsFor d w limit old new untouched held holds nothing result
+EndsBy d w old new untouched held holds nothing result (Err ending) = (result ≡ Err ending) × (new ≡ old) × nothing
+
+-- `wait` as it is told: a duration that isn't one is refused; text gives its bytes
+abbrev pub WaitsAsTold : {D SR SW T : Type 0} → Dialing D SR SW → Wishing → (text : T → List ℕ) → (timeout : Option T) → (old new : D) → (untouched : Type 0)
+    → (held holds : Option (List ℕ)) → (nothing : Type 0) → Result ℕ Ending → Type 0
+WaitsAsTold d w text timeout old new untouched held holds nothing result =
+    (limit : Result (Option ℕ) Ending) × IsLimit text timeout limit × EndsBy d w old new untouched held holds nothing result limit

@@ -1,0 +1,149 @@
+//! The faults that end the program.
+ghost use Rattle.std.specs.Prelude.{◌≡◌, OnOk, Some};
+ghost use Rattle.std.specs.Io.KnownBytes.{Appends};
+ghost use Rattle.hub_endings.specs.Faults.{line_of};
+ghost use Rattle.hub_endings.specs.declared.fault.Fault.TheVariants as fault;
+
+use crate::refused_line::RefusedLine;
+use hub_ask::AskError;
+use hub_client::RelayError;
+use hub_io::FrontError;
+use hub_server::ServeError;
+use std::alloc::{AllocError, Global};
+use std::error::Error;
+use std::io::Write;
+use std::{fmt, io};
+
+/// Why the program ends with status 1. Its text is the line on standard error.
+#[derive(Clone, Copy, Debug, PartialEq, Eq)]
+pub enum Fault {
+    /// The socket couldn't be made at its path.
+    Listen,
+    /// Another server listens at the socket.
+    Taken,
+    /// The descriptor that is told when the hub listens couldn't be written to.
+    Notify,
+    /// The file of the setup couldn't be read, or is too large.
+    Setup,
+    /// A line of the setup was refused.
+    SetupLine(RefusedLine),
+    /// The socket's file was removed, and is back.
+    Restored,
+    /// Another file is in the place of the socket, or its file couldn't be put back.
+    Lost,
+    /// A connection was expected, and accepting it failed.
+    Accept,
+    /// The connection to a server at the socket couldn't be made.
+    Connect,
+    /// Memory ran out before the first session.
+    Memory,
+    /// The session of `script` stopped, or a text such as `--help` couldn't be printed.
+    Script(FrontError),
+    /// The sessions of `serve` couldn't be served.
+    Serve(ServeError),
+    /// A session of `serve` stopped. Sessions are numbered from 1, in the order in which they were accepted.
+    Session { number: u64, fault: FrontError },
+    /// The client of a session of `serve --forever` sent no whole line, or took no whole reply, for too long.
+    Idle { number: u64 },
+    /// So many sessions of `serve --forever` stopped besides, and aren't told one by one.
+    More { sessions: u64 },
+    /// So many wills of sessions of `serve --forever` couldn't be carried out: their fifodirs had no room for a minute, or take no
+    /// more events.
+    Wills { wills: u64 },
+    /// The relay of `call` stopped.
+    Relay(RelayError),
+    /// A request of `ask` has no outcome.
+    Ask(AskError),
+}
+
+impl fmt::Display for Fault {
+    ghost use Rattle.hub_endings.specs.Faults.{text_of};
+
+    ghost output = { λ it. Some (text_of it) };
+
+    fn fmt<W: fmt::Write>(&self, f: &mut fmt::Formatter<W>) -> fmt::Result {
+        match self {
+            Fault::Listen => f.write_str("cannot listen"),
+            Fault::Taken => f.write_str("another server listens there"),
+            Fault::Notify => f.write_str("cannot notify"),
+            Fault::Setup => f.write_str("cannot read the setup"),
+            Fault::SetupLine(line) => write!(f, "{line}"),
+            Fault::Restored => f.write_str("socket file restored"),
+            Fault::Lost => f.write_str("socket file lost"),
+            Fault::Accept => f.write_str("cannot accept"),
+            Fault::Connect => f.write_str("cannot connect"),
+            Fault::Memory => write!(f, "{}", FrontError::Memory),
+            Fault::Script(fault) => write!(f, "{fault}"),
+            Fault::Serve(fault) => write!(f, "{fault}"),
+            Fault::Session { number, fault } => write!(f, "session {number}: {fault}"),
+            Fault::Idle { number } => write!(f, "session {number}: idle"),
+            Fault::More { sessions } => write!(f, "{sessions} more sessions stopped"),
+            Fault::Wills { wills } => write!(f, "{wills} wills not carried out"),
+            Fault::Relay(fault) => write!(f, "{fault}"),
+            Fault::Ask(fault) => write!(f, "{fault}"),
+        }
+    }
+}
+
+impl Error for Fault {}
+
+impl Fault {
+    /// Writes the fault's line in one write, so that the lines of several programs don't mix. Only if memory runs out
+    /// is it written in pieces.
+    pub fn tell<W: Write>(self, alloc: Global, out: &mut W) -> io::Result<()>
+        ensures { OnOk result (Appends (W.contents out.old) (W.contents out.new) (line_of self)) }
+    {
+        match format!(in alloc; "ftrighub: {self}\n") {
+            Ok(line) => out.write_all(line.as_bytes()),
+            Err(_) => writeln!(out, "ftrighub: {self}"),
+        }
+    }
+}
+
+impl From<AllocError> for Fault {
+    ghost from_gives = { λ _ it. it ≡ fault.Memory };
+
+    fn from(_error: AllocError) -> Fault {
+        Fault::Memory
+    }
+}
+
+impl From<RefusedLine> for Fault {
+    ghost from_gives = { λ error it. it ≡ fault.SetupLine error };
+
+    fn from(error: RefusedLine) -> Fault {
+        Fault::SetupLine(error)
+    }
+}
+
+impl From<FrontError> for Fault {
+    ghost from_gives = { λ error it. it ≡ fault.Script error };
+
+    fn from(error: FrontError) -> Fault {
+        Fault::Script(error)
+    }
+}
+
+impl From<ServeError> for Fault {
+    ghost from_gives = { λ error it. it ≡ fault.Serve error };
+
+    fn from(error: ServeError) -> Fault {
+        Fault::Serve(error)
+    }
+}
+
+impl From<RelayError> for Fault {
+    ghost from_gives = { λ error it. it ≡ fault.Relay error };
+
+    fn from(error: RelayError) -> Fault {
+        Fault::Relay(error)
+    }
+}
+
+impl From<AskError> for Fault {
+    ghost from_gives = { λ error it. it ≡ fault.Ask error };
+
+    fn from(error: AskError) -> Fault {
+        Fault::Ask(error)
+    }
+}

@@ -1,0 +1,70 @@
+-- What a look at a name shows.
+use Rattle.std.proofs.Common.{◌≡◌, ℕ, List, [], ◌++◌, codes, append-nil, Result, Ok, Err, inl, inr, refl, sym, ap, subst}
+use Rattle.hub_record.specs.declared.Status.{Status}
+use Rattle.hub_requests.specs.declared.about.About.{About}
+use Rattle.hub_requests.specs.declared.request.Request.{Request}
+use Rattle.hub_requests.specs.declared.request.Request.TheVariants as request
+use Rattle.hub_requests.specs.declared.reply.Refusal.{Refusal}
+use Rattle.hub_requests.specs.declared.reply.Reply.{Reply}
+use Rattle.hub_requests.specs.declared.reply.Reply.TheVariants as reply
+use Rattle.hub_protocol.specs.Replies.{IsShown, Shows}
+use Rattle.hub_protocol.specs.Spelling.{form_of, spelling}
+use Rattle.hub_protocol.specs.declared.replies.BorrowedReply.TheVariants as shown
+use Rattle.hub_ask.specs.Hearing.{line_of}
+use Rattle.hub_ask.specs.declared.heard.Heard.{Heard}
+use Rattle.hub_look.specs.Streams.{Streams}
+use Rattle.hub_look.specs.Tables.{IsAbout, IsDescribed, IsJudged, IsLookedUp, IsRefused}
+use Rattle.hub_look.specs.declared.describing.Description.{Description}
+use Rattle.hub_look.proofs.Listed.{replied_so}
+
+-- the lines of two words
+
+pub spelled_status : (name : List ℕ) → spelling (form_of (request.Status name)) ≡ codes "status " ++ (name ++ [])
+spelled_status name = ap (λ it. codes "status " ++ it) (sym (append-nil name))
+
+pub spelled_about : (name : List ℕ) → spelling (form_of (request.About name)) ≡ codes "about " ++ (name ++ [])
+spelled_about name = ap (λ it. codes "about " ++ it) (sym (append-nil name))
+
+-- it is refused
+pub refused_so : (before after : Streams) (asked : Request) (name : List ℕ) (looked : Result Heard Refusal) (refusal : Refusal)
+    → IsLookedUp before after asked name looked → looked ≡ Err refusal → IsRefused before after asked name refusal
+refused_so before after asked name looked refusal h is = subst (IsLookedUp before after asked name) is h
+
+state_shown : (status : Status) (it : Reply) → Shows (shown.State status) it → it ≡ reply.State status
+state_shown status (reply.State other) same = ap reply.State (sym same)
+state_shown status it h = absurd h
+
+about_shown : (about : About) (it : Reply) → Shows (shown.About about) it → it ≡ reply.About about
+about_shown about (reply.About other) same = ap reply.About (sym same)
+about_shown about it h = absurd h
+
+-- the hub says how it is
+pub state_told : (before after : Streams) (name : List ℕ) (looked : Result Heard Refusal) (heard : Heard) (status : Status)
+    → IsLookedUp before after (request.Status name) name looked → looked ≡ Ok heard → IsShown (line_of heard) (shown.State status) → IsJudged before after name (Ok status)
+state_told before after name looked heard status h is shows =
+    replied_so before after (request.Status name) (line_of heard) (shown.State status) (reply.State status) shows
+    (subst (IsLookedUp before after (request.Status name) name) is h) (state_shown status shows.reply shows.shows)
+
+-- the hub says what it is
+pub about_told : (before after : Streams) (name : List ℕ) (looked : Result Heard Refusal) (heard : Heard) (about : About)
+    → IsLookedUp before after (request.About name) name looked → looked ≡ Ok heard → IsShown (line_of heard) (shown.About about) → IsAbout before after name (Ok about)
+about_told before after name looked heard about h is shows =
+    replied_so before after (request.About name) (line_of heard) (shown.About about) (reply.About about) shows
+    (subst (IsLookedUp before after (request.About name) name) is h) (about_shown about shows.reply shows.shows)
+
+-- ---- both looks
+
+pub both_told : (before between after : Streams) (name : List ℕ) (one : Result About Refusal) (other : Result Status Refusal) (about : About) (status : Status)
+    → IsAbout before between name one → one ≡ Ok about → IsJudged between after name other → other ≡ Ok status
+    → IsDescribed before after name (Ok (record { about = about; status = status }))
+both_told before between after name one other about status h is k so =
+    (between, subst (IsAbout before between name) is h, subst (IsJudged between after name) so k)
+
+pub about_refused : (before after : Streams) (name : List ℕ) (one : Result About Refusal) (refusal : Refusal)
+    → IsAbout before after name one → one ≡ Err refusal → IsDescribed before after name (Err refusal)
+about_refused before after name one refusal h is = inl (subst (IsAbout before after name) is h)
+
+pub status_refused : (before between after : Streams) (name : List ℕ) (one : Result About Refusal) (other : Result Status Refusal) (about : About) (refusal : Refusal)
+    → IsAbout before between name one → one ≡ Ok about → IsJudged between after name other → other ≡ Err refusal → IsDescribed before after name (Err refusal)
+status_refused before between after name one other about refusal h is k so =
+    inr (between, about, subst (IsAbout before between name) is h, subst (IsJudged between after name) so k)

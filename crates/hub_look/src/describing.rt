@@ -1,0 +1,75 @@
+//! What a hub says of a fifodir: what it is, and how it is.
+ghost use Rattle.std.specs.Prelude.{◌≡◌, IfOk, IfErr};
+ghost use Rattle.hub_look.specs.Stops.{IsOwnFault};
+ghost use Rattle.hub_look.specs.Streams.{streams};
+ghost use Rattle.hub_look.specs.Tables.{IsAbout, IsDescribed};
+
+use crate::asking::{look_up, state_of};
+use crate::peer::Peer;
+use crate::stop::Stop;
+use hub_ask::{AskError, Replies, Requests};
+use hub_io::Sink;
+use hub_protocol::BorrowedReply;
+use hub_record::Status;
+use hub_requests::{About, Refusal};
+use std::alloc::Global;
+use std::sync::Wait;
+
+/// What a hub says of a fifodir.
+#[derive(Clone, Copy, Debug, PartialEq, Eq)]
+pub(crate) struct Description {
+    /// What it is, and how much was there before its status was asked for: that makes a session one of its publishers.
+    pub(crate) about: About,
+    /// How it is.
+    pub(crate) status: Status,
+}
+
+// What the fifodir is, or why the hub doesn't say, which is told.
+fn about_of<H: Wait, SR: Replies, SW: Requests, F: Sink>(
+    rt: &H,
+    alloc: Global,
+    name: &str,
+    peer: &mut Peer<SR, SW>,
+    notes: &mut F,
+) -> Result<Result<About, Refusal>, Stop>
+    ensures begun { peer.new.begun ≡ peer.old.begun }
+    ensures ok { IfOk result (IsAbout
+        (streams SW.contents SR.remaining F.contents F.faults peer.old.client notes.old)
+        (streams SW.contents SR.remaining F.contents F.faults peer.new.client notes.new)
+        name.now) }
+    ensures err { IfErr result IsOwnFault }
+{
+    let heard = match look_up(rt, alloc, &["about", name], name, peer, notes)? {
+        Ok(heard) => heard,
+        Err(refusal) => return Ok(Err(refusal)),
+    };
+    match heard.reply() {
+        BorrowedReply::About(about) => Ok(Ok(about)),
+        _ => Err(Stop::Fault(AskError::Unknown)),
+    }
+}
+
+/// What the fifodir is and how it is, or why the hub doesn't say, which is told once.
+pub(crate) fn describe<H: Wait, SR: Replies, SW: Requests, F: Sink>(
+    rt: &H,
+    alloc: Global,
+    name: &str,
+    peer: &mut Peer<SR, SW>,
+    notes: &mut F,
+) -> Result<Result<Description, Refusal>, Stop>
+    ensures begun { peer.new.begun ≡ peer.old.begun }
+    ensures ok { IfOk result (IsDescribed
+        (streams SW.contents SR.remaining F.contents F.faults peer.old.client notes.old)
+        (streams SW.contents SR.remaining F.contents F.faults peer.new.client notes.new)
+        name.now) }
+    ensures err { IfErr result IsOwnFault }
+{
+    let about = match about_of(rt, alloc, name, peer, notes)? {
+        Ok(about) => about,
+        Err(refusal) => return Ok(Err(refusal)),
+    };
+    match state_of(rt, alloc, name, peer, notes)? {
+        Ok(status) => Ok(Ok(Description { about, status })),
+        Err(refusal) => Ok(Err(refusal)),
+    }
+}

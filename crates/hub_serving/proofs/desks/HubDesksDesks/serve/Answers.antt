@@ -1,0 +1,20 @@
+use Rattle.hub_serving.proofs.Results.{no_desk}
+use Rattle.hub_serving.proofs.desks.HubDesksDesks.serve.Goals as goal
+
+pub returns-in_default : goal.returns-in_default
+returns-in_default g c = no_desk _ _ _ _ _ _ _ _
+
+pub returns : goal.returns
+returns g c = record {
+  served = λ other. record {
+    old = c.in-Ok.desk;
+    new = c.serve_within-served.new.desk;
+    begun = c.in-Ok.ensures;
+    finished = c.serve_within-served.ensures.finished;
+    stopped = c.serve_within-served.ensures.stopped;
+  };
+  untouched = c.serve_within-served.ensures.memory;
+  reads = c.serve_within-served.ensures.reads;
+  read_faults = c.serve_within-served.ensures.read_faults;
+  write_faults = c.serve_within-served.ensures.write_faults;
+}

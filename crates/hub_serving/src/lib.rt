@@ -1,0 +1,25 @@
+//! The sessions of a hub, and its place.
+//!
+//! [`serve`] accepts connections at a Unix socket, and serves them by [`serve_all`] over one hub. [`serve_forever`] does so for as long
+//! as the program runs: it takes the socket's place, has the hub carry out the lines of its setup as [`set_up`] does, keeps the
+//! socket there, and tells the faults of sessions as they come.
+#![tactic(auto)]
+
+mod desks;
+mod folder;
+mod living;
+mod lock;
+mod look;
+mod lost_wills;
+mod notice;
+mod place;
+mod serving;
+mod setup;
+mod watching;
+
+pub use desks::serve_all;
+pub use hub_arguments::HubOptions;
+pub use hub_requests::Enter;
+pub use living::serve_forever;
+pub use serving::serve;
+pub use setup::set_up;

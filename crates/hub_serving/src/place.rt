@@ -1,0 +1,174 @@
+//! The place of a socket that one server after the other listens at.
+
+ghost use Rattle.std.specs.Prelude.{◌≡◌, IfErr};
+ghost use Rattle.hub_endings.specs.declared.fault.Fault.TheVariants as fault;
+
+use crate::folder::{Folder, remove_left};
+use crate::lock::lock_beside;
+use crate::look::{has_socket, is_served};
+use hub_endings::Fault;
+use hub_server::Keeper;
+use std::alloc::Global;
+use std::fs;
+use std::fs::{DirBuilder, File, Files, Metadata, Permissions};
+use std::io::{self, ErrorKind};
+use std::net::Net;
+use std::os::unix::fs::{DirBuilderExt, MetadataExt, PermissionsExt};
+use std::os::unix::net::UnixListener;
+
+/// The folder of root's socket, where other users may come by.
+const ROOT_FOLDER: &str = "/run/ftrighub";
+
+const ROOT_FOLDER_MODE: u32 = 0o755;
+
+/// The path of a socket, a lock that no other server of this program has meanwhile, and a private folder.
+#[derive(Drop)]
+pub(crate) struct Place<'a> {
+    socket: &'a str,
+    lock: File,
+    folder: Folder,
+    /// The device and the number that tell the hub's socket from each other file. None before it listens.
+    own: Option<(u64, u64)>,
+}
+
+/// That a hub's socket was put in its place. Only [`Place::put`] makes one.
+#[derive(Drop)]
+pub(crate) struct InPlace {
+    made: (),
+}
+
+/// Makes the folder of root's socket, whatever the umask is. What is there already stays as it is.
+pub(crate) fn make_root_folder<H: Files>(rt: &H) -> Result<(), Fault>
+    ensures { IfErr result (λ error. error ≡ fault.Listen) }
+{
+    let made = DirBuilder::new()
+        .mode(ROOT_FOLDER_MODE)
+        .create(rt, ROOT_FOLDER);
+    let done = match made {
+        Ok(()) => fs::set_permissions(rt, ROOT_FOLDER, Permissions::from_mode(ROOT_FOLDER_MODE)),
+        Err(fault) if fault.kind() == ErrorKind::AlreadyExists => Ok(()),
+        Err(fault) => Err(fault),
+    };
+    done.map_err(|_| Fault::Listen)
+}
+
+/// Takes the socket's place, if no server has it. An error is `Taken` if another server has it, `Listen` or `Memory`.
+pub(crate) fn take_place<'a, H: Files<File = File> + Net>(
+    rt: &H,
+    alloc: Global,
+    socket: &'a str,
+) -> Result<Place<'a>, Fault> {
+    has_socket(rt, socket)?;
+    let lock = lock_beside(rt, alloc, socket)?;
+    if has_socket(rt, socket)? && is_served(rt, socket)? {
+        return Err(Fault::Taken);
+    }
+    remove_left(rt, alloc, socket, &lock)?;
+    let folder = Folder::make(rt, alloc, socket, &lock)?;
+    Ok(Place {
+        socket,
+        lock,
+        folder,
+        own: None,
+    })
+}
+
+impl Place<'_> {
+    /// A socket that listens in the private folder, with this mode. Nobody can connect to it until it is put in its place.
+    pub(crate) fn listen<H: Files + Net>(
+        &mut self,
+        rt: &H,
+        mode: Option<u32>,
+    ) -> Result<UnixListener, Fault> {
+        self.listen_aside(rt, mode).map_err(|_| Fault::Listen)
+    }
+
+    fn listen_aside<H: Files + Net>(
+        &mut self,
+        rt: &H,
+        mode: Option<u32>,
+    ) -> io::Result<UnixListener> {
+        let aside = self.folder.socket.as_str();
+        let listener = UnixListener::bind(rt, aside)?;
+        if let Some(mode) = mode {
+            fs::set_permissions(rt, aside, Permissions::from_mode(mode))?;
+        }
+        self.own = Some(identity(&fs::symlink_metadata(rt, aside)?));
+        Ok(listener)
+    }
+
+    /// Puts the socket in its place, once there are threads for so many sessions. A stale socket's file makes way for it, and nothing
+    /// else does.
+    pub(crate) fn put<H: Files + Net>(
+        &self,
+        rt: &H,
+        _keeper: &Keeper,
+        _sessions: u64,
+    ) -> Result<InPlace, Fault>
+        requires crew { _keeper.now.crew.value.asked ≡ _sessions }
+    {
+        if self.link(rt).is_ok() {
+            return Ok(InPlace { made: () });
+        }
+        self.take_stale_away(rt)?;
+        match self.link(rt) {
+            Ok(()) => Ok(InPlace { made: () }),
+            Err(_) if has_socket(rt, self.socket)? => Err(Fault::Taken),
+            Err(_) => Err(Fault::Listen),
+        }
+    }
+
+    // Unlike a rename, a link never replaces what is there.
+    fn link<H: Files>(&self, rt: &H) -> io::Result<()> {
+        fs::hard_link(rt, self.folder.socket.as_str(), self.socket)
+    }
+
+    // Removes the socket's file that is in the place, if no server has it. A server may come between a look and a removal. So the
+    // file gets a name in the private folder first, where nobody else can change it, and then comes the look that counts.
+    fn take_stale_away<H: Files + Net>(&self, rt: &H) -> Result<(), Fault> {
+        if !has_socket(rt, self.socket)? {
+            return Ok(());
+        }
+        if is_served(rt, self.socket)? {
+            return Err(Fault::Taken);
+        }
+        let stale = self.folder.stale.as_str();
+        fs::rename(rt, self.socket, stale).map_err(|_| Fault::Listen)?;
+        if has_socket(rt, stale) == Ok(true) && is_served(rt, stale) == Ok(false) {
+            return fs::remove_file(rt, stale).map_err(|_| Fault::Listen);
+        }
+        if fs::hard_link(rt, stale, self.socket).is_ok() {
+            let _: io::Result<()> = fs::remove_file(rt, stale);
+        }
+        Err(Fault::Taken)
+    }
+
+    /// Sees to it that the socket is in its place. Returns whether it was away and is back. An error is `Lost` if another file is
+    /// in its place, or if it can't be put back.
+    pub(crate) fn keep<H: Files>(&self, rt: &H, _there: &InPlace) -> Result<bool, Fault> {
+        match fs::symlink_metadata(rt, self.socket) {
+            Ok(found) if self.own == Some(identity(&found)) => Ok(false),
+            Ok(_) => Err(Fault::Lost),
+            Err(fault) if is_away(&fault) => match self.link(rt) {
+                Ok(()) => Ok(true),
+                Err(_) => Err(Fault::Lost),
+            },
+            Err(_) => Ok(false),
+        }
+    }
+
+    /// Removes the private folder.
+    pub(crate) fn leave<H: Files>(&self, rt: &H) {
+        self.folder.remove(rt);
+        let _: io::Result<()> = self.lock.set_len(0);
+    }
+}
+
+fn identity(file: &Metadata) -> (u64, u64) {
+    (file.dev(), file.ino())
+}
+
+// Whether nothing is at a path.
+fn is_away(fault: &io::Error) -> bool {
+    matches!(fault.kind(), ErrorKind::NotFound | ErrorKind::NotADirectory)
+}
