@@ -1,7 +1,8 @@
 """Wrong changes that the prover has to refuse: at which goal it did, and how they are tried.
 
 The edits of must-fail/ are tried by `rt ci`, over the whole crate. An edit of edits.txt is tried over the function that it names, and those
-that this one calls, which takes half a minute once the libraries below are built.
+that this one calls, which takes half a minute once the libraries below are built. Edits of different bodies are tried together first
+(tests/batches.py): the clause of each has to be the one that fails in its function. What isn't refused so is tried alone.
 """
 
 import os
@@ -14,6 +15,7 @@ import time
 from pathlib import Path
 
 import libraries
+from batches import batches_of, changes_bodies, texts_of
 from editing import ROOT, apply, copy_sources, edited
 from functions import path_of
 from running import Untried, kit, run
@@ -24,6 +26,8 @@ TOLD = re.compile(r"(note: )?\S+:\d+:\d+: ")
 NAMES = re.compile(r"(note: )?(\./)?proofs/.*(has no field|is not in scope|has no `|was not admitted)")
 # A line about proofs that rest on a lemma which isn't proved.
 RESTS = re.compile(r"(?:\./)?proofs/(?:\w+/)*(\w+)/\w+\.antt:.* which was not admitted, (?:was|were) not checked: (.*)")
+# A line about a goal that no tactic proves, of a function without a proof file.
+OPEN = re.compile(r"note: `([^`]+)` of (?:\./)?proofs/(?:\w+/)*(\w+)/\w+\.antt must prove: ")
 # How many seconds a check may take, if nothing else says when it ends.
 SECONDS = 3600
 # Runs `rt check` over the libraries as they are. `rt ci` leaves them without the stamps by which `rt check` knows them. The first word
@@ -125,6 +129,7 @@ def failed_in(said, edit):
     if failed and any(path.startswith("specs/") for path, _, _ in edit.pairs):
         rests = [found for it in told if (found := RESTS.match(it))]
         failed += [(it[1], clause_of(f": error: `{goal}`")) for it in rests for goal in it[2].split(", ")]
+        failed += [(it[2], clause_of(f": error: `{it[1]}`")) for it in map(OPEN.match, said.splitlines()) if it]
     return failed
 
 
@@ -168,13 +173,33 @@ def build_below(name):
     return f"its libraries can't be built: {(built.stdout + built.stderr).strip()[-200:]}" if built.returncode else None
 
 
+def refused_together(tree, edits, end):
+    """Returns those of a batch that their clauses refuse, if they are tried together. Of the others this says nothing. If together they
+    can't be compiled, each half is tried for itself."""
+    crate = tree / "crates" / edits[0].crate.name
+    kept = apply(texts_of(edits), crate)
+    _, said = check(tree, crate, sorted({path_of(it) for it in edits}), end)
+    apply(kept, crate)
+    if not re.search(r"^only=", said, re.M) and len(edits) > 1:
+        half = len(edits) // 2
+        return [*refused_together(tree, edits[:half], end), *refused_together(tree, edits[half:], end)]
+    return [it for it in edits if (it.refused_by[0].split("::")[-1], it.refused_by[1]) in failed_in(said, it)]
+
+
 def try_edits(edits):
-    """Tries edits of one crate, one after the other. Yields each with its fault and its seconds."""
-    name = edits[0].crate.name
+    """Tries edits of one crate: those of different bodies together, and then one after the other those that weren't refused so. Yields each
+    with its fault and its seconds."""
+    name, left = edits[0].crate.name, [*edits]
     why = build_below(name)
     with tempfile.TemporaryDirectory() as work:
         copy_with_libraries(Path(work), name)
-        for edit in edits:
+        for batch in batches_of([it for it in edits if changes_bodies(it)]) if not why else ():
+            begun = time.monotonic()
+            refused = refused_together(Path(work), batch, begun + SECONDS) if len(batch) > 1 else []
+            left = [it for it in left if it not in refused]
+            for edit in refused:
+                yield edit, None, (time.monotonic() - begun) / len(batch)
+        for edit in left:
             begun, found = time.monotonic(), why
             if not why:
                 try:

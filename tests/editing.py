@@ -11,6 +11,8 @@ from dataclasses import dataclass, field
 from pathlib import Path
 
 ROOT = Path(__file__).resolve().parent.parent
+# The family of edits.txt whose edits the gate tries each time.
+MAIN = "Main promises"
 HOLE = "EFFECT"
 ARGUMENT = "HERE"
 # What refuses an edit: a clause of a function's contract, a test of a crate or a line that a script of tests/ prints, or an error of
@@ -37,6 +39,7 @@ class Edit:
     pairs: list = field(default_factory=list)
     kind: str = ""
     refused_by: tuple = ()
+    is_main: bool = False  # whether the gate tries it each time
 
     @property
     def path(self):
@@ -199,6 +202,10 @@ class File:
             raise Unread(f"there are two of this name: {name}")
         if not it.says.endswith("."):
             raise Unread("its sentence has no full stop")
+        if by_name is self.edits and self.families[-1][0] == MAIN:
+            if it.kind != CLAUSE:
+                raise Unread("a clause has to refuse an edit of a main promise")
+            it.is_main = True
         by_name[name] = it
 
 

@@ -130,3 +130,11 @@ def changed_by(edit):
             return None
         texts[path] = text.replace(old, new)
     return [*{it[3:]: it for it in found}.values()]
+
+
+def is_in_body(number, it, lines):
+    """Whether a line of the text is in the body of a function, and not in its contract."""
+    head = lines[it.first - 1]
+    opening = head[: len(head) - len(head.lstrip())] + "{"
+    below = [at for at, line in enumerate(lines[it.first : it.last], it.first + 1) if line == opening]
+    return number > (below[0] if below else it.first)

@@ -21,6 +21,12 @@ TOP = os.path.dirname(os.path.dirname(os.path.realpath(__file__)))
 CONNECT = "ftrighub: cannot connect\n"
 NO_ANSWER = "ftrighub: no answer\n"
 UNKNOWN = "ftrighub: unknown reply\n"
+# What a hub that lives says first: its version, its socket, its mode if it has one, and how many sessions there may be.
+LISTENS = re.compile(r"ftrighub: (\S+) listens at (.+) \((?:mode (0[0-7]{3}), )?(\d+) sessions\)\n")
+# What it says of sessions whose client hung up, and that all sessions are taken.
+HANG_UP = re.compile(r"ftrighub: (session \d+ stopped after \d+ s: (could not read from its client|its client left before it read its reply)"
+                     r"|\d+ more sessions stopped)")
+CROWD = re.compile(r"ftrighub: all \d+ sessions are taken, and clients wait")
 # What has to happen happens within so many seconds, also on a slow machine with much else to do.
 PATIENCE = 60
 
@@ -135,15 +141,19 @@ class Hub:
             [program, "serve", path, "--forever", "--ready-fd", str(told), *words],
             pass_fds=[told], stderr=subprocess.PIPE, text=True, cwd=cwd, umask=umask, user=user)
         os.close(told)
-        self.ready, self.path = ready, path
+        self.ready, self.path, self.first = ready, path, ""
         atexit.register(self.kill)
         HUBS.append(self)
         if files is not None:
             resource.prlimit(self.process.pid, resource.RLIMIT_NOFILE, (files, files))
 
     def told(self, seconds=PATIENCE):
-        """Waits for so long until the hub has written to its descriptor or has ended, and returns what it wrote."""
-        return os.read(self.ready, 16) if select.select([self.ready], [], [], seconds)[0] else b""
+        """Waits for so long until the hub has written to its descriptor or has ended, and returns what it wrote. Its first line on
+        standard error, which comes then, is kept."""
+        told = os.read(self.ready, 16) if select.select([self.ready], [], [], seconds)[0] else b""
+        if told and not self.first:
+            self.first = next_line(self.process.stderr.fileno())
+        return told
 
     def client(self):
         return Client(self.path, self.process)
@@ -153,9 +163,10 @@ class Hub:
         self.process.wait()
 
     def end(self):
-        """Kills the hub, and returns what it wrote to standard error."""
+        """Kills the hub, and returns what it wrote to standard error, but for the line that it listens."""
         self.process.kill()
-        return self.process.communicate()[1]
+        told = self.process.communicate()[1]
+        return told if self.first else LISTENS.sub("", told, count=1)
 
     def status(self, what):
         return number_of(self.process.pid, what)
@@ -169,6 +180,17 @@ class Hub:
     def descriptors(self):
         """How many descriptors it has open. Each session has one."""
         return len(os.listdir(f"/proc/{self.process.pid}/fd"))
+
+
+def next_line(descriptor):
+    """The next line of a pipe, or what came of it in a minute or before its end. Nothing behind it is read."""
+    line, deadline = b"", time.monotonic() + PATIENCE
+    while not line.endswith(b"\n") and select.select([descriptor], [], [], max(0, deadline - time.monotonic()))[0]:
+        byte = os.read(descriptor, 1)
+        if byte == b"":
+            break
+        line += byte
+    return line.decode()
 
 
 def number_of(task, what):

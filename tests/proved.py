@@ -12,7 +12,8 @@ import time
 from pathlib import Path
 
 import clauses
-from editing import apply, changed, edited
+from batches import batches_of, texts_of
+from editing import apply, edited
 from functions import changed_by, functions_in, is_plain, whole_path
 from running import Untried
 
@@ -60,28 +61,6 @@ def fault_of(edit, folder, end):
     with tempfile.TemporaryDirectory(dir=folder) as work:
         clauses.copy_with_libraries(Path(work), edit.crate.name)
         return fault_in(Path(work), edit, end)
-
-
-def texts_of(edits):
-    """Returns the texts that edits of a crate make together, or None if one changes what another one does."""
-    texts = {}
-    return None if any(changed(texts, it.crate, *pair) for it in edits for pair in it.pairs) else texts
-
-
-def batches_of(edits):
-    """Returns edits of a crate in batches, in each of which no function is changed twice. One that may change any function is in none."""
-    batches = []
-    for edit in edits:
-        functions = {it[3:] for it in changed_by(edit) or ()}
-        if not functions or not texts_of([edit]):
-            continue
-        fits = (it for it in batches if not it[0] & functions and texts_of([*it[1], edit]))
-        batch = next(fits, None) or (set(), [])
-        if not batch[1]:
-            batches.append(batch)
-        batch[0].update(functions)
-        batch[1].append(edit)
-    return [edits for _, edits in batches]
 
 
 def proved_in(tree, edits, end):

@@ -32,7 +32,7 @@ use std::{env, io};
 pub(crate) const NAME: &str = "ftrighub";
 
 /// The program's version, which `--version` prints after its name.
-const VERSION: &str = "0.4.0-dev";
+pub const VERSION: &str = "0.4.0-dev";
 
 /// What the program is to do.
 #[derive(Drop, Debug, PartialEq, Eq)]
@@ -281,6 +281,3 @@ pub fn begin<'a, H: Runtime + AllocGlobal>(
         Err(_) => Err(FrontError::Write),
     }
 }
-
-#[cfg(test)]
-mod tests;

@@ -10,7 +10,7 @@ These lines start a hub, make two services, say that they are ready, wait for
 both of them for five seconds at most, and end the hub:
 
   ftrighub serve hub.socket --forever & export FTRIGHUB_SOCKET=hub.socket
-  until ftrighub make db web 2>/dev/null; do sleep 0.1; done
+  until ftrighub make db web 2>/dev/null || ! kill -0 $!; do sleep 0.1; done
   ftrighub tell db ready; ftrighub tell web ready
   ftrighub wait all ready --for 5s db web
   kill $!; wait
@@ -179,8 +179,14 @@ running, with a line on standard error: `cannot listen`, `another server listens
 there`, `socket file lost`, `cannot notify`, `cannot read the setup`, `cannot
 accept`, `cannot start a session`, `out of memory`. A line of a setup that was
 refused is told as in `setup line 3: no form`. A session that stopped gets a
-line such as `session 2: read failed` (or write failed, too many reads, out of
-memory, idle): at once with --forever, and otherwise at the end.";
+line at the end, such as `session 2: read failed` (or write failed, too many
+reads, out of memory).
+
+With --forever standard error is a log. It says that the hub listens, why it
+can't, as in `cannot listen: no such directory`, that all sessions are taken and
+clients wait, and which session stopped, when it does, as in:
+
+  session 2 stopped after 12 s: its client left before it read its reply";
 
 /// The subcommand `call` in one line.
 pub const CALL_ABOUT: &str = "Send the request lines of standard input to a hub";

@@ -19,7 +19,7 @@ mod socket;
 pub use asking::{Follow, Wish};
 pub use changing::{Hold, Shape};
 pub use command_line::{
-    Plan, Start, WordsError, begin, early_status, own_words, read_words, status_of,
+    Plan, Start, VERSION, WordsError, begin, early_status, own_words, read_words, status_of,
 };
 pub use serving::HubOptions;
-pub use socket::{OwnSocket, own_socket};
+pub use socket::{OwnSocket, derived_socket, own_socket};

@@ -43,12 +43,13 @@ pub fn own_socket<H: Runtime + AllocGlobal>(
 ) -> Result<Option<OwnSocket>, AllocError> {
     let named = env::var(rt, "FTRIGHUB_SOCKET");
     let folder = env::var(rt, "XDG_RUNTIME_DIR");
-    derived(alloc, named, user, folder)
+    derived_socket(alloc, named, user, folder)
 }
 
-// The rule: what `FTRIGHUB_SOCKET` has, or else root's socket, or else one in the folder that `XDG_RUNTIME_DIR` has. The XDG Base
-// Directory Specification says that a relative path in that variable is invalid and ignored.
-fn derived(
+/// The rule: what `FTRIGHUB_SOCKET` has, or else root's socket, or else one in the folder that `XDG_RUNTIME_DIR` has. The XDG Base
+/// Directory Specification says that a relative path in that variable is invalid and ignored. The results are what the environment has
+/// under these two names.
+pub fn derived_socket(
     alloc: Global,
     named: Result<String, VarError>,
     user: u32,
@@ -82,6 +83,3 @@ fn is_absolute(path: &str) -> bool
         [] => false,
     }
 }
-
-#[cfg(test)]
-mod tests;

@@ -121,6 +121,3 @@ pub fn turns_asked(alloc: Global, line: &Line) -> u64
         Err(_) => 0,
     }
 }
-
-#[cfg(test)]
-mod tests;

@@ -4,8 +4,13 @@ use Rattle.std.specs.Fmt.{decimal}
 use Rattle.hub_ask.specs.Faults.{ask_text}
 use Rattle.hub_client.specs.Faults.{relay_text}
 use Rattle.hub_endings.specs.declared.fault.Fault.{Fault}
-use Rattle.hub_endings.specs.declared.fault.Fault.TheVariants.{Listen, Taken, Notify, Setup, SetupLine, Restored, Lost, Accept, Connect, Memory, Script, Serve, Session, Idle, More, Wills, Relay, Ask}
+use Rattle.hub_endings.specs.declared.fault.Fault.TheVariants.{Listen, Taken, Notify, Setup, SetupLine, Lost, Accept, Connect, Memory, Script, Serve, Session, Relay, Ask}
+use Rattle.hub_endings.specs.declared.listen_fault.ListenFault.{ListenFault}
+use Rattle.hub_endings.specs.declared.listen_fault.ListenFault.TheVariants as listening
+use Rattle.hub_endings.specs.declared.listen_fault.ListenFault.TheVariants.{Untold, NoFolder, NotFolder, Denied, Empty, Long, Another, Lock, Names, ReadOnly, Space}
 use Rattle.hub_io.specs.Faults.{fault_text}
+use Rattle.std.specs.declared.io.ErrorKind.{ErrorKind}
+use Rattle.std.specs.declared.io.ErrorKind.TheVariants.{NotFound, NotADirectory, PermissionDenied, ReadOnlyFilesystem, StorageFull, QuotaExceeded, OutOfMemory}
 use Rattle.hub_io.specs.declared.fault.FrontError.{FrontError}
 use Rattle.hub_io.specs.declared.fault.FrontError.TheVariants as passing
 use Rattle.hub_server.specs.Reports.{serve_text}
@@ -16,14 +21,39 @@ use Rattle.hub_endings.specs.declared.refused_line.RefusedLine.{RefusedLine}
 abbrev pub refused_text : RefusedLine → List ℕ
 refused_text at = codes "setup line " ++ decimal at.number ++ codes ": no " ++ word_of at.refusal
 
+-- the text of why a server can't listen
+abbrev pub listen_text : ListenFault → List ℕ
+listen_text Untold = codes "cannot listen"
+listen_text NoFolder = codes "cannot listen: no such directory"
+listen_text NotFolder = codes "cannot listen: not a directory"
+listen_text Denied = codes "cannot listen: permission denied"
+listen_text Empty = codes "cannot listen: the path is empty"
+listen_text Long = codes "cannot listen: the path is too long (at most 103 bytes)"
+listen_text Another = codes "cannot listen: a file that isn't a socket"
+listen_text Lock = codes "cannot listen: SOCKET.lock isn't an ordinary file of this user"
+listen_text Names = codes "cannot listen: SOCKET.a to SOCKET.z are taken"
+listen_text ReadOnly = codes "cannot listen: read-only file system"
+listen_text Space = codes "cannot listen: no space left"
+listen_text listening.Memory = codes "cannot listen: out of memory"
+
+-- why a server can't listen if the system refuses a file with an error of this kind
+abbrev pub listen_fault_of : ErrorKind → ListenFault
+listen_fault_of NotFound = NoFolder
+listen_fault_of NotADirectory = NotFolder
+listen_fault_of PermissionDenied = Denied
+listen_fault_of ReadOnlyFilesystem = ReadOnly
+listen_fault_of StorageFull = Space
+listen_fault_of QuotaExceeded = Space
+listen_fault_of OutOfMemory = listening.Memory
+listen_fault_of kind = Untold
+
 -- the text of a fault
 abbrev pub text_of : Fault → List ℕ
-text_of Listen = codes "cannot listen"
+text_of (Listen fault) = listen_text fault
 text_of Taken = codes "another server listens there"
 text_of Notify = codes "cannot notify"
 text_of Setup = codes "cannot read the setup"
 text_of (SetupLine line) = refused_text line
-text_of Restored = codes "socket file restored"
 text_of Lost = codes "socket file lost"
 text_of Accept = codes "cannot accept"
 text_of Connect = codes "cannot connect"
@@ -31,15 +61,16 @@ text_of Memory = fault_text passing.Memory
 text_of (Script fault) = fault_text fault
 text_of (Serve fault) = serve_text fault
 text_of (Session number fault) = codes "session " ++ decimal number ++ codes ": " ++ fault_text fault
-text_of (Idle number) = codes "session " ++ decimal number ++ codes ": idle"
-text_of (More sessions) = decimal sessions ++ codes " more sessions stopped"
-text_of (Wills wills) = decimal wills ++ codes " wills not carried out"
 text_of (Relay fault) = relay_text fault
 text_of (Ask fault) = ask_text fault
 
--- the line of a fault, with its LF
+-- the line with this text, and its LF
+abbrev pub line_with : (text : List ℕ) → List ℕ
+line_with text = codes "ftrighub: " ++ text ++ 10 ∷ []
+
+-- the line of a fault
 abbrev pub line_of : Fault → List ℕ
-line_of fault = codes "ftrighub: " ++ text_of fault ++ 10 ∷ []
+line_of fault = line_with (text_of fault)
 
 -- the line of the session with this number and this result, if it stopped
 abbrev pub session_line : (number : ℕ) → Result ℕ FrontError → List ℕ

@@ -1,3 +1,4 @@
 pub mod Faults
+pub mod HubLines
 pub mod BadWords
 pub mod Endings

@@ -4,6 +4,8 @@ ghost use Rattle.std.specs.Io.KnownBytes.{Appends};
 ghost use Rattle.hub_endings.specs.Faults.{line_of};
 ghost use Rattle.hub_endings.specs.declared.fault.Fault.TheVariants as fault;
 
+use crate::line::tell_line;
+use crate::listen_fault::ListenFault;
 use crate::refused_line::RefusedLine;
 use hub_ask::AskError;
 use hub_client::RelayError;
@@ -18,7 +20,7 @@ use std::{fmt, io};
 #[derive(Clone, Copy, Debug, PartialEq, Eq)]
 pub enum Fault {
     /// The socket couldn't be made at its path.
-    Listen,
+    Listen(ListenFault),
     /// Another server listens at the socket.
     Taken,
     /// The descriptor that is told when the hub listens couldn't be written to.
@@ -27,8 +29,6 @@ pub enum Fault {
     Setup,
     /// A line of the setup was refused.
     SetupLine(RefusedLine),
-    /// The socket's file was removed, and is back.
-    Restored,
     /// Another file is in the place of the socket, or its file couldn't be put back.
     Lost,
     /// A connection was expected, and accepting it failed.
@@ -43,13 +43,6 @@ pub enum Fault {
     Serve(ServeError),
     /// A session of `serve` stopped. Sessions are numbered from 1, in the order in which they were accepted.
     Session { number: u64, fault: FrontError },
-    /// The client of a session of `serve --forever` sent no whole line, or took no whole reply, for too long.
-    Idle { number: u64 },
-    /// So many sessions of `serve --forever` stopped besides, and aren't told one by one.
-    More { sessions: u64 },
-    /// So many wills of sessions of `serve --forever` couldn't be carried out: their fifodirs had no room for a minute, or take no
-    /// more events.
-    Wills { wills: u64 },
     /// The relay of `call` stopped.
     Relay(RelayError),
     /// A request of `ask` has no outcome.
@@ -63,12 +56,11 @@ impl fmt::Display for Fault {
 
     fn fmt<W: fmt::Write>(&self, f: &mut fmt::Formatter<W>) -> fmt::Result {
         match self {
-            Fault::Listen => f.write_str("cannot listen"),
+            Fault::Listen(fault) => write!(f, "{fault}"),
             Fault::Taken => f.write_str("another server listens there"),
             Fault::Notify => f.write_str("cannot notify"),
             Fault::Setup => f.write_str("cannot read the setup"),
             Fault::SetupLine(line) => write!(f, "{line}"),
-            Fault::Restored => f.write_str("socket file restored"),
             Fault::Lost => f.write_str("socket file lost"),
             Fault::Accept => f.write_str("cannot accept"),
             Fault::Connect => f.write_str("cannot connect"),
@@ -76,9 +68,6 @@ impl fmt::Display for Fault {
             Fault::Script(fault) => write!(f, "{fault}"),
             Fault::Serve(fault) => write!(f, "{fault}"),
             Fault::Session { number, fault } => write!(f, "session {number}: {fault}"),
-            Fault::Idle { number } => write!(f, "session {number}: idle"),
-            Fault::More { sessions } => write!(f, "{sessions} more sessions stopped"),
-            Fault::Wills { wills } => write!(f, "{wills} wills not carried out"),
             Fault::Relay(fault) => write!(f, "{fault}"),
             Fault::Ask(fault) => write!(f, "{fault}"),
         }
@@ -93,10 +82,7 @@ impl Fault {
     pub fn tell<W: Write>(self, alloc: Global, out: &mut W) -> io::Result<()>
         ensures { OnOk result (Appends (W.contents out.old) (W.contents out.new) (line_of self)) }
     {
-        match format!(in alloc; "ftrighub: {self}\n") {
-            Ok(line) => out.write_all(line.as_bytes()),
-            Err(_) => writeln!(out, "ftrighub: {self}"),
-        }
+        tell_line(alloc, &self, out)
     }
 }
 
@@ -105,6 +91,14 @@ impl From<AllocError> for Fault {
 
     fn from(_error: AllocError) -> Fault {
         Fault::Memory
+    }
+}
+
+impl From<ListenFault> for Fault {
+    ghost from_gives = { λ error it. it ≡ fault.Listen error };
+
+    fn from(error: ListenFault) -> Fault {
+        Fault::Listen(error)
     }
 }
 

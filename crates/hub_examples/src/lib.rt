@@ -11,6 +11,7 @@ pub mod endings;
 pub mod fakes;
 pub mod fifodir;
 pub mod front;
+pub mod gather;
 pub mod handles;
 pub mod io;
 pub mod letters;

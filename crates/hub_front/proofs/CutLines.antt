@@ -50,7 +50,7 @@ reading_of_cut line read r = elim (short_or_long (length line) 513) [
 answers_of_cut : {D : Type 0} {asks : Asking D} {old new : D} {line : List ℕ} {reply : Reply} → AnswersLine asks old (cut line) reply new → AnswersLine asks old line reply new
 answers_of_cut {line = line} a = record { read = a.read; reading = reading_of_cut line a.read a.reading; answered = a.answered }
 
-run_of_cut : {D : Type 0} (asks : Asking D) (old : D) (lines : List (List ℕ)) (replies : List Reply) (new : D) → Run asks old (map cut lines) replies new → Run asks old lines replies new
+pub run_of_cut : {D : Type 0} (asks : Asking D) (old : D) (lines : List (List ℕ)) (replies : List Reply) (new : D) → Run asks old (map cut lines) replies new → Run asks old lines replies new
 run_of_cut asks old [] [] new r = r
 run_of_cut asks old [] (p ∷ ps) new r = absurd r
 run_of_cut asks old (l ∷ ls) [] new r = absurd r

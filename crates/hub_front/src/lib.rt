@@ -15,4 +15,5 @@ pub use hub_protocol::{parse, write_reply};
 pub use hub_requests::Enter;
 pub use places::{refusals_are_in_place, same_input_same_output, same_lines_same_replies};
 pub use serving::{serve, serve_within};
+pub use session::KEPT;
 pub use stay::{MANY_READS, SMALL_CHUNK, Stay};

@@ -14,8 +14,8 @@ use hub_requests::{Desk, Enter, LONGEST_REPLY, Reply};
 use std::alloc::{AllocError, Global};
 use std::sync::Wait;
 
-// One byte more than a line may have, which is enough to know that a line is too long.
-const KEPT: usize = 513;
+/// How many bytes of a line are kept: one more than a line may have, which is enough to know that it is too long.
+pub const KEPT: usize = 513;
 
 /// What a session keeps between two reads: the first 513 bytes of the unfinished line, room for the text of a reply,
 /// and how many lines were answered.

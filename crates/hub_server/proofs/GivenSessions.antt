@@ -1,6 +1,7 @@
 -- What a gate was asked for.
 use Rattle.std.proofs.Common.{◌≡◌, ℕ, ◌+◌, List, [], ◌∷◌, ◌++◌, length, refl, sym, ap, subst, ◌∙◌, arith, Bool, true, false, ◌≤◌, ◌<◌, inl, inr, Result, Ok, Err, IfErr}
 use Rattle.std.proofs.lemmas.List.{length_push}
+use Rattle.hub_front.specs.declared.stay.Stay.{Stay}
 use Rattle.hub_server.specs.declared.gate.Next.TheVariants as next
 use Rattle.hub_server.specs.declared.promise.Session.{Session}
 use Rattle.hub_server.specs.declared.report.ServeError.{ServeError}
@@ -59,8 +60,8 @@ given_few gives most old given true new asked = let short = asked.ends.0 in omeg
 given_few gives most old given false new asked = elim asked.ends [ inl full ↦ (let all = full.0 in omega arith) | inr over ↦ (let short = over.0 in omega arith) ]
 
 -- one more whose desk is from a share of these
-pub over_one_more : {R W O D : Type 0} (opens : O → D → Type 0) (most : O → ℕ) (desks : O) (sessions sessions' : List (Session R W O)) (session : Session R W O)
-    → sessions' ≡ sessions ++ session ∷ [] → AreOver opens most desks sessions → IsShare opens most desks session.desks.value
-    → AreOver opens most desks sessions'
-over_one_more opens most desks sessions sessions' session pushed over here =
-    subst (AreOver opens most desks) (sym pushed) (All-push (λ s. IsShare opens most desks s.desks.value) sessions session over here)
+pub over_one_more : {R W O D : Type 0} (opens : O → D → Type 0) (stay : O → Stay) (desks : O) (sessions sessions' : List (Session R W O)) (session : Session R W O)
+    → sessions' ≡ sessions ++ session ∷ [] → AreOver opens stay desks sessions → IsShare opens stay desks session.desks.value
+    → AreOver opens stay desks sessions'
+over_one_more opens stay desks sessions sessions' session pushed over here =
+    subst (AreOver opens stay desks) (sym pushed) (All-push (λ s. IsShare opens stay desks s.desks.value) sessions session over here)

@@ -5,6 +5,7 @@ use Rattle.std.specs.List.{AllZip}
 use Rattle.std.proofs.lemmas.List.Elements.{All-head, All-tail}
 use Rattle.hub_front.specs.Serving.{Asking}
 use Rattle.hub_io.specs.declared.fault.FrontError.{FrontError}
+use Rattle.hub_front.specs.declared.stay.Stay.{Stay}
 use Rattle.hub_server.specs.Sessions.{Reading, Writing, IsResult}
 use Rattle.hub_server.specs.declared.promise.Session.{Session}
 use Rattle.hub_server.specs.Promised.{AreOver, IsShare, streams_of}
@@ -22,10 +23,10 @@ kept_in_order K Q T keeps (s ∷ ss) (r ∷ rs) such each =
     (keeps s r (All-head T s ss such) each.0, kept_in_order K Q T keeps ss rs (All-tail T s ss such) each.1)
 
 -- a result by a desk that begins so is one by a desk that begins as these say
-result_by : {D R W : Type 0} (most : ℕ) (begins begins' : D → Type 0) (asks : Asking D) (ends : D → D → Type 0) (r : Reading R) (w : Writing W)
+result_by : {D R W : Type 0} (stay : Stay) (begins begins' : D → Type 0) (asks : Asking D) (ends : D → D → Type 0) (r : Reading R) (w : Writing W)
     (reader : R) (writer : W) (result : Result ℕ FrontError) → ((desk : D) → begins desk → begins' desk)
-    → IsResult most begins asks ends r w reader writer result → IsResult most begins' asks ends r w reader writer result
-result_by most begins begins' asks ends r w reader writer result widens it = record {
+    → IsResult stay begins asks ends r w reader writer result → IsResult stay begins' asks ends r w reader writer result
+result_by stay begins begins' asks ends r w reader writer result widens it = record {
   read = it.read;
   written = it.written;
   ended = record {
@@ -44,23 +45,23 @@ result_by most begins begins' asks ends r w reader writer result widens it = rec
 }
 
 -- a result by a share of these desks is one by these
-result_by_share : {O D R W : Type 0} (opens : O → D → Type 0) (most : O → ℕ) (asks : Asking D) (ends : D → D → Type 0) (r : Reading R) (w : Writing W)
-    (desks share : O) (reader : R) (writer : W) (result : Result ℕ FrontError) → IsShare opens most desks share
-    → IsResult (most share) (opens share) asks ends r w reader writer result → IsResult (most desks) (opens desks) asks ends r w reader writer result
-result_by_share opens most asks ends r w desks share reader writer result shares it =
-    subst (λ n. IsResult n (opens desks) asks ends r w reader writer result) shares.as_many
-    (result_by (most share) (opens share) (opens desks) asks ends r w reader writer result shares.opened it)
+result_by_share : {O D R W : Type 0} (opens : O → D → Type 0) (stay : O → Stay) (asks : Asking D) (ends : D → D → Type 0) (r : Reading R) (w : Writing W)
+    (desks share : O) (reader : R) (writer : W) (result : Result ℕ FrontError) → IsShare opens stay desks share
+    → IsResult (stay share) (opens share) asks ends r w reader writer result → IsResult (stay desks) (opens desks) asks ends r w reader writer result
+result_by_share opens stay asks ends r w desks share reader writer result shares it =
+    subst (λ n. IsResult n (opens desks) asks ends r w reader writer result) shares.as_long
+    (result_by (stay share) (opens share) (opens desks) asks ends r w reader writer result shares.opened it)
 
 -- the results of sessions whose desks are from shares of these
-pub results_in_order : {O D R W : Type 0} (opens : O → D → Type 0) (most : O → ℕ) (asks : Asking D) (ends : D → D → Type 0) (r : Reading R) (w : Writing W)
-    (desks : O) (sessions : List (Session R W O)) (results : List (Result ℕ FrontError)) → AreOver opens most desks sessions
-    → AllZip (λ session result. IsResult (most session.desks.value) (opens session.desks.value) asks ends r w session.reader.value session.writer.value result) sessions results
-    → AreResults (most desks) (opens desks) asks ends r w (streams_of sessions) results
-results_in_order opens most asks ends r w desks sessions results over each =
-    kept_in_order (λ session result. IsResult (most session.desks.value) (opens session.desks.value) asks ends r w session.reader.value session.writer.value result)
-    (λ streams result. IsResult (most desks) (opens desks) asks ends r w streams.0 streams.1 result)
-    (λ session. IsShare opens most desks session.desks.value)
-    (λ session result shares kept. result_by_share opens most asks ends r w desks session.desks.value session.reader.value session.writer.value result shares kept)
+pub results_in_order : {O D R W : Type 0} (opens : O → D → Type 0) (stay : O → Stay) (asks : Asking D) (ends : D → D → Type 0) (r : Reading R) (w : Writing W)
+    (desks : O) (sessions : List (Session R W O)) (results : List (Result ℕ FrontError)) → AreOver opens stay desks sessions
+    → AllZip (λ session result. IsResult (stay session.desks.value) (opens session.desks.value) asks ends r w session.reader.value session.writer.value result) sessions results
+    → AreResults (stay desks) (opens desks) asks ends r w (streams_of sessions) results
+results_in_order opens stay asks ends r w desks sessions results over each =
+    kept_in_order (λ session result. IsResult (stay session.desks.value) (opens session.desks.value) asks ends r w session.reader.value session.writer.value result)
+    (λ streams result. IsResult (stay desks) (opens desks) asks ends r w streams.0 streams.1 result)
+    (λ session. IsShare opens stay desks session.desks.value)
+    (λ session result shares kept. result_by_share opens stay asks ends r w desks session.desks.value session.reader.value session.writer.value result shares kept)
     sessions results over each
 
 -- one more at the end of each

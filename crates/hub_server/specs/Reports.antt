@@ -2,6 +2,7 @@
 use Rattle.std.specs.Prelude.{ℕ, Bool, List, codes, Result}
 use Rattle.std.specs.List.{AllZip}
 use Rattle.hub_front.specs.Serving.{Asking}
+use Rattle.hub_front.specs.declared.stay.Stay.{Stay}
 use Rattle.hub_io.specs.Faults.{fault_text}
 use Rattle.hub_io.specs.declared.fault.FrontError.{FrontError}
 use Rattle.hub_io.specs.declared.fault.FrontError.TheVariants as passing
@@ -10,17 +11,17 @@ use Rattle.hub_server.specs.declared.report.ServeError.TheVariants.{Spawn, Memor
 use Rattle.hub_server.specs.Gates.{Giving, Closing, IsAsked, ThenCloses}
 use Rattle.hub_server.specs.Sessions.{Reading, Writing, IsResult}
 
--- each session has its result, in at most `most` reads, in order
-abbrev pub AreResults : {D R W : Type 0} → (most : ℕ) → (D → Type 0) → Asking D → (D → D → Type 0) → Reading R → Writing W → List (R × W) → List (Result ℕ FrontError) → Type 0
-AreResults most begins asks ends r w = AllZip (λ session result. IsResult most begins asks ends r w session.0 session.1 result)
+-- each session, which may stay so long, has its result, in order
+abbrev pub AreResults : {D R W : Type 0} → Stay → (D → Type 0) → Asking D → (D → D → Type 0) → Reading R → Writing W → List (R × W) → List (Result ℕ FrontError) → Type 0
+AreResults stay begins asks ends r w = AllZip (λ session result. IsResult stay begins asks ends r w session.0 session.1 result)
 
--- if at most `most` sessions are wanted, of at most `reads` reads each: the sessions that the gate gave have these results,
+-- if at most `most` sessions are wanted, each of which may stay so long: the sessions that the gate gave have these results,
 -- `failed` says whether it failed, and it was closed
-pub record IsReport {D R W G : Type 0} (reads : ℕ) (begins : D → Type 0) (asks : Asking D) (ends : D → D → Type 0) (r : Reading R) (w : Writing W)
+pub record IsReport {D R W G : Type 0} (stay : Stay) (begins : D → Type 0) (asks : Asking D) (ends : D → D → Type 0) (r : Reading R) (w : Writing W)
     (gives : Giving G R W) (closes : Closing G) (most : ℕ) (old new : G) (results : List (Result ℕ FrontError)) (failed : Bool) : Type 0 where
   pub given : List (R × W)
   pub asked : ThenCloses closes (λ last. IsAsked gives most old given failed last) new
-  pub each : AreResults reads begins asks ends r w given results
+  pub each : AreResults stay begins asks ends r w given results
 
 -- the text of an error
 abbrev pub serve_text : ServeError → List ℕ

@@ -1,6 +1,7 @@
 //! What serves sessions.
-ghost use Rattle.std.specs.Prelude.{ℕ, IfOk};
+ghost use Rattle.std.specs.Prelude.{IfOk};
 ghost use Rattle.hub_front.specs.Serving.{Asking};
+ghost use Rattle.hub_front.specs.declared.stay.Stay.{Stay};
 ghost use Rattle.hub_server.specs.Promised.{IsShare};
 ghost use Rattle.hub_server.specs.Sessions.{IsEnded};
 
@@ -17,8 +18,8 @@ pub trait Desks {
     /// `opens desks desk`: a session of these desks may begin with this desk.
     ghost opens: { Self → Own → Type 0 };
 
-    /// The most reads of a session of these desks.
-    ghost most: { Self → ℕ };
+    /// How long a session of these desks may stay. Only one that may stay long has its replies written in batches.
+    ghost stay: { Self → Stay };
 
     /// How such a desk answers.
     ghost asks: { Asking Own };
@@ -28,7 +29,7 @@ pub trait Desks {
 
     /// A share for another thread, which opens such desks too.
     fn share(&self) -> Result<Self, AllocError>
-        ensures { IfOk result (IsShare opens most self.now) };
+        ensures { IfOk result (IsShare opens stay self.now) };
 
     /// Serves one session from its first line to its end. Gives the number of its lines.
     fn serve<H: Wait + Enter, R: Source, W: Sink>(
@@ -38,7 +39,7 @@ pub trait Desks {
         reader: &mut R,
         writer: &mut W,
     ) -> Result<u64, FrontError>
-        ensures { IsEnded (most self.now) (opens self.now) asks ends
+        ensures { IsEnded (stay self.now) (opens self.now) asks ends
             (record { remaining = R.remaining; reads = R.reads; faults = R.faults })
             (record { contents = W.contents; faults = W.faults })
             reader.old reader.new writer.old writer.new result };

@@ -40,7 +40,7 @@ pub trait Journal<R: Source, W: Sink> {
         reader: &R,
         writer: &W,
     )
-        requires { IsEnded (O.most session.now.desks.value) (O.opens session.now.desks.value)
+        requires { IsEnded (O.stay session.now.desks.value) (O.opens session.now.desks.value)
             O.asks O.ends
             (record { remaining = R.remaining; reads = R.reads; faults = R.faults })
             (record { contents = W.contents; faults = W.faults })

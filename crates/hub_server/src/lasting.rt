@@ -45,7 +45,7 @@ where
     // the gate is over, or after a session that may have left much.
     ensures { IsLasting G.gives
         (record { numbers = J.numbers; tells = J.tells; fails = J.fails })
-        (IsEnded (O.most desks.now) (O.opens desks.now) O.asks O.ends
+        (IsEnded (O.stay desks.now) (O.opens desks.now) O.asks O.ends
         (record { remaining = R.remaining; reads = R.reads; faults = R.faults })
         (record { contents = W.contents; faults = W.faults }))
         gate.old journal.old gate.new journal.new }

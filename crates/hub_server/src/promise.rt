@@ -16,7 +16,7 @@ pub struct Session<R, W, O> {
 
 impl<R: Source, W: Sink, O: Desks> Promise<Result<u64, FrontError>> for Session<R, W, O> {
     ghost kept_by = { λ session result. IsResult
-        (O.most session.desks.value) (O.opens session.desks.value) O.asks O.ends
+        (O.stay session.desks.value) (O.opens session.desks.value) O.asks O.ends
         (record { remaining = R.remaining; reads = R.reads; faults = R.faults })
         (record { contents = W.contents; faults = W.faults })
         session.reader.value session.writer.value result };

@@ -30,7 +30,7 @@ where
     O: Desks,
     J: Journal<R, W>,
     ensures { IsTold (record { numbers = J.numbers; tells = J.tells; fails = J.fails }) again
-        (IsEnded (O.most desks.now) (O.opens desks.now) O.asks O.ends
+        (IsEnded (O.stay desks.now) (O.opens desks.now) O.asks O.ends
         (record { remaining = R.remaining; reads = R.reads; faults = R.faults })
         (record { contents = W.contents; faults = W.faults }))
         reader writer result journal.old journal.new }

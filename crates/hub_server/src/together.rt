@@ -35,7 +35,7 @@ fn serve_untold<H: Wait + Enter + Drop, R: Source + Drop, W: Sink + Drop, O: Des
     reader: R,
     writer: W,
 ) -> Result<u64, FrontError>
-    ensures { IsResult (O.most desks) (O.opens desks) O.asks O.ends
+    ensures { IsResult (O.stay desks) (O.opens desks) O.asks O.ends
         (record { remaining = R.remaining; reads = R.reads; faults = R.faults })
         (record { contents = W.contents; faults = W.faults })
         reader writer result }
@@ -105,7 +105,7 @@ where
     requires { started.old.items ≡ [] }
     ensures ok { IfOk result (λ failed. IsAsked
         G.gives sessions gate.old (streams_of started.new.items) failed gate.new) }
-    ensures over { OnOk result (AreOver O.opens O.most desks.now started.new.items) }
+    ensures over { OnOk result (AreOver O.opens O.stay desks.now started.new.items) }
     ensures err { IfErr result (StopsEarly G.gives sessions gate.old gate.new) }
 {
     'sessions: for _session in 0..sessions {
@@ -145,7 +145,7 @@ where
     // that it gave has a result, in the gate's order. The result is one of serving exactly that session's reader and
     // writer.
     ensures report { IfOk result (λ report. IsReport
-        (O.most desks.now) (O.opens desks.now) O.asks O.ends
+        (O.stay desks.now) (O.opens desks.now) O.asks O.ends
         (record { remaining = R.remaining; reads = R.reads; faults = R.faults })
         (record { contents = W.contents; faults = W.faults })
         G.gives G.closes sessions gate.old gate.new report.results.items report.gate_failed) }

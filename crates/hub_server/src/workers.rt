@@ -92,7 +92,7 @@ where
     J: Journal<Connection<C>, Connection<C>> + Send + Drop + 'static,
     ensures { HasWorked ⟦<SharedDoor<C> as Gate<Connection<C>, Connection<C>>>⟧.gives
         (record { numbers = J.numbers; tells = J.tells; fails = J.fails })
-        (IsEnded (O.most means.desks) (O.opens means.desks) O.asks O.ends
+        (IsEnded (O.stay means.desks) (O.opens means.desks) O.asks O.ends
         (record {
           remaining = ⟦<Connection<C> as Read>⟧.remaining;
           reads = ⟦<Connection<C> as Source>⟧.reads;

@@ -1,3 +1,5 @@
 pub mod Serving
 pub mod Setup
 pub mod Pending
+pub mod Places
+pub mod Crowds

@@ -1,7 +1,7 @@
 //! Sessions over one hub.
 ghost use Rattle.std.specs.Prelude.{◌≤◌, IfOk, IfErr, vec_len};
 ghost use Rattle.std.specs.Arc.{arc_value};
-ghost use Rattle.hub_front.specs.Serving.{most_reads};
+ghost use Rattle.hub_front.specs.declared.stay.Stay.TheVariants.{Short};
 ghost use Rattle.hub_io.specs.Lines.{lines_of};
 ghost use Rattle.hub_serving.specs.Setup.{IsSetUp};
 ghost use Rattle.hub_server.specs.Gates.{StopsEarly, ThenCloses};
@@ -12,8 +12,8 @@ ghost use Rattle.hub_shared.specs.declared.shared_desk.SharedDesk.{SharedDesk};
 use crate::lost_wills::LostWills;
 use crate::setup::set_up;
 use hub_endings::Fault;
-use hub_front::{Enter, Stay, serve_within};
-use hub_io::{Client, FrontError, MAX_READS, Sink, Source};
+use hub_gather::{Enter, Stay, serve_staying};
+use hub_io::{Client, FrontError, Sink, Source};
 use hub_requests::Desk;
 use hub_server::{Desks, Gate, Report, ServeError, serve_each};
 use hub_shared::{Hub, SharedDesk};
@@ -75,7 +75,7 @@ impl<P: Pause + Copy> Desks for HubDesks<P> {
 
     ghost opens = { λ desks. IsNewDesk (arc_value desks.hub) desks.pause };
 
-    ghost most = { λ desks. most_reads desks.stay };
+    ghost stay = { λ desks. desks.stay };
 
     ghost asks = { ⟦<SharedDesk<P> as Desk>⟧.asks };
 
@@ -105,7 +105,7 @@ impl<P: Pause + Copy> Desks for HubDesks<P> {
         let Ok(mut desk) = self.open(alloc, reader.client()) else {
             return Err(FrontError::Memory);
         };
-        let served = serve_within(rt, alloc, self.stay, &mut desk, reader, writer);
+        let served = serve_staying(rt, alloc, self.stay, &mut desk, reader, writer);
         self.count_lost(&desk);
         desk.release(rt);
         served
@@ -133,7 +133,7 @@ where
     // that it gave has a result, in the gate's order. The result is one of serving exactly that session's reader and
     // writer.
     ensures report { IfOk result (λ report. IsReport
-        MAX_READS (IsNewDesk (arc_value hub) pause)
+        Short (IsNewDesk (arc_value hub) pause)
         ⟦<SharedDesk<P> as Desk>⟧.asks ⟦<SharedDesk<P> as Desk>⟧.ends
         (record { remaining = R.remaining; reads = R.reads; faults = R.faults })
         (record { contents = W.contents; faults = W.faults })

@@ -1,7 +1,7 @@
 //! The private folder of a hub, in which its socket has a second name.
 
 use crate::look::has_socket;
-use hub_endings::Fault;
+use hub_endings::{Fault, ListenFault};
 use std::alloc::{AllocError, Global};
 use std::fs::{DirBuilder, File, Files, Metadata};
 use std::io::{self, ErrorKind};
@@ -47,14 +47,14 @@ impl Folder {
             let folder = Folder::named(alloc, socket, letter)?;
             match DirBuilder::new().mode(OWN).create(rt, folder.path.as_str()) {
                 Ok(()) => {
-                    let noted = folder.note(rt, alloc, letter, lock);
-                    return noted.map(|()| folder);
+                    folder.note(rt, alloc, letter, lock)?;
+                    return Ok(folder);
                 }
                 Err(fault) if fault.kind() == ErrorKind::AlreadyExists => {}
-                Err(_) => break,
+                Err(fault) => return Err(Fault::Listen(ListenFault::from(fault))),
             }
         }
-        Err(Fault::Listen)
+        Err(Fault::Listen(ListenFault::Names))
     }
 
     // Writes into the lock's file which folder this is. If it can't, it removes the folder.
@@ -64,7 +64,7 @@ impl Folder {
         alloc: Global,
         letter: char,
         lock: &File,
-    ) -> Result<(), Fault> {
+    ) -> Result<(), ListenFault> {
         let noted = self.number(rt).and_then(|number| {
             let text = format!(in alloc; "{letter} {number}\n")?;
             lock.set_len(0)?;
@@ -73,7 +73,7 @@ impl Folder {
         if noted.is_err() {
             self.remove(rt);
         }
-        noted.map_err(|_| Fault::Listen)
+        Ok(noted?)
     }
 
     // The number that the file system gave the folder.

@@ -2,9 +2,10 @@
 //!
 //! [`serve`] accepts connections at a Unix socket, and serves them by [`serve_all`] over one hub. [`serve_forever`] does so for as long
 //! as the program runs: it takes the socket's place, has the hub carry out the lines of its setup as [`set_up`] does, keeps the
-//! socket there, and tells the faults of sessions as they come.
+//! socket there, and says what happens: that it listens, which sessions stopped and why, and that clients wait.
 #![tactic(auto)]
 
+mod crowd;
 mod desks;
 mod folder;
 mod living;

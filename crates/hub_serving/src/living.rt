@@ -2,16 +2,20 @@
 
 ghost use Rattle.std.specs.Prelude.{OnOk, flat_map};
 ghost use Rattle.std.specs.Io.KnownBytes.{Appends};
+ghost use Rattle.hub_arguments.specs.declared.command_line.TheConstants.{VERSION as version};
+ghost use Rattle.hub_endings.specs.Faults.{line_with};
+ghost use Rattle.hub_endings.specs.HubLines.{listening_text};
 ghost use Rattle.hub_serving.specs.Pending.{line_if, pending_lines};
 
+use crate::crowd::Crowd;
 use crate::desks::HubDesks;
 use crate::lost_wills::LostWills;
 use crate::notice::Notice;
 use crate::place::{InPlace, Place, make_root_folder, take_place};
 use crate::setup::read_setup;
 use crate::watching::{Pending, Watcher};
-use hub_arguments::HubOptions;
-use hub_endings::Fault;
+use hub_arguments::{HubOptions, VERSION};
+use hub_endings::{Fault, HubLine, Listening};
 use hub_front::{Enter, Stay};
 use hub_server::{SharedDoor, start_workers};
 use hub_shared::Hub;
@@ -27,9 +31,9 @@ use std::time::Duration;
 use std::{io, thread};
 
 /// Serves sessions at the socket for as long as the program runs, over one hub, which has carried out the lines of the setup before. So
-/// many threads each accept a connection, serve its session, and accept the next one. The faults of sessions are told as they come, a
-/// few lines a second and the number of the rest. If the socket's file is removed, it is put back. The folder of root's socket is made
-/// if the options say so.
+/// many threads each accept a connection, serve its session, and accept the next one. `log` gets a line once the hub listens, one for
+/// each session that stopped, as they come, a few lines a second and the number of the rest, and one if all sessions are taken and a
+/// client waits. If the socket's file is removed, it is put back. The folder of root's socket is made if the options say so.
 ///
 /// It returns only if it couldn't begin, and then nobody could connect unless it is `Notify`: `Taken` if another server listens
 /// at the socket, `Listen`, `Notify` if the descriptor isn't open or couldn't be written to, `Setup` if the file of the setup couldn't
@@ -39,7 +43,7 @@ pub fn serve_forever<H, F>(
     rt: &H,
     alloc: Global,
     options: HubOptions<'_>,
-    faults: &mut F,
+    log: &mut F,
 ) -> Result<(), Fault>
 where
     H: Files<File = File> + Net + Clock + Threads + Wait + Enter + Copy + Send + 'static,
@@ -54,7 +58,7 @@ where
         make_root_folder(rt)?;
     }
     let mut place = take_place(rt, alloc, options.socket)?;
-    let ended = serve_at(rt, alloc, &mut place, options, setup, notice, faults);
+    let ended = serve_at(rt, alloc, &mut place, options, setup, notice, log);
     place.leave(rt);
     ended
 }
@@ -68,7 +72,7 @@ fn serve_at<H, F>(
     options: HubOptions<'_>,
     setup: Vec<u8>,
     notice: Option<Notice>,
-    faults: &mut F,
+    log: &mut F,
 ) -> Result<(), Fault>
 where
     H: Files<File = File> + Net + Clock + Threads + Wait + Enter + Copy + Send + 'static,
@@ -90,16 +94,18 @@ where
     let watcher = Watcher::new(alloc, *rt)?;
     let idle = options.idle.map(Duration::from_secs);
     let listener = place.listen(rt, options.mode)?;
+    let crowd = Crowd::at(&listener, options.sessions);
     let door = SharedDoor::new(alloc, listener, idle, *rt)?;
     let keeper = start_workers(rt, alloc, &desks, &door, &watcher, options.sessions)?;
     let there = place.put(rt, &keeper, options.sessions)?;
     if let Some(notice) = notice {
         notice.give(rt, &there)?;
     }
-    watch(rt, alloc, place, &there, &watcher, &lost, faults)
+    let _: io::Result<()> = tell_listening(alloc, &options, log);
+    watch(rt, alloc, place, &there, &watcher, &lost, crowd, log)
 }
 
-// Tells the faults of sessions, and keeps the socket in its place. It returns only if the socket is lost.
+// Tells what happens to sessions, and keeps the socket in its place. It returns only if the socket is lost.
 fn watch<H, F>(
     rt: &H,
     alloc: Global,
@@ -107,7 +113,8 @@ fn watch<H, F>(
     there: &InPlace,
     watcher: &Watcher<H>,
     lost: &LostWills,
-    faults: &mut F,
+    mut crowd: Crowd,
+    log: &mut F,
 ) -> Result<(), Fault>
 where
     H: Files + Clock + Wait + Copy,
@@ -115,44 +122,60 @@ where
 {
     'seconds: for _ in rt.forever() {
         let pending = watcher.take(rt);
-        let _: io::Result<()> = tell_pending(alloc, pending, faults);
-        let _: io::Result<()> = tell_if(alloc, lost.take(), faults);
+        let _: io::Result<()> = tell_pending(alloc, pending, log);
+        let _: io::Result<()> = tell_if(alloc, lost.take(), log);
+        let _: io::Result<()> = tell_if(alloc, crowd.look(watcher.running()), log);
         if place.keep(rt, there)? {
-            let _: io::Result<()> = Fault::Restored.tell(alloc, faults);
+            let _: io::Result<()> = HubLine::Restored.tell(alloc, log);
         }
-        if pending.has_faults() {
+        if pending.has_lines() {
             thread::sleep(rt, Duration::from_secs(1));
         }
     }
     Ok(())
 }
 
-// Writes the line of a fault, if there is one.
-fn tell_if<W: Write>(alloc: Global, fault: Option<Fault>, out: &mut W) -> io::Result<()>
-    ensures { OnOk result (Appends (W.contents out.old) (W.contents out.new) (line_if fault)) }
+// Writes the line that says that the hub of these options listens.
+fn tell_listening<W: Write>(alloc: Global, options: &HubOptions<'_>, out: &mut W) -> io::Result<()>
+    ensures { OnOk result (Appends (W.contents out.old) (W.contents out.new)
+        (line_with (listening_text version.now options.now.socket.now options.now.mode
+        options.now.sessions))) }
 {
-    match fault {
-        Some(fault) => fault.tell(alloc, out),
+    let listening = Listening {
+        version: VERSION,
+        socket: options.socket,
+        mode: options.mode,
+        sessions: options.sessions,
+    };
+    listening.tell(alloc, out)
+}
+
+// Writes a line, if there is one.
+fn tell_if<W: Write>(alloc: Global, line: Option<HubLine>, out: &mut W) -> io::Result<()>
+    ensures { OnOk result (Appends (W.contents out.old) (W.contents out.new) (line_if line)) }
+{
+    match line {
+        Some(line) => line.tell(alloc, out),
         None => Ok(()),
     }
 }
 
-// Writes the lines of these faults, in their order.
-fn tell_each<W: Write>(alloc: Global, faults: &[Option<Fault>], out: &mut W) -> io::Result<()>
+// Writes these lines, in their order.
+fn tell_each<W: Write>(alloc: Global, lines: &[Option<HubLine>], out: &mut W) -> io::Result<()>
     ensures { OnOk result (Appends (W.contents out.old) (W.contents out.new)
-        (flat_map line_if faults.now)) }
+        (flat_map line_if lines.now)) }
 {
-    'faults: for fault in faults.iter() {
-        tell_if(alloc, *fault, out)?;
+    'lines: for line in lines.iter() {
+        tell_if(alloc, *line, out)?;
     }
     Ok(())
 }
 
-// Writes a line for each fault, in their order, and one with the number of the rest.
+// Writes the lines that are pending, in their order, and one with the number of the rest.
 fn tell_pending<W: Write>(alloc: Global, pending: Pending, out: &mut W) -> io::Result<()>
     ensures { OnOk result (Appends (W.contents out.old) (W.contents out.new)
         (pending_lines pending)) }
 {
-    tell_each(alloc, &pending.faults, out)?;
+    tell_each(alloc, &pending.lines, out)?;
     tell_if(alloc, pending.rest(), out)
 }

@@ -1,10 +1,10 @@
 //! A look at what is at a socket's path, of which a server there learns nothing.
 
-use hub_endings::Fault;
+use hub_endings::ListenFault;
 use libc::net as c;
 use std::fs;
 use std::fs::Files;
-use std::io::ErrorKind;
+use std::io::{Error, ErrorKind};
 use std::net::Net;
 use std::os::unix::fs::FileTypeExt;
 
@@ -14,12 +14,13 @@ const MOST_BYTES: usize = 107;
 /// The bytes of an address before its path.
 const FAMILY: usize = 2;
 
-/// Whether a socket is at the path. An error is `Listen` if another file is there, or if it can't be known.
-pub(crate) fn has_socket<H: Files>(rt: &H, path: &str) -> Result<bool, Fault> {
+/// Whether a socket is at the path. An error is `Another` if another file is there, or why it can't be known.
+pub(crate) fn has_socket<H: Files>(rt: &H, path: &str) -> Result<bool, ListenFault> {
     match fs::symlink_metadata(rt, path) {
         Ok(found) if found.file_type().is_socket() => Ok(true),
-        Err(fault) if fault.kind() == ErrorKind::NotFound && !path.is_empty() => Ok(false),
-        Ok(_) | Err(_) => Err(Fault::Listen),
+        Ok(_) => Err(ListenFault::Another),
+        Err(fault) if fault.kind() == ErrorKind::NotFound => Ok(false),
+        Err(fault) => Err(ListenFault::from(fault)),
     }
 }
 
@@ -27,10 +28,10 @@ pub(crate) fn has_socket<H: Files>(rt: &H, path: &str) -> Result<bool, Fault> {
 ///
 /// The connection that is asked for is one for single messages. A server's socket is of another kind, and the system says so at
 /// once: it asks no server, and waits for none, whether the server listens already or not.
-pub(crate) fn is_served<H: Net>(_rt: &H, path: &str) -> Result<bool, Fault> {
+pub(crate) fn is_served<H: Net>(_rt: &H, path: &str) -> Result<bool, ListenFault> {
     let name = path.as_bytes();
     if name.len() > MOST_BYTES {
-        return Err(Fault::Listen);
+        return Err(ListenFault::Long);
     }
     let mut address = [0u8; c::_SS_SIZE];
     address[..FAMILY].copy_from_slice(&(c::AF_UNIX as u16).to_ne_bytes());
@@ -38,7 +39,7 @@ pub(crate) fn is_served<H: Net>(_rt: &H, path: &str) -> Result<bool, Fault> {
     let length = (FAMILY + name.len() + 1) as u32;
     let socket = unsafe { c::socket(c::AF_UNIX, c::SOCK_DGRAM | c::SOCK_CLOEXEC, 0) };
     if socket < 0 {
-        return Err(Fault::Listen);
+        return Err(ListenFault::from(Error::from_raw_os_error(os::errno())));
     }
     let status = unsafe { c::connect(socket, &address, length) };
     let fault = if status < 0 { os::errno() } else { 0 };

@@ -1,8 +1,8 @@
 //! The wills of sessions that couldn't be carried out.
 ghost use Rattle.std.specs.Prelude.{◌≡◌};
-ghost use Rattle.hub_serving.specs.Pending.{fault_of_wills};
+ghost use Rattle.hub_serving.specs.Pending.{line_of_wills};
 
-use hub_endings::Fault;
+use hub_endings::HubLine;
 use std::alloc::{AllocError, Global};
 use std::sync::Arc;
 use std::sync::atomic::{AtomicU64, Ordering};
@@ -32,17 +32,17 @@ impl LostWills {
         }
     }
 
-    /// The fault that tells how many were lost since it was last asked for, if there are any.
-    pub(crate) fn take(&self) -> Option<Fault> {
-        fault_of_wills(self.count.swap(0, Ordering::Relaxed))
+    /// The line that tells how many were lost since it was last asked for, if there are any.
+    pub(crate) fn take(&self) -> Option<HubLine> {
+        line_of_wills(self.count.swap(0, Ordering::Relaxed))
     }
 }
 
-fn fault_of_wills(wills: u64) -> Option<Fault>
-    ensures { result ≡ fault_of_wills wills }
+fn line_of_wills(wills: u64) -> Option<HubLine>
+    ensures { result ≡ line_of_wills wills }
 {
     match wills {
         0 => None,
-        wills => Some(Fault::Wills { wills }),
+        wills => Some(HubLine::Wills { wills }),
     }
 }

@@ -2,11 +2,13 @@
 
 ghost use Rattle.std.specs.Prelude.{◌≡◌, IfErr};
 ghost use Rattle.hub_endings.specs.declared.fault.Fault.TheVariants as fault;
+ghost use Rattle.hub_endings.specs.declared.listen_fault.ListenFault.{ListenFault as listen_fault};
+ghost use Rattle.hub_serving.specs.Places.{path_fault};
 
 use crate::folder::{Folder, remove_left};
 use crate::lock::lock_beside;
 use crate::look::{has_socket, is_served};
-use hub_endings::Fault;
+use hub_endings::{Fault, ListenFault};
 use hub_server::Keeper;
 use std::alloc::Global;
 use std::fs;
@@ -20,6 +22,9 @@ use std::os::unix::net::UnixListener;
 const ROOT_FOLDER: &str = "/run/ftrighub";
 
 const ROOT_FOLDER_MODE: u32 = 0o755;
+
+/// The most bytes of a path whose socket has a second name SOCKET.K/s.
+const MOST_BYTES: usize = 103;
 
 /// The path of a socket, a lock that no other server of this program has meanwhile, and a private folder.
 #[derive(Drop)]
@@ -39,7 +44,7 @@ pub(crate) struct InPlace {
 
 /// Makes the folder of root's socket, whatever the umask is. What is there already stays as it is.
 pub(crate) fn make_root_folder<H: Files>(rt: &H) -> Result<(), Fault>
-    ensures { IfErr result (λ error. error ≡ fault.Listen) }
+    ensures { IfErr result (λ error. (why : listen_fault) × (error ≡ fault.Listen why)) }
 {
     let made = DirBuilder::new()
         .mode(ROOT_FOLDER_MODE)
@@ -49,7 +54,21 @@ pub(crate) fn make_root_folder<H: Files>(rt: &H) -> Result<(), Fault>
         Err(fault) if fault.kind() == ErrorKind::AlreadyExists => Ok(()),
         Err(fault) => Err(fault),
     };
-    done.map_err(|_| Fault::Listen)
+    match done {
+        Ok(()) => Ok(()),
+        Err(why) => Err(Fault::Listen(ListenFault::from(why))),
+    }
+}
+
+// Whether a socket and its second name can have this path.
+fn check_path(path: &str) -> Result<(), ListenFault>
+    ensures { result ≡ path_fault path.now }
+{
+    match path.len() {
+        0 => Err(ListenFault::Empty),
+        length if length > MOST_BYTES => Err(ListenFault::Long),
+        _ => Ok(()),
+    }
 }
 
 /// Takes the socket's place, if no server has it. An error is `Taken` if another server has it, `Listen` or `Memory`.
@@ -58,6 +77,7 @@ pub(crate) fn take_place<'a, H: Files<File = File> + Net>(
     alloc: Global,
     socket: &'a str,
 ) -> Result<Place<'a>, Fault> {
+    check_path(socket)?;
     has_socket(rt, socket)?;
     let lock = lock_beside(rt, alloc, socket)?;
     if has_socket(rt, socket)? && is_served(rt, socket)? {
@@ -79,15 +99,7 @@ impl Place<'_> {
         &mut self,
         rt: &H,
         mode: Option<u32>,
-    ) -> Result<UnixListener, Fault> {
-        self.listen_aside(rt, mode).map_err(|_| Fault::Listen)
-    }
-
-    fn listen_aside<H: Files + Net>(
-        &mut self,
-        rt: &H,
-        mode: Option<u32>,
-    ) -> io::Result<UnixListener> {
+    ) -> Result<UnixListener, ListenFault> {
         let aside = self.folder.socket.as_str();
         let listener = UnixListener::bind(rt, aside)?;
         if let Some(mode) = mode {
@@ -114,7 +126,7 @@ impl Place<'_> {
         match self.link(rt) {
             Ok(()) => Ok(InPlace { made: () }),
             Err(_) if has_socket(rt, self.socket)? => Err(Fault::Taken),
-            Err(_) => Err(Fault::Listen),
+            Err(fault) => Err(Fault::Listen(ListenFault::from(fault))),
         }
     }
 
@@ -133,9 +145,10 @@ impl Place<'_> {
             return Err(Fault::Taken);
         }
         let stale = self.folder.stale.as_str();
-        fs::rename(rt, self.socket, stale).map_err(|_| Fault::Listen)?;
+        fs::rename(rt, self.socket, stale).map_err(|fault| ListenFault::from(fault))?;
         if has_socket(rt, stale) == Ok(true) && is_served(rt, stale) == Ok(false) {
-            return fs::remove_file(rt, stale).map_err(|_| Fault::Listen);
+            let removed = fs::remove_file(rt, stale);
+            return Ok(removed.map_err(|fault| ListenFault::from(fault))?);
         }
         if fs::hard_link(rt, stale, self.socket).is_ok() {
             let _: io::Result<()> = fs::remove_file(rt, stale);

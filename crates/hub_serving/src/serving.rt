@@ -2,6 +2,8 @@
 ghost use Rattle.std.specs.Prelude.{◌≡◌, IfOk, IfErr, IsSome};
 ghost use Rattle.hub_serving.specs.Serving.{FailsToServe};
 ghost use Rattle.hub_endings.specs.declared.fault.Fault.TheVariants as fault;
+ghost use Rattle.hub_front.specs.declared.stay.Stay.TheVariants.{Short};
+ghost use Rattle.hub_endings.specs.declared.listen_fault.ListenFault.TheVariants.{Untold};
 ghost use Rattle.hub_server.specs.Gates.{StopsEarly, ThenCloses};
 ghost use Rattle.hub_server.specs.Reports.{IsReport};
 ghost use Rattle.hub_server.specs.declared.door.Door.{Door as door};
@@ -11,8 +13,8 @@ ghost use Rattle.hub_shared.specs.Desks.{IsNewDesk};
 ghost use Rattle.hub_wait.specs.declared.pause.Patience.{Patience as patience};
 
 use crate::desks::serve_all;
-use hub_endings::Fault;
-use hub_io::{MAX_READS, Sink, Source};
+use hub_endings::{Fault, ListenFault};
+use hub_io::{Sink, Source};
 use hub_requests::{Desk, Enter};
 use hub_server::{Door, Gate, Report};
 use hub_shared::{Hub, SharedDesk};
@@ -33,12 +35,12 @@ fn listen<H: Files + Net>(
     socket: &str,
     _hub: &Arc<Hub, Global>,
 ) -> Result<UnixListener, Fault>
-    ensures { IfErr result (λ error. error ≡ fault.Listen) }
+    ensures { IfErr result (λ error. error ≡ fault.Listen Untold) }
 {
     if socket.is_empty() {
-        return Err(Fault::Listen);
+        return Err(Fault::Listen(ListenFault::Untold));
     }
-    UnixListener::bind(rt, socket).map_err(|_| Fault::Listen)
+    UnixListener::bind(rt, socket).map_err(|_| Fault::Listen(ListenFault::Untold))
 }
 
 /// Accepts this many connections at the socket, and serves all of them at the same time, over one hub. After the last
@@ -50,7 +52,7 @@ where
     // An open door was asked for this many connections. The report is that of `serve_all`, over one hub.
     ensures report { IfOk result (λ report. (one : hub) × (pause : patience H)
         × (opened closed : door unix_listener)
-        × IsSome opened.listener × IsReport MAX_READS (IsNewDesk one pause)
+        × IsSome opened.listener × IsReport Short (IsNewDesk one pause)
         ⟦<SharedDesk<Patience<H>> as Desk>⟧.asks ⟦<SharedDesk<Patience<H>> as Desk>⟧.ends
         (record {
           remaining = ⟦<UnixStream as Read>⟧.remaining;

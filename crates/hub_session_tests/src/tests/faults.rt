@@ -1,34 +1,128 @@
 //! The lines of faults on standard error.
 use hub_client::RelayError;
-use hub_endings::{Fault, tell_faults};
+use hub_endings::{Fault, HubLine, ListenFault, Listening, StopCause, tell_faults};
 use hub_fakes::Narrow;
 use hub_io::FrontError;
 use hub_server::{Report, ServeError};
 use std::alloc::Global;
+use std::io;
+use std::io::ErrorKind;
 use std::process::Abort;
 use std::test::Fail;
 
-static OWN: [(Fault, &str); 12] = [
-    (Fault::Listen, "ftrighub: cannot listen\n"),
+static OWN: [(Fault, &str); 7] = [
     (Fault::Taken, "ftrighub: another server listens there\n"),
     (Fault::Notify, "ftrighub: cannot notify\n"),
     (Fault::Setup, "ftrighub: cannot read the setup\n"),
-    (Fault::Restored, "ftrighub: socket file restored\n"),
     (Fault::Lost, "ftrighub: socket file lost\n"),
-    (Fault::Idle { number: 12 }, "ftrighub: session 12: idle\n"),
+    (Fault::Accept, "ftrighub: cannot accept\n"),
+    (Fault::Connect, "ftrighub: cannot connect\n"),
+    (Fault::Memory, "ftrighub: out of memory\n"),
+];
+
+static OF_LISTENING: [(ListenFault, &str); 12] = [
+    (ListenFault::Untold, "ftrighub: cannot listen\n"),
     (
-        Fault::More { sessions: 1 },
+        ListenFault::NoFolder,
+        "ftrighub: cannot listen: no such directory\n",
+    ),
+    (
+        ListenFault::NotFolder,
+        "ftrighub: cannot listen: not a directory\n",
+    ),
+    (
+        ListenFault::Denied,
+        "ftrighub: cannot listen: permission denied\n",
+    ),
+    (
+        ListenFault::Empty,
+        "ftrighub: cannot listen: the path is empty\n",
+    ),
+    (
+        ListenFault::Long,
+        "ftrighub: cannot listen: the path is too long (at most 103 bytes)\n",
+    ),
+    (
+        ListenFault::Another,
+        "ftrighub: cannot listen: a file that isn't a socket\n",
+    ),
+    (
+        ListenFault::Lock,
+        "ftrighub: cannot listen: SOCKET.lock isn't an ordinary file of this user\n",
+    ),
+    (
+        ListenFault::Names,
+        "ftrighub: cannot listen: SOCKET.a to SOCKET.z are taken\n",
+    ),
+    (
+        ListenFault::ReadOnly,
+        "ftrighub: cannot listen: read-only file system\n",
+    ),
+    (
+        ListenFault::Space,
+        "ftrighub: cannot listen: no space left\n",
+    ),
+    (
+        ListenFault::Memory,
+        "ftrighub: cannot listen: out of memory\n",
+    ),
+];
+
+/// What the system says of a file, and why a server can't listen then.
+static KINDS: [(ErrorKind, ListenFault); 8] = [
+    (ErrorKind::NotFound, ListenFault::NoFolder),
+    (ErrorKind::NotADirectory, ListenFault::NotFolder),
+    (ErrorKind::PermissionDenied, ListenFault::Denied),
+    (ErrorKind::ReadOnlyFilesystem, ListenFault::ReadOnly),
+    (ErrorKind::StorageFull, ListenFault::Space),
+    (ErrorKind::QuotaExceeded, ListenFault::Space),
+    (ErrorKind::OutOfMemory, ListenFault::Memory),
+    (ErrorKind::AddrInUse, ListenFault::Untold),
+];
+
+static STOPPED: [(StopCause, &str); 6] = [
+    (StopCause::Read, "could not read from its client"),
+    (StopCause::Write, "its client left before it read its reply"),
+    (StopCause::Turns, "too many reads"),
+    (StopCause::Memory, "out of memory"),
+    (StopCause::Silent, "no whole line came (--idle)"),
+    (StopCause::Deaf, "its reply was not taken (--idle)"),
+];
+
+static OF_HUBS: [(HubLine, &str); 6] = [
+    (
+        HubLine::More { sessions: 1 },
         "ftrighub: 1 more sessions stopped\n",
     ),
     (
-        Fault::More {
+        HubLine::More {
             sessions: 18_446_744_073_709_551_615,
         },
         "ftrighub: 18446744073709551615 more sessions stopped\n",
     ),
-    (Fault::Accept, "ftrighub: cannot accept\n"),
-    (Fault::Connect, "ftrighub: cannot connect\n"),
-    (Fault::Memory, "ftrighub: out of memory\n"),
+    (
+        HubLine::Wills { wills: 2 },
+        "ftrighub: 2 wills not carried out\n",
+    ),
+    (
+        HubLine::Full { sessions: 64 },
+        "ftrighub: all 64 sessions are taken, and clients wait\n",
+    ),
+    (HubLine::Restored, "ftrighub: socket file restored\n"),
+    (HubLine::Failed(Fault::Accept), "ftrighub: cannot accept\n"),
+];
+
+/// The mode of a hub that listens, and its line.
+static MODES: [(Option<u32>, &str); 3] = [
+    (None, "ftrighub: 1.2.3 listens at a/hub (1024 sessions)\n"),
+    (
+        Some(0o600),
+        "ftrighub: 1.2.3 listens at a/hub (mode 0600, 1024 sessions)\n",
+    ),
+    (
+        Some(0o666),
+        "ftrighub: 1.2.3 listens at a/hub (mode 0666, 1024 sessions)\n",
+    ),
 ];
 
 static OF_RELAYING: [(RelayError, &str); 7] = [
@@ -61,6 +155,54 @@ fn each_fault_has_its_line(rt: HostRuntime) {
     expect_line(&rt, rt.alloc(), memory, "ftrighub: out of memory\n");
     for (fault, line) in &OF_RELAYING {
         expect_line(&rt, rt.alloc(), Fault::from(*fault), line);
+    }
+    for (fault, line) in &OF_LISTENING {
+        expect_line(&rt, rt.alloc(), Fault::from(*fault), line);
+    }
+}
+
+#[test]
+fn each_error_of_a_file_is_told_by_its_kind(rt: HostRuntime) {
+    for (kind, fault) in &KINDS {
+        assert_eq!(rt; ListenFault::from(io::Error::from(*kind)), *fault);
+    }
+}
+
+fn expect_hub_line(rt: &impl Abort, alloc: Global, said: HubLine, line: &str) {
+    let mut told: Vec<u8> = Vec::new(alloc);
+    assert!(rt; said.tell(alloc, &mut told).is_ok());
+    assert_eq!(rt; told.as_slice(), line.as_bytes());
+}
+
+#[test]
+fn each_line_of_a_hub_has_its_text(rt: HostRuntime) -> Result<(), Fail> {
+    for (said, line) in &OF_HUBS {
+        expect_hub_line(&rt, rt.alloc(), *said, line);
+    }
+    for (cause, text) in &STOPPED {
+        let stopped = HubLine::Stopped {
+            number: 12,
+            seconds: 3_600,
+            cause: *cause,
+        };
+        let line = format!(in rt.alloc(); "ftrighub: session 12 stopped after 3600 s: {text}\n")?;
+        expect_hub_line(&rt, rt.alloc(), stopped, line.as_str());
+    }
+    Ok(())
+}
+
+#[test]
+fn a_hub_says_that_it_listens(rt: HostRuntime) {
+    for (mode, line) in &MODES {
+        let mut told: Vec<u8> = Vec::new(rt.alloc());
+        let listening = Listening {
+            version: "1.2.3",
+            socket: "a/hub",
+            mode: *mode,
+            sessions: 1_024,
+        };
+        assert!(rt; listening.tell(rt.alloc(), &mut told).is_ok());
+        assert_eq!(rt; told.as_slice(), line.as_bytes());
     }
 }
 

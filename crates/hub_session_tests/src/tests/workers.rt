@@ -1,5 +1,6 @@
 //! What a worker asks of its gate, its desks and its journal, in this order.
 ghost use Rattle.std.specs.Prelude.{None};
+ghost use Rattle.hub_front.specs.declared.stay.Stay.TheVariants.{Short};
 
 use hub_io::{FrontError, Sink, Source};
 use hub_server::{Desks, Gate, Journal, Next, ServeError, Session, Timed, serve_on};
@@ -138,7 +139,7 @@ impl Desks for Bare {
 
     ghost opens = { λ _ _. Unit {0} };
 
-    ghost most = { λ _. 0 };
+    ghost stay = { λ _. Short };
 
     ghost asks = { λ _ _ _ _. Unit {0} };
 

@@ -7,7 +7,7 @@ use Rattle.hub_server.proofs.lasting.serve_on.Given as goal
 abbrev pub invariant-turns : goal.invariant-turns
 invariant-turns g l = (count : ℕ) × Turns g.G.Gate.gives
     (record { numbers = g.J.Journal.numbers; tells = g.J.Journal.tells; fails = g.J.Journal.fails })
-    (IsEnded (g.O.Desks.most l.fn.desks) (g.O.Desks.opens l.fn.desks) g.O.Desks.asks g.O.Desks.ends
+    (IsEnded (g.O.Desks.stay l.fn.desks) (g.O.Desks.opens l.fn.desks) g.O.Desks.asks g.O.Desks.ends
     (record { remaining = g.R.Read.remaining; reads = g.R.Source.reads; faults = g.R.Source.faults })
     (record { contents = g.W.Write.contents; faults = g.W.Sink.faults }))
     count l.fn.gate l.fn.journal l.gate l.journal

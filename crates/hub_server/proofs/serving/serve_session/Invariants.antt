@@ -6,7 +6,7 @@ use Rattle.hub_server.proofs.serving.serve_session.Given as goal
 abbrev pub invariant-tries : goal.invariant-tries
 invariant-tries g l = record {
   waited : Fails g.J.Journal.fails l._try l.initial.journal l.journal;
-  ended : IsEnded (g.O.Desks.most l.fn.desks) (g.O.Desks.opens l.fn.desks) g.O.Desks.asks g.O.Desks.ends
+  ended : IsEnded (g.O.Desks.stay l.fn.desks) (g.O.Desks.opens l.fn.desks) g.O.Desks.asks g.O.Desks.ends
       (record { remaining = g.R.Read.remaining; reads = g.R.Source.reads; faults = g.R.Source.faults })
       (record { contents = g.W.Write.contents; faults = g.W.Sink.faults })
       l.fn.reader l.reader l.fn.writer l.writer l.ended;

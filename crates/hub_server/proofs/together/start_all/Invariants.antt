@@ -7,6 +7,6 @@ use Rattle.hub_server.proofs.together.start_all.Given as goal
 abbrev pub invariant-sessions : goal.invariant-sessions
 invariant-sessions g l = record {
   gave : Gave g.G.Gate.gives l.fn.gate (streams_of l.started.items) l.gate;
-  over : AreOver g.O.Desks.opens g.O.Desks.most l.fn.desks l.started.items;
+  over : AreOver g.O.Desks.opens g.O.Desks.stay l.fn.desks l.started.items;
   counted : length (streams_of l.started.items) ≡ l._session;
 }

@@ -3,7 +3,7 @@ use Rattle.std.specs.Io.KnownBytes.{Appends}
 use Rattle.hub_serving.specs.Pending.{line_if}
 use Rattle.hub_serving.proofs.living.tell_each.Given as goal
 
--- the lines of the faults so far were written
-abbrev pub invariant-faults : goal.invariant-faults
-invariant-faults g l =
-    Appends (g.W.Write.contents l.fn.out) (g.W.Write.contents l.out) (flat_map line_if (take l.fault-index l.faults))
+-- the lines so far were written
+abbrev pub invariant-lines : goal.invariant-lines
+invariant-lines g l =
+    Appends (g.W.Write.contents l.fn.out) (g.W.Write.contents l.out) (flat_map line_if (take l.line-index l.lines))

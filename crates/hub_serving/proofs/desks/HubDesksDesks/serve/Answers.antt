@@ -8,13 +8,13 @@ pub returns : goal.returns
 returns g c = record {
   served = λ other. record {
     old = c.in-Ok.desk;
-    new = c.serve_within-served.new.desk;
+    new = c.serve_staying-served.new.desk;
     begun = c.in-Ok.ensures;
-    finished = c.serve_within-served.ensures.finished;
-    stopped = c.serve_within-served.ensures.stopped;
+    finished = c.serve_staying-served.ensures.finished;
+    stopped = c.serve_staying-served.ensures.stopped;
   };
-  untouched = c.serve_within-served.ensures.memory;
-  reads = c.serve_within-served.ensures.reads;
-  read_faults = c.serve_within-served.ensures.read_faults;
-  write_faults = c.serve_within-served.ensures.write_faults;
+  untouched = c.serve_staying-served.ensures.memory;
+  reads = c.serve_staying-served.ensures.reads;
+  read_faults = c.serve_staying-served.ensures.read_faults;
+  write_faults = c.serve_staying-served.ensures.write_faults;
 }

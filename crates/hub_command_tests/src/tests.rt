@@ -1,0 +1,4 @@
+mod durations;
+mod plans;
+mod sockets;
+mod words;

@@ -1,0 +1,49 @@
+//! The first line of a hub that lives.
+ghost use Rattle.std.specs.Prelude.{OnOk, Some};
+ghost use Rattle.std.specs.Io.KnownBytes.{Appends};
+ghost use Rattle.hub_endings.specs.Faults.{line_with};
+ghost use Rattle.hub_endings.specs.HubLines.{listening_text};
+
+use crate::line::tell_line;
+use std::alloc::Global;
+use std::io::Write;
+use std::{fmt, io};
+
+/// That a hub listens.
+#[derive(Clone, Copy, Debug, PartialEq, Eq)]
+pub struct Listening<'a> {
+    /// The program's version.
+    pub version: &'a str,
+    /// The path of the socket.
+    pub socket: &'a str,
+    /// The permission bits that the socket's file was given. None: those that the process's umask leaves.
+    pub mode: Option<u32>,
+    /// How many sessions there may be at the same time.
+    pub sessions: u64,
+}
+
+impl<'a> fmt::Display for Listening<'a> {
+    ghost output = { λ it. Some (listening_text it.version.now it.socket.now it.mode it.sessions) };
+
+    fn fmt<W: fmt::Write>(&self, f: &mut fmt::Formatter<W>) -> fmt::Result {
+        let (version, socket, sessions) = (self.version, self.socket, self.sessions);
+        match self.mode {
+            Some(mode) => write!(
+                f,
+                "{version} listens at {socket} (mode 0{mode:o}, {sessions} sessions)"
+            ),
+            None => write!(f, "{version} listens at {socket} ({sessions} sessions)"),
+        }
+    }
+}
+
+impl Listening<'_> {
+    /// Writes the line, as [`Fault::tell`] does.
+    pub fn tell<W: Write>(self, alloc: Global, out: &mut W) -> io::Result<()>
+        ensures { OnOk result (Appends (W.contents out.old) (W.contents out.new)
+            (line_with (listening_text self.entry.version.now self.entry.socket.now self.entry.mode
+            self.entry.sessions))) }
+    {
+        tell_line(alloc, &self, out)
+    }
+}
