@@ -35,15 +35,15 @@ _ftrighub() {
     ((COMP_CWORD == 1)) || command=${COMP_WORDS[1]}
     _ftrighub_before
     case $command:${COMP_WORDS[COMP_CWORD - 1]} in
-    *:--socket | serve:--setup) command=FILES ;;
-    serve:--sessions | serve:--ready-fd | serve:--idle | wait:--for | wait:--timeout | follow:--timeout | follow:--pattern | make:--waiting | make:--total) return 0 ;;
-    serve:--mode) command=MODE ;;
+    *:--socket | serve:--setup | serve:--look) command=FILES ;;
+    serve:--sessions | serve:--ready-fd | serve:--idle | serve:--names-per-session | wait:--for | wait:--timeout | follow:--timeout | follow:--pattern | make:--waiting | make:--total) return 0 ;;
+    serve:--mode | serve:--look-mode) command=MODE ;;
     hold:--tell) command=STATE ;;
     esac
     case $command:$place:$word in
     MODE:*) words="0600 0620 0622 0660 0666" ;;
     :*:-*) words="-h --help -V --version" ;;
-    serve:*:-*) words="-h --help --forever --idle --mode --ready-fd --sessions --setup" ;;
+    serve:*:-*) words="-h --help --forever --idle --look --look-mode --mode --names-per-session --ready-fd --sessions --setup" ;;
     call:*:-* | script:*:-*) words="-h --help" ;;
     ask:0:-*) words="-h --help --socket" ;;
     wait:*:-*) words="-h --help --socket --timeout --now -q --quiet" ;;

@@ -18,7 +18,7 @@ function __ftrighub_before
     set -l before
     while set -q words[1]
         switch $words[1]
-            case --socket --for --timeout --pattern --tell --waiting --total --sessions --ready-fd --idle --setup --mode
+            case --socket --for --timeout --pattern --tell --waiting --total --sessions --ready-fd --idle --setup --mode --look --look-mode --names-per-session
                 set words $words[2..]
             case '-*'
             case '*'
@@ -63,11 +63,14 @@ complete -c ftrighub -n __fish_use_subcommand -a help -d 'Print this message or 
 complete -c ftrighub -n __fish_use_subcommand -s V -l version -d 'Print version'
 complete -c ftrighub -n 'not __fish_seen_subcommand_from help' -s h -l help -d 'Print help'
 complete -c ftrighub -n '__fish_seen_subcommand_from serve' -l sessions -x -d 'How many connections, from 1 to 64'
-complete -c ftrighub -n '__fish_seen_subcommand_from serve' -l forever -d 'Run until stopped; N is then 1 to 1024, or else 64'
-complete -c ftrighub -n '__fish_seen_subcommand_from serve' -l ready-fd -x -d 'With --forever: write a newline to D once it listens'
+complete -c ftrighub -n '__fish_seen_subcommand_from serve' -l forever -d 'Run until stopped; N is then 1 to 1024, else 64'
+complete -c ftrighub -n '__fish_seen_subcommand_from serve' -l ready-fd -x -d 'With --forever: write a newline to D when ready'
 complete -c ftrighub -n '__fish_seen_subcommand_from serve' -l idle -x -d 'With --forever: end sessions idle for SECONDS'
 complete -c ftrighub -n '__fish_seen_subcommand_from serve' -l setup -r -F -d 'With --forever: carry out the lines of FILE first'
 complete -c ftrighub -n '__fish_seen_subcommand_from serve' -l mode -x -a '0600 0620 0622 0660 0666' -d 'With --forever: mode of the socket file'
+complete -c ftrighub -n '__fish_seen_subcommand_from serve' -l look -r -F -d 'With --forever: a second socket, only to look'
+complete -c ftrighub -n '__fish_seen_subcommand_from serve' -l look-mode -x -a '0600 0620 0622 0660 0666' -d "With --look: mode of that socket's file"
+complete -c ftrighub -n '__fish_seen_subcommand_from serve' -l names-per-session -x -d 'With --forever: fifodirs that a session may make'
 complete -c ftrighub -n '__fish_seen_subcommand_from ask make tell hold wait status follow' -l socket -r -F -d 'Socket of the hub (or else FTRIGHUB_SOCKET has it)'
 complete -c ftrighub -n '__fish_seen_subcommand_from wait' -l timeout -x -d 'Time limit, such as 500ms, 0.5s, 90 (seconds), 2m or 1h'
 complete -c ftrighub -n '__fish_seen_subcommand_from wait' -l now -d "Don't wait for the hub, or for names to be made"

@@ -21,12 +21,16 @@ TOP = os.path.dirname(os.path.dirname(os.path.realpath(__file__)))
 CONNECT = "ftrighub: cannot connect\n"
 NO_ANSWER = "ftrighub: no answer\n"
 UNKNOWN = "ftrighub: unknown reply\n"
-# What a hub that lives says first: its version, its socket, its mode if it has one, and how many sessions there may be.
-LISTENS = re.compile(r"ftrighub: (\S+) listens at (.+) \((?:mode (0[0-7]{3}), )?(\d+) sessions\)\n")
+# What a hub that lives says first: its version, its socket, its mode if it has one, how many sessions there may be, and its second socket.
+LISTENS = re.compile(r"ftrighub: (\S+) listens at (.+) \((?:mode (0[0-7]{3}), )?(\d+) sessions\)"
+                     r"(?:, and at .+ for those who only look \(mode 0[0-7]{3}, at most \d+ of these\))?\n")
 # What it says of sessions whose client hung up, and that all sessions are taken.
-HANG_UP = re.compile(r"ftrighub: (session \d+ stopped after \d+ s: (could not read from its client|its client left before it read its reply)"
+HANG_UP = re.compile(r"ftrighub: (session \d+ stopped after \d+ s \(lines: \d+\): (could not read from its client|its client left before it read its reply)"
                      r"|\d+ more sessions stopped)")
 CROWD = re.compile(r"ftrighub: all \d+ sessions are taken, and clients wait")
+# What it says of fifodirs that refused a publisher as full, or evicted a subscription.
+TROUBLE = re.compile(r"ftrighub: [A-Za-z0-9_.-]{1,32}: (a publisher was refused as full, the slowest subscription is \d+ events behind"
+                     r"|a subscription was evicted, more than \d+ events behind)")
 # What has to happen happens within so many seconds, also on a slow machine with much else to do.
 PATIENCE = 60
 

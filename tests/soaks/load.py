@@ -21,7 +21,7 @@ import random
 import time
 from collections import Counter
 
-from hubs import CROWD, Hub
+from hubs import CROWD, TROUBLE, Hub
 from soaks import planted
 from soaks.clients import PATTERN, PLAIN, REPORTS, ROLES, SERVICES, SMALL, TOTAL, make_line
 from soaks.model import Record, hits_fault, wait_fault
@@ -168,5 +168,5 @@ def check(program, folder, report, seconds):
         report.at_most("load: KiB of memory more than after the first half", max(memory) - half, ROUGHLY)
     client.close()
     time.sleep(0.2)
-    # (a client that connects anew may come while all sessions are taken)
-    report.same("load: no fault was told", [it for it in hub.end().splitlines() if not CROWD.fullmatch(it)], [])
+    # (a client that connects anew may come while all sessions are taken, and publishers are refused as full)
+    report.same("load: no fault was told", [it for it in hub.end().splitlines() if not CROWD.fullmatch(it) and not TROUBLE.fullmatch(it)], [])

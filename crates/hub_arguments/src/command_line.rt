@@ -180,7 +180,7 @@ pub fn read_words<'a>(
         return Err(WordsError::NoSocket);
     }
     Ok(match matches.subcommand() {
-        Some(("serve", found)) => serve_plan(found, known),
+        Some(("serve", found)) => serve_plan(alloc, found, known)?,
         Some(("call", found)) => call_plan(found),
         Some(("ask", found)) => ask_plan(alloc, found)?,
         Some(("make", found)) => make_plan(alloc, found)?,

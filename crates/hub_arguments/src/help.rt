@@ -108,6 +108,7 @@ A line that can't be carried out gets `no` and one word, and changes nothing:
                  the line isn't a request: too long, with bytes that aren't
                  ASCII, an unknown word, not the fields of its word, a number
                  out of range
+  right          this session may only look (see `serve --help`)
   name, id       there is no such fifodir; no such handle
   exists         there is a fifodir with this name
   kind           a wait, tell or will for a fifodir that isn't a service's
@@ -161,6 +162,18 @@ these. So no client finds a service missing.
 The handles that these lines ask for are released before a client can connect.
 If a line is refused, the hub ends.
 
+With --look PATH it listens at PATH too. Sessions there only look, so its socket
+may be open to all users. It is, with the mode 0666, without --look-mode:
+
+  ftrighub serve hub.socket --forever --mode 0660 --look look.socket
+
+They see the same fifodirs. They may `wait`, and subscribe to fifodirs that
+evict. What would change something or hold a publisher up gets `no right`. Both
+sockets share the N sessions (at least 2), of which a quarter, at least one, is
+kept for SOCKET. With --names-per-session N each session makes at most N
+fifodirs, 1 to 256, and gets `no many` for the next one. The lines of a setup
+don't count.
+
 Without --forever it accepts N connections, serves all of them at the same time,
 and ends when all have ended: N is the number of calls that a script makes.
 
@@ -186,7 +199,7 @@ With --forever standard error is a log. It says that the hub listens, why it
 can't, as in `cannot listen: no such directory`, that all sessions are taken and
 clients wait, and which session stopped, when it does, as in:
 
-  session 2 stopped after 12 s: its client left before it read its reply";
+  session 2 stopped after 12 s (lines: 5): its client left before it read its reply";
 
 /// The subcommand `call` in one line.
 pub const CALL_ABOUT: &str = "Send the request lines of standard input to a hub";

@@ -14,6 +14,7 @@ mod help;
 mod help_words;
 mod options;
 mod serving;
+mod serving_options;
 mod socket;
 
 pub use asking::{Follow, Wish};
@@ -21,5 +22,5 @@ pub use changing::{Hold, Shape};
 pub use command_line::{
     Plan, Start, VERSION, WordsError, begin, early_status, own_words, read_words, status_of,
 };
-pub use serving::HubOptions;
+pub use serving::{HubOptions, LookOptions};
 pub use socket::{OwnSocket, derived_socket, own_socket};

@@ -1,32 +1,22 @@
 //! The subcommands that serve sessions, and `call`, which reaches them.
-ghost use Rattle.std.specs.Prelude.{◌≡◌, ℕ, ◌<◌, ◌^◌, Some, codes, true};
+ghost use Rattle.std.specs.Prelude.{◌≡◌, ℕ, ◌<◌, ◌≤◌, ◌^◌, ◌||◌, None, Some, IsSomeAnd, MatchOption, codes, is_none, is_some, nat_le, true, unwrap_or};
 ghost use Rattle.std.specs.Option.{SomeIff};
 ghost use Rattle.std.specs.Str.Parse.{IsNumeral, digits_value, without_leading_plus};
 ghost use Rattle.hub_arguments.specs.Environment.{IsServedAt};
 ghost use Rattle.hub_arguments.specs.Ranges.{IsInRange, kept_in};
-ghost use Rattle.hub_arguments.specs.declared.serving.TheConstants.{MOST_CLIENTS, MOST_CONNECTIONS, MOST_DESCRIPTOR, MOST_IDLE};
+ghost use Rattle.hub_arguments.specs.declared.serving.TheConstants.{LEAST_WITH_LOOK, MOST_CLIENTS, MOST_CONNECTIONS, MOST_DESCRIPTOR, MOST_IDLE, MOST_MADE, OPEN_TO_ALL};
 
 use crate::command_line::Plan;
 use crate::help::{CALL_ABOUT, CALL_LINES, SCRIPT_ABOUT, SCRIPT_LINES, SERVE_ABOUT, SERVE_LINES};
-use crate::options::{SOCKET, SOCKET_HELP, flag, or_known, socket_in, valued};
+use crate::options::{SOCKET, SOCKET_HELP, or_known, socket_in};
+use crate::serving_options::{
+    FOREVER, IDLE, LOOK, LOOK_MODE, MADE, MODE, READY, SESSIONS, SETUP, forever, idle, look,
+    look_mode, made, mode, ready, sessions, setup,
+};
 use crate::socket::{OwnSocket, ROOT_SOCKET};
-use clap::{Arg, ArgMatches, Command, value_parser};
+use clap::error::ErrorKind;
+use clap::{Arg, ArgMatches, Command, Error};
 use std::alloc::{AllocError, Global};
-
-const SESSIONS: &str = "sessions";
-
-const FOREVER: &str = "forever";
-
-const READY: &str = "ready-fd";
-
-const MODE: &str = "mode";
-
-const IDLE: &str = "idle";
-
-const SETUP: &str = "setup";
-
-/// The modes that a socket may be given: those who may connect need the right to write.
-static MODES: [&str; 5] = ["0600", "0620", "0622", "0660", "0666"];
 
 /// The most connections of a `serve` that ends.
 const MOST_CONNECTIONS: u64 = 64;
@@ -38,6 +28,27 @@ const MOST_DESCRIPTOR: u64 = 65_535;
 
 /// The most seconds that a session may be idle.
 const MOST_IDLE: u64 = 1_000_000;
+
+/// The most fifodirs that one session may make.
+const MOST_MADE: u64 = 256;
+
+/// The fewest sessions of a hub with two sockets: one of them is kept for the first.
+const LEAST_WITH_LOOK: u64 = 2;
+
+/// The mode of a socket that any user may connect to.
+const OPEN_TO_ALL: u32 = 0o666;
+
+const TOO_FEW: &str =
+    "--look needs at least two sessions: one of them is kept for the first socket";
+
+/// A second socket, whose sessions only look.
+#[derive(Clone, Copy, Debug, PartialEq, Eq)]
+pub struct LookOptions<'a> {
+    /// The path of the socket.
+    pub socket: &'a str,
+    /// The permission bits of the socket's file.
+    pub mode: u32,
+}
 
 /// How a hub is served without end.
 #[derive(Clone, Copy, Debug, PartialEq, Eq)]
@@ -57,62 +68,22 @@ pub struct HubOptions<'a> {
     pub idle: Option<u64>,
     /// The path of the file whose lines are carried out before the hub listens. None: there is none.
     pub setup: Option<&'a str>,
+    /// The second socket. Its sessions count among the others. None: there is none.
+    pub look: Option<LookOptions<'a>>,
+    /// How many fifodirs one session may make.
+    pub names: u64,
     // The folder is made for root's socket only.
     ghost folder_is: { makes_folder ≡ true → socket.now ≡ codes "/run/ftrighub/hub.socket" },
     ghost sessions_are: { IsInRange 1 MOST_CLIENTS sessions },
     ghost ready_is: { (d : ℕ) → ready ≡ Some d → IsInRange 0 MOST_DESCRIPTOR d },
     ghost idle_is: { (seconds : ℕ) → idle ≡ Some seconds → IsInRange 1 MOST_IDLE seconds },
+    // Each of two sockets has a session.
+    ghost look_is: { is_some look ≡ true → LEAST_WITH_LOOK ≤ sessions },
+    ghost names_are: { IsInRange 1 MOST_MADE names },
 }
 
 fn socket<'a>(alloc: Global) -> Arg<'a> {
     Arg::new(alloc, SOCKET).value_name("SOCKET")
-}
-
-// With `--forever` there may be more sessions.
-fn sessions<'a>(alloc: Global, forever: bool) -> Arg<'a> {
-    let argument = valued(alloc, SESSIONS, "N");
-    if forever {
-        argument
-            .help("How many clients at the same time, from 1 to 1024")
-            .value_parser(value_parser!(u64).range(1..1025))
-            .default_value("64")
-    } else {
-        argument
-            .help("How many connections, from 1 to 64")
-            .value_parser(value_parser!(u64).range(1..65))
-            .default_value("1")
-    }
-}
-
-fn forever<'a>(alloc: Global) -> Arg<'a> {
-    flag(alloc, FOREVER).help("Run until stopped; N is then 1 to 1024, or else 64")
-}
-
-fn ready<'a>(alloc: Global) -> Result<Arg<'a>, AllocError> {
-    valued(alloc, READY, "D")
-        .help("With --forever: write a newline to D once it listens")
-        .value_parser(value_parser!(u64).range(0..65536))
-        .requires_arg(FOREVER)
-}
-
-fn mode<'a>(alloc: Global) -> Result<Arg<'a>, AllocError> {
-    valued(alloc, MODE, "MODE")
-        .help("With --forever: mode of the socket file")
-        .value_parser(MODES.as_slice())
-        .requires_arg(FOREVER)
-}
-
-fn idle<'a>(alloc: Global) -> Result<Arg<'a>, AllocError> {
-    valued(alloc, IDLE, "SECONDS")
-        .help("With --forever: end sessions idle for SECONDS")
-        .value_parser(value_parser!(u64).range(1..1000001))
-        .requires_arg(FOREVER)
-}
-
-fn setup<'a>(alloc: Global) -> Result<Arg<'a>, AllocError> {
-    valued(alloc, SETUP, "FILE")
-        .help("With --forever: carry out the lines of FILE first")
-        .requires_arg(FOREVER)
 }
 
 pub(crate) fn script_command<'a>(alloc: Global) -> Command<'a> {
@@ -137,7 +108,10 @@ pub(crate) fn serve_command<'a>(
         .arg(ready(alloc)?)?
         .arg(mode(alloc)?)?
         .arg(idle(alloc)?)?
-        .arg(setup(alloc)?)
+        .arg(setup(alloc)?)?
+        .arg(look(alloc)?)?
+        .arg(look_mode(alloc)?)?
+        .arg(made(alloc)?)
 }
 
 pub(crate) fn call_command<'a>(
@@ -170,6 +144,11 @@ fn mode_of(digits: &str) -> Option<u32>
     u32::from_str_radix(digits, 8).ok()
 }
 
+// The mode that an option has.
+fn found_mode(found: &ArgMatches<'_>, option: &str) -> Option<u32> {
+    found.get_str(option).and_then(|digits| mode_of(digits))
+}
+
 // The clients at the same time of a `serve` that doesn't end, if this number was found.
 fn clients(found: Option<u64>) -> u64
     ensures { IsInRange 1 MOST_CLIENTS result }
@@ -178,6 +157,28 @@ fn clients(found: Option<u64>) -> u64
         Some(number) => number,
         None => 64,
     }
+}
+
+// How many fifodirs one session may make, if this number was found.
+fn names(found: Option<u64>) -> u64
+    ensures kept { result ≡ unwrap_or (kept_in 1 MOST_MADE found) MOST_MADE }
+    ensures ranged { IsInRange 1 MOST_MADE result }
+{
+    match within(found, 1, MOST_MADE) {
+        Some(number) => number,
+        None => MOST_MADE,
+    }
+}
+
+// The second socket, if its path is named. Without a mode any user may connect.
+fn second<'a>(named: Option<&'a str>, mode: Option<u32>) -> Option<LookOptions<'a>>
+    ensures { MatchOption named.entry (result ≡ None)
+        (λ path. IsSomeAnd result (λ look. (look.socket.now ≡ path.now)
+        × (look.mode ≡ unwrap_or mode OPEN_TO_ALL))) }
+{
+    let socket = named?;
+    let mode = mode.unwrap_or(OPEN_TO_ALL);
+    Some(LookOptions { socket, mode })
 }
 
 // The connections of a `serve` that ends, if this number was found.
@@ -204,24 +205,51 @@ fn hub_socket<'a>(named: Option<&'a str>, known: Option<&'a OwnSocket>) -> (&'a 
     }
 }
 
-/// What the words of a `serve` ask for. `known` is the socket of one that doesn't end, if they name none.
-pub(crate) fn serve_plan<'a>(found: &ArgMatches<'a>, known: Option<&'a OwnSocket>) -> Plan<'a> {
-    if !found.get_flag(FOREVER) {
-        return Plan::Serve {
-            socket: socket_in(found),
-            sessions: connections(found.get_one::<u64>(SESSIONS)),
-        };
-    }
+// Whether the sockets have enough sessions.
+fn are_enough(sessions: u64, look: Option<LookOptions<'_>>) -> bool
+    ensures { result ≡ (is_none look.entry || nat_le LEAST_WITH_LOOK sessions) }
+{
+    look.is_none() || LEAST_WITH_LOOK <= sessions
+}
+
+// What these options say of a hub. None if it has two sockets, and too few sessions for them.
+fn hub_options<'a>(found: &ArgMatches<'a>, known: Option<&'a OwnSocket>) -> Option<HubOptions<'a>> {
     let (socket, makes_folder) = hub_socket(found.get_str(SOCKET), known);
-    Plan::ServeForever(HubOptions {
+    let sessions = clients(found.get_one::<u64>(SESSIONS));
+    let look = second(found.get_str(LOOK), found_mode(found, LOOK_MODE));
+    if !are_enough(sessions, look) {
+        return None;
+    }
+    Some(HubOptions {
         socket,
         makes_folder,
-        sessions: clients(found.get_one::<u64>(SESSIONS)),
-        mode: found.get_str(MODE).and_then(|digits| mode_of(digits)),
+        sessions,
+        mode: found_mode(found, MODE),
         ready: within(found.get_one::<u64>(READY), 0, MOST_DESCRIPTOR),
         idle: within(found.get_one::<u64>(IDLE), 1, MOST_IDLE),
         setup: found.get_str(SETUP),
+        look,
+        names: names(found.get_one::<u64>(MADE)),
     })
+}
+
+/// What the words of a `serve` ask for. `known` is the socket of one that doesn't end, if they name none.
+pub(crate) fn serve_plan<'a>(
+    alloc: Global,
+    found: &ArgMatches<'a>,
+    known: Option<&'a OwnSocket>,
+) -> Result<Plan<'a>, Error> {
+    if !found.get_flag(FOREVER) {
+        return Ok(Plan::Serve {
+            socket: socket_in(found),
+            sessions: connections(found.get_one::<u64>(SESSIONS)),
+        });
+    }
+    let Some(options) = hub_options(found, known) else {
+        let mut serve = serve_command(alloc, true)?.bin_name("ftrighub serve")?;
+        return Err(serve.error(ErrorKind::InvalidValue, TOO_FEW)?);
+    };
+    Ok(Plan::ServeForever(options))
 }
 
 /// What the words of a `call` ask for.

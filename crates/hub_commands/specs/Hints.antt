@@ -7,7 +7,7 @@ use Rattle.hub_protocol.specs.declared.replies.BorrowedReply.TheVariants as show
 use Rattle.hub_requests.specs.declared.reply.Reply.{Reply}
 use Rattle.hub_requests.specs.declared.reply.Reply.TheVariants as reply
 use Rattle.hub_requests.specs.declared.reply.Refusal.{Refusal}
-use Rattle.hub_requests.specs.declared.reply.Refusal.TheVariants.{Long, Text, Word, Form, Range, Name, Exists, Kind, Id, Many, Spent, Closed, Unlawful, Full, Pattern, Overlong, Memory}
+use Rattle.hub_requests.specs.declared.reply.Refusal.TheVariants.{Long, Text, Word, Form, Range, Right, Name, Exists, Kind, Id, Many, Spent, Closed, Unlawful, Full, Pattern, Overlong, Memory}
 use Rattle.hub_server.specs.Sessions.{Writing}
 use Rattle.hub_commands.specs.declared.hinting.TheConstants.{FORMS}
 
@@ -42,6 +42,7 @@ hint_of line Text = hint (codes "a line has the bytes from space to ~, and no ta
 hint_of line Word = hint (codes "the words are dir svc sub pub tell will take cancel close status about listen poll await next wait names")
 hint_of line Form = form_hint (first_word line)
 hint_of line Range = hint (codes "W is 1 to 4096, T 1 to 1000000000000, R 0 or 1, MAX 1 to 256, TURNS 0 to 1000000")
+hint_of line Right = hint (codes "this socket only looks: ask at the hub's own socket")
 hint_of line Name = hint (codes "there is no such fifodir: make it by `ftrighub make NAME`")
 hint_of line Exists = hint (codes "there is such a fifodir: `ftrighub ask about NAME` shows it")
 hint_of line Kind = hint (codes "this fifodir isn't a service's: make one by `ftrighub make NAME`")

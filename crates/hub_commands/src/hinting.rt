@@ -93,6 +93,7 @@ fn hint_of(line: &[u8], refusal: Refusal) -> &'static [u8]
         Refusal::Form => form_hint(first_word(line)),
         Refusal::Range =>
             b"ftrighub: W is 1 to 4096, T 1 to 1000000000000, R 0 or 1, MAX 1 to 256, TURNS 0 to 1000000\n",
+        Refusal::Right => b"ftrighub: this socket only looks: ask at the hub's own socket\n",
         Refusal::Name => b"ftrighub: there is no such fifodir: make it by `ftrighub make NAME`\n",
         Refusal::Exists =>
             b"ftrighub: there is such a fifodir: `ftrighub ask about NAME` shows it\n",

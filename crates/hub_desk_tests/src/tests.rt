@@ -9,6 +9,7 @@ mod names;
 mod nexts;
 mod no_memory;
 mod requests;
+mod rights;
 mod rows;
 mod shared;
 mod sizes;

@@ -4,10 +4,12 @@ use Rattle.std.specs.Fmt.{decimal}
 use Rattle.hub_ask.specs.Faults.{ask_text}
 use Rattle.hub_client.specs.Faults.{relay_text}
 use Rattle.hub_endings.specs.declared.fault.Fault.{Fault}
-use Rattle.hub_endings.specs.declared.fault.Fault.TheVariants.{Listen, Taken, Notify, Setup, SetupLine, Lost, Accept, Connect, Memory, Script, Serve, Session, Relay, Ask}
+use Rattle.hub_endings.specs.declared.fault.Fault.TheVariants.{Listen, Taken, Notify, Setup, SetupLine, Lost, Look, Accept, Connect, Memory, Script, Serve, Session, Relay, Ask}
 use Rattle.hub_endings.specs.declared.listen_fault.ListenFault.{ListenFault}
 use Rattle.hub_endings.specs.declared.listen_fault.ListenFault.TheVariants as listening
 use Rattle.hub_endings.specs.declared.listen_fault.ListenFault.TheVariants.{Untold, NoFolder, NotFolder, Denied, Empty, Long, Another, Lock, Names, ReadOnly, Space}
+use Rattle.hub_endings.specs.declared.look_fault.LookFault.{LookFault}
+use Rattle.hub_endings.specs.declared.look_fault.LookFault.TheVariants as looking
 use Rattle.hub_io.specs.Faults.{fault_text}
 use Rattle.std.specs.declared.io.ErrorKind.{ErrorKind}
 use Rattle.std.specs.declared.io.ErrorKind.TheVariants.{NotFound, NotADirectory, PermissionDenied, ReadOnlyFilesystem, StorageFull, QuotaExceeded, OutOfMemory}
@@ -47,6 +49,20 @@ listen_fault_of QuotaExceeded = Space
 listen_fault_of OutOfMemory = listening.Memory
 listen_fault_of kind = Untold
 
+-- the text of a fault of the second socket
+abbrev pub look_fault_text : LookFault → List ℕ
+look_fault_text (looking.Listen fault) = listen_text fault ++ codes " (--look)"
+look_fault_text looking.Taken = codes "another server listens there (--look)"
+look_fault_text looking.Same = codes "the path is that of the first socket (--look)"
+look_fault_text looking.Lost = codes "socket file lost (--look)"
+
+-- the same fault of the second socket, if it is one of a socket
+abbrev pub look_fault : Fault → Fault
+look_fault (Listen fault) = Look (looking.Listen fault)
+look_fault Taken = Look looking.Taken
+look_fault Lost = Look looking.Lost
+look_fault other = other
+
 -- the text of a fault
 abbrev pub text_of : Fault → List ℕ
 text_of (Listen fault) = listen_text fault
@@ -55,6 +71,7 @@ text_of Notify = codes "cannot notify"
 text_of Setup = codes "cannot read the setup"
 text_of (SetupLine line) = refused_text line
 text_of Lost = codes "socket file lost"
+text_of (Look fault) = look_fault_text fault
 text_of Accept = codes "cannot accept"
 text_of Connect = codes "cannot connect"
 text_of Memory = fault_text passing.Memory

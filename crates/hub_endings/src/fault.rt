@@ -1,11 +1,12 @@
 //! The faults that end the program.
 ghost use Rattle.std.specs.Prelude.{◌≡◌, OnOk, Some};
 ghost use Rattle.std.specs.Io.KnownBytes.{Appends};
-ghost use Rattle.hub_endings.specs.Faults.{line_of};
+ghost use Rattle.hub_endings.specs.Faults.{line_of, look_fault};
 ghost use Rattle.hub_endings.specs.declared.fault.Fault.TheVariants as fault;
 
 use crate::line::tell_line;
 use crate::listen_fault::ListenFault;
+use crate::look_fault::LookFault;
 use crate::refused_line::RefusedLine;
 use hub_ask::AskError;
 use hub_client::RelayError;
@@ -31,6 +32,8 @@ pub enum Fault {
     SetupLine(RefusedLine),
     /// Another file is in the place of the socket, or its file couldn't be put back.
     Lost,
+    /// The second socket couldn't be made, or was lost.
+    Look(LookFault),
     /// A connection was expected, and accepting it failed.
     Accept,
     /// The connection to a server at the socket couldn't be made.
@@ -62,6 +65,7 @@ impl fmt::Display for Fault {
             Fault::Setup => f.write_str("cannot read the setup"),
             Fault::SetupLine(line) => write!(f, "{line}"),
             Fault::Lost => f.write_str("socket file lost"),
+            Fault::Look(fault) => write!(f, "{fault}"),
             Fault::Accept => f.write_str("cannot accept"),
             Fault::Connect => f.write_str("cannot connect"),
             Fault::Memory => write!(f, "{}", FrontError::Memory),
@@ -83,6 +87,18 @@ impl Fault {
         ensures { OnOk result (Appends (W.contents out.old) (W.contents out.new) (line_of self)) }
     {
         tell_line(alloc, &self, out)
+    }
+
+    /// The same fault of the second socket, if it is one of a socket.
+    pub fn at_look(self) -> Fault
+        ensures { result ≡ look_fault self }
+    {
+        match self {
+            Fault::Listen(fault) => Fault::Look(LookFault::Listen(fault)),
+            Fault::Taken => Fault::Look(LookFault::Taken),
+            Fault::Lost => Fault::Look(LookFault::Lost),
+            other => other,
+        }
     }
 }
 

@@ -14,10 +14,12 @@ use std::{fmt, io};
 /// What a hub that lives says while it goes on. Its text is a line of the hub's log.
 #[derive(Clone, Copy, Debug, PartialEq, Eq)]
 pub enum HubLine {
-    /// A session stopped, so many seconds after it began. Sessions are numbered from 1, in the order in which they were accepted.
+    /// A session stopped, so many seconds after it began, and after so many lines of its client. Sessions are numbered from 1, in the
+    /// order in which they were accepted.
     Stopped {
         number: u64,
         seconds: u64,
+        lines: u64,
         cause: StopCause,
     },
     /// So many sessions stopped besides, and aren't told one by one.
@@ -32,8 +34,12 @@ pub enum HubLine {
     Full {
         sessions: u64,
     },
+    /// No session is free for a client of the second socket, and one waits there.
+    LookFull,
     /// The socket's file was removed, and is back.
     Restored,
+    /// The file of the second socket was removed, and is back.
+    LookRestored,
     /// This failed, and is tried again.
     Failed(Fault),
 }
@@ -46,15 +52,23 @@ impl fmt::Display for HubLine {
             HubLine::Stopped {
                 number,
                 seconds,
+                lines,
                 cause,
-            } => write!(f, "session {number} stopped after {seconds} s: {cause}"),
+            } => write!(
+                f,
+                "session {number} stopped after {seconds} s (lines: {lines}): {cause}"
+            ),
             HubLine::More { sessions } => write!(f, "{sessions} more sessions stopped"),
             HubLine::Wills { wills } => write!(f, "{wills} wills not carried out"),
             HubLine::Full { sessions } => write!(
                 f,
                 "all {sessions} sessions are taken, and clients wait"
             ),
+            HubLine::LookFull => {
+                f.write_str("no session is free for those who only look, and clients wait")
+            }
             HubLine::Restored => f.write_str("socket file restored"),
+            HubLine::LookRestored => f.write_str("socket file restored (--look)"),
             HubLine::Failed(fault) => write!(f, "{fault}"),
         }
     }

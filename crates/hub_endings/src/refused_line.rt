@@ -29,6 +29,7 @@ impl fmt::Display for Word {
             Refusal::Word => f.write_str("word"),
             Refusal::Form => f.write_str("form"),
             Refusal::Range => f.write_str("range"),
+            Refusal::Right => f.write_str("right"),
             Refusal::Name => f.write_str("name"),
             Refusal::Exists => f.write_str("exists"),
             Refusal::Kind => f.write_str("kind"),

@@ -1,5 +1,5 @@
 // crates.txt: YOURS: hub_gather hub_local
-use hub_gather::{Enter, FrontError, serve_long};
+use hub_gather::{Awake, Enter, FrontError, serve_long};
 use hub_local::LocalDesk;
 use std::alloc::Global;
 use std::sync::Wait;
@@ -12,6 +12,13 @@ pub fn replies_in_batches<H: Wait + Enter>(
 ) -> Result<Vec<u8>, FrontError> {
     let mut desk = LocalDesk::new(alloc)?;
     let mut replies = Vec::new(alloc);
-    serve_long(rt, alloc, &mut desk, &mut text.as_bytes(), &mut replies)?;
+    serve_long(
+        rt,
+        alloc,
+        &Awake,
+        &mut desk,
+        &mut text.as_bytes(),
+        &mut replies,
+    )?;
     Ok(replies)
 }

@@ -23,6 +23,7 @@ pub mod names;
 pub mod protocol;
 pub mod record;
 pub mod requests;
+pub mod rights;
 pub mod script;
 pub mod server;
 pub mod serving;

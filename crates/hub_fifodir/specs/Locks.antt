@@ -1,10 +1,10 @@
 -- The value behind the lock, and what its calls do beside the calls of its record.
-use Rattle.std.specs.Prelude.{◌≡◌, ℕ, ◌+◌, ◌<◌, ◌≤◌, Bool, true, false, cond, if◌then◌else◌, List, length, Result, Ok, Err, nat_eq}
+use Rattle.std.specs.Prelude.{◌≡◌, ℕ, ◌+◌, ◌<◌, ◌≤◌, Bool, true, false, cond, if◌then◌else◌, List, length, ◌-◌, Result, Ok, Err, nat_eq, nat_lt}
 use Rattle.std.specs.List.{list_any}
 use Rattle.hub_letters.specs.Flags.{flags_of}
 use Rattle.hub_record.specs.declared.limits.TheConstants.{MOST_PASSES}
 use Rattle.hub_record.specs.declared.Status.{Status}
-use Rattle.hub_record.specs.World.{World, active, letters, load}
+use Rattle.hub_record.specs.World.{World, active, evicted, letters, load}
 use Rattle.hub_record.specs.Kept.{Represents}
 use Rattle.hub_fifodir.specs.declared.PassError.{PassError}
 use Rattle.hub_fifodir.specs.declared.PassError.TheVariants as pass
@@ -32,9 +32,14 @@ pub record RepresentsWorld (b : Locked) (w : World) : Type 0 where
 abbrev pub status_of : World → Status
 status_of w = record { number = length w.events; flags = flags_of (letters w.events); closed = w.closed }
 
--- how much there is: active subscriptions, current publishers, and events that are pending for the slowest subscription
+-- how much there is: active subscriptions, current publishers, events that are pending for the slowest subscription, and evicted
+-- subscriptions
 abbrev pub usage_of : Locked → World → Usage
-usage_of b w = record { subscriptions = length (active w); publishers = length (numbers_of b); pending = load w }
+usage_of b w = record { subscriptions = length (active w); publishers = length (numbers_of b); pending = load w; evicted = length (evicted w) }
+
+-- whether more events are pending for the slowest subscription than there is room for besides
+abbrev pub is_half_full : World → Bool
+is_half_full w = nat_lt (w.limits.waiting - load w) (load w)
 
 -- the record is the same
 abbrev pub KeepsRecord : Locked → Locked → Type 0

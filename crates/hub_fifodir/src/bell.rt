@@ -3,7 +3,7 @@ ghost use Rattle.std.specs.Prelude.{◌≡◌};
 
 use crate::rule::TableSeat;
 use std::alloc::Global;
-use std::sync::atomic::{AtomicU64, Ordering};
+use std::sync::atomic::{AtomicBool, AtomicU64, Ordering};
 use std::sync::{Arc, Wait};
 use std::time::Duration;
 
@@ -16,20 +16,38 @@ const FIRST_WOKEN: u64 = 4;
 /// A waiter hears the bell first, then looks for what it waits for, and sleeps with the number that it heard. If the bell
 /// rings between the look and the sleep, the number is another one, and the sleep ends at once. The types leave no other
 /// order: a [`Waiter`] gives a [`Heard`], which a look takes for a [`Looked`], and a sleep asks for that.
+///
+/// A bell may wake its sleepers late: not at each ring, but only when [`Bell::settle`] is called. So a thread that makes many changes
+/// wakes them once. Whoever makes a change has to settle before it waits for anything.
 #[derive(Drop)]
 pub struct Bell {
     /// How often it rang so far.
     rings: AtomicU64,
     /// How many threads may be asleep.
     sleepers: AtomicU64,
+    /// Whether sleepers are woken only by `settle`.
+    is_late: bool,
+    /// Whether it rang since the sleepers were woken last.
+    owes: AtomicBool,
 }
 
 impl Bell {
     /// A bell that hasn't rung.
     pub fn new() -> Bell {
+        Bell::of(false)
+    }
+
+    /// A bell that hasn't rung, and that wakes its sleepers late.
+    pub fn late() -> Bell {
+        Bell::of(true)
+    }
+
+    fn of(is_late: bool) -> Bell {
         Bell {
             rings: AtomicU64::new(0),
             sleepers: AtomicU64::new(0),
+            is_late,
+            owes: AtomicBool::new(false),
         }
     }
 
@@ -52,10 +70,27 @@ impl Bell {
         }
     }
 
-    /// Wakes the first sleepers. It asks the kernel only if somebody may be asleep: a sleeper is counted before the kernel
-    /// compares the number that it read, and here the number goes up before the count is read.
-    pub(crate) fn ring(&self) {
+    /// Rings, and wakes the first sleepers unless it does so late. Nobody falls asleep meanwhile: the number is another one.
+    pub(crate) fn ring(&self, is_urgent: bool) {
         self.rings.fetch_add(1, Ordering::SeqCst);
+        if self.is_late && !is_urgent {
+            self.owes.store(true, Ordering::SeqCst);
+        } else {
+            self.wake();
+        }
+    }
+
+    /// Wakes the first sleepers if it has rung since they were woken last. Whoever rang either finds here that it owes a wake, or
+    /// another thread has found that since, and wakes them.
+    pub fn settle(&self) {
+        if self.owes.load(Ordering::SeqCst) && self.owes.swap(false, Ordering::SeqCst) {
+            self.wake();
+        }
+    }
+
+    // Wakes the first sleepers. It asks the kernel only if somebody may be asleep: a sleeper is counted before the kernel compares the
+    // number that it read, and here the number went up before the count is read.
+    fn wake(&self) {
         let sleepers = self.sleepers.load(Ordering::SeqCst);
         for _ in 0..sleepers.min(FIRST_WOKEN) {
             self.rings.wake_one();
@@ -147,10 +182,10 @@ impl Waiters {
     }
 
     /// Rings if somebody waits. The change comes before this, and a waiter is counted before it looks: either it sees the
-    /// change, or it is seen here.
-    pub(crate) fn tell(&self) {
+    /// change, or it is seen here. A late bell wakes at once if it is urgent.
+    pub(crate) fn tell(&self, is_urgent: bool) {
         if self.count.load(Ordering::SeqCst) > 0 {
-            self.bell.ring();
+            self.bell.ring(is_urgent);
         }
     }
 }

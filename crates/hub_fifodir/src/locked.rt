@@ -5,7 +5,7 @@ ghost use Rattle.hub_record.specs.declared.Kind.TheVariants.{Service};
 ghost use Rattle.hub_record.specs.World.{World, empty_world, letters, last_publisher, SubscribeReply, after_subscribe, PublishReply, after_publish};
 ghost use Rattle.hub_record.specs.World.{take_reply, take_events, after_take};
 ghost use Rattle.hub_record.specs.World.{cancel_reply, after_cancel, close_reply, after_close};
-ghost use Rattle.hub_fifodir.specs.Locks.{RepresentsWorld, status_of, usage_of, numbers_of, given_by};
+ghost use Rattle.hub_fifodir.specs.Locks.{RepresentsWorld, status_of, usage_of, is_half_full, numbers_of, given_by};
 ghost use Rattle.hub_fifodir.specs.Locks.{PublisherReply, IsAfterPublisher, HasLeft, KeepsPublishers, KeepsRecord, IsCounted};
 
 use crate::PassError;
@@ -177,7 +177,16 @@ impl Locked {
             subscriptions: self.kept.active() as u64,
             publishers: self.active.len() as u64,
             pending: self.kept.load(),
+            evicted: self.kept.evicted() as u64,
         }
+    }
+
+    /// Whether more events are pending for the slowest subscription than there is room for besides.
+    pub fn is_half_full(&self) -> bool
+        ensures { (w : World) → RepresentsWorld self.now w → result ≡ is_half_full w }
+    {
+        let pending = self.kept.load();
+        pending > self.kept.limits().waiting.saturating_sub(pending)
     }
 
     /// The number of events so far.

@@ -97,7 +97,8 @@ impl Fifodir {
     }
 
     /// Tells where the service is, as `tell` does, if its last event is this publisher's. None if another one published since, or
-    /// if there is no event: whoever published last speaks for the service. It looks and publishes in one step under the lock.
+    /// if there is no event: whoever published last speaks for the service. It looks and publishes in one step under the lock. Those who
+    /// sleep until the fifodir changes are woken at once, also by a late bell.
     pub fn tell_as_last<R: Wait>(
         &self,
         rt: &R,
@@ -125,7 +126,9 @@ impl Fifodir {
             return None;
         }
         let word = held.locked.word(state);
-        Some(self.add(me.number, &mut me.seat, held, word.letters()))
+        let told = self.add(me.number, &mut me.seat, held, word.letters());
+        self.bell().settle();
+        Some(told)
     }
 
     // Adds a message of this publisher, whose seat has the lock, and releases the lock.
@@ -147,9 +150,10 @@ impl Fifodir {
         match held.locked.publish(number, letters) {
             Ok(first) => {
                 let word = word::pack(held.locked.status());
+                let is_urgent = held.locked.is_half_full();
                 steps::write_message(board, seat, word, letters);
                 steps::rest(board, seat, held);
-                self.waiters().tell();
+                self.waiters().tell(is_urgent);
                 Ok(first)
             }
             Err(refusal) => {
@@ -175,7 +179,7 @@ impl Fifodir {
                 let word = word::pack(held.locked.status());
                 steps::write_mark(board, &mut me.seat, word);
                 steps::rest(board, &mut me.seat, held);
-                self.waiters().tell();
+                self.waiters().tell(true);
                 Ok(())
             }
             Err(refusal) => {

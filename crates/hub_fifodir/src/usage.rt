@@ -14,6 +14,8 @@ pub struct Usage {
     pub publishers: u64,
     /// How many events are pending for the slowest of these subscriptions.
     pub pending: u64,
+    /// How many subscriptions are evicted and not cancelled.
+    pub evicted: u64,
 }
 
 impl Fifodir {

@@ -17,7 +17,7 @@ pub use batch::MOST_HELD;
 pub use hub_front::Stay;
 pub use hub_io::{FrontError, Sink, Source};
 pub use hub_requests::Enter;
-pub use means::{Direct, Means};
+pub use means::{Awake, Direct, Means, Settles};
 pub use room::may_sleep;
 pub use serving::serve_by;
 pub use staying::{serve_long, serve_staying};

@@ -70,11 +70,34 @@ pub trait Means<D, R, W> {
         ensures part { OnErr result (AddsPart (history self.old) (history self.new) bytes.now) };
 }
 
-/// A real desk, reader and writer. Their history isn't known.
-#[derive(Drop)]
-pub struct Direct;
+/// What wakes those who sleep until something changes that a session has changed.
+pub trait Settles {
+    /// Wakes them, if the session's requests don't.
+    fn settle(&self);
+}
 
-impl<D: Desk, R: Source, W: Sink> Means<D, R, W> for Direct {
+/// Nobody sleeps, or each request wakes them.
+#[derive(Clone, Copy, Debug, Drop)]
+pub struct Awake;
+
+impl Settles for Awake {
+    fn settle(&self) {}
+}
+
+/// A real desk, reader and writer. Their history isn't known. Before each read and each write, which may wait for the client, those are
+/// woken who sleep until something changes that the session has changed.
+#[derive(Drop)]
+pub struct Direct<'a, S> {
+    settles: &'a S,
+}
+
+impl<S> Direct<'_, S> {
+    pub(crate) fn new(settles: &S) -> Direct<'_, S> {
+        Direct { settles }
+    }
+}
+
+impl<D: Desk, R: Source, W: Sink, S: Settles> Means<D, R, W> for Direct<'_, S> {
     ghost asks = { D.asks };
 
     ghost remaining = { R.remaining };
@@ -90,6 +113,7 @@ impl<D: Desk, R: Source, W: Sink> Means<D, R, W> for Direct {
     ghost history = { λ _. None };
 
     fn read(&mut self, reader: &mut R, buf: &mut [u8]) -> io::Result<usize> {
+        self.settles.settle();
         reader.pull(buf)
     }
 
@@ -106,6 +130,7 @@ impl<D: Desk, R: Source, W: Sink> Means<D, R, W> for Direct {
     }
 
     fn write(&mut self, writer: &mut W, bytes: &[u8]) -> Result<(), FrontError> {
+        self.settles.settle();
         write_whole(writer, bytes)
     }
 }

@@ -6,7 +6,7 @@ ghost use Rattle.hub_front.specs.Serving.{Finished, ReadsWithin, most_reads};
 ghost use Rattle.hub_front.specs.declared.stay.Stay.TheVariants.{Long};
 ghost use Rattle.hub_gather.specs.Gathering.{Halted, StoppedIn};
 
-use crate::means::Direct;
+use crate::means::{Direct, Settles};
 use crate::serving::serve_by;
 use hub_front::{Stay, serve_within};
 use hub_io::{FrontError, Sink, Source};
@@ -15,10 +15,11 @@ use std::alloc::Global;
 use std::sync::Wait;
 
 /// Serves a session that may stay [`Long`](Stay::Long), whose replies are written in batches. The desk is ended at every outcome, once all
-/// replies are written that can be.
-pub fn serve_long<H: Wait + Enter, D: Desk, R: Source, W: Sink>(
+/// replies are written that can be. Before each read and each write, those are woken who sleep until something changes.
+pub fn serve_long<H: Wait + Enter, S: Settles, D: Desk, R: Source, W: Sink>(
     rt: &H,
     alloc: Global,
+    settles: &S,
     desk: &mut D,
     reader: &mut R,
     writer: &mut W,
@@ -40,11 +41,11 @@ pub fn serve_long<H: Wait + Enter, D: Desk, R: Source, W: Sink>(
     ensures read_faults { Rises (R.faults reader.old) (R.faults reader.new) (read_faults result) }
     ensures write_faults { Rises (W.faults writer.old) (W.faults writer.new) (write_faults result) }
 {
-    let served = serve_by::<H, D, R, W, Direct>(
+    let served = serve_by::<H, D, R, W, Direct<'_, S>>(
         rt,
         alloc,
         Stay::Long,
-        &mut Direct,
+        &mut Direct::new(settles),
         desk,
         reader,
         writer,
@@ -55,10 +56,11 @@ pub fn serve_long<H: Wait + Enter, D: Desk, R: Source, W: Sink>(
 
 /// Serves a session that may stay so long. Each reply of a short one is written by itself ([`serve_within`]), and those of a long one are
 /// written in batches ([`serve_long`]). The desk is ended at every outcome.
-pub fn serve_staying<H: Wait + Enter, D: Desk, R: Source, W: Sink>(
+pub fn serve_staying<H: Wait + Enter, S: Settles, D: Desk, R: Source, W: Sink>(
     rt: &H,
     alloc: Global,
     stay: Stay,
+    settles: &S,
     desk: &mut D,
     reader: &mut R,
     writer: &mut W,
@@ -77,6 +79,6 @@ pub fn serve_staying<H: Wait + Enter, D: Desk, R: Source, W: Sink>(
 {
     match stay {
         Stay::Short => serve_within(rt, alloc, stay, desk, reader, writer),
-        Stay::Long => serve_long(rt, alloc, desk, reader, writer),
+        Stay::Long => serve_long(rt, alloc, settles, desk, reader, writer),
     }
 }

@@ -12,7 +12,7 @@ use Rattle.hub_requests.specs.declared.request.Request.{Request}
 use Rattle.hub_requests.specs.declared.request.Request.TheVariants as request
 use Rattle.hub_requests.specs.declared.reply.Reply.TheVariants as reply
 use Rattle.hub_requests.specs.declared.reply.Refusal.{Refusal}
-use Rattle.hub_requests.specs.declared.reply.Refusal.TheVariants.{Name, Closed}
+use Rattle.hub_requests.specs.declared.reply.Refusal.TheVariants.{Right, Name, Closed}
 use Rattle.hub_protocol.specs.Spelling.{form_of, spelling}
 use Rattle.hub_record.specs.declared.Status.{Status}
 use Rattle.hub_ask.specs.Hearing.{line_of}
@@ -36,6 +36,7 @@ Finding = Result Description Refusal
 
 -- why a name is refused
 abbrev pub reason_of : Refusal → List ℕ
+reason_of Right = codes "this socket only looks: ask at the hub's own socket"
 reason_of Name = codes "no such fifodir"
 reason_of Closed = codes "closed"
 reason_of refusal = codes "no " ++ word_of refusal

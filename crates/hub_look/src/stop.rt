@@ -87,6 +87,9 @@ fn put_reason(refusal: Refusal, line: &mut Vec<u8>) -> Result<(), AllocError>
     ensures { OnOk result (line.new.items ≡ line.old.items ++ (reason_of refusal ++ 10 ∷ [])) }
 {
     match refusal {
+        Refusal::Right => {
+            line.extend_from_slice(b"this socket only looks: ask at the hub's own socket\n")
+        }
         Refusal::Name => line.extend_from_slice(b"no such fifodir\n"),
         Refusal::Closed => line.extend_from_slice(b"closed\n"),
         _ => write_reply(&Reply::No(refusal), line),

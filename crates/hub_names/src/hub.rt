@@ -2,7 +2,7 @@
 ghost use Rattle.std.specs.Prelude.{◌≡◌, option_map, IfOk, IfErr, IfSome, OnOk};
 ghost use Rattle.std.specs.Arc.{arc_value};
 
-use hub_fifodir::{Enter, Fifodir};
+use hub_fifodir::{Bell, Enter, Fifodir};
 use hub_record::{Kind, Limits};
 use hub_requests::{Name, Reply};
 use std::alloc::{AllocError, Global};
@@ -107,6 +107,8 @@ impl Found {
 #[derive(Drop)]
 pub struct Hub {
     named: Guarded<Named>,
+    /// The bell of all its fifodirs, which wakes late.
+    bell: Arc<Bell, Global>,
     /// No clause says what this is, so no contract can show that two hubs are one. Nothing reads it at run time.
     mark: u64,
 }
@@ -118,10 +120,19 @@ impl Hub {
 
     /// A hub without a name.
     pub fn new(alloc: Global) -> Result<Hub, AllocError> {
+        let Ok(bell) = Arc::new(alloc, Bell::late()) else {
+            return Err(AllocError);
+        };
         Ok(Hub {
-            named: Named::none(alloc)?,
+            named: Named::none(Arc::try_clone(&bell)?, alloc),
+            bell,
             mark: 0,
         })
+    }
+
+    /// Wakes those who sleep until a fifodir changes that has changed. Whoever changed one calls this before it waits for anything.
+    pub fn settle(&self) {
+        self.bell.settle();
     }
 
     /// Makes a fifodir under a name that has none. The change tells contracts what the hub had before, and what after.

@@ -129,6 +129,7 @@ same_refusal no.Text no.Text h k e = refl
 same_refusal no.Word no.Word h k e = refl
 same_refusal no.Form no.Form h k e = refl
 same_refusal no.Range no.Range h k e = refl
+same_refusal no.Right no.Right h k e = refl
 same_refusal no.Name no.Name h k e = refl
 same_refusal no.Exists no.Exists h k e = refl
 same_refusal no.Kind no.Kind h k e = refl

@@ -159,6 +159,7 @@ fn plain_refusal(word: &[u8]) -> Option<Refusal>
         b"word" => Refusal::Word,
         b"form" => Refusal::Form,
         b"range" => Refusal::Range,
+        b"right" => Refusal::Right,
         b"name" => Refusal::Name,
         b"exists" => Refusal::Exists,
         b"kind" => Refusal::Kind,

@@ -198,6 +198,7 @@ fn append_refusal(refusal: Refusal, out: &mut Vec<u8>) -> Appended
         Refusal::Word => out.extend_from_slice(b"no word"),
         Refusal::Form => out.extend_from_slice(b"no form"),
         Refusal::Range => out.extend_from_slice(b"no range"),
+        Refusal::Right => out.extend_from_slice(b"no right"),
         Refusal::Name => out.extend_from_slice(b"no name"),
         Refusal::Exists => out.extend_from_slice(b"no exists"),
         Refusal::Kind => out.extend_from_slice(b"no kind"),

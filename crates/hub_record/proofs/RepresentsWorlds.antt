@@ -1,13 +1,16 @@
 -- What follows from a record that represents a world.
-use Rattle.std.proofs.Common.{ℕ, ◌≡◌, ◌-◌, ◌≤◌, Bool, if◌then◌else◌, List, [], length, drop, Option, Some, None, nat_eq, refl, sym, ap, subst, ◌∙◌, arith}
+use Rattle.std.proofs.Common.{ℕ, ◌≡◌, ◌+◌, ◌-◌, ◌≤◌, Bool, not, if◌then◌else◌, List, [], length, drop, Option, Some, None, nat_eq, refl, sym, ap, subst, ◌∙◌, arith}
 use Rattle.std.proofs.lemmas.List.{length-drop, drop-drop, drop_all}
+use Rattle.std.proofs.lemmas.List.Filters.{length-filter_both}
+use Rattle.std.proofs.Math.Bool.{not-not}
 use Rattle.std.specs.Option.{option_map}
 use Rattle.std.specs.Map.{lookup}
 use Rattle.hub_record.specs.declared.limits.Limits.{Limits}
-use Rattle.hub_record.specs.World.{World, Subscription, IsWorld, current, current_from, active, is_slow, subscription_in, pending_for, least, base, load}
-use Rattle.hub_record.specs.Backlog.{Held, active_in, pending, pending_if, lowest, lowest_in, with_cursors}
+use Rattle.hub_record.specs.World.{World, Subscription, IsWorld, current, current_from, active, evicted, is_evicted, is_slow, subscription_in, pending_for, least, base, load}
+use Rattle.hub_record.specs.Backlog.{Held, active_in, slow_in, pending, pending_if, lowest, lowest_in, with_cursors}
 use Rattle.hub_record.specs.Kept.{Kept, Represents}
 use Rattle.hub_record.proofs.Cursors.{lookup_current}
+use Rattle.hub_record.proofs.Slow.{slow_is_rest}
 use Rattle.hub_record.proofs.Policies.{active_is, base_is_lowest, evicted_is_slow}
 
 -- what a record holds, with this much room; and a record that holds something else
@@ -49,6 +52,18 @@ lowest_is r w room s at = ap (λ n. lowest_in n r.end r.cursors) at ∙ base_is 
 
 pub active_is_cursors : (r : Kept) (w : World) (room : ℕ) → Represents r w → room ≡ r.limits.waiting → length (active_in room r.end r.cursors) ≡ length (active w)
 active_is_cursors r w room s at = (λ i. length (active_in ((at ∙ ap (λ (l : Limits). l.waiting) s.limits) i) (s.end i) (s.cursors i))) ∙ sym (ap length (active_is w s.world))
+
+-- the current subscriptions are the active and the evicted ones
+evicted_is_rest : (w : World) → length (active w) + length (evicted w) ≡ length (current w)
+evicted_is_rest w = length-filter_both (λ (c : ℕ × ℕ). not (is_evicted w c.1)) (λ c. is_evicted w c.1) (λ c. sym (not-not (is_evicted w c.1))) (current w)
+
+pub evicted_is_cursors : (r : Kept) (w : World) (room : ℕ) → Represents r w → room ≡ r.limits.waiting → length (slow_in room r.end r.cursors) ≡ length (evicted w)
+evicted_is_cursors r w room s at =
+    let slow = slow_is_rest room r.end r.cursors in
+    let some = active_is_cursors r w room s at in
+    let all = ap length s.cursors in
+    let rest = evicted_is_rest w in
+    omega arith
 
 pub load_is : (r : Kept) (w : World) (room : ℕ) → Represents r w → room ≡ r.limits.waiting → r.end - lowest (held_of r room) ≡ load w
 load_is r w room s at = (λ i. s.end i - lowest_is r w room s at i)

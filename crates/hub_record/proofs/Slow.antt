@@ -1,11 +1,13 @@
 -- The cursors that aren't slow, and the least of them, after a change of one cursor or of the end.
-use Rattle.std.proofs.Common.{ℕ, ◌≡◌, ◌+◌, ◌-◌, ◌<◌, ◌≤◌, ◌⊎◌, Bool, true, false, cond, nat_le, List, [], ◌∷◌, ◌++◌, Some, length, count_by, All, refl, sym, ap, ◌∙◌, inl, inr, arith}
+use Rattle.std.proofs.Common.{ℕ, ◌≡◌, ◌+◌, ◌-◌, ◌<◌, ◌≤◌, ◌⊎◌, Bool, true, false, not, cond, nat_le, List, [], ◌∷◌, ◌++◌, Some, length, count_by, All, refl, sym, ap, ◌∙◌, inl, inr, arith}
 use Rattle.std.proofs.lemmas.Bool.{cases_Bool, le-leb, lt-leb, lt-ltb, le-ltb, ltb-true, ltb-false}
 use Rattle.std.proofs.lemmas.List.Sums.{sum_by-cons}
+use Rattle.std.proofs.lemmas.List.Filters.{length-filter_both}
+use Rattle.std.proofs.Math.Bool.{not-not}
 use Rattle.std.proofs.lemmas.List.Elements.{All-nil, All-cons, All-head, All-tail}
 use Rattle.std.specs.Map.{lookup, set_value, remove_entry, values_of}
 use Rattle.hub_record.specs.World.{least, is_slow}
-use Rattle.hub_record.specs.Backlog.{active_at, active_in, lowest_in}
+use Rattle.hub_record.specs.Backlog.{active_at, active_in, slow_in, lowest_in}
 use Rattle.hub_record.proofs.Active.{one, none, active_at-cons, least-push, least_met}
 
 -- what a cursor at v counts among those from a number on
@@ -17,6 +19,10 @@ above_one base v above = ap (λ b. cond b 1 0) (le-leb base v above)
 
 below_none : (base v : ℕ) → v < base → one_from base v ≡ 0
 below_none base v below = ap (λ b. cond b 1 0) (lt-leb base v below)
+
+-- each cursor is slow or not
+pub slow_is_rest : (room end : ℕ) (cs : List (ℕ × ℕ)) → length (active_in room end cs) + length (slow_in room end cs) ≡ length cs
+slow_is_rest room end cs = length-filter_both (λ (c : ℕ × ℕ). not (is_slow room end c.1)) (λ c. is_slow room end c.1) (λ c. sym (not-not (is_slow room end c.1))) cs
 
 module _ (room end : ℕ) where
   slow_cons : (c : ℕ × ℕ) (cs : List (ℕ × ℕ)) → is_slow room end c.1 ≡ true → active_in room end (c ∷ cs) ≡ active_in room end cs

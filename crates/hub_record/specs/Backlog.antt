@@ -27,6 +27,10 @@ nothing_held room = record { room = room; end = 0; events = []; given = 0; curso
 abbrev pub active_in : (room end : ℕ) → List (ℕ × ℕ) → List (ℕ × ℕ)
 active_in room end cursors = filter (λ c. not (is_slow room end c.1)) cursors
 
+-- the cursors behind which more are pending
+abbrev pub slow_in : (room end : ℕ) → List (ℕ × ℕ) → List (ℕ × ℕ)
+slow_in room end cursors = filter (λ c. is_slow room end c.1) cursors
+
 -- the least of these, or the end
 abbrev pub lowest_in : (room end : ℕ) → List (ℕ × ℕ) → ℕ
 lowest_in room end cursors = least end (active_in room end cursors)

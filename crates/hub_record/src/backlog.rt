@@ -3,7 +3,7 @@ ghost use Rattle.std.specs.Prelude.{◌≡◌, ◌≤◌, ◌<◌, ◌↔◌, �
 ghost use Rattle.std.specs.Map.{set_value};
 ghost use Rattle.hub_record.specs.declared.limits.TheConstants.{MOST_EVENTS, MOST_IDS, MOST_PASSES};
 ghost use Rattle.hub_record.specs.World.{as_events};
-ghost use Rattle.hub_record.specs.Backlog.{Held, nothing_held, active_in, lowest, pending};
+ghost use Rattle.hub_record.specs.Backlog.{Held, nothing_held, active_in, slow_in, lowest, pending};
 ghost use Rattle.hub_record.specs.Backlog.{with_new_id, with_events, with_cursors, next_of, IsStill, HasRoomFor, ArePending, ShowsBy, RemovesBy};
 
 use crate::counts::{Counts, has_first, keep_last, one_less, one_more};
@@ -112,6 +112,13 @@ impl Backlog {
         ensures { result ≡ length (active_in self.now.room self.now.end self.now.cursors) }
     {
         self.cursors.count_from(self.base)
+    }
+
+    /// How many cursors are slow.
+    pub fn slow(&self) -> usize
+        ensures { result ≡ length (slow_in self.now.room self.now.end self.now.cursors) }
+    {
+        self.current() - self.active()
     }
 
     /// How many events are kept.

@@ -11,7 +11,7 @@ use Rattle.hub_requests.specs.declared.about.About as abouts
 use Rattle.hub_requests.specs.declared.reply.Reply.{Reply}
 use Rattle.hub_requests.specs.declared.reply.Reply.TheVariants.{Done, Number, State, About, Got, Hit, Nothing, End, Evicted, Yes, Never, Late, Listed, No}
 use Rattle.hub_requests.specs.declared.reply.Refusal.{Refusal}
-use Rattle.hub_requests.specs.declared.reply.Refusal.TheVariants.{Long, Text, Word, Form, Range, Name, Exists, Kind, Id, Many, Spent, Closed, Unlawful, Full, Pattern, Overlong, Memory}
+use Rattle.hub_requests.specs.declared.reply.Refusal.TheVariants.{Long, Text, Word, Form, Range, Right, Name, Exists, Kind, Id, Many, Spent, Closed, Unlawful, Full, Pattern, Overlong, Memory}
 
 -- the name of a refusal
 abbrev pub word_of : Refusal → List ℕ
@@ -20,6 +20,7 @@ word_of Text = codes "text"
 word_of Word = codes "word"
 word_of Form = codes "form"
 word_of Range = codes "range"
+word_of Right = codes "right"
 word_of Name = codes "name"
 word_of Exists = codes "exists"
 word_of Kind = codes "kind"

@@ -52,6 +52,8 @@ pub enum Refusal {
     Form,
     /// A number is outside its range.
     Range,
+    /// The session came by a door that only looks, and the request would change something, or hold a publisher up.
+    Right,
     /// No fifodir has this name.
     Name,
     /// A fifodir has this name already.

@@ -5,3 +5,4 @@ pub mod Doors
 pub mod Promised
 pub mod Reports
 pub mod Crews
+pub mod Quotas

@@ -1,5 +1,5 @@
 //! A client's connection, which may time out.
-ghost use Rattle.std.specs.Prelude.{◌<◌, length, None};
+ghost use Rattle.std.specs.Prelude.{◌≡◌, ◌==◌, ◌<◌, count_by, length, None};
 ghost use Rattle.std.specs.Io.{ReadsAtMost, WritesAtMost};
 
 use crate::limit::Limit;
@@ -16,6 +16,12 @@ use std::time::Duration;
 pub trait Timed {
     /// Whether a call on the stream has failed for this reason.
     fn has_timed_out(&self) -> bool;
+}
+
+/// A stream that counts the lines that came.
+pub trait Lines {
+    /// How many line feeds were read.
+    fn lines(&self) -> u64;
 }
 
 /// The memory that a connection needs. Who has it before a client connects turns no client away for want of it.
@@ -41,6 +47,8 @@ pub struct Connection<C> {
     /// Whether the system's limit for a call is less than the whole time.
     is_short: bool,
     timed_out: bool,
+    /// How many line feeds were received.
+    lines: u64,
 }
 
 /// What a call of the system does.
@@ -81,6 +89,7 @@ impl<C: Clock + Copy> Connection<C> {
             limit: idle.map(|whole| Limit::new(clock, whole)),
             is_short: false,
             timed_out: false,
+            lines: 0,
         }
     }
 
@@ -130,7 +139,9 @@ impl<C: Clock + Copy> Connection<C> {
     {
         self.begin(Way::Receive)?;
         let count = self.stream()?.pull(buf)?;
-        if self.limit.is_some() && buf[..count].contains(&b'\n') {
+        let ended = line_feeds(&buf[..count]);
+        self.lines = self.lines.saturating_add(ended);
+        if self.limit.is_some() && ended > 0 {
             self.end(Way::Receive);
         }
         Ok(count)
@@ -146,6 +157,18 @@ impl<C: Clock + Copy> Connection<C> {
             self.end(Way::Send);
         }
         Ok(count)
+    }
+}
+
+fn line_feeds(bytes: &[u8]) -> u64
+    ensures { result ≡ count_by (λ byte. byte == 10) bytes.now }
+{
+    bytes.iter().filter(|byte| **byte == b'\n').count() as u64
+}
+
+impl<C> Lines for Connection<C> {
+    fn lines(&self) -> u64 {
+        self.lines
     }
 }
 

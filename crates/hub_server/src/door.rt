@@ -6,6 +6,7 @@ ghost use Rattle.hub_server.specs.declared.gate.Next.TheVariants.{Over};
 use crate::connection::{Connection, Room};
 use crate::gate::{Gate, Next};
 use crate::listening::{Listen, accept_one, passes};
+use crate::quota::{Counted, Quota};
 use std::alloc::{AllocError, Global};
 use std::io;
 use std::os::unix::net::{UnixListener, UnixStream};
@@ -38,7 +39,8 @@ impl<R, W, L: Listen<R, W> + Drop> Gate<R, W> for Door<L> {
     }
 }
 
-/// How many threads accept at a time, at most. Each of them holds a descriptor for the connection that it waits for.
+/// How many threads accept at a time, at most. Each of them holds a descriptor for the connection that it waits for, or for one that it
+/// has accepted and that waits until the door has room.
 const MOST_ACCEPTING: u64 = 4;
 
 /// The gate of a listening socket that several threads share. It is never over: closing it does nothing.
@@ -51,6 +53,8 @@ pub struct SharedDoor<C> {
     /// How long a connection waits for a line. None: without end.
     idle: Option<Duration>,
     clock: C,
+    /// Counts the session that this thread serves. None: the door shares its sessions with no other one.
+    counted: Option<Counted>,
 }
 
 /// A listening socket, at which few threads at a time accept. A thread that leaves wakes another one only if it was the last,
@@ -139,19 +143,54 @@ impl<C: Clock + Copy> SharedDoor<C> {
             tries_again: AtomicBool::new(false),
             idle,
             clock,
+            counted: None,
         })
+    }
+
+    /// This door, where a session waits until the quota has room for it.
+    pub fn within(self, quota: Quota) -> SharedDoor<C> {
+        let counted = Some(Counted::by(quota));
+        SharedDoor {
+            alloc: self.alloc,
+            entrance: self.entrance,
+            tries_again: self.tries_again,
+            idle: self.idle,
+            clock: self.clock,
+            counted,
+        }
     }
 
     /// The same door for another thread.
     pub fn share(&self) -> Result<SharedDoor<C>, AllocError> {
         let entrance = Arc::try_clone(&self.entrance)?;
+        let counted = match &self.counted {
+            Some(counted) => Some(counted.share()?),
+            None => None,
+        };
         Ok(SharedDoor {
             alloc: self.alloc,
             entrance,
             tries_again: AtomicBool::new(false),
             idle: self.idle,
             clock: self.clock,
+            counted,
         })
+    }
+
+    /// The session that this door gave last is over, so there is room for another one. The next call of `next` says so by itself: only
+    /// who asks for no more sessions has to call this.
+    pub fn leave<H: Wait>(&self, rt: &H) {
+        if let Some(counted) = &self.counted {
+            counted.leave(rt);
+        }
+    }
+
+    // Waits in the entrance until the door has room for a session. So at most as many connections as threads accept are kept waiting
+    // here, and the others wait at the socket.
+    fn wait_for_room<H: Wait>(&self, rt: &H) {
+        if let Some(counted) = &self.counted {
+            counted.enter(rt);
+        }
     }
 
     // Accepts a connection, for receiving and for sending. None: this one came to nothing, or another thread tries again.
@@ -162,6 +201,7 @@ impl<C: Clock + Copy> SharedDoor<C> {
         }
         match self.entrance.accept(self.alloc) {
             Ok((room, stream)) => {
+                self.wait_for_room(rt);
                 self.tries_again.store(false, Ordering::Relaxed);
                 self.entrance.leave(rt, tried_again);
                 let halves = Connection::halves(room, stream, self.idle, self.clock)?;
@@ -187,6 +227,7 @@ impl<C: Clock + Copy> Gate<Connection<C>, Connection<C>> for SharedDoor<C> {
     ghost closes = { λ old new. new ≡ old };
 
     fn next<H: Wait>(&mut self, rt: &H) -> Next<Connection<C>, Connection<C>> {
+        self.leave(rt);
         for _ in rt.forever() {
             match self.accept(rt) {
                 Ok(Some((receive, send))) => return Next::Session(receive, send),

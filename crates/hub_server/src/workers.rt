@@ -118,6 +118,7 @@ where
         &mut door,
         &mut journal,
     );
+    door.leave(&rt);
     seat.take_piece(&rt, alloc);
     seat.has_left.store(true, Ordering::Release);
     bell.ring(&rt);

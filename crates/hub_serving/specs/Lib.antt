@@ -3,3 +3,6 @@ pub mod Setup
 pub mod Pending
 pub mod Places
 pub mod Crowds
+pub mod Doors
+pub mod Noting
+pub mod Troubles

@@ -12,10 +12,10 @@ abbrev pub line_if : Option HubLine → List ℕ
 line_if None = []
 line_if (Some line) = line_with (hub_text line)
 
--- what is told of the session with this number, which ran for so many seconds and ended so, if it stopped
-abbrev pub line_if_stopped : (number seconds : ℕ) → Result ℕ FrontError → (timed_out : Bool) → Option HubLine
-line_if_stopped number seconds (Ok lines) timed_out = None
-line_if_stopped number seconds (Err error) timed_out = Some (Stopped number seconds (stop_cause error timed_out))
+-- what is told of the session with this number, which ran for so many seconds, had so many lines and ended so, if it stopped
+abbrev pub line_if_stopped : (number seconds lines : ℕ) → Result ℕ FrontError → (timed_out : Bool) → Option HubLine
+line_if_stopped number seconds lines (Ok served) timed_out = None
+line_if_stopped number seconds lines (Err error) timed_out = Some (Stopped number seconds lines (stop_cause error timed_out))
 
 -- the line that counts the sessions that aren't told one by one
 abbrev pub rest_of : (sessions : ℕ) → Option HubLine

@@ -1,7 +1,7 @@
 -- Why a server ended before it had a report.
 use Rattle.std.specs.Prelude.{◌≡◌, ⊤}
 use Rattle.hub_endings.specs.declared.fault.Fault.{Fault}
-use Rattle.hub_endings.specs.declared.fault.Fault.TheVariants.{Listen, Taken, Notify, Setup, SetupLine, Lost, Accept, Connect, Memory, Script, Serve, Session, Relay, Ask}
+use Rattle.hub_endings.specs.declared.fault.Fault.TheVariants.{Listen, Taken, Notify, Setup, SetupLine, Lost, Look, Accept, Connect, Memory, Script, Serve, Session, Relay, Ask}
 use Rattle.hub_endings.specs.declared.listen_fault.ListenFault.TheVariants.{Untold}
 use Rattle.hub_server.specs.declared.report.ServeError.{ServeError}
 
@@ -15,6 +15,7 @@ FailsToServe stops Notify = ⊥
 FailsToServe stops Setup = ⊥
 FailsToServe stops (SetupLine line) = ⊥
 FailsToServe stops Lost = ⊥
+FailsToServe stops (Look fault) = ⊥
 FailsToServe stops Accept = ⊥
 FailsToServe stops Connect = ⊥
 FailsToServe stops (Script fault) = ⊥

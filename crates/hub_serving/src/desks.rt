@@ -12,7 +12,7 @@ ghost use Rattle.hub_shared.specs.declared.shared_desk.SharedDesk.{SharedDesk};
 use crate::lost_wills::LostWills;
 use crate::setup::set_up;
 use hub_endings::Fault;
-use hub_gather::{Enter, Stay, serve_staying};
+use hub_gather::{Enter, Settles, Stay, serve_staying};
 use hub_io::{Client, FrontError, Sink, Source};
 use hub_requests::Desk;
 use hub_server::{Desks, Gate, Report, ServeError, serve_each};
@@ -33,14 +33,24 @@ pub(crate) struct HubDesks<P: Pause + Copy> {
 }
 
 impl<P: Pause + Copy> HubDesks<P> {
-    // A desk for one session, which watches this client.
-    fn open(&self, alloc: Global, client: Option<Client>) -> Result<SharedDesk<P>, AllocError>
+    // A desk for one session, which watches this client. One that may stay long wakes late, since its engine settles.
+    pub(crate) fn open(
+        &self,
+        alloc: Global,
+        client: Option<Client>,
+    ) -> Result<SharedDesk<P>, AllocError>
         ensures { IfOk result (IsNewDesk (arc_value self.now.hub) self.now.pause) }
     {
         let hub = Arc::try_clone(&self.hub)?;
         let mut desk = SharedDesk::new(alloc, hub, self.pause)?;
         desk.watch(client);
-        Ok(desk)
+        match self.stay {
+            Stay::Short => Ok(desk),
+            Stay::Long => {
+                desk.wake_late();
+                Ok(desk)
+            }
+        }
     }
 
     // Carries out the lines of a setup, by a session of its own.
@@ -63,10 +73,16 @@ impl<P: Pause + Copy> HubDesks<P> {
     }
 
     // Counts the wills that the desk's end couldn't carry out.
-    fn count_lost(&self, desk: &SharedDesk<P>) {
+    pub(crate) fn count_lost(&self, desk: &SharedDesk<P>) {
         if let Some(lost) = &self.lost {
             lost.add(desk.lost_wills());
         }
+    }
+}
+
+impl<P: Pause + Copy> Settles for HubDesks<P> {
+    fn settle(&self) {
+        self.hub.settle();
     }
 }
 
@@ -105,7 +121,7 @@ impl<P: Pause + Copy> Desks for HubDesks<P> {
         let Ok(mut desk) = self.open(alloc, reader.client()) else {
             return Err(FrontError::Memory);
         };
-        let served = serve_staying(rt, alloc, self.stay, &mut desk, reader, writer);
+        let served = serve_staying(rt, alloc, self.stay, self, &mut desk, reader, writer);
         self.count_lost(&desk);
         desk.release(rt);
         served

@@ -7,15 +7,21 @@
 
 mod crowd;
 mod desks;
+mod doors;
 mod folder;
 mod living;
+mod living_desks;
 mod lock;
 mod look;
+mod look_desks;
 mod lost_wills;
 mod notice;
+mod noting;
 mod place;
+mod places;
 mod serving;
 mod setup;
+mod troubles;
 mod watching;
 
 pub use desks::serve_all;

@@ -1,6 +1,6 @@
 //! The descriptor that is told when a hub listens.
 
-use crate::place::InPlace;
+use crate::places::AllInPlace;
 use hub_endings::Fault;
 use libc::net::{POLLERR, POLLHUP, POLLOUT, poll};
 use libc::types::pollfd;
@@ -34,8 +34,8 @@ impl Notice {
         Ok(Notice { descriptor })
     }
 
-    /// Writes the newline at the descriptor's place, and closes the descriptor. The hub's socket is there by then.
-    pub(crate) fn give<H: Clock + Wait>(self, rt: &H, _there: &InPlace) -> Result<(), Fault> {
+    /// Writes the newline at the descriptor's place, and closes the descriptor. The hub's sockets are there by then.
+    pub(crate) fn give<H: Clock + Wait>(self, rt: &H, _there: &AllInPlace) -> Result<(), Fault> {
         let given = write_newline(rt, self.descriptor);
         if self.descriptor > LAST_STREAM {
             libc::close(self.descriptor);

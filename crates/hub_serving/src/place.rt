@@ -94,6 +94,20 @@ pub(crate) fn take_place<'a, H: Files<File = File> + Net>(
 }
 
 impl Place<'_> {
+    /// Whether this place is that of the socket with this path, by whatever name.
+    pub(crate) fn is_at<H: Files>(&self, rt: &H, alloc: Global, socket: &str) -> bool {
+        let Ok(path) = format!(in alloc; "{socket}.lock") else {
+            return false;
+        };
+        match (
+            self.lock.metadata(),
+            fs::symlink_metadata(rt, path.as_str()),
+        ) {
+            (Ok(own), Ok(other)) => identity(&own) == identity(&other),
+            _ => false,
+        }
+    }
+
     /// A socket that listens in the private folder, with this mode. Nobody can connect to it until it is put in its place.
     pub(crate) fn listen<H: Files + Net>(
         &mut self,

@@ -5,7 +5,7 @@ ghost use Rattle.hub_serving.specs.Pending.{line_if_stopped, rest_of};
 
 use hub_endings::{Fault, HubLine, StopCause};
 use hub_io::{FrontError, Sink, Source};
-use hub_server::{Desks, Journal, ServeError, Session, Timed};
+use hub_server::{Desks, Journal, Lines, ServeError, Session, Timed};
 use std::alloc::{AllocError, Global};
 use std::rt::Clock;
 use std::sync::atomic::{AtomicBool, AtomicU64, Ordering};
@@ -141,27 +141,29 @@ impl<C: Clock + Copy> Watcher<C> {
     }
 }
 
-// What is told of the session with this number, which ran for so many seconds, if it stopped.
+// What is told of the session with this number, which ran for so many seconds and had so many lines, if it stopped.
 fn line_on(
     number: u64,
     seconds: u64,
+    lines: u64,
     ended: Result<u64, FrontError>,
     timed_out: bool,
 ) -> Option<HubLine>
-    ensures { result ≡ line_if_stopped number seconds ended timed_out }
+    ensures { result ≡ line_if_stopped number seconds lines ended timed_out }
 {
     match ended {
         Ok(_) => None,
         Err(error) => Some(HubLine::Stopped {
             number,
             seconds,
+            lines,
             cause: StopCause::of(error, timed_out),
         }),
     }
 }
 
 // What threads share isn't seen by contracts: a watcher has the same share of it, and only when its session began changes.
-impl<C: Clock + Copy, R: Source + Timed, W: Sink + Timed> Journal<R, W> for Watcher<C> {
+impl<C: Clock + Copy, R: Source + Timed + Lines, W: Sink + Timed> Journal<R, W> for Watcher<C> {
     ghost numbers = { λ old _ new. (new.clock ≡ old.clock) × (new.shared ≡ old.shared) };
 
     ghost tells = { λ old _ _ _ _ new. new ≡ old };
@@ -196,7 +198,8 @@ impl<C: Clock + Copy, R: Source + Timed, W: Sink + Timed> Journal<R, W> for Watc
     ) {
         self.shared.running.fetch_sub(1, Ordering::Relaxed);
         let timed_out = reader.has_timed_out() || writer.has_timed_out();
-        if let Some(stopped) = line_on(number, self.seconds(), ended, timed_out) {
+        let (seconds, lines) = (self.seconds(), reader.lines());
+        if let Some(stopped) = line_on(number, seconds, lines, ended, timed_out) {
             self.put(rt, stopped);
         }
     }

@@ -8,9 +8,9 @@ ghost use Rattle.hub_requests.specs.declared.request.Request.TheVariants as aske
 use hub_fifodir::Enter;
 use hub_handles::Handles;
 use hub_io::Client;
-use hub_letters::{Mode, Span, Want};
+use hub_letters::{Mode, Span, State, Want};
 use hub_names::{Fifodirs, Hub};
-use hub_record::Kind;
+use hub_record::{Kind, Letters};
 use hub_requests::{Desk, Name, Names, PatternText, Refusal, Reply, Request, Will, Wills, limits};
 use hub_wait::Pause;
 use std::alloc::{AllocError, Global};
@@ -34,6 +34,8 @@ pub struct SharedDesk<P: Pause + Copy> {
     pause: P,
     /// Its client, at which its waits look.
     client: Option<Client>,
+    /// Whether those who sleep until a fifodir changes are woken only if the hub is told to settle.
+    wakes_late: bool,
     fifodirs: Fifodirs,
     handles: Handles,
     wills: Wills,
@@ -54,6 +56,7 @@ impl<P: Pause + Copy> SharedDesk<P> {
             hub,
             pause,
             client: None,
+            wakes_late: false,
             fifodirs: Fifodirs::new(alloc),
             handles,
             wills: Wills::new(alloc),
@@ -67,6 +70,27 @@ impl<P: Pause + Copy> SharedDesk<P> {
         ensures { Watches self.old client self.new }
     {
         self.client = client;
+    }
+
+    /// From now on a request doesn't wake those who sleep until a fifodir changes that it changed. They are woken at the desk's next
+    /// request that may sleep, at its end, if a fifodir is half full, and whenever somebody calls [`Hub::settle`]. Whoever serves the
+    /// session calls that before each read and each write.
+    pub fn wake_late(&mut self)
+        ensures { Watches self.old self.old.client self.new }
+    {
+        self.wakes_late = true;
+    }
+
+    // Wakes those who sleep until a fifodir changes that was changed.
+    fn wake(&self) {
+        self.hub.settle();
+    }
+
+    // Wakes them, unless the desk wakes late.
+    fn settle(&self) {
+        if !self.wakes_late {
+            self.wake();
+        }
     }
 
     /// How many wills its last end couldn't carry out, at fifodirs that had no room for a minute, or take no more events.
@@ -84,6 +108,7 @@ impl<P: Pause + Copy> SharedDesk<P> {
             hub: _,
             pause: _,
             client: _,
+            wakes_late: _,
             fifodirs,
             handles,
             wills: _,
@@ -151,6 +176,22 @@ impl<P: Pause + Copy> SharedDesk<P> {
         }
     }
 
+    fn publish<H: Wait + Enter>(&mut self, rt: &H, name: &Name, letters: &Letters) -> Reply
+        ensures { Asks self.old (asked.Pub name.now letters.now) result self.new }
+    {
+        let reply = self.fifodirs.publish(rt, &self.hub, name, letters);
+        self.settle();
+        reply
+    }
+
+    fn tell<H: Wait + Enter>(&mut self, rt: &H, name: &Name, state: State) -> Reply
+        ensures { Asks self.old (asked.Tell name.now state) result self.new }
+    {
+        let reply = self.fifodirs.tell(rt, &self.hub, name, state);
+        self.settle();
+        reply
+    }
+
     fn will<H: Wait + Enter>(&mut self, rt: &H, name: &Name, will: Will) -> Reply
         ensures { Asks self.old (asked.Will name.now will) result self.new }
     {
@@ -171,6 +212,7 @@ impl<P: Pause + Copy> SharedDesk<P> {
     fn await_more<H: Wait>(&mut self, rt: &H, id: u64, turns: u64) -> Reply
         ensures { Asks self.old (asked.Await id turns) result self.new }
     {
+        self.wake();
         let mut pause = ClientPause::new(self.pause, self.client.as_ref());
         self.handles.await_more(rt, id, turns, &mut pause)
     }
@@ -178,6 +220,7 @@ impl<P: Pause + Copy> SharedDesk<P> {
     fn next<H: Wait>(&mut self, rt: &H, id: u64, turns: u64) -> Reply
         ensures { Asks self.old (asked.Next id turns) result self.new }
     {
+        self.wake();
         let client = self.client.as_ref();
         let mut pause = ClientPause::new(self.pause, client);
         self.handles.next(rt, id, turns, &mut pause)
@@ -194,6 +237,7 @@ impl<P: Pause + Copy> SharedDesk<P> {
         requires { length names.now ≤ MOST_SERVICES }
         ensures { Asks self.old (asked.Wait span want turns names.now) result self.new }
     {
+        self.wake();
         let fifodirs = &mut self.fifodirs;
         match Posts::open(rt, self.alloc, fifodirs, &self.hub, want, names.items()) {
             Ok(posts) => {
@@ -228,8 +272,8 @@ impl<P: Pause + Copy> Desk for SharedDesk<P> {
                 evict,
             } => self.make_service(rt, name, *waiting, *total, *notifies, *evict),
             Request::Sub { name } => self.subscribe(rt, name),
-            Request::Pub { name, letters } => self.fifodirs.publish(rt, &self.hub, name, letters),
-            Request::Tell { name, state } => self.fifodirs.tell(rt, &self.hub, name, *state),
+            Request::Pub { name, letters } => self.publish(rt, name, letters),
+            Request::Tell { name, state } => self.tell(rt, name, *state),
             Request::Will { name, state } => self.will(rt, name, *state),
             Request::Take { id, max } => self.handles.take(rt, *id, *max),
             Request::Cancel { id } => self.handles.cancel(rt, *id),
@@ -259,5 +303,6 @@ impl<P: Pause + Copy> Desk for SharedDesk<P> {
         self.lost = self.fifodirs.carry_out(rt, &self.wills, self.pause);
         self.wills.clear();
         self.fifodirs.leave(rt);
+        self.wake();
     }
 }

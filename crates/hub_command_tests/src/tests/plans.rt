@@ -1,14 +1,18 @@
 //! The plans of command lines.
 
 /// The plans of root, if the environment has no socket.
-pub static ROOT_PLANS: [(&str, &str); 5] = [
+pub static ROOT_PLANS: [(&str, &str); 6] = [
     (
         "ftrighub serve --forever --mode 0660",
-        "ServeForever(HubOptions { socket: \"/run/ftrighub/hub.socket\", makes_folder: true, sessions: 64, mode: Some(432), ready: None, idle: None, setup: None })",
+        "ServeForever(HubOptions { socket: \"/run/ftrighub/hub.socket\", makes_folder: true, sessions: 64, mode: Some(432), ready: None, idle: None, setup: None, look: None, names: 256 })",
     ),
     (
         "ftrighub serve /run/ftrighub/hub.socket --forever",
-        "ServeForever(HubOptions { socket: \"/run/ftrighub/hub.socket\", makes_folder: false, sessions: 64, mode: None, ready: None, idle: None, setup: None })",
+        "ServeForever(HubOptions { socket: \"/run/ftrighub/hub.socket\", makes_folder: false, sessions: 64, mode: None, ready: None, idle: None, setup: None, look: None, names: 256 })",
+    ),
+    (
+        "ftrighub serve --forever --look /run/ftrighub/look.socket",
+        "ServeForever(HubOptions { socket: \"/run/ftrighub/hub.socket\", makes_folder: true, sessions: 64, mode: None, ready: None, idle: None, setup: None, look: Some(LookOptions { socket: \"/run/ftrighub/look.socket\", mode: 438 }), names: 256 })",
     ),
     ("ftrighub serve s", "Serve { socket: \"s\", sessions: 1 }"),
     (
@@ -22,7 +26,7 @@ pub static ROOT_PLANS: [(&str, &str); 5] = [
 ];
 
 /// The plans of these words, and of these beside a socket that the environment has.
-pub static PLANS: [(&str, Option<&str>, &str); 49] = [
+pub static PLANS: [(&str, Option<&str>, &str); 56] = [
     ("ftrighub script", None, "Script"),
     (
         "ftrighub serve /run/hub.sock",
@@ -37,22 +41,57 @@ pub static PLANS: [(&str, Option<&str>, &str); 49] = [
     (
         "ftrighub serve --forever hub",
         None,
-        "ServeForever(HubOptions { socket: \"hub\", makes_folder: false, sessions: 64, mode: None, ready: None, idle: None, setup: None })",
+        "ServeForever(HubOptions { socket: \"hub\", makes_folder: false, sessions: 64, mode: None, ready: None, idle: None, setup: None, look: None, names: 256 })",
     ),
     (
         "ftrighub serve hub --ready-fd 3 --mode 0660 --idle 1000000 --setup s --sessions 1024 --forever",
         None,
-        "ServeForever(HubOptions { socket: \"hub\", makes_folder: false, sessions: 1024, mode: Some(432), ready: Some(3), idle: Some(1000000), setup: Some(\"s\") })",
+        "ServeForever(HubOptions { socket: \"hub\", makes_folder: false, sessions: 1024, mode: Some(432), ready: Some(3), idle: Some(1000000), setup: Some(\"s\"), look: None, names: 256 })",
     ),
     (
         "ftrighub serve --forever",
         Some("t"),
-        "ServeForever(HubOptions { socket: \"t\", makes_folder: false, sessions: 64, mode: None, ready: None, idle: None, setup: None })",
+        "ServeForever(HubOptions { socket: \"t\", makes_folder: false, sessions: 64, mode: None, ready: None, idle: None, setup: None, look: None, names: 256 })",
     ),
     (
         "ftrighub serve --forever hub",
         Some("t"),
-        "ServeForever(HubOptions { socket: \"hub\", makes_folder: false, sessions: 64, mode: None, ready: None, idle: None, setup: None })",
+        "ServeForever(HubOptions { socket: \"hub\", makes_folder: false, sessions: 64, mode: None, ready: None, idle: None, setup: None, look: None, names: 256 })",
+    ),
+    (
+        "ftrighub serve hub --forever --look l",
+        None,
+        "ServeForever(HubOptions { socket: \"hub\", makes_folder: false, sessions: 64, mode: None, ready: None, idle: None, setup: None, look: Some(LookOptions { socket: \"l\", mode: 438 }), names: 256 })",
+    ),
+    (
+        "ftrighub serve --look-mode 0600 hub --look l --mode 0660 --sessions 2 --forever --names-per-session 1",
+        None,
+        "ServeForever(HubOptions { socket: \"hub\", makes_folder: false, sessions: 2, mode: Some(432), ready: None, idle: None, setup: None, look: Some(LookOptions { socket: \"l\", mode: 384 }), names: 1 })",
+    ),
+    (
+        "ftrighub serve --forever --look l --look-mode 0620 --names-per-session 256",
+        Some("t"),
+        "ServeForever(HubOptions { socket: \"t\", makes_folder: false, sessions: 64, mode: None, ready: None, idle: None, setup: None, look: Some(LookOptions { socket: \"l\", mode: 400 }), names: 256 })",
+    ),
+    (
+        "ftrighub serve s --forever --look l --look-mode 0622",
+        None,
+        "ServeForever(HubOptions { socket: \"s\", makes_folder: false, sessions: 64, mode: None, ready: None, idle: None, setup: None, look: Some(LookOptions { socket: \"l\", mode: 402 }), names: 256 })",
+    ),
+    (
+        "ftrighub serve s --forever --look l --look-mode 0660",
+        None,
+        "ServeForever(HubOptions { socket: \"s\", makes_folder: false, sessions: 64, mode: None, ready: None, idle: None, setup: None, look: Some(LookOptions { socket: \"l\", mode: 432 }), names: 256 })",
+    ),
+    (
+        "ftrighub serve s --forever --look l --look-mode 0666",
+        None,
+        "ServeForever(HubOptions { socket: \"s\", makes_folder: false, sessions: 64, mode: None, ready: None, idle: None, setup: None, look: Some(LookOptions { socket: \"l\", mode: 438 }), names: 256 })",
+    ),
+    (
+        "ftrighub serve s --forever --names-per-session 2 --sessions 1",
+        None,
+        "ServeForever(HubOptions { socket: \"s\", makes_folder: false, sessions: 1, mode: None, ready: None, idle: None, setup: None, look: None, names: 2 })",
     ),
     ("ftrighub call hub", Some("t"), "Call { socket: \"hub\" }"),
     ("ftrighub call", Some("t"), "Call { socket: \"t\" }"),

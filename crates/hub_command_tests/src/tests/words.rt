@@ -74,6 +74,22 @@ static WRONG: &str = "
     ftrighub serve s --idle 5
     ftrighub serve s --ready-fd 3
     ftrighub serve s --mode 0660
+    ftrighub serve s --forever --look
+    ftrighub serve s --forever --look l --look m
+    ftrighub serve s --forever --look l --sessions 1
+    ftrighub serve s --look l --look-mode 0666 --sessions 1 --forever
+    ftrighub serve s --look l
+    ftrighub serve s --look l --sessions 2
+    ftrighub serve s --forever --look-mode 0666
+    ftrighub serve s --forever --look l --look-mode
+    ftrighub serve s --forever --look l --look-mode 666
+    ftrighub serve s --forever --look l --look-mode 0644
+    ftrighub serve s --look l --look-mode 0666
+    ftrighub serve s --forever --names-per-session
+    ftrighub serve s --forever --names-per-session 0
+    ftrighub serve s --forever --names-per-session 257
+    ftrighub serve s --forever --names-per-session all
+    ftrighub serve s --names-per-session 2
     ftrighub serve --forever
     ftrighub script --forever
     ftrighub call
@@ -156,6 +172,11 @@ static RUN: &str = "
     ftrighub serve s --forever
     ftrighub serve s --sessions 1024 --forever
     ftrighub serve s --setup a --forever
+    ftrighub serve s --forever --look l
+    ftrighub serve s --forever --look l --look-mode 0600
+    ftrighub serve --look l s --sessions 2 --forever
+    ftrighub serve s --forever --names-per-session 1
+    ftrighub serve s --forever --sessions 1 --names-per-session 256
     ftrighub call s
     ftrighub ask --socket s names 0
     ftrighub ask --socket s pub web --
@@ -186,6 +207,8 @@ static WRONG_STILL: &str = "
     ftrighub serve
     ftrighub serve --sessions 2
     ftrighub serve --mode 0660
+    ftrighub serve --look l
+    ftrighub serve --forever --look l --sessions 1
     ftrighub serve --forever s t
     ftrighub call s t
     ftrighub ask

@@ -124,8 +124,13 @@ fn counts<R: Abort + Wait + Enter>(rt: &R, fifodir: &Fifodir) {
     for _ in 0..3 {
         let usage = fifodir.usage(rt);
         assert_eq!(rt;
-            (usage.subscriptions, usage.publishers, usage.pending),
-            (1, 1, 1)
+            (
+                usage.subscriptions,
+                usage.publishers,
+                usage.pending,
+                usage.evicted
+            ),
+            (1, 1, 1, 0)
         );
     }
     fifodir.leave(rt, one);

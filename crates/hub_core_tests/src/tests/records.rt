@@ -20,6 +20,8 @@ enum Step {
     Close(Result<(), Closed>),
     /// The end, the base, and how many events wait for subscription 1.
     Counts(u64, u64, Option<u64>),
+    /// How many subscriptions are active, and how many are evicted and not cancelled.
+    Subscriptions(usize, usize),
     /// The stage, the flags' code, and whether it is closed.
     Shows(Stage, u64, bool),
     /// The number of the publisher of the last event.
@@ -73,7 +75,7 @@ static ROWS: [Row; 8] = [
 ];
 
 /// Rows of records that evict.
-static EVICTING: [Row; 4] = [
+static EVICTING: [Row; 5] = [
     row!("the slowest is evicted, and no other", Plain (4, 100, 10):
         Subscribe(Ok((1, 0))), Subscribe(Ok((2, 0))), Publish(1, "abcd", Ok(0)),
         Take(1, Ok(Taken::Got(3)), [(1, b'a'), (1, b'b'), (1, b'c')]), Publish(1, "ef", Ok(4)),
@@ -98,6 +100,14 @@ static EVICTING: [Row; 4] = [
         Take(1024, Ok(Taken::Evicted), BLANKS), Subscribe(Err(SubError::Many)), Cancel(7, Ok(())),
         Subscribe(Ok((1025, 2))), Publish(1, "c", Ok(2)),
         Take(1025, Ok(Taken::Got(1)), [(1, b'c'), BLANK, BLANK])),
+    row!("evicted ones are counted until they are cancelled", Plain (2, 100, 10):
+        Subscriptions(0, 0), Subscribe(Ok((1, 0))), Subscribe(Ok((2, 0))), Subscribe(Ok((3, 0))),
+        Publish(1, "ab", Ok(0)), Subscriptions(3, 0),
+        Take(3, Ok(Taken::Got(2)), [(1, b'a'), (1, b'b'), BLANK]), Publish(1, "c", Ok(2)),
+        Subscriptions(1, 2), Take(1, Ok(Taken::Evicted), BLANKS), Subscriptions(1, 2),
+        Cancel(3, Ok(())), Subscriptions(0, 2), Cancel(1, Ok(())), Subscriptions(0, 1),
+        Subscribe(Ok((4, 3))), Close(Ok(())), Subscriptions(1, 1), Cancel(2, Ok(())),
+        Subscriptions(1, 0)),
 ];
 
 fn takes(
@@ -144,6 +154,9 @@ fn answers(alloc: Global, record: &mut Record, step: Step) -> io::Result<bool> {
         Step::Close(answer) => record.close() == answer,
         Step::Counts(end, base, waiting) => {
             (record.end(), record.base(), record.waiting(1)) == (end, base, waiting)
+        }
+        Step::Subscriptions(active, evicted) => {
+            (record.active(), record.evicted()) == (active, evicted)
         }
         Step::Shows(stage, code, closed) => {
             (record.stage(), record.flags().code(), record.closed()) == (stage, code, closed)

@@ -1,9 +1,10 @@
 //! Sleepers at a bell. They sleep until it rings, however long that takes, so one that isn't woken never comes to its end.
 use crate::tests::busy::come_to_an_end;
 use crate::tests::fixtures::run_of;
-use crate::tests::passes::{Sender, Shared, look_before_a_ring, new_sender, open};
+use crate::tests::passes::{Sender, Shared, look_before_a_ring, new_reader, new_sender, open};
+use hub_fifodir::{Bell, Fifodir};
 use hub_letters::Letter;
-use hub_record::{Enter, Kind};
+use hub_record::{Enter, Kind, Limits};
 use std::alloc::Global;
 use std::process::Abort;
 use std::rt::Clock;
@@ -75,27 +76,67 @@ fn start<R: Threads + Wait + Enter + Copy + Send + 'static>(
     Ok(())
 }
 
-/// How many of the messages were sent before one of so many sleepers wasn't woken in time. Each is sent when all have had time
-/// to fall asleep.
+/// Gives sleepers the time to fall asleep, or to wake if somebody wakes them.
+fn give_time<R: Clock>(rt: &R) {
+    thread::sleep(rt, Duration::from_millis(20));
+}
+
+/// How many of the messages were sent before one of so many sleepers wasn't woken in time. Each is sent when all have had time to fall
+/// asleep. Of a late bell, one fewer if at no message all slept on until it settled.
 fn messages_heard<R: Wait + Clock>(
     rt: &R,
+    fifodir: &Shared,
+    is_late: bool,
     sender: &mut Sender,
     letters: &[Letter],
     count: u64,
     awake: &AtomicU64,
 ) -> u64 {
+    let mut slept_on = !is_late;
     for message in 0..MESSAGES {
-        if !come_to_an_end(rt, awake, count.wrapping_mul(message.wrapping_add(1))) {
+        let so_far = count.wrapping_mul(message.wrapping_add(1));
+        if !come_to_an_end(rt, awake, so_far) {
             return message;
         }
-        thread::sleep(rt, Duration::from_millis(20));
+        give_time(rt);
         let _ = sender.send(rt, letters);
+        if is_late {
+            give_time(rt);
+            slept_on = slept_on || awake.load(Ordering::SeqCst) == so_far;
+            fifodir.bell().settle();
+        }
     }
-    if come_to_an_end(rt, awake, count.wrapping_mul(MESSAGES.wrapping_add(1))) {
+    if come_to_an_end(rt, awake, count.wrapping_mul(MESSAGES.wrapping_add(1))) && slept_on {
         MESSAGES
     } else {
         MESSAGES.wrapping_sub(1)
     }
+}
+
+/// A fifodir whose bell wakes late, and of whose events so many may be pending.
+fn open_late(alloc: Global, waiting: u64) -> Result<Shared, Fail> {
+    let limits = Limits::of(waiting, 1_000, 100).ok_or("no limits")?;
+    let bell = Arc::new(alloc, Bell::late())?;
+    let fifodir = Fifodir::with_bell(alloc, Kind::Plain, limits, bell)?;
+    Ok(Arc::new(alloc, fifodir)?)
+}
+
+/// How many messages of this length so many sleepers hear at this fifodir.
+fn heard_at<R: Abort + Threads + Wait + Enter + Clock + Copy + Send + 'static>(
+    rt: &R,
+    alloc: Global,
+    fifodir: &Shared,
+    is_late: bool,
+    count: u64,
+    length: usize,
+) -> Result<u64, Fail> {
+    let letters = run_of(alloc, b'a', length)?;
+    let awake = Arc::new(alloc, AtomicU64::new(0))?;
+    start(rt, fifodir, count, length as u64, &awake)?;
+    let mut sender = new_sender(rt, fifodir);
+    let heard = messages_heard(rt, fifodir, is_late, &mut sender, &letters, count, &awake);
+    sender.leave(rt);
+    Ok(heard)
 }
 
 /// How many messages of this length so many sleepers hear.
@@ -105,14 +146,8 @@ fn heard_by<R: Abort + Threads + Wait + Enter + Clock + Copy + Send + 'static>(
     count: u64,
     length: usize,
 ) -> Result<u64, Fail> {
-    let letters = run_of(alloc, b'a', length)?;
     let fifodir = open(alloc, Kind::Plain, (64, 1_000_000_000, 100))?;
-    let awake = Arc::new(alloc, AtomicU64::new(0))?;
-    start(rt, &fifodir, count, length as u64, &awake)?;
-    let mut sender = new_sender(rt, &fifodir);
-    let heard = messages_heard(rt, &mut sender, &letters, count, &awake);
-    sender.leave(rt);
-    Ok(heard)
+    heard_at(rt, alloc, &fifodir, false, count, length)
 }
 
 // The threads aren't joined, so that a test fails where one sleeps for ever.
@@ -122,6 +157,49 @@ fn a_ring_wakes_all_sleepers(rt: HostRuntime) -> Result<(), Fail> {
         let heard = heard_by(&rt, rt.alloc(), *count, 1)?;
         assert_eq!(rt; heard, MESSAGES, "{count} sleepers");
     }
+    Ok(())
+}
+
+#[test]
+fn a_late_bell_wakes_all_sleepers_when_it_settles(rt: HostRuntime) -> Result<(), Fail> {
+    for count in SLEEPERS.iter() {
+        let fifodir = open_late(rt.alloc(), 64)?;
+        let heard = heard_at(&rt, rt.alloc(), &fifodir, true, *count, 1)?;
+        assert_eq!(rt; heard, MESSAGES, "{count} sleepers");
+    }
+    Ok(())
+}
+
+/// How many are awake at a late bell after two of three letters, and whether the sleeper has woken after the third. A subscription takes
+/// none of them, and four may be pending.
+fn woken_by_three<R: Abort + Threads + Wait + Enter + Clock + Copy + Send + 'static>(
+    rt: &R,
+    alloc: Global,
+) -> Result<(u64, bool), Fail> {
+    let letters = run_of(alloc, b'a', 1)?;
+    let fifodir = open_late(alloc, 4)?;
+    let awake = Arc::new(alloc, AtomicU64::new(0))?;
+    start(rt, &fifodir, 1, 3, &awake)?;
+    let reader = new_reader(rt, &fifodir);
+    let mut sender = new_sender(rt, &fifodir);
+    let _ = come_to_an_end(rt, &awake, 1);
+    for _ in 0..2 {
+        give_time(rt);
+        let _ = sender.send(rt, &letters);
+    }
+    give_time(rt);
+    let after_two = awake.load(Ordering::SeqCst);
+    let _ = sender.send(rt, &letters);
+    let woken = come_to_an_end(rt, &awake, 2);
+    reader.cancel(rt);
+    sender.leave(rt);
+    Ok((after_two, woken))
+}
+
+// Before more is pending than there is room for, a publisher that goes on would be refused.
+#[test]
+fn a_late_bell_wakes_at_once_where_it_is_half_full(rt: HostRuntime) -> Result<(), Fail> {
+    assert_eq!(rt; woken_by_three(&rt, rt.alloc())?, (1, true));
     Ok(())
 }
 

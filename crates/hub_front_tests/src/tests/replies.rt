@@ -21,7 +21,7 @@ const EACH: Flags = Flags {
 };
 
 /// What a line is read as.
-static READ: [(&str, BorrowedReply<'static>); 44] = [
+static READ: [(&str, BorrowedReply<'static>); 45] = [
     ("ok\n", BorrowedReply::Done),
     ("ok 0\n", BorrowedReply::Number(0)),
     (
@@ -101,6 +101,7 @@ static READ: [(&str, BorrowedReply<'static>); 44] = [
     ("no word\n", BorrowedReply::No(Refusal::Word)),
     ("no form\n", BorrowedReply::No(Refusal::Form)),
     ("no range\n", BorrowedReply::No(Refusal::Range)),
+    ("no right\n", BorrowedReply::No(Refusal::Right)),
     ("no name\n", BorrowedReply::No(Refusal::Name)),
     ("no exists\n", BorrowedReply::No(Refusal::Exists)),
     ("no kind\n", BorrowedReply::No(Refusal::Kind)),

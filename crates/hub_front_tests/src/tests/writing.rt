@@ -119,7 +119,7 @@ const EVICTING: About = About {
 };
 
 /// Each reply, and its text.
-static REPLIES: [(Form, &str); 36] = [
+static REPLIES: [(Form, &str); 37] = [
     (Form::Done, "ok\n"),
     (Form::Number(0), "ok 0\n"),
     (
@@ -151,6 +151,7 @@ static REPLIES: [(Form, &str); 36] = [
     (Form::No(Refusal::Word), "no word\n"),
     (Form::No(Refusal::Form), "no form\n"),
     (Form::No(Refusal::Range), "no range\n"),
+    (Form::No(Refusal::Right), "no right\n"),
     (Form::No(Refusal::Name), "no name\n"),
     (Form::No(Refusal::Exists), "no exists\n"),
     (Form::No(Refusal::Kind), "no kind\n"),

@@ -28,16 +28,13 @@ impl Named {
     ghost use Rattle.hub_names.specs.Hubs.{HasMade, found_as};
     ghost use Rattle.hub_names.specs.Looks.{Lists};
 
-    /// Those of a new hub: none yet.
-    pub(super) fn none(alloc: Global) -> Result<Guarded<Named>, AllocError> {
-        let Ok(bell) = Arc::new(alloc, Bell::new()) else {
-            return Err(AllocError);
-        };
-        Ok(Guarded::new(Named {
+    /// Those of a new hub, with its bell: none yet.
+    pub(super) fn none(bell: Arc<Bell, Global>, alloc: Global) -> Guarded<Named> {
+        Guarded::new(Named {
             alloc,
             bell,
             fifodirs: IndexMap::new(alloc),
-        }))
+        })
     }
 
     /// How many there are: no more than may be, and no two of one name.

@@ -1,6 +1,8 @@
 //! The lines of faults on standard error.
 use hub_client::RelayError;
-use hub_endings::{Fault, HubLine, ListenFault, Listening, StopCause, tell_faults};
+use hub_endings::{
+    Fault, HubLine, ListenFault, Listening, LookFault, LookListening, StopCause, tell_faults,
+};
 use hub_fakes::Narrow;
 use hub_io::FrontError;
 use hub_server::{Report, ServeError};
@@ -68,6 +70,25 @@ static OF_LISTENING: [(ListenFault, &str); 12] = [
     ),
 ];
 
+/// A fault of the first socket, and the line of the same fault of the second one.
+static OF_LOOKING: [(Fault, &str); 6] = [
+    (
+        Fault::Taken,
+        "ftrighub: another server listens there (--look)\n",
+    ),
+    (Fault::Lost, "ftrighub: socket file lost (--look)\n"),
+    (
+        Fault::Listen(ListenFault::Denied),
+        "ftrighub: cannot listen: permission denied (--look)\n",
+    ),
+    (
+        Fault::Look(LookFault::Same),
+        "ftrighub: the path is that of the first socket (--look)\n",
+    ),
+    (Fault::Accept, "ftrighub: cannot accept\n"),
+    (Fault::Memory, "ftrighub: out of memory\n"),
+];
+
 /// What the system says of a file, and why a server can't listen then.
 static KINDS: [(ErrorKind, ListenFault); 8] = [
     (ErrorKind::NotFound, ListenFault::NoFolder),
@@ -89,7 +110,7 @@ static STOPPED: [(StopCause, &str); 6] = [
     (StopCause::Deaf, "its reply was not taken (--idle)"),
 ];
 
-static OF_HUBS: [(HubLine, &str); 6] = [
+static OF_HUBS: [(HubLine, &str); 8] = [
     (
         HubLine::More { sessions: 1 },
         "ftrighub: 1 more sessions stopped\n",
@@ -108,7 +129,15 @@ static OF_HUBS: [(HubLine, &str); 6] = [
         HubLine::Full { sessions: 64 },
         "ftrighub: all 64 sessions are taken, and clients wait\n",
     ),
+    (
+        HubLine::LookFull,
+        "ftrighub: no session is free for those who only look, and clients wait\n",
+    ),
     (HubLine::Restored, "ftrighub: socket file restored\n"),
+    (
+        HubLine::LookRestored,
+        "ftrighub: socket file restored (--look)\n",
+    ),
     (HubLine::Failed(Fault::Accept), "ftrighub: cannot accept\n"),
 ];
 
@@ -159,6 +188,9 @@ fn each_fault_has_its_line(rt: HostRuntime) {
     for (fault, line) in &OF_LISTENING {
         expect_line(&rt, rt.alloc(), Fault::from(*fault), line);
     }
+    for (fault, line) in &OF_LOOKING {
+        expect_line(&rt, rt.alloc(), fault.at_look(), line);
+    }
 }
 
 #[test]
@@ -183,9 +215,12 @@ fn each_line_of_a_hub_has_its_text(rt: HostRuntime) -> Result<(), Fail> {
         let stopped = HubLine::Stopped {
             number: 12,
             seconds: 3_600,
+            lines: 75,
             cause: *cause,
         };
-        let line = format!(in rt.alloc(); "ftrighub: session 12 stopped after 3600 s: {text}\n")?;
+        let line = format!(in rt.alloc();
+            "ftrighub: session 12 stopped after 3600 s (lines: 75): {text}\n"
+        )?;
         expect_hub_line(&rt, rt.alloc(), stopped, line.as_str());
     }
     Ok(())
@@ -200,10 +235,36 @@ fn a_hub_says_that_it_listens(rt: HostRuntime) {
             socket: "a/hub",
             mode: *mode,
             sessions: 1_024,
+            look: None,
         };
         assert!(rt; listening.tell(rt.alloc(), &mut told).is_ok());
         assert_eq!(rt; told.as_slice(), line.as_bytes());
     }
+}
+
+#[test]
+fn a_hub_says_that_it_listens_at_two_sockets(rt: HostRuntime) -> Result<(), Fail> {
+    let look = Some(LookListening {
+        socket: "b/look",
+        mode: 0o622,
+        sessions: 48,
+    });
+    for (mode, own) in &[(None, ""), (Some(0o660), "mode 0660, ")] {
+        let mut told: Vec<u8> = Vec::new(rt.alloc());
+        let listening = Listening {
+            version: "1.2.3",
+            socket: "a/hub",
+            mode: *mode,
+            sessions: 64,
+            look,
+        };
+        assert!(rt; listening.tell(rt.alloc(), &mut told).is_ok());
+        let line = format!(in rt.alloc();
+            "ftrighub: 1.2.3 listens at a/hub ({own}64 sessions), and at b/look for those who only look (mode 0622, at most 48 of these)\n"
+        )?;
+        assert_eq!(rt; told.as_slice(), line.as_bytes());
+    }
+    Ok(())
 }
 
 /// What four sessions ended with, whether the gate failed, and the lines.

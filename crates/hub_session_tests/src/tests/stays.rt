@@ -2,7 +2,7 @@
 
 use crate::tests::means::PlainDesk;
 use hub_fakes::{Dripping, Narrow, Stuck};
-use hub_gather::{Enter, Stay, serve_long, serve_staying};
+use hub_gather::{Awake, Enter, Stay, serve_long, serve_staying};
 use hub_io::{FrontError, Sink, Source};
 use hub_local::LocalDesk;
 use hub_requests::Desk;
@@ -20,7 +20,7 @@ fn stays<H: Wait + Enter, D: Desk, R: Source, W: Sink>(
     reader: &mut R,
     writer: &mut W,
 ) -> Result<u64, FrontError> {
-    serve_staying(rt, alloc, stay, desk, reader, writer)
+    serve_staying(rt, alloc, stay, &Awake, desk, reader, writer)
 }
 
 /// One that may stay long.
@@ -31,7 +31,7 @@ fn stays_long<H: Wait + Enter, D: Desk, R: Source, W: Sink>(
     reader: &mut R,
     writer: &mut W,
 ) -> Result<u64, FrontError> {
-    serve_long(rt, alloc, desk, reader, writer)
+    serve_long(rt, alloc, &Awake, desk, reader, writer)
 }
 
 /// How long a session may stay, the read and the write that fail, 0 for none, and what it comes to: its result, how often its desk is

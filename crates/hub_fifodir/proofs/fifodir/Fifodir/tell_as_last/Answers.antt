@@ -33,47 +33,47 @@ word-word-requires g c = let h = c.lock-held.ensures.holding.1 in
 pub returns-clause-remains : goal.returns-clause-remains
 returns-clause-remains g c = let me = c.args.me.now in let t = c.lock-held in let h = t.ensures.holding.1 in record {
   of = (
-    c.add.ensures.table.0 ∙ t.ensures.table.0 ∙ c.requires.of.0,
-    rules_now t.new.seat.at.me c.add.new.seat.at.me me.number c.letters.result.now c.add.result c.add.ensures.added ∙ ap (λ (v : View). v.rules) h.renews.is ∙ c.requires.of.1,
+    c.add-told.ensures.table.0 ∙ t.ensures.table.0 ∙ c.requires.of.0,
+    rules_now t.new.seat.at.me c.add-told.new.seat.at.me me.number c.letters.result.now c.add-told.result c.add-told.ensures.added ∙ ap (λ (v : View). v.rules) h.renews.is ∙ c.requires.of.1,
   );
   number = refl;
-  sound = c.add.ensures.sound;
-  seen = grows me.seat.at.me t.new.seat.at.me c.add.new.seat.at.me me.number t.result.locked me.is_writer h c.letters.result.now c.add.result c.add.ensures.added;
+  sound = c.add-told.ensures.sound;
+  seen = grows me.seat.at.me t.new.seat.at.me c.add-told.new.seat.at.me me.number t.result.locked me.is_writer h c.letters.result.now c.add-told.result c.add-told.ensures.added;
 }
 
 pub returns-clause-own : goal.returns-clause-own
 returns-clause-own g c = let me = c.args.me.now in let t = c.lock-held in
-    knew me.seat.at.me t.new.seat.at.me c.add.new.seat.at.me me.number t.result.locked me.is_writer t.ensures.holding.1 c.letters.result.now c.add.result c.add.ensures.added me.positive
+    knew me.seat.at.me t.new.seat.at.me c.add-told.new.seat.at.me me.number t.result.locked me.is_writer t.ensures.holding.1 c.letters.result.now c.add-told.result c.add-told.ensures.added me.positive
 
 pub returns-clause-last : goal.returns-clause-last
 returns-clause-last g c = let me = c.args.me.now in let t = c.lock-held in let h = t.ensures.holding.1 in
-    was_last t.new.seat.at.me c.add.new.seat.at.me me.number c.letters.result.now
+    was_last t.new.seat.at.me c.add-told.new.seat.at.me me.number c.letters.result.now
     (sym (last_seen me.seat.at.me t.new.seat.at.me t.result.locked h c.last_publisher.result c.last_publisher.ensures)
     ∙ own_by c.last_publisher.result me.number c.ne.result c.ne.ensures c.if-ne.false)
-    c.add.result c.add.ensures.added
+    c.add-told.result c.add-told.ensures.added
 
 pub returns-clause-ok : goal.returns-clause-ok
 returns-clause-ok g c = let me = c.args.me.now in let t = c.lock-held in let h = t.ensures.holding.1 in
-    told me.seat.at.me t.new.seat.at.me c.add.new.seat.at.me me.number t.result.locked me.is_writer h c.args.state c.letters.result.now
+    told me.seat.at.me t.new.seat.at.me c.add-told.new.seat.at.me me.number t.result.locked me.is_writer h c.args.state c.letters.result.now
     (word_seen me.seat.at.me t.new.seat.at.me t.result.locked h c.args.state c.letters.result.now (λ w r. c.letters.ensures ∙ c.word-word.ensures w r))
-    c.add.result c.add.ensures.added
+    c.add-told.result c.add-told.ensures.added
 
 pub returns-clause-there : goal.returns-clause-there
 returns-clause-there g c = let me = c.args.me.now in let t = c.lock-held in let h = t.ensures.holding.1 in
-    is_there me.seat.at.me t.new.seat.at.me c.add.new.seat.at.me me.number t.result.locked me.is_writer h c.args.state c.letters.result.now
+    is_there me.seat.at.me t.new.seat.at.me c.add-told.new.seat.at.me me.number t.result.locked me.is_writer h c.args.state c.letters.result.now
     (word_seen me.seat.at.me t.new.seat.at.me t.result.locked h c.args.state c.letters.result.now (λ w r. c.letters.ensures ∙ c.word-word.ensures w r))
-    c.add.result c.add.ensures.added (ap (λ (v : View). v.rules.kind) h.renews.is ∙ ap (λ (r : Rules). r.kind) c.requires.of.1 ∙ c.requires.service)
+    c.add-told.result c.add-told.ensures.added (ap (λ (v : View). v.rules.kind) h.renews.is ∙ ap (λ (r : Rules). r.kind) c.requires.of.1 ∙ c.requires.service)
 
 pub returns-clause-err : goal.returns-clause-err
 returns-clause-err g c = let me = c.args.me.now in let t = c.lock-held in let h = t.ensures.holding.1 in
-    still_last t.new.seat.at.me c.add.new.seat.at.me me.number c.letters.result.now
+    still_last t.new.seat.at.me c.add-told.new.seat.at.me me.number c.letters.result.now
     (sym (last_seen me.seat.at.me t.new.seat.at.me t.result.locked h c.last_publisher.result c.last_publisher.ensures)
     ∙ own_by c.last_publisher.result me.number c.ne.result c.ne.ensures c.if-ne.false)
-    (mine_of me.seat.at.me.0.role) c.add.result c.add.ensures.added
-    (kept me.seat.at.me t.new.seat.at.me c.add.new.seat.at.me me.number t.result.locked me.is_writer h c.letters.result.now c.add.result c.add.ensures.added)
+    (mine_of me.seat.at.me.0.role) c.add-told.result c.add-told.ensures.added
+    (kept me.seat.at.me t.new.seat.at.me c.add-told.new.seat.at.me me.number t.result.locked me.is_writer h c.letters.result.now c.add-told.result c.add-told.ensures.added)
 
 pub returns-clause-refused : goal.returns-clause-refused
 returns-clause-refused g c = let me = c.args.me.now in let t = c.lock-held in let h = t.ensures.holding.1 in
-    untold me.seat.at.me t.new.seat.at.me c.add.new.seat.at.me me.number t.result.locked me.is_writer h c.args.state c.letters.result.now
+    untold me.seat.at.me t.new.seat.at.me c.add-told.new.seat.at.me me.number t.result.locked me.is_writer h c.args.state c.letters.result.now
     (word_seen me.seat.at.me t.new.seat.at.me t.result.locked h c.args.state c.letters.result.now (λ w r. c.letters.ensures ∙ c.word-word.ensures w r))
-    c.add.result c.add.ensures.added
+    c.add-told.result c.add-told.ensures.added

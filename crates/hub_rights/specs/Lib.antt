@@ -1,0 +1,4 @@
+pub mod Asked
+pub mod Limits
+pub mod Looking
+pub mod Records

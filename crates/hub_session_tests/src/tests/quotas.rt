@@ -1,0 +1,202 @@
+//! Two doors share their sessions, of which a quarter is kept for the first one.
+use crate::tests::clients::Client;
+use crate::tests::sockets::open;
+use hub_server::{Connection, Gate, Next, Quota, SharedDoor, Side, most_looking};
+use std::alloc::Global;
+use std::fs::Files;
+use std::io::ErrorKind;
+use std::net::Net;
+use std::process::Abort;
+use std::rt::Clock;
+use std::sync::Wait;
+use std::test::Fail;
+use std::thread::{JoinHandle, Threads};
+use std::{io, thread};
+
+/// How many sessions there may be, and how many of them may only look.
+static ROWS: [(u64, u64); 3] = [(2, 1), (4, 3), (64, 48)];
+
+/// How often a test looks whether something has happened.
+const LOOKS: u64 = 10_000_000;
+
+/// A thread of a door, and the session that it serves.
+#[derive(Drop)]
+struct Worker<H: Drop> {
+    door: SharedDoor<H>,
+    session: (Connection<H>, Connection<H>),
+}
+
+/// Two doors, and clients that have connected to each.
+#[derive(Drop)]
+struct Doors<H: Drop> {
+    first: SharedDoor<H>,
+    of_first: Quota,
+    looking: SharedDoor<H>,
+    of_looking: Quota,
+    clients: (Vec<Client>, Vec<Client>),
+}
+
+fn door<H: Files + Net + Clock + Copy>(
+    rt: &H,
+    alloc: Global,
+    path: &'static str,
+    quota: Quota,
+    clients: u64,
+) -> io::Result<(SharedDoor<H>, Vec<Client>)> {
+    let (mut opened, clients) = open(rt, alloc, path, clients as usize)?;
+    let Some(listener) = opened.listener.take() else {
+        return Err(io::Error::from(ErrorKind::NotConnected));
+    };
+    let door = SharedDoor::new(alloc, listener, None, *rt)?;
+    Ok((door.within(quota), clients))
+}
+
+/// Doors that share so many sessions, each with one client more than these.
+fn make_doors<H: Files + Net + Clock + Copy + Drop>(
+    rt: &H,
+    alloc: Global,
+    sessions: u64,
+) -> io::Result<Doors<H>> {
+    let of_first = Quota::of_first(alloc, sessions)?;
+    let of_looking = of_first.share(Side::Looking)?;
+    let count = sessions.saturating_add(1);
+    let quota = of_first.share(Side::First)?;
+    let (first, ours) = door(rt, alloc, "first.sock", quota, count)?;
+    let quota = of_looking.share(Side::Looking)?;
+    let (looking, theirs) = door(rt, alloc, "looking.sock", quota, count)?;
+    Ok(Doors {
+        first,
+        of_first,
+        looking,
+        of_looking,
+        clients: (ours, theirs),
+    })
+}
+
+/// So many threads of the door, each of which has a session. None: a session didn't come.
+fn working<H: Clock + Wait + Copy + Drop>(
+    rt: &H,
+    alloc: Global,
+    door: &SharedDoor<H>,
+    count: u64,
+) -> io::Result<Option<Vec<Worker<H>>>> {
+    let mut workers = Vec::new(alloc);
+    for _ in 0..count {
+        let mut door = door.share()?;
+        let Next::Session(reader, writer) = door.next(rt) else {
+            return Ok(None);
+        };
+        let session = (reader, writer);
+        workers.push(Worker { door, session })?;
+    }
+    Ok(Some(workers))
+}
+
+/// A thread that asks the door for a session, and whether it gets one.
+fn asking<H>(rt: &H, door: &SharedDoor<H>) -> Result<JoinHandle<bool>, Fail>
+where
+    H: Abort + Clock + Threads + Wait + Copy + Send + Drop + 'static,
+{
+    let (own, mut door) = (*rt, door.share()?);
+    let thread = thread::spawn(rt, move || matches!(door.next(&own), Next::Session(_, _)))?;
+    Ok(thread)
+}
+
+/// Whether a client comes to wait at this door for a session.
+fn comes_to_wait<H: Wait>(rt: &H, quota: &Quota) -> bool {
+    for _ in 0..LOOKS {
+        if quota.crowd(rt) == (true, true) {
+            return true;
+        }
+        thread::yield_now();
+    }
+    false
+}
+
+#[test]
+fn a_quarter_is_kept_for_the_first_door(rt: HostRuntime) -> Result<(), Fail> {
+    let alloc: Global = rt.alloc();
+    for (sessions, few) in &ROWS {
+        assert_eq!(rt; most_looking(*sessions), *few);
+        let doors = make_doors(&rt, alloc, *sessions)?;
+        let lookers = working(&rt, alloc, &doors.looking, *few)?;
+        assert!(rt; lookers.is_some(), "{sessions}");
+        assert_eq!(rt; doors.of_looking.crowd(&rt), (true, false), "{sessions}");
+        assert_eq!(rt; doors.of_first.crowd(&rt), (false, false), "{sessions}");
+        let others = working(&rt, alloc, &doors.first, sessions.saturating_sub(*few))?;
+        assert!(rt; others.is_some(), "{sessions}");
+        assert_eq!(rt; doors.of_first.crowd(&rt), (true, false), "{sessions}");
+    }
+    Ok(())
+}
+
+#[test]
+fn the_first_door_may_have_all(rt: HostRuntime) -> Result<(), Fail> {
+    let alloc: Global = rt.alloc();
+    for (sessions, _) in &ROWS {
+        let doors = make_doors(&rt, alloc, *sessions)?;
+        let Some(mut workers) = working(&rt, alloc, &doors.first, *sessions)? else {
+            assert!(rt; false, "{sessions}");
+            return Ok(());
+        };
+        assert_eq!(rt; doors.of_looking.crowd(&rt), (true, false), "{sessions}");
+        let asked = asking(&rt, &doors.looking)?;
+        assert!(rt; comes_to_wait(&rt, &doors.of_looking), "{sessions}");
+        if let Some(worker) = workers.pop() {
+            worker.door.leave(&rt);
+            worker.door.leave(&rt);
+        }
+        assert!(rt; asked.join(&rt), "{sessions}");
+        assert_eq!(rt; doors.of_first.crowd(&rt), (true, false), "{sessions}");
+    }
+    Ok(())
+}
+
+/// Whether a thread of the door gets two sessions, one after the other.
+fn gives_two<H: Clock + Wait + Copy>(rt: &H, door: &mut SharedDoor<H>) -> bool {
+    for _ in 0..2 {
+        let Next::Session(_, _) = door.next(rt) else {
+            return false;
+        };
+    }
+    true
+}
+
+#[test]
+fn a_door_gives_back_as_it_asks(rt: HostRuntime) -> Result<(), Fail> {
+    let alloc: Global = rt.alloc();
+    let mut doors = make_doors(&rt, alloc, 2)?;
+    assert!(rt; gives_two(&rt, &mut doors.first));
+    assert!(rt; gives_two(&rt, &mut doors.looking));
+    assert_eq!(rt; doors.of_first.crowd(&rt), (true, false));
+    doors.first.leave(&rt);
+    assert_eq!(rt; doors.of_first.crowd(&rt), (false, false));
+    Ok(())
+}
+
+// A session that is over wakes one who may take its place, also where others wait that may not.
+#[test]
+fn each_door_has_wakes_of_its_own(rt: HostRuntime) -> Result<(), Fail> {
+    let alloc: Global = rt.alloc();
+    let doors = make_doors(&rt, alloc, 2)?;
+    let lookers = working(&rt, alloc, &doors.looking, 1)?;
+    let others = working(&rt, alloc, &doors.first, 1)?;
+    let (Some(lookers), Some(others)) = (lookers, others) else {
+        assert!(rt; false);
+        return Ok(());
+    };
+    let looks = asking(&rt, &doors.looking)?;
+    assert!(rt; comes_to_wait(&rt, &doors.of_looking));
+    let works = asking(&rt, &doors.first)?;
+    assert!(rt; comes_to_wait(&rt, &doors.of_first));
+    for other in others.iter() {
+        other.door.leave(&rt);
+    }
+    assert!(rt; works.join(&rt));
+    assert_eq!(rt; doors.of_looking.crowd(&rt), (true, true));
+    for looker in lookers.iter() {
+        looker.door.leave(&rt);
+    }
+    assert!(rt; looks.join(&rt));
+    Ok(())
+}
