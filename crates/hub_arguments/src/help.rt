@@ -199,7 +199,7 @@ With --forever standard error is a log. It says that the hub listens, why it
 can't, as in `cannot listen: no such directory`, that all sessions are taken and
 clients wait, and which session stopped, when it does, as in:
 
-  session 2 stopped after 12 s (lines: 5): its client left before it read its reply";
+  session 2 stopped after 90 s (lines: 5): no whole line came (--idle)";
 
 /// The subcommand `call` in one line.
 pub const CALL_ABOUT: &str = "Send the request lines of standard input to a hub";

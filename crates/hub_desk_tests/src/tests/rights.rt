@@ -19,7 +19,7 @@ static CHANGES: &str = "
     tell db up -> no right; tell held ready -> no right; tell web up -> no right; tell new up -> no right
     will db down -> no right; will held none -> no right; will new down -> no right
     close web -> no right; close kept -> no right; close new -> no right
-    status web -> ok 1 0 open; status kept -> ok 1 0 open; status held -> ok 2 2 open; status db -> ok 0 0 open
+    status web -> ok 1 0 open; status kept -> ok 1 0 open; status held -> ok 2 5 open; status db -> ok 0 0 open
     names 0 -> names kept web held db
 ";
 
@@ -45,7 +45,7 @@ static LOOKS: &str = "
 
 /// As for a session that may all: the fifodirs have what they had.
 static AFTERWARDS: &str = "
-    status web -> ok 1 0 open; status kept -> ok 1 0 open; status held -> ok 2 2 open; status db -> ok 0 0 open
+    status web -> ok 1 0 open; status kept -> ok 1 0 open; status held -> ok 2 5 open; status db -> ok 0 0 open
     about kept -> ok dir 0 4 1000 hold 0 0 0; about web -> ok dir 0 4 1000 evict 0 0 0
     pub kept bcde -> ok 1; pub web bcde -> ok 1; tell held ready -> ok 2; tell db ready -> ok 0
     close web -> ok; dir new 4 1000 -> ok
@@ -78,7 +78,7 @@ static SHARE: &str = "
 
 static NO_SHARE: &str = "
     dir new 4 1000 -> no many; svc new 4 1000 1 -> no many; dir web 4 1000 -> no exists; names 0 -> names web db
-    status db -> ok 2 2 open
+    status db -> ok 2 5 open
 ";
 
 #[test]
