@@ -1,4 +1,8 @@
 //! The subcommands that change something at a hub: they make fifodirs, say where a service is, and leave a will for it.
+ghost use Rattle.std.specs.Prelude.{◌≡◌};
+ghost use Rattle.hub_letters.specs.declared.state.State.{State as states};
+ghost use Rattle.hub_requests.specs.declared.will.Will.{Will as wills};
+ghost use Rattle.hub_protocol.specs.Spelling.{text_of_state, text_of_will};
 
 use crate::changing_help::{
     HOLD_ABOUT, HOLD_LINES, MAKE_ABOUT, MAKE_LINES, TELL_ABOUT, TELL_LINES,
@@ -7,6 +11,7 @@ use crate::command_line::Plan;
 use crate::options::{Made, NAMES, PLAIN, Read, asking, flag, operands, socket_in, valued, values};
 use clap::{Arg, ArgMatches, value_parser};
 use hub_letters::State;
+use hub_protocol::Spelled;
 use hub_record::{Kind, Policy};
 use hub_requests::Will;
 use std::alloc::Global;
@@ -119,14 +124,10 @@ pub(crate) fn make_command<'a>(alloc: Global, known: Option<&'a str>) -> Made<'a
 }
 
 // The state of this word, which is one of `STATES`.
-fn state_of(word: &str) -> State {
-    match word {
-        "off" => State::Off,
-        "up" => State::Up,
-        "ready" => State::Ready,
-        "failed" => State::Failed,
-        _ => State::Down,
-    }
+fn state_of(word: &str) -> State
+    ensures { (it : states) → word.now ≡ text_of_state it → word.now ≡ text_of_state result }
+{
+    State::of_word(word.as_bytes()).unwrap_or(State::Down)
 }
 
 pub(crate) fn tell_plan<'a>(found: &ArgMatches<'a>) -> Plan<'a> {
@@ -138,12 +139,10 @@ pub(crate) fn tell_plan<'a>(found: &ArgMatches<'a>) -> Plan<'a> {
 }
 
 // The will of this word, which is one of `WILLS`.
-fn will_of(word: &str) -> Will {
-    match word {
-        "off" => Will::Off,
-        "failed" => Will::Failed,
-        _ => Will::Down,
-    }
+fn will_of(word: &str) -> Will
+    ensures { (it : wills) → word.now ≡ text_of_will it → word.now ≡ text_of_will result }
+{
+    Will::of_word(word.as_bytes()).unwrap_or(Will::Down)
 }
 
 pub(crate) fn hold_plan<'a>(found: &ArgMatches<'a>) -> Plan<'a> {

@@ -151,7 +151,8 @@ fn found_mode(found: &ArgMatches<'_>, option: &str) -> Option<u32> {
 
 // The clients at the same time of a `serve` that doesn't end, if this number was found.
 fn clients(found: Option<u64>) -> u64
-    ensures { IsInRange 1 MOST_CLIENTS result }
+    ensures kept { result ≡ unwrap_or (kept_in 1 MOST_CLIENTS found) 64 }
+    ensures ranged { IsInRange 1 MOST_CLIENTS result }
 {
     match within(found, 1, MOST_CLIENTS) {
         Some(number) => number,
@@ -183,7 +184,8 @@ fn second<'a>(named: Option<&'a str>, mode: Option<u32>) -> Option<LookOptions<'
 
 // The connections of a `serve` that ends, if this number was found.
 fn connections(found: Option<u64>) -> u64
-    ensures { IsInRange 1 MOST_CONNECTIONS result }
+    ensures kept { result ≡ unwrap_or (kept_in 1 MOST_CONNECTIONS found) 1 }
+    ensures ranged { IsInRange 1 MOST_CONNECTIONS result }
 {
     match within(found, 1, MOST_CONNECTIONS) {
         Some(number) => number,

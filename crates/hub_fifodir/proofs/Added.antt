@@ -16,7 +16,7 @@ use Rattle.hub_record.proofs.Keeps.{length_stamped}
 use Rattle.hub_record.proofs.Publishing.{letters_after}
 use Rattle.hub_fifodir.specs.declared.views.Sight.{Sight}
 use Rattle.hub_fifodir.specs.declared.locked.Locked.{Locked}
-use Rattle.hub_fifodir.specs.Rule.{book_of, sight, IsBehind, IsSound}
+use Rattle.hub_fifodir.specs.Rule.{book_of, IsBehind, IsSound}
 use Rattle.hub_fifodir.specs.Steps.{M, Locks, Grows, IsWriter, mine_of}
 use Rattle.hub_fifodir.specs.Passes.{HasAdded, IsRefusedBy}
 use Rattle.hub_fifodir.proofs.Logs.{starts_more}

@@ -54,6 +54,10 @@ limits_of f = f.rules.limits
 abbrev pub table_of_waiter : Waiter → TableId
 table_of_waiter w = w.seat.table_id
 
+-- the table of the fifodir whose waiter heard the bell
+abbrev pub table_heard : Heard → TableId
+table_heard h = table_of_waiter h.waiter.value
+
 -- how often the bell had rung when a waiter heard it, before it looks and after
 abbrev pub rings_heard : Heard → ℕ
 rings_heard h = h.rings

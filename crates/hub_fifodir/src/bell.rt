@@ -1,8 +1,12 @@
 //! How a fifodir wakes those who wait for it.
 ghost use Rattle.std.specs.Prelude.{◌≡◌};
 
+use crate::fifodir::Fifodir;
+use crate::pass::Pass;
 use crate::rule::TableSeat;
+use hub_record::Status;
 use std::alloc::Global;
+use std::snapshot::Snapshot;
 use std::sync::atomic::{AtomicBool, AtomicU64, Ordering};
 use std::sync::{Arc, Wait};
 use std::time::Duration;
@@ -99,23 +103,31 @@ impl Bell {
 }
 
 /// How often a bell had rung when a waiter heard it. Only a look takes it, so no look comes before it.
-#[derive(Drop, Debug)]
+#[derive(Drop)]
 pub struct Heard {
     rings: u64,
+    /// The waiter that heard it, as contracts see it.
+    waiter: Snapshot<Waiter>,
 }
 
-impl Heard {
-    ghost use Rattle.hub_fifodir.specs.Passes.{rings_heard, rings_looked};
+impl Fifodir {
+    ghost use Rattle.hub_fifodir.specs.Passes.{IsOf, IsStatusOf, OnlyLooks, Remains, rings_heard, rings_looked, table_heard, table_of};
 
-    /// The same number, after a look.
-    pub(crate) fn after_look(self) -> Looked
-        ensures { rings_looked result ≡ rings_heard self }
+    /// The status, as a look of one who has heard this fifodir's bell.
+    pub fn look<A: Pass>(&self, me: &mut A, heard: Heard) -> (Status, Looked)
+        requires of { IsOf self.now (A.view me.old) }
+        requires heard { table_heard heard ≡ table_of self.now }
+        ensures remains { Remains self.now (A.view me.old) (A.view me.new) }
+        ensures looks { OnlyLooks (A.view me.old) (A.view me.new) }
+        ensures status { IsStatusOf result.0 (A.view me.new).sight }
+        ensures heard { rings_looked result.1 ≡ rings_heard heard }
     {
-        Looked { rings: self.rings }
+        let status = self.status(me);
+        (status, Looked { rings: heard.rings })
     }
 }
 
-/// How often a bell had rung before a look. A pause asks for it, so none comes without a look before it.
+/// How often a bell had rung before a look. Only a look gives one, and a pause asks for it, so none comes without a look before it.
 #[derive(Clone, Copy, Debug, PartialEq, Eq, Hash)]
 pub struct Looked {
     rings: u64,
@@ -148,7 +160,7 @@ pub(crate) struct Waiters {
 }
 
 impl Waiters {
-    ghost use Rattle.hub_fifodir.specs.Passes.{table_of_waiter};
+    ghost use Rattle.hub_fifodir.specs.Passes.{table_heard, table_of_waiter};
 
     /// None waits.
     pub(crate) fn new(bell: Arc<Bell, Global>) -> Waiters {
@@ -170,9 +182,12 @@ impl Waiters {
         Waiter { seat }
     }
 
-    pub(crate) fn hear(&self, _waiter: &Waiter) -> Heard {
+    pub(crate) fn hear(&self, waiter: &Waiter) -> Heard
+        ensures { table_heard result ≡ table_of_waiter waiter.now }
+    {
         Heard {
             rings: self.bell.rings(),
+            waiter: Snapshot::of(waiter),
         }
     }
 

@@ -2,7 +2,7 @@
 ghost use Rattle.std.specs.Prelude.{◌≡◌, length, IfOk};
 ghost use Rattle.hub_fifodir.specs.Notes.{IsSized};
 
-use crate::bell::{Bell, Heard, Looked, Waiter, Waiters};
+use crate::bell::{Bell, Heard, Waiter, Waiters};
 use crate::locked::Locked;
 use crate::pass::{Pass, Seated};
 use crate::rule::{Board, OneHistory};
@@ -27,8 +27,7 @@ pub struct Fifodir {
 }
 
 impl Fifodir {
-    ghost use Rattle.hub_fifodir.specs.Passes.{IsOf, IsStatusOf, OnlyLooks, Remains, table_of, table_of_waiter, rules_of, kind_of, limits_of};
-    ghost use Rattle.hub_fifodir.specs.Passes.{rings_heard, rings_looked};
+    ghost use Rattle.hub_fifodir.specs.Passes.{IsOf, IsStatusOf, OnlyLooks, Remains, table_heard, table_of, table_of_waiter, rules_of, kind_of, limits_of};
 
     /// An open fifodir without events and passes, with a bell of its own.
     pub fn new(alloc: Global, kind: Kind, limits: Limits) -> Result<Fifodir, AllocError>
@@ -88,10 +87,6 @@ impl Fifodir {
         &self.sleepers
     }
 
-    pub(crate) fn waiters(&self) -> &Waiters {
-        &self.waiters
-    }
-
     /// The bell that rings after each accepted message and after the close, if somebody waits. A message without letters rings it too.
     pub fn bell(&self) -> &Bell {
         self.waiters.bell()
@@ -107,8 +102,14 @@ impl Fifodir {
     /// One of its waiters hears the bell, before a look.
     pub fn hear(&self, waiter: &Waiter) -> Heard
         requires { table_of_waiter waiter.now ≡ table_of self.now }
+        ensures { table_heard result ≡ table_of self.now }
     {
         self.waiters.hear(waiter)
+    }
+
+    /// Rings if somebody waits, after a change. A late bell wakes at once if it is urgent.
+    pub(crate) fn ring(&self, is_urgent: bool) {
+        self.waiters.tell(is_urgent);
     }
 
     /// One of its waiters waits no more.
@@ -127,17 +128,6 @@ impl Fifodir {
         ensures status { IsStatusOf result (A.view me.new).sight }
     {
         word::unpack(me.look(self.board(), None))
-    }
-
-    /// The status, as a look of one who has heard the bell.
-    pub fn look<A: Pass>(&self, me: &mut A, heard: Heard) -> (Status, Looked)
-        requires { IsOf self.now (A.view me.old) }
-        ensures remains { Remains self.now (A.view me.old) (A.view me.new) }
-        ensures looks { OnlyLooks (A.view me.old) (A.view me.new) }
-        ensures status { IsStatusOf result.0 (A.view me.new).sight }
-        ensures heard { rings_looked result.1 ≡ rings_heard heard }
-    {
-        (self.status(me), heard.after_look())
     }
 
     /// The number of events. It is one load of the front word, and never waits for the lock.

@@ -153,7 +153,7 @@ impl Fifodir {
                 let is_urgent = held.locked.is_half_full();
                 steps::write_message(board, seat, word, letters);
                 steps::rest(board, seat, held);
-                self.waiters().tell(is_urgent);
+                self.ring(is_urgent);
                 Ok(first)
             }
             Err(refusal) => {
@@ -179,7 +179,7 @@ impl Fifodir {
                 let word = word::pack(held.locked.status());
                 steps::write_mark(board, &mut me.seat, word);
                 steps::rest(board, &mut me.seat, held);
-                self.waiters().tell(true);
+                self.ring(true);
                 Ok(())
             }
             Err(refusal) => {

@@ -1,8 +1,9 @@
 //! Programs over fifodirs: two threads publish at once, and events are sent on from one fifodir to another.
 ghost use Rattle.std.specs.Prelude.{◌≡◌, ℕ, ◌++◌, [], ◌∷◌, OnOk, OnErr, IfOk, IfErr};
 ghost use Rattle.hub_record.specs.Runs.{by};
-ghost use Rattle.hub_fifodir.specs.Passes.{IsPublisherOf, IsTicketOf, HasTaken, IsRefusedAt, KnewOwnClose};
-ghost use Rattle.hub_fifodir.specs.Passes.{publisher_number, got, seen_by, mine, sent_on};
+ghost use Rattle.hub_fifodir.specs.Passes.{IsPublisherOf, IsTicketOf, HasTaken, IsRefusedAt, KnewOwnClose, Remains};
+ghost use Rattle.hub_fifodir.specs.Passes.{publisher_number, publisher_view, ticket_view, got, seen_by, mine, sent_on};
+ghost use Rattle.hub_fifodir.specs.Steps.{Grows};
 
 use crate::fifodir::Fifodir;
 use crate::publisher::Publisher;
@@ -101,8 +102,10 @@ pub fn send_on<R: Wait>(
 ) -> Result<Taken, Unsent>
     requires from { IsTicketOf from.now ticket.old }
     requires to { IsPublisherOf to.now publisher.old }
-    ensures from { IsTicketOf from.now ticket.new }
-    ensures to { IsPublisherOf to.now publisher.new }
+    ensures from { Remains from.now (ticket_view ticket.old) (ticket_view ticket.new) }
+    ensures to { IsPublisherOf to.now publisher.new
+        × (publisher_number publisher.new ≡ publisher_number publisher.old)
+        × Grows (publisher_view publisher.old).sight (publisher_view publisher.new).sight }
     ensures took { IfOk result (λ taken. HasTaken ticket.old 1 taken ticket.new) }
     ensures refused { IfErr result (λ unsent. HasTaken ticket.old 1 (Taken.Got 1) ticket.new
         × (got ticket.new ≡ got ticket.old ++ unsent.event ∷ [])

@@ -25,4 +25,5 @@ pub use spelling::{
     no_line_is_spelled_twice,
 };
 pub use telling::write_request;
+pub use words::Spelled;
 pub use writing::write_reply;
