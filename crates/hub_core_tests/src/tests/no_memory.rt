@@ -11,8 +11,8 @@ use crate::tests::no_memory::records::{
 use crate::tests::passes::{Sender, Shared, new_sender, open, open_with, publisher, ticket};
 use crate::tests::waits::{Deed, Doing, open_post};
 use hub_fifodir::{Enter, Fifodir, Publisher};
-use hub_letters::{Flags, Letter, Want};
-use hub_listen::{Feed, Listener, Mode};
+use hub_letters::{Flags, Letter, MOST_GATHERED, State, Want};
+use hub_listen::{Feed, FeedError, Listener, Mode};
 use hub_record::{Closed, Event, Kind, Policy, PubError, Status, Taken};
 use hub_wait::{Post, SLICE, Span, Tally, Verdict, Watch, svlisten, svwait};
 use std::alloc::Global;
@@ -110,17 +110,45 @@ fn publishers_are_refused<R: Abort + Wait + Enter>(
         && closed == (Ok(()), Err(Closed), Err(PubError::Closed))
 }
 
-/// The two calls of a listener that only show.
-fn a_listener_is_shown(alloc: Global) -> io::Result<bool> {
+/// The calls of two publishers that tell where a service is. The first letters are those of a start.
+fn a_service_is_told<R: Abort + Wait + Enter>(rt: &R, fifodir: &Shared) -> bool {
+    let mut one = new_sender(rt, fifodir);
+    let mut other = new_sender(rt, fifodir);
+    mark();
+    let told = (
+        one.tell(rt, State::Up),
+        one.tell(rt, State::Up),
+        other.tell_as_last(rt, State::Down),
+        one.tell_as_last(rt, State::Ready),
+    );
+    let closed = (
+        one.close(rt),
+        other.tell(rt, State::Down),
+        one.tell_as_last(rt, State::Down),
+    );
+    one.leave(rt);
+    other.leave(rt);
+    mark();
+    let refused = Some(Err(PubError::Closed));
+    told == (Some(Ok(0)), Some(Ok(2)), None, Some(Ok(2)))
+        && closed == (Ok(()), refused, refused)
+}
+
+/// The calls of a listener.
+fn a_listener_is_used(alloc: Global) -> io::Result<bool> {
     let letters = word(alloc, "aba")?;
     let Ok(mut listener) = Listener::new(alloc, "b", Mode::Repeat) else {
         return Ok(false);
     };
-    let hit = listener.feed(&letters);
     mark();
+    let heard = (
+        listener.feed(&letters),
+        listener.feed(&[Letter::LEAST]),
+        listener.feed(&[Letter::LEAST; MOST_GATHERED]),
+    );
     let shown = (listener.text().len(), listener.hit().len());
     mark();
-    Ok(hit == Ok(Feed::Hit(2)) && shown == (0, 2))
+    Ok(heard == (Ok(Feed::Hit(2)), Ok(Feed::Quiet), Err(FeedError::Overlong)) && shown == (1, 2))
 }
 
 /// Each call of a watch and of a tally.
@@ -196,6 +224,7 @@ fn these_calls_take_no_memory(rt: HostRuntime) -> Result<(), Fail> {
     let (s, u) = (word(rt.alloc(), "s")?, word(rt.alloc(), "u")?);
     let ab = word(rt.alloc(), "ab")?;
     let short = open(rt.alloc(), Kind::Service, (2, 2, 10))?;
+    let told = open(rt.alloc(), Kind::Service, (64, 100, 10))?;
     let (su, x) = (word(rt.alloc(), "su")?, word(rt.alloc(), "x")?);
     assert!(rt; memory_is_taken(rt.alloc())?);
     assert!(rt; letters_are_read());
@@ -205,7 +234,8 @@ fn these_calls_take_no_memory(rt: HostRuntime) -> Result<(), Fail> {
     assert!(rt; passes_are_used(&rt, &plain, &ab));
     assert!(rt; a_ticket_is_evicted(&rt, &evicting, &ab));
     assert!(rt; publishers_are_refused(&rt, &short, &su, &x));
-    assert!(rt; a_listener_is_shown(rt.alloc())?);
+    assert!(rt; a_service_is_told(&rt, &told));
+    assert!(rt; a_listener_is_used(rt.alloc())?);
     assert!(rt; a_watch_is_judged());
     let supervisor = new_sender(&rt, &service);
     assert!(rt; posts_are_used(&rt, service, supervisor, u, &s));

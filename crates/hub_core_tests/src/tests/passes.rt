@@ -79,6 +79,14 @@ impl Sender {
         self.fifodir.publish(rt, &mut self.me, letters)
     }
 
+    /// Tells where the service is. A plain fifodir isn't told.
+    pub(crate) fn tell<R: Wait>(&mut self, rt: &R, state: State) -> Option<Result<u64, PubError>> {
+        match self.fifodir.kind() {
+            Kind::Service => Some(self.fifodir.tell(rt, &mut self.me, state)),
+            Kind::Plain => None,
+        }
+    }
+
     /// Tells where the service is, if its last event is this publisher's. A plain fifodir isn't told.
     pub(crate) fn tell_as_last<R: Wait>(
         &mut self,

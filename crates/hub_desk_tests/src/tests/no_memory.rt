@@ -1,4 +1,4 @@
-//! The end of a desk, an `await`, an `about` of a name that the desk knows, what lends the parts of a request, and a shared desk's
+//! The end of a desk, which carries out a will, an `await`, an `about` and a `tell` of a name that the desk knows, what lends the parts of a request, and a shared desk's
 //! `take`, `poll` and `next` where nothing waits take no memory. Nor does any call of a record with eight subscriptions, or what eight
 //! of a session are told, but the letters of a reply. It is counted by `tests/no-memory`, which runs this program over a `malloc` that
 //! counts (`tests/count.c`): it counts between two marks.
@@ -7,7 +7,7 @@ mod cursors;
 use crate::tests::desks::{alone, new_local};
 use crate::tests::no_memory::cursors::{eight_are_evicted, eight_hold};
 use crate::tests::rows::{many_letters, name_of, run};
-use hub_letters::Letter;
+use hub_letters::{Letter, State};
 use hub_requests::{
     Desk, Enter, Excerpt, Name, Names, Numbers, PatternText, Refusal, Reply, Request,
 };
@@ -22,10 +22,12 @@ pub(crate) fn mark() {
     thread::yield_now();
 }
 
-/// A session with a publisher, two subscriptions and a listener.
+/// A session with two publishers, a will, two subscriptions and a listener.
 static HOLDS: &str = "
     dir web 64 1000 -> ok
     svc db 64 1000 1 -> ok
+    tell db down -> ok 0
+    will db failed -> ok
     sub web -> ok 1
     sub db -> ok 2
     listen web repeat b -> ok 3
@@ -68,6 +70,18 @@ fn tells<H: Wait + Enter, D: Desk>(rt: &H, desk: &mut D, name: Name) -> bool {
     let reply = desk.ask(rt, &about);
     mark();
     matches!(reply, Reply::About(_))
+}
+
+/// Whether the desk tells where the service is to be, and that it is there already.
+fn is_told<H: Wait + Enter, D: Desk>(rt: &H, desk: &mut D, name: Name) -> bool {
+    let tell = Request::Tell {
+        name,
+        state: State::Ready,
+    };
+    mark();
+    let replies = (desk.ask(rt, &tell), desk.ask(rt, &tell));
+    mark();
+    matches!(replies, (Reply::Number(1), Reply::Number(3)))
 }
 
 /// A session with eight subscriptions to a fifodir for which three letters are pending.
@@ -165,16 +179,21 @@ fn these_calls_take_no_memory(rt: HostRuntime) -> Result<(), Fail> {
     run(&rt, &mut local, HOLDS);
     assert!(rt; awaits(&rt, &mut local), "awaits of a local desk");
     assert!(rt; tells(&rt, &mut local, known), "an about of a local desk");
+    let db = name_of(&rt, rt.alloc(), "db")?;
+    assert!(rt; is_told(&rt, &mut local, db), "tells of a local desk");
     end(&rt, &mut local);
+    let also_db = name_of(&rt, rt.alloc(), "db")?;
     let mut shared = alone(&rt);
     run(&rt, &mut shared, HOLDS);
     let nothing_waits = nothing_waits(&rt, &mut shared);
     let awaits = awaits(&rt, &mut shared);
     let tells = tells(&rt, &mut shared, also);
+    let is_told = is_told(&rt, &mut shared, also_db);
     end(&rt, &mut shared);
     shared.release(&rt);
     assert!(rt; nothing_waits, "nothing waits");
     assert!(rt; awaits, "awaits of a shared desk");
     assert!(rt; tells, "an about of a shared desk");
+    assert!(rt; is_told, "tells of a shared desk");
     Ok(())
 }

@@ -4,9 +4,10 @@ ghost use Rattle.hub_fifodir.specs.Passes.{IsPublisherOf, IsTicketOf};
 
 use super::Call;
 use crate::tests::fixtures::word;
-use crate::tests::passes::{Shared, publisher, ticket};
+use crate::tests::passes::{Shared, next_id, publisher, ticket};
 use crate::tests::posts::end_all;
 use crate::tests::waits::open_post;
+use hub_fifodir::together::{send_both, send_on};
 use hub_fifodir::{Enter, Publisher, Ticket};
 use hub_letters::{Letter, State, Want};
 use hub_record::{Event, Kind};
@@ -15,6 +16,7 @@ use std::alloc::Global;
 use std::process::Abort;
 use std::sync::{Arc, Wait};
 use std::test::Fail;
+use std::thread::Threads;
 
 /// A pause that ends at once.
 #[derive(Drop)]
@@ -29,6 +31,8 @@ impl Pause for AtOnce {
 /// A fifodir, and those who made their passes before anything came.
 pub(crate) struct Scene {
     pub(crate) fifodir: Shared,
+    /// Another one, at which nobody is.
+    there: Shared,
     one: Publisher,
     /// It publishes nothing.
     other: Publisher,
@@ -40,12 +44,18 @@ pub(crate) struct Scene {
 }
 
 impl Scene {
-    pub(crate) fn new<R: Abort + Wait + Enter>(rt: &R, alloc: Global, fifodir: Shared) -> Scene {
+    pub(crate) fn new<R: Abort + Wait + Enter>(
+        rt: &R,
+        alloc: Global,
+        fifodir: Shared,
+        there: Shared,
+    ) -> Scene {
         let one = publisher(rt, &fifodir);
         let other = publisher(rt, &fifodir);
         let reader = ticket(rt, &fifodir);
         Scene {
             fifodir,
+            there,
             one,
             other,
             reader,
@@ -117,6 +127,52 @@ impl Scene {
         let _ = self.fifodir.close(rt, &mut self.one);
     }
 
+    /// Two more publishers publish these letters, each from a thread of its own, and leave.
+    pub(crate) fn send_both<R: Abort + Threads + Wait + Enter + Sync>(
+        &self,
+        rt: &R,
+        letters: &[Letter],
+    ) {
+        let fifodir = &self.fifodir;
+        let (one, other) = (publisher(rt, fifodir), publisher(rt, fifodir));
+        let ((one, _), (other, _)) = send_both(rt, fifodir, one, other, letters, letters);
+        fifodir.leave(rt, one);
+        fifodir.leave(rt, other);
+    }
+
+    /// Sends a letter that was published at the other fifodir on to this one.
+    pub(crate) fn send_here<R: Abort + Wait + Enter>(&mut self, rt: &R, letter: &[Letter]) {
+        let (mut sender, mut reader) = (publisher(rt, &self.there), ticket(rt, &self.there));
+        let _ = self.there.publish(rt, &mut sender, letter);
+        let _ = send_on(rt, &self.there, &mut reader, &self.fifodir, &mut self.one);
+        self.there.leave(rt, sender);
+        self.there.cancel(rt, reader);
+    }
+
+    /// Sends an event of this fifodir on to the other one.
+    pub(crate) fn send_on<R: Abort + Wait + Enter>(&mut self, rt: &R) {
+        let mut sender = publisher(rt, &self.there);
+        let _ = send_on(rt, &self.fifodir, &mut self.reader, &self.there, &mut sender);
+        self.there.leave(rt, sender);
+    }
+
+    pub(crate) fn join<R: Abort + Wait + Enter>(&self, rt: &R) {
+        let one = publisher(rt, &self.fifodir);
+        self.fifodir.leave(rt, one);
+    }
+
+    pub(crate) fn subscribe<R: Wait + Enter>(&self, rt: &R) {
+        let _ = next_id(rt, &self.fifodir);
+    }
+
+    /// A post is opened, if it may, and ends.
+    pub(crate) fn open<R: Abort + Wait + Enter>(&self, rt: &R) {
+        let shared = Arc::try_clone(&self.fifodir).expect(rt, "the fifodir");
+        if let Ok(post) = Post::open(rt, shared, Want::Up, true) {
+            post.end(rt);
+        }
+    }
+
     pub(crate) fn await_more<R: Wait>(&mut self, rt: &R) {
         self.fifodir
             .await_more(rt, &mut self.reader, 1, &mut AtOnce);
@@ -177,6 +233,7 @@ impl Scene {
     pub(crate) fn end<R: Wait>(self, rt: &R) {
         let Scene {
             fifodir,
+            there: _,
             one,
             other,
             reader,
