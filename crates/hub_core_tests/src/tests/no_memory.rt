@@ -130,8 +130,7 @@ fn a_service_is_told<R: Abort + Wait + Enter>(rt: &R, fifodir: &Shared) -> bool 
     other.leave(rt);
     mark();
     let refused = Some(Err(PubError::Closed));
-    told == (Some(Ok(0)), Some(Ok(2)), None, Some(Ok(2)))
-        && closed == (Ok(()), refused, refused)
+    told == (Some(Ok(0)), Some(Ok(2)), None, Some(Ok(2))) && closed == (Ok(()), refused, refused)
 }
 
 /// The calls of a listener.

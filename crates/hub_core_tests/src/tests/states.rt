@@ -108,11 +108,7 @@ static STATES: [Before; 11] = [
         (2, 2, 0, 0),
     ),
     // All who came since have left.
-    (
-        State::Busy,
-        (1, 6, false, 43, Some(43), 1, 0),
-        (2, 2, 0, 0),
-    ),
+    (State::Busy, (1, 6, false, 43, Some(43), 1, 0), (2, 2, 0, 0)),
     (State::Three, (1, 6, false, 3, Some(5), 1, 0), (4, 2, 0, 0)),
     (
         State::Awaited,
@@ -233,12 +229,7 @@ fn counts_after(before: Before, call: Call, left: Left) -> Counts {
     } else {
         now.saturating_sub(taken)
     };
-    (
-        subscriptions,
-        publishers,
-        of_posts.max(of_ticket),
-        evicted,
-    )
+    (subscriptions, publishers, of_posts.max(of_ticket), evicted)
 }
 
 /// What is there after the call, how much there is, and the events, flags, close and counts once all have left.
@@ -352,10 +343,7 @@ fn status_of<R: Abort + Wait + Enter>(rt: &R, fifodir: &Shared) -> (u64, (u64, u
     let mut next = new_sender(rt, fifodir);
     let (number, status) = (next.me.number(), next.status());
     next.leave(rt);
-    (
-        number,
-        (status.number, status.flags.code(), status.closed),
-    )
+    (number, (status.number, status.flags.code(), status.closed))
 }
 
 /// What is there after this call in this state. So many publishers and tickets came and went before those that make the call.

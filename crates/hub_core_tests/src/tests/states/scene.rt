@@ -152,7 +152,13 @@ impl Scene {
     /// Sends an event of this fifodir on to the other one.
     pub(crate) fn send_on<R: Abort + Wait + Enter>(&mut self, rt: &R) {
         let mut sender = publisher(rt, &self.there);
-        let _ = send_on(rt, &self.fifodir, &mut self.reader, &self.there, &mut sender);
+        let _ = send_on(
+            rt,
+            &self.fifodir,
+            &mut self.reader,
+            &self.there,
+            &mut sender,
+        );
         self.there.leave(rt, sender);
     }
 
