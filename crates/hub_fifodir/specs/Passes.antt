@@ -65,6 +65,13 @@ rings_heard h = h.rings
 abbrev pub rings_looked : Looked → ℕ
 rings_looked l = l.rings
 
+-- and how often it had rung urgently
+abbrev pub urgent_heard : Heard → ℕ
+urgent_heard h = h.urgent
+
+abbrev pub urgent_looked : Looked → ℕ
+urgent_looked l = l.urgent
+
 -- The fifodir's lock once had this record, and these publishers, and so much was there. The record is sound, and of the fifodir's
 -- kind and limits.
 pub record IsUsage (f : Fifodir) (usage : Usage) : Type 0 where

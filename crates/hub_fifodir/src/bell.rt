@@ -23,16 +23,68 @@ const FIRST_WOKEN: u64 = 4;
 ///
 /// A bell may wake its sleepers late: not at each ring, but only when [`Bell::settle`] is called. So a thread that makes many changes
 /// wakes them once. Whoever makes a change has to settle before it waits for anything.
+///
+/// If many sleep, each ring costs as many wakes. So one of many may rest between two sleeps, for as long as it can do without a look. Only
+/// an urgent ring wakes who rests: a fifodir is more than half full, or was closed.
 #[derive(Drop)]
 pub struct Bell {
-    /// How often it rang so far.
-    rings: AtomicU64,
-    /// How many threads may be asleep.
-    sleepers: AtomicU64,
+    rings: Rings,
+    urgent: Rings,
     /// Whether sleepers are woken only by `settle`.
     is_late: bool,
     /// Whether it rang since the sleepers were woken last.
     owes: AtomicBool,
+}
+
+/// Rings of one kind, and who sleeps until the next one.
+#[derive(Drop)]
+struct Rings {
+    /// How often it rang so far.
+    rung: AtomicU64,
+    /// How many threads may be asleep.
+    sleepers: AtomicU64,
+}
+
+impl Rings {
+    fn none() -> Rings {
+        Rings {
+            rung: AtomicU64::new(0),
+            sleepers: AtomicU64::new(0),
+        }
+    }
+
+    fn count(&self) -> u64 {
+        self.rung.load(Ordering::SeqCst)
+    }
+
+    fn sleepers(&self) -> u64 {
+        self.sleepers.load(Ordering::SeqCst)
+    }
+
+    // Nobody falls asleep meanwhile: the number is another one.
+    fn add(&self) {
+        self.rung.fetch_add(1, Ordering::SeqCst);
+    }
+
+    // Sleeps until there is another ring than those that were heard, or for so long. Whoever hears a ring wakes the next sleeper. So the
+    // one who rings doesn't wake them all, and they wake on several processors at once.
+    fn sleep<R: Wait>(&self, rt: &R, heard: u64, most: Duration) {
+        self.sleepers.fetch_add(1, Ordering::SeqCst);
+        self.rung
+            .park_timeout(rt, (heard & 0xffff_ffff) as u32, most);
+        let others = self.sleepers.fetch_sub(1, Ordering::SeqCst);
+        if others > 1 && self.count() != heard {
+            self.rung.wake_one();
+        }
+    }
+
+    // Wakes the first sleepers. It asks the kernel only if somebody may be asleep: a sleeper is counted before the kernel compares the
+    // number that it read, and here the number went up before the count is read.
+    fn wake(&self) {
+        for _ in 0..self.sleepers().min(FIRST_WOKEN) {
+            self.rung.wake_one();
+        }
+    }
 }
 
 impl Bell {
@@ -48,8 +100,8 @@ impl Bell {
 
     fn of(is_late: bool) -> Bell {
         Bell {
-            rings: AtomicU64::new(0),
-            sleepers: AtomicU64::new(0),
+            rings: Rings::none(),
+            urgent: Rings::none(),
             is_late,
             owes: AtomicBool::new(false),
         }
@@ -57,30 +109,35 @@ impl Bell {
 
     /// How often it rang so far.
     pub fn rings(&self) -> u64 {
-        self.rings.load(Ordering::SeqCst)
+        self.rings.count()
+    }
+
+    /// How many threads sleep or rest, or are about to.
+    pub fn sleepers(&self) -> u64 {
+        self.rings.sleepers().saturating_add(self.urgent.sleepers())
     }
 
     /// Sleeps until it has rung since the look, but for no longer than this. It may also return for no reason.
-    ///
-    /// Whoever hears a ring wakes the next sleeper. So the one who rings doesn't wake them all, and they wake on several
-    /// processors at once.
     pub fn sleep<R: Wait>(&self, rt: &R, looked: Looked, most: Duration) {
-        self.sleepers.fetch_add(1, Ordering::SeqCst);
-        self.rings
-            .park_timeout(rt, (looked.rings & 0xffff_ffff) as u32, most);
-        let others = self.sleepers.fetch_sub(1, Ordering::SeqCst);
-        if others > 1 && self.rings() != looked.rings {
-            self.rings.wake_one();
-        }
+        self.rings.sleep(rt, looked.rings, most);
     }
 
-    /// Rings, and wakes the first sleepers unless it does so late. Nobody falls asleep meanwhile: the number is another one.
+    /// Rests for so long, or until it has rung urgently since the look. It may also return for no reason.
+    pub fn rest<R: Wait>(&self, rt: &R, looked: Looked, most: Duration) {
+        self.urgent.sleep(rt, looked.urgent, most);
+    }
+
+    /// Rings, and wakes the first sleepers unless it does so late, and if it is urgent, also those who rest.
     pub(crate) fn ring(&self, is_urgent: bool) {
-        self.rings.fetch_add(1, Ordering::SeqCst);
+        self.rings.add();
+        if is_urgent {
+            self.urgent.add();
+            self.urgent.wake();
+        }
         if self.is_late && !is_urgent {
             self.owes.store(true, Ordering::SeqCst);
         } else {
-            self.wake();
+            self.rings.wake();
         }
     }
 
@@ -88,16 +145,7 @@ impl Bell {
     /// another thread has found that since, and wakes them.
     pub fn settle(&self) {
         if self.owes.load(Ordering::SeqCst) && self.owes.swap(false, Ordering::SeqCst) {
-            self.wake();
-        }
-    }
-
-    // Wakes the first sleepers. It asks the kernel only if somebody may be asleep: a sleeper is counted before the kernel compares the
-    // number that it read, and here the number went up before the count is read.
-    fn wake(&self) {
-        let sleepers = self.sleepers.load(Ordering::SeqCst);
-        for _ in 0..sleepers.min(FIRST_WOKEN) {
-            self.rings.wake_one();
+            self.rings.wake();
         }
     }
 }
@@ -106,12 +154,13 @@ impl Bell {
 #[derive(Drop)]
 pub struct Heard {
     rings: u64,
+    urgent: u64,
     /// The waiter that heard it, as contracts see it.
     waiter: Snapshot<Waiter>,
 }
 
 impl Fifodir {
-    ghost use Rattle.hub_fifodir.specs.Passes.{IsOf, IsStatusOf, OnlyLooks, Remains, rings_heard, rings_looked, table_heard, table_of};
+    ghost use Rattle.hub_fifodir.specs.Passes.{IsOf, IsStatusOf, OnlyLooks, Remains, rings_heard, rings_looked, table_heard, table_of, urgent_heard, urgent_looked};
 
     /// The status, as a look of one who has heard this fifodir's bell.
     pub fn look<A: Pass>(&self, me: &mut A, heard: Heard) -> (Status, Looked)
@@ -121,9 +170,11 @@ impl Fifodir {
         ensures looks { OnlyLooks (A.view me.old) (A.view me.new) }
         ensures status { IsStatusOf result.0 (A.view me.new).sight }
         ensures heard { rings_looked result.1 ≡ rings_heard heard }
+        ensures urgent { urgent_looked result.1 ≡ urgent_heard heard }
     {
         let status = self.status(me);
-        (status, Looked { rings: heard.rings })
+        let Heard { rings, urgent, .. } = heard;
+        (status, Looked { rings, urgent })
     }
 }
 
@@ -131,6 +182,7 @@ impl Fifodir {
 #[derive(Clone, Copy, Debug, PartialEq, Eq, Hash)]
 pub struct Looked {
     rings: u64,
+    urgent: u64,
 }
 
 impl Looked {
@@ -187,6 +239,7 @@ impl Waiters {
     {
         Heard {
             rings: self.bell.rings(),
+            urgent: self.bell.urgent.count(),
             waiter: Snapshot::of(waiter),
         }
     }

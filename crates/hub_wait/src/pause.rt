@@ -16,11 +16,15 @@ const LONGEST_SLEEP: u64 = 500;
 /// How many looks may be ahead of their time, which is a turn each, if the bell rings so often.
 const LOOKS_AHEAD: u64 = 16;
 
+/// So many sleepers at one bell are a crowd. For each so many, looks are a turn further apart.
+const CROWD: u64 = 64;
+
 /// A pause by the clock. It sleeps until the bell rings, and at times ends by itself. It has the time of all turns of its wait,
 /// a millisecond each: then it ends the wait, after a last look.
 ///
 /// A bell that rings all the time doesn't shorten the wait. After `LOOKS_AHEAD` looks at once, or an eighth of the turns
-/// that are left if that is less, further ones come a turn apart.
+/// that are left if that is less, further ones come a turn apart. In a crowd they come further apart, so that each ring doesn't
+/// wake all, and in between only an urgent ring leads to a look.
 ///
 /// Each wait starts with a copy of a new one.
 #[derive(Clone, Copy, Debug)]
@@ -56,18 +60,30 @@ impl<C: Clock> Patience<C> {
         Some((now.duration_since(begin), Duration::from_millis(turns)))
     }
 
-    /// Sleeps until the next look is due.
-    fn keep_pace(&mut self, elapsed: Duration, left: u64)
+    /// How long it is until the next look is due, if so many sleep at the bell.
+    fn until_due(&mut self, elapsed: Duration, left: u64, sleepers: u64) -> Duration
         ensures { self.new.clock ≡ self.old.clock }
     {
-        let ahead = Duration::from_millis((left / 8).min(LOOKS_AHEAD));
+        let apart = TURN.saturating_add(sleepers / CROWD);
+        let ahead = (left / 8).min(LOOKS_AHEAD.max(apart));
         self.due = self
             .due
             .max(elapsed)
-            .saturating_add(Duration::from_millis(TURN));
-        let early = self.due.saturating_sub(elapsed).saturating_sub(ahead);
-        if !early.is_zero() {
+            .saturating_add(Duration::from_millis(apart));
+        self.due
+            .saturating_sub(elapsed)
+            .saturating_sub(Duration::from_millis(ahead))
+    }
+
+    /// Lets so much time pass. In a crowd an urgent ring ends it.
+    fn keep_pace<R: Wait>(&self, rt: &R, bell: &Bell, looked: Looked, early: Duration) {
+        if early.is_zero() {
+            return;
+        }
+        if bell.sleepers() < CROWD {
             thread::sleep(&self.clock, early);
+        } else {
+            bell.rest(rt, looked, early);
         }
     }
 }
@@ -90,7 +106,8 @@ impl<C: Clock> Pause for Patience<C> {
         let Some(rest) = time.checked_sub(elapsed) else {
             return Go::Expired;
         };
-        self.keep_pace(elapsed, left);
+        let early = self.until_due(elapsed, left, bell.sleepers()).min(rest);
+        self.keep_pace(rt, bell, looked, early);
         bell.sleep(rt, looked, rest.min(Duration::from_millis(LONGEST_SLEEP)));
         Go::Again
     }

@@ -145,6 +145,25 @@ fn a_wait_has_a_millisecond_for_each_turn(rt: HostRuntime) -> Result<(), Fail> {
     Ok(())
 }
 
+/// When a second pause of a wait of 7 turns is over that begins so many microseconds after the first.
+fn end_of_second_pause<R: Abort + Wait + Enter>(rt: &R, fifodir: &Shared, begins: u64) -> u64 {
+    let clock = Slept::new(false);
+    let looked = look_before_a_ring(rt, fifodir);
+    let mut pause = Patience::new(&clock);
+    let _ = pause.pause_at(rt, fifodir.bell(), looked, 7);
+    clock.pass(begins.saturating_sub(clock.microseconds()));
+    let _ = pause.pause_at(rt, fifodir.bell(), looked, 6);
+    clock.microseconds()
+}
+
+#[test]
+fn a_wait_that_ends_keeps_no_pace(rt: HostRuntime) -> Result<(), Fail> {
+    let fifodir = open_plain(rt.alloc())?;
+    assert_eq!(rt; end_of_second_pause(&rt, &fifodir, 5_000), 6_000);
+    assert_eq!(rt; end_of_second_pause(&rt, &fifodir, 6_700), 7_000);
+    Ok(())
+}
+
 #[test]
 fn a_pause_without_a_clock_sleeps_a_turn(rt: HostRuntime) -> Result<(), Fail> {
     let fifodir = open_plain(rt.alloc())?;

@@ -2,7 +2,7 @@
 use crate::tests::busy::come_to_an_end;
 use crate::tests::fixtures::run_of;
 use crate::tests::passes::{Sender, Shared, look_before_a_ring, new_reader, new_sender, open};
-use hub_fifodir::{Bell, Fifodir};
+use hub_fifodir::{Bell, Fifodir, Looked};
 use hub_letters::Letter;
 use hub_record::{Enter, Kind, Limits};
 use std::alloc::Global;
@@ -229,5 +229,62 @@ fn who_missed_a_ring_does_not_sleep(rt: HostRuntime) -> Result<(), Fail> {
         come_to_an_end(&rt, &awake, 1),
         "a sleep that began too late"
     );
+    Ok(())
+}
+
+/// How many rest at once. A close doesn't wake as many by itself.
+const RESTING: u64 = 12;
+
+/// Starts so many threads that rest since this look, and count in `awake` that they rest no more.
+fn start_rests<R: Threads + Wait + Copy + Send + 'static>(
+    rt: &R,
+    fifodir: &Shared,
+    looked: Looked,
+    count: u64,
+    awake: &Arc<AtomicU64, Global>,
+) -> io::Result<()> {
+    let rt = *rt;
+    for _ in 0..count {
+        let fifodir = Arc::try_clone(fifodir)?;
+        let awake = Arc::try_clone(awake)?;
+        let _ = thread::spawn(&rt, move || {
+            fifodir
+                .bell()
+                .rest(&rt, looked, Duration::from_secs(FOR_EVER));
+            awake.fetch_add(1, Ordering::SeqCst);
+        })?;
+    }
+    Ok(())
+}
+
+/// How many of those who rest are awake after a letter, whether all are after a close, and whether one is that missed the close.
+fn woken_from_rest<R: Abort + Threads + Wait + Enter + Clock + Copy + Send + 'static>(
+    rt: &R,
+    alloc: Global,
+) -> Result<(u64, bool, bool), Fail> {
+    let fifodir = open(alloc, Kind::Plain, (64, 1000, 10))?;
+    let awake = Arc::new(alloc, AtomicU64::new(0))?;
+    let mut sender = new_sender(rt, &fifodir);
+    let (_, looked) = sender.look();
+    let waiter = fifodir.admit();
+    let started = start_rests(rt, &fifodir, looked, RESTING, &awake);
+    give_time(rt);
+    let _ = sender.send(rt, &[Letter::LEAST]);
+    give_time(rt);
+    let after_letter = awake.load(Ordering::SeqCst);
+    let _ = sender.close(rt);
+    let woken = come_to_an_end(rt, &awake, RESTING);
+    let started_late = start_rests(rt, &fifodir, looked, 1, &awake);
+    let missed = come_to_an_end(rt, &awake, RESTING + 1);
+    fifodir.dismiss(waiter);
+    sender.leave(rt);
+    started?;
+    started_late?;
+    Ok((after_letter, woken, missed))
+}
+
+#[test]
+fn only_an_urgent_ring_wakes_who_rests(rt: HostRuntime) -> Result<(), Fail> {
+    assert_eq!(rt; woken_from_rest(&rt, rt.alloc())?, (0, true, true));
     Ok(())
 }
