@@ -77,7 +77,7 @@ fn start<R: Threads + Wait + Enter + Copy + Send + 'static>(
 }
 
 /// Gives sleepers the time to fall asleep, or to wake if somebody wakes them.
-fn give_time<R: Clock>(rt: &R) {
+pub(crate) fn give_time<R: Clock>(rt: &R) {
     thread::sleep(rt, Duration::from_millis(20));
 }
 
@@ -236,7 +236,7 @@ fn who_missed_a_ring_does_not_sleep(rt: HostRuntime) -> Result<(), Fail> {
 const RESTING: u64 = 12;
 
 /// Starts so many threads that rest since this look, and count in `awake` that they rest no more.
-fn start_rests<R: Threads + Wait + Copy + Send + 'static>(
+pub(crate) fn start_rests<R: Threads + Wait + Copy + Send + 'static>(
     rt: &R,
     fifodir: &Shared,
     looked: Looked,
