@@ -1,15 +1,19 @@
 -- What the parts of a line show about its form.
-use Rattle.std.proofs.Common.{◌≡◌, ◌≢◌, ℕ, ◌≤◌, List, ◌∷◌, ◌++◌, length, map, sym, ap, ◌∙◌, subst, rules}
+use Rattle.std.proofs.Common.{◌≡◌, ◌≢◌, ℕ, ◌≤◌, List, ◌∷◌, ◌++◌, length, map, Result, Ok, Err, IfOk, IfErr, sym, ap, ◌∙◌, subst, rules}
 use Rattle.std.specs.List.{AllZip}
+use Rattle.hub_requests.specs.declared.request.Request.{Request}
+use Rattle.hub_requests.specs.declared.reply.Refusal.{Refusal}
+use Rattle.hub_requests.specs.declared.reply.Refusal.TheVariants.{Memory}
 use Rattle.hub_protocol.specs.declared.table.Kind.{Kind}
 use Rattle.hub_protocol.specs.declared.table.Ending.{Ending}
 use Rattle.hub_protocol.specs.Table.{IsWord, kinds_of, ending_of, table}
-use Rattle.hub_protocol.specs.Spelling.{Form, Field, Last, IsOf, EndsAs, fields_in, fields_of, says, text_of_field, pieces_of_last}
-use Rattle.hub_protocol.specs.declared.line.Line as lines
+use Rattle.hub_protocol.specs.Spelling.{Form, Field, Last, IsOf, EndsAs, fields_in, fields_of, form_of, says, text_of_field, pieces_of_last}
+use Rattle.hub_protocol.specs.declared.line.Field as code
 use Rattle.hub_protocol.specs.declared.line.Rest as rests
-use Rattle.hub_protocol.specs.Lines.{AreWithinKinds, AreRead, IsWithinKind, fields_shown, form_shown, last_shown, pieces_of}
-use Rattle.hub_protocol.specs.Reading.{HasForm}
+use Rattle.hub_protocol.specs.Lines.{AreWithinKinds, AreRead, IsWithinKind, fields_shown, pieces_of}
+use Rattle.hub_protocol.specs.Reading.{HasForm, IsReading, IsText}
 use Rattle.hub_protocol.proofs.FormLines.{fields_of-has_form, has_form-fields_of}
+use Rattle.hub_protocol.proofs.FormRequests.{in_range, some_request}
 use Rattle.hub_protocol.proofs.OneReading.{same_fields}
 use Rattle.hub_protocol.proofs.Rows.{EachRow, of_word}
 
@@ -53,15 +57,31 @@ has_form text word kinds end pieces left read last is row row' e zip so_far ends
       last = subst (λ k. EndsAs k last) (sym row') ends;
     }) (e ∙ ap (λ ps. word ∷ ps) (so_far ∙ ap (λ ps. map text_of_field read ++ ps) behind))
 
-pub line_form : (text : List ℕ) (line : lines.Line) (kinds : List Kind) (end : Ending) (rest left : rests.Rest) → IsWord line.word.now → kinds_of line.word.now ≡ kinds → ending_of line.word.now ≡ end
-    → fields_of text ≡ line.word.now ∷ pieces_of rest → AreRead kinds rest line.fields left → EndsAs end (last_shown line.last) → pieces_of left ≡ pieces_of_last (last_shown line.last)
-    → HasForm text (form_shown line)
-line_form text line kinds end rest left is row row' e read ends behind =
-    subst (λ ks. HasForm text (says line.word.now (fields_shown ks line.fields) (last_shown line.last))) (sym row)
-    (has_form text line.word.now kinds end (pieces_of rest) (pieces_of left) (fields_shown kinds line.fields) (last_shown line.last) is row row' e read.each read.pieces ends behind)
+-- the form of this word, of those of these fields that are of the word's kinds, and of this end
+abbrev pub shown : List ℕ → List code.Field → Last → Form
+shown word list last = says word (fields_shown (kinds_of word) list) last
 
-pub line_within : (line : lines.Line) (kinds : List Kind) → kinds_of line.word.now ≡ kinds → AllZip IsWithinKind kinds (fields_shown kinds line.fields) → AreWithinKinds (form_shown line)
-line_within line kinds row within = subst (λ ks. AllZip IsWithinKind ks (fields_shown ks line.fields)) (sym row) within
+pub line_form : (text word : List ℕ) (list : List code.Field) (last : Last) (kinds : List Kind) (end : Ending) (rest left : rests.Rest) → IsWord word → kinds_of word ≡ kinds → ending_of word ≡ end
+    → fields_of text ≡ word ∷ pieces_of rest → AreRead kinds rest list left → EndsAs end last → pieces_of left ≡ pieces_of_last last
+    → HasForm text (shown word list last)
+line_form text word list last kinds end rest left is row row' e read ends behind =
+    subst (λ ks. HasForm text (says word (fields_shown ks list) last)) (sym row)
+    (has_form text word kinds end (pieces_of rest) (pieces_of left) (fields_shown kinds list) last is row row' e read.each read.pieces ends behind)
 
-pub line_beyond : (line : lines.Line) (kinds : List Kind) → kinds_of line.word.now ≡ kinds → (AllZip IsWithinKind kinds (fields_shown kinds line.fields) → ⊥) → AreWithinKinds (form_shown line) → ⊥
-line_beyond line kinds row out within = out (subst (λ ks. AllZip IsWithinKind ks (fields_shown ks line.fields)) row within)
+pub line_within : (word : List ℕ) (list : List code.Field) (last : Last) (kinds : List Kind) → kinds_of word ≡ kinds → AllZip IsWithinKind kinds (fields_shown kinds list) → AreWithinKinds (shown word list last)
+line_within word list last kinds row within = subst (λ ks. AllZip IsWithinKind ks (fields_shown ks list)) (sym row) within
+
+pub line_beyond : (word : List ℕ) (list : List code.Field) (last : Last) (kinds : List Kind) → kinds_of word ≡ kinds → (AllZip IsWithinKind kinds (fields_shown kinds list) → ⊥) → AreWithinKinds (shown word list last) → ⊥
+line_beyond word list last kinds row out within = out (subst (λ ks. AllZip IsWithinKind ks (fields_shown ks list)) row within)
+
+-- a line is read as a request of its form, or memory runs out
+pub reading_of : (text : List ℕ) (form : Form) (result : Result Request Refusal) → IsText text → HasForm text form → AreWithinKinds form
+    → IfOk result (λ request. form_of request ≡ form) → IfErr result (λ refusal. refusal ≡ Memory) → IsReading text result
+reading_of text form (Ok request) is has within made lacks = record {
+  text = is;
+  form = subst (HasForm text) (sym made) has;
+  within = in_range request form made has.formed within;
+}
+reading_of text form (Err refusal) is has within made lacks =
+    let some = some_request form has.formed within in
+    subst (λ r. IsReading text (Err r)) (sym lacks) (some.0, record { text = is; form = subst (HasForm text) (sym some.1) has; within = some.2 })

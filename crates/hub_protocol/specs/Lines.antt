@@ -1,7 +1,6 @@
 -- What the code's fields mean.
-use Rattle.std.specs.Prelude.{◌≡◌, ◌≢◌, ℕ, ◌≤◌, List, [], ◌∷◌, ◌++◌, length, map, take, Option, MatchOption, Result, Ok, Err, All}
+use Rattle.std.specs.Prelude.{◌≡◌, ◌≢◌, ℕ, ◌≤◌, List, [], ◌∷◌, ◌++◌, length, map, take, Option, MatchOption, All}
 use Rattle.std.specs.List.{AllZip}
-use Rattle.hub_requests.specs.declared.reply.Refusal.{Refusal}
 use Rattle.hub_protocol.specs.declared.table.TheConstants.{MOST_FIELDS}
 use Rattle.hub_protocol.specs.declared.table.Kind.{Kind}
 use Rattle.hub_protocol.specs.declared.table.Kind.TheVariants as kind
@@ -16,7 +15,6 @@ use Rattle.hub_protocol.specs.declared.line.Rest.TheVariants as rest
 use Rattle.hub_protocol.specs.declared.line.Line as lines
 use Rattle.hub_protocol.specs.Table.{kinds_of, ending_of}
 use Rattle.hub_protocol.specs.Spelling.{Field, Name, Number, Letters, Mode, Span, Want, State, Will, Last, Nothing, Names, Pattern, Evict, Form, IsOf, IsSound, EndsAs, digit_of, evict_in, fields_of, first_of, flag_in, letters_in, mode_in, name_in, names_in, number_in, others_of, pattern_in, pieces_of_last, says, span_in, state_in, text_of_field, want_in, will_in}
-use Rattle.hub_protocol.specs.Reading.{HasForm, IsReading}
 
 abbrev pub field_shown : fields.Field → Field
 field_shown (field.Name name) = Name name.now
@@ -44,7 +42,7 @@ abbrev pub fields_shown : List Kind → List fields.Field → List Field
 fields_shown kinds list = take (length kinds) (map field_shown list)
 
 abbrev pub form_shown : lines.Line → Form
-form_shown line = says line.word.now (fields_shown (kinds_of line.word.now) line.fields) (last_shown line.last)
+form_shown line = says line.word.now (fields_shown (kinds_of line.word.now) line.fields.now) (last_shown line.last)
 
 -- the number is in its range
 abbrev pub IsWithinKind : Kind → Field → Type 0
@@ -103,15 +101,3 @@ pub record AreRead (kinds : List Kind) (rest : rests.Rest) (list : List fields.F
   pub pieces : pieces_of rest ≡ map text_of_field (fields_shown kinds list) ++ pieces_of left
   pub whole : length list ≡ MOST_FIELDS
   pub sound : AreAllSound list
-
--- the line has the text's form, and its numbers are in their ranges
-pub record IsLine (text : List ℕ) (line : lines.Line) : Type 0 where
-  pub has : HasForm text (form_shown line)
-  pub within : AreWithinKinds (form_shown line)
-  pub whole : length line.fields ≡ MOST_FIELDS
-  pub sound : AreAllSound line.fields
-
--- what the line says, or the first rule that it breaks
-abbrev pub IsRead : List ℕ → Result lines.Line Refusal → Type 0
-IsRead text (Ok line) = IsLine text line
-IsRead text (Err refusal) = IsReading text (Err refusal)

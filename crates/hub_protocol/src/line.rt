@@ -3,7 +3,7 @@ ghost use Rattle.std.specs.Prelude.{◌≡◌, ◌≢◌, ◌≤◌, ◌∷◌, 
 ghost use Rattle.std.specs.List.{AllZip};
 ghost use Rattle.hub_protocol.specs.Spelling as spelled;
 ghost use Rattle.hub_protocol.specs.Spelling.{IsOf, fields_of, text_of_field};
-ghost use Rattle.hub_protocol.specs.Lines.{AreRead, IsEnd, IsFieldOf, IsWithinKind, field_shown, fields_shown, pieces_of};
+ghost use Rattle.hub_protocol.specs.Lines.{AreAllSound, AreRead, IsEnd, IsFieldOf, IsWithinKind, field_shown, fields_shown, pieces_of};
 
 use crate::fields::{are_letters, are_names, is_pattern, numeral, split_at_space};
 use crate::table::{Ending, Kind, MOST_FIELDS};
@@ -44,7 +44,7 @@ pub enum Rest<'a> {
 #[derive(Clone, Copy)]
 pub struct Line<'a> {
     pub word: &'a [u8],
-    pub fields: [Field<'a>; MOST_FIELDS],
+    pub fields: &'a [Field<'a>],
     pub last: Last<'a>,
 }
 
@@ -108,26 +108,24 @@ fn next_field(kind: Kind, rest: Rest<'_>) -> Option<(Field<'_>, Rest<'_>)>
     Some((field_of(kind, text)?, rest))
 }
 
-/// What fields of these kinds say at the front of the rest, and what is left behind them. None if the rest doesn't begin
-/// with such fields.
-pub fn read_fields<'a>(
-    kinds: &[Kind],
-    rest: Rest<'a>,
-) -> Option<([Field<'a>; MOST_FIELDS], Rest<'a>)>
-    requires { length kinds.now ≤ MOST_FIELDS }
+/// Reads fields of these kinds from the front of the rest, and returns what is left behind them. None if the rest doesn't begin with
+/// such fields.
+pub fn read_fields<'a>(kinds: &[Kind], rest: Rest<'a>, fields: &mut [Field<'a>]) -> Option<Rest<'a>>
+    requires kinds { length kinds.now ≤ MOST_FIELDS }
+    requires whole { length fields.old ≡ MOST_FIELDS }
+    requires sound { AreAllSound fields.old }
     ensures { MatchOption result
         ((fields : List spelled.Field) (more : List (List ℕ)) → AllZip IsOf kinds.now fields
         → pieces_of rest.entry ≢ map text_of_field fields ++ more)
-        (λ p. AreRead kinds.now rest.entry p.0 p.1) }
+        (λ left. AreRead kinds.now rest.entry fields.new left) }
 {
-    let mut fields = [Field::Number(0); MOST_FIELDS];
     let mut rest = rest;
     for i in 0..kinds.len() {
         let (field, behind) = next_field(kinds[i], rest)?;
         fields[i] = field;
         rest = behind;
     }
-    Some((fields, rest))
+    Some(rest)
 }
 
 /// What the rest says, if a line may end so.

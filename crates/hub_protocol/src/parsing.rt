@@ -2,13 +2,12 @@
 ghost use Rattle.std.specs.Prelude.{◌≡◌, ◌∷◌, [], IfOk};
 ghost use Rattle.hub_requests.specs.Ranges.{IsInRange};
 ghost use Rattle.hub_protocol.specs.Spelling.{fields_of};
-ghost use Rattle.hub_protocol.specs.Lines.{IsRead};
 ghost use Rattle.hub_protocol.specs.Reading.{IsReading, IsText};
 
 use crate::fields::is_text;
-use crate::line::{Line, are_within, first_piece, last_of, read_fields};
+use crate::line::{Field, Line, are_within, first_piece, last_of, read_fields};
 use crate::requests::request_of;
-use crate::table::row_of;
+use crate::table::{MOST_FIELDS, row_of};
 use hub_requests::{Refusal, Request};
 use std::alloc::Global;
 
@@ -30,30 +29,32 @@ pub fn parse(alloc: Global, line: &[u8]) -> Result<Request, Bad>
     if !is_text(line) {
         return Err(Bad::Text);
     }
-    let said = read_text(line)?;
-    match request_of(alloc, said) {
-        Ok(request) => Ok(request),
-        Err(_) => Err(Bad::Memory),
-    }
+    read_text(alloc, line)
 }
 
-fn read_text(text: &[u8]) -> Result<Line<'_>, Bad>
+fn read_text(alloc: Global, text: &[u8]) -> Result<Request, Bad>
     requires { IsText text.now }
-    ensures { IsRead text.now result }
+    ensures reading { IsReading text.now result }
+    ensures in_range { IfOk result IsInRange }
 {
     let (word, rest) = first_piece(text);
     let Some((_, kinds, ending)) = row_of(word) else {
         return Err(Bad::Word);
     };
-    let Some(read) = read_fields(kinds, rest) else {
+    let mut fields = [Field::Number(0); MOST_FIELDS];
+    let Some(rest) = read_fields(kinds, rest, &mut fields) else {
         return Err(Bad::Form);
     };
-    let fields = read.0;
-    let Some(last) = last_of(ending, read.1) else {
+    let Some(last) = last_of(ending, rest) else {
         return Err(Bad::Form);
     };
     if !are_within(kinds, &fields) {
         return Err(Bad::Range);
     }
-    Ok(Line { word, fields, last })
+    let line = Line {
+        word,
+        fields: &fields,
+        last,
+    };
+    request_of(alloc, &line)
 }

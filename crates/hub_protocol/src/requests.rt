@@ -1,5 +1,6 @@
 //! The request of a line.
-ghost use Rattle.std.specs.Prelude.{◌≡◌, ◌∷◌, [], length, IfOk};
+ghost use Rattle.std.specs.Prelude.{◌≡◌, ◌∷◌, [], length, IfOk, IfErr};
+ghost use Rattle.hub_requests.specs.declared.reply.Refusal.TheVariants as no;
 ghost use Rattle.hub_protocol.specs.Spelling as spelled;
 ghost use Rattle.hub_protocol.specs.Spelling.{EndsSoundly, IsName, IsPatternText, IsForm, IsSound, AreLetters, AreNames, evict_in, fields_of, flag_in, form_of, letters_in, mode_in, name_in, names_in, number_in, pattern_in, span_in, state_in, want_in, will_in};
 ghost use Rattle.hub_protocol.specs.Table.{IsWord};
@@ -10,7 +11,7 @@ use crate::line::{Field, Last, Line};
 use crate::table::forms;
 use hub_letters::{Letter, Mode, Span, State, Want};
 use hub_record::Letters;
-use hub_requests::{Name, Names, PatternText, Request, Will};
+use hub_requests::{Name, Names, PatternText, Refusal, Request, Will};
 use std::alloc::{AllocError, Global};
 
 fn name_of(alloc: Global, text: &[u8]) -> Result<Name, AllocError>
@@ -51,9 +52,9 @@ fn names_of(alloc: Global, text: &[u8]) -> Result<Names, AllocError>
     Ok(Names::of(names))
 }
 
-fn name(alloc: Global, field: Field<'_>) -> Result<Name, AllocError>
-    requires { IsSound (field_shown field) }
-    ensures { IfOk result (λ name. name ≡ name_in (field_shown field.entry)) }
+fn name(alloc: Global, field: &Field<'_>) -> Result<Name, AllocError>
+    requires { IsSound (field_shown field.now) }
+    ensures { IfOk result (λ name. name ≡ name_in (field_shown field.now)) }
 {
     match field {
         Field::Name(text) => name_of(alloc, text),
@@ -61,9 +62,9 @@ fn name(alloc: Global, field: Field<'_>) -> Result<Name, AllocError>
     }
 }
 
-fn letters(alloc: Global, field: Field<'_>) -> Result<Letters, AllocError>
-    requires { IsSound (field_shown field) }
-    ensures { IfOk result (λ letters. letters ≡ letters_in (field_shown field.entry)) }
+fn letters(alloc: Global, field: &Field<'_>) -> Result<Letters, AllocError>
+    requires { IsSound (field_shown field.now) }
+    ensures { IfOk result (λ letters. letters ≡ letters_in (field_shown field.now)) }
 {
     match field {
         Field::Letters(text) => letters_of(alloc, text),
@@ -71,69 +72,69 @@ fn letters(alloc: Global, field: Field<'_>) -> Result<Letters, AllocError>
     }
 }
 
-fn number(field: Field<'_>) -> u64
-    ensures { result ≡ number_in (field_shown field.entry) }
+fn number(field: &Field<'_>) -> u64
+    ensures { result ≡ number_in (field_shown field.now) }
 {
     match field {
-        Field::Number(number) => number,
+        Field::Number(number) => *number,
         _ => 0,
     }
 }
 
-fn flag(field: Field<'_>) -> bool
-    ensures { result ≡ flag_in (field_shown field.entry) }
+fn flag(field: &Field<'_>) -> bool
+    ensures { result ≡ flag_in (field_shown field.now) }
 {
     number(field) == 1
 }
 
-fn mode(field: Field<'_>) -> Mode
-    ensures { result ≡ mode_in (field_shown field.entry) }
+fn mode(field: &Field<'_>) -> Mode
+    ensures { result ≡ mode_in (field_shown field.now) }
 {
     match field {
-        Field::Mode(mode) => mode,
+        Field::Mode(mode) => *mode,
         _ => Mode::Once,
     }
 }
 
-fn span(field: Field<'_>) -> Span
-    ensures { result ≡ span_in (field_shown field.entry) }
+fn span(field: &Field<'_>) -> Span
+    ensures { result ≡ span_in (field_shown field.now) }
 {
     match field {
-        Field::Span(span) => span,
+        Field::Span(span) => *span,
         _ => Span::All,
     }
 }
 
-fn want(field: Field<'_>) -> Want
-    ensures { result ≡ want_in (field_shown field.entry) }
+fn want(field: &Field<'_>) -> Want
+    ensures { result ≡ want_in (field_shown field.now) }
 {
     match field {
-        Field::Want(want) => want,
+        Field::Want(want) => *want,
         _ => Want::Up,
     }
 }
 
-fn state(field: Field<'_>) -> State
-    ensures { result ≡ state_in (field_shown field.entry) }
+fn state(field: &Field<'_>) -> State
+    ensures { result ≡ state_in (field_shown field.now) }
 {
     match field {
-        Field::State(state) => state,
+        Field::State(state) => *state,
         _ => State::Off,
     }
 }
 
-fn will(field: Field<'_>) -> Will
-    ensures { result ≡ will_in (field_shown field.entry) }
+fn will(field: &Field<'_>) -> Will
+    ensures { result ≡ will_in (field_shown field.now) }
 {
     match field {
-        Field::Will(will) => will,
+        Field::Will(will) => *will,
         _ => Will::None,
     }
 }
 
-fn names(alloc: Global, last: Last<'_>) -> Result<Names, AllocError>
-    requires { EndsSoundly (last_shown last) }
-    ensures { IfOk result (λ names. names ≡ names_in (last_shown last.entry)) }
+fn names(alloc: Global, last: &Last<'_>) -> Result<Names, AllocError>
+    requires { EndsSoundly (last_shown last.now) }
+    ensures { IfOk result (λ names. names ≡ names_in (last_shown last.now)) }
 {
     match last {
         Last::Names(text) => names_of(alloc, text),
@@ -141,9 +142,9 @@ fn names(alloc: Global, last: Last<'_>) -> Result<Names, AllocError>
     }
 }
 
-fn pattern(alloc: Global, last: Last<'_>) -> Result<PatternText, AllocError>
-    requires { EndsSoundly (last_shown last) }
-    ensures { IfOk result (λ pattern. pattern ≡ pattern_in (last_shown last.entry)) }
+fn pattern(alloc: Global, last: &Last<'_>) -> Result<PatternText, AllocError>
+    requires { EndsSoundly (last_shown last.now) }
+    ensures { IfOk result (λ pattern. pattern ≡ pattern_in (last_shown last.now)) }
 {
     match last {
         Last::Pattern(text) => pattern_of(alloc, text),
@@ -151,22 +152,25 @@ fn pattern(alloc: Global, last: Last<'_>) -> Result<PatternText, AllocError>
     }
 }
 
-fn evict(last: Last<'_>) -> bool
-    ensures { result ≡ evict_in (last_shown last.entry) }
+fn evict(last: &Last<'_>) -> bool
+    ensures { result ≡ evict_in (last_shown last.now) }
 {
     matches!(last, Last::Evict(true))
 }
 
-/// The request of a line whose numbers are in their ranges. An error says that memory ran out.
-pub fn request_of(alloc: Global, line: Line<'_>) -> Result<Request, AllocError>
-    requires formed { IsForm (form_shown line) }
-    requires within { AreWithinKinds (form_shown line) }
-    requires whole { length line.fields ≡ MOST_FIELDS }
-    requires sound { AreAllSound line.fields }
-    ensures { IfOk result (λ request. form_of request ≡ form_shown line.entry) }
+/// The request of a line whose numbers are in their ranges. It is refused only if memory runs out.
+pub fn request_of(alloc: Global, line: &Line<'_>) -> Result<Request, Refusal>
+    requires formed { IsForm (form_shown line.now) }
+    requires within { AreWithinKinds (form_shown line.now) }
+    requires whole { length line.now.fields.now ≡ MOST_FIELDS }
+    requires sound { AreAllSound line.now.fields.now }
+    ensures ok { IfOk result (λ request. form_of request ≡ form_shown line.now) }
+    ensures err { IfErr result (λ refusal. refusal ≡ no.Memory) }
 {
-    let [a, b, c, d] = line.fields;
-    made_of(alloc, line.word, a, b, c, d, line.last)
+    let fields = line.fields;
+    made_of(
+        alloc, line.word, &fields[0], &fields[1], &fields[2], &fields[3], &line.last,
+    )
 }
 
 // What a field of a kind says.
@@ -224,21 +228,22 @@ macro_rules! made {
 fn made_of(
     alloc: Global,
     word: &[u8],
-    a: Field<'_>,
-    b: Field<'_>,
-    c: Field<'_>,
-    d: Field<'_>,
-    last: Last<'_>,
-) -> Result<Request, AllocError>
+    a: &Field<'_>,
+    b: &Field<'_>,
+    c: &Field<'_>,
+    d: &Field<'_>,
+    last: &Last<'_>,
+) -> Result<Request, Refusal>
     requires word { IsWord word.now }
-    requires first { IsSound (field_shown a) }
-    requires second { IsSound (field_shown b) }
-    requires third { IsSound (field_shown c) }
-    requires fourth { IsSound (field_shown d) }
-    requires ending { EndsSoundly (last_shown last) }
-    ensures { IfOk result (λ request. IsMadeOf word.now
-        (field_shown a.entry ∷ field_shown b.entry ∷ field_shown c.entry ∷ field_shown d.entry ∷ [])
-        (last_shown last.entry) (form_of request)) }
+    requires first { IsSound (field_shown a.now) }
+    requires second { IsSound (field_shown b.now) }
+    requires third { IsSound (field_shown c.now) }
+    requires fourth { IsSound (field_shown d.now) }
+    requires ending { EndsSoundly (last_shown last.now) }
+    ensures ok { IfOk result (λ request. IsMadeOf word.now
+        (field_shown a.now ∷ field_shown b.now ∷ field_shown c.now ∷ field_shown d.now ∷ [])
+        (last_shown last.now) (form_of request)) }
+    ensures err { IfErr result (λ refusal. refusal ≡ no.Memory) }
 {
     forms!(made(alloc, word, (a, b, c, d), last))
 }

@@ -4,6 +4,7 @@ use crate::about::About;
 use crate::listing::Listing;
 use crate::texts::{Excerpt, Numbers, number_is_short};
 use hub_record::{PubError, Status, SubError};
+use std::alloc::AllocError;
 
 /// The answer to one line.
 #[derive(Drop)]
@@ -141,6 +142,17 @@ impl Reply {
             | Reply::Late
             | Reply::No(_) => {}
         }
+    }
+}
+
+impl From<AllocError> for Refusal {
+    ghost use Rattle.std.specs.Prelude.{◌≡◌};
+    ghost use Rattle.hub_requests.specs.declared.reply.Refusal.TheVariants as no;
+
+    ghost from_gives = { λ _ refusal. refusal ≡ no.Memory };
+
+    fn from(_error: AllocError) -> Refusal {
+        Refusal::Memory
     }
 }
 
