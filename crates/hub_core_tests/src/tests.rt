@@ -1,6 +1,7 @@
 mod bells;
 mod busy;
 mod classes;
+mod crowds;
 mod effects;
 mod fifodirs;
 mod fixtures;

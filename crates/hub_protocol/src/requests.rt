@@ -28,7 +28,7 @@ fn letters_of(alloc: Global, text: &[u8]) -> Result<Letters, AllocError>
 {
     let mut letters = Vec::with_capacity(alloc, text.len())?;
     for b in text {
-        letters.push(Letter::of(*b).unwrap())?;
+        letters.push_reserved(Letter::of(*b).unwrap());
     }
     Ok(Letters::of(letters))
 }

@@ -135,10 +135,20 @@ pub(crate) fn append_letters(before: &[u8], letters: &[Letter], out: &mut Vec<u8
     ensures { Appends out.old out.new result (before.now ++ letters.now) }
 {
     out.extend_from_slice(before)?;
-    for letter in letters {
-        out.push(letter.byte())?;
-    }
+    let start = out.len();
+    out.resize(start + letters.len(), 0)?;
+    copy_letters(letters, &mut out[start..]);
     Ok(())
+}
+
+// A loop over a slice is compiled to a copy of the whole, and one that pushes each byte isn't.
+fn copy_letters(letters: &[Letter], bytes: &mut [u8])
+    requires { length bytes.old ≡ length letters.now }
+    ensures { bytes.new ≡ letters.now }
+{
+    for i in 0..letters.len() {
+        bytes[i] = letters[i].byte();
+    }
 }
 
 fn append_yes(numbers: &[Option<u64>], out: &mut Vec<u8>) -> Appended

@@ -1,6 +1,5 @@
 //! The pause of a wait, over a clock whose time passes only while somebody sleeps.
 use crate::tests::passes::{Shared, look_before_a_ring, new_sender, open};
-use crate::tests::sleepers::{give_time, start_rests};
 use hub_fifodir::Enter;
 use hub_record::Kind;
 use hub_wait::{Go, Patience, Pause};
@@ -8,21 +7,20 @@ use std::alloc::Global;
 use std::io;
 use std::process::Abort;
 use std::rt::Clock;
+use std::sync::Wait;
 use std::sync::atomic::{AtomicU64, Ordering};
-use std::sync::{Arc, Wait};
 use std::test::Fail;
-use std::thread::Threads;
 use std::time::{Duration, Instant};
 
 /// A clock that returns at once, and is then as much later as was slept. One that is broken tells no time.
 #[derive(Drop)]
-struct Slept {
+pub(crate) struct Slept {
     microseconds: AtomicU64,
     broken: bool,
 }
 
 impl Slept {
-    fn new(broken: bool) -> Slept {
+    pub(crate) fn new(broken: bool) -> Slept {
         Slept {
             microseconds: AtomicU64::new(0),
             broken,
@@ -55,7 +53,7 @@ impl Clock for Slept {
     }
 }
 
-fn open_plain(alloc: Global) -> Result<Shared, Fail> {
+pub(crate) fn open_plain(alloc: Global) -> Result<Shared, Fail> {
     open(alloc, Kind::Plain, (64, 1000, 100))
 }
 
@@ -132,52 +130,6 @@ fn goes_on_at<R: Abort + Wait + Enter>(
 fn looks_are_a_turn_apart_if_the_bell_rings_all_the_time(rt: HostRuntime) -> Result<(), Fail> {
     let fifodir = open_plain(rt.alloc())?;
     assert_eq!(rt; row_unlike(&rt, &fifodir), None);
-    Ok(())
-}
-
-/// How many rest at a bell, for which a look comes two milliseconds later than else, and how many looks a wait makes there.
-const RESTING: u64 = 130;
-
-const LOOKS: u64 = 10;
-
-/// Whether so many sleep at the bell, or will soon.
-fn are_asleep<R: Clock>(rt: &R, fifodir: &Shared) -> bool {
-    for _ in 0..500 {
-        if fifodir.bell().sleepers() == RESTING {
-            return true;
-        }
-        give_time(rt);
-    }
-    false
-}
-
-/// How long looks take in a crowd, while the bell rings before each. The clock of the wait stands still.
-fn time_in_a_crowd<R: Abort + Threads + Wait + Enter + Clock + Copy + Send + 'static>(
-    rt: &R,
-    alloc: Global,
-) -> Result<Duration, Fail> {
-    let fifodir = open_plain(alloc)?;
-    let looked = look_before_a_ring(rt, &fifodir);
-    let awake = Arc::new(alloc, AtomicU64::new(0))?;
-    start_rests(rt, &fifodir, looked, RESTING, &awake)?;
-    assert!(rt; are_asleep(rt, &fifodir), "all rest");
-    let clock = Slept::new(false);
-    let mut pause = Patience::new(&clock);
-    let begun = Instant::now(rt)?;
-    for _ in 0..LOOKS {
-        let _ = pause.pause_at(rt, fifodir.bell(), looked, 5_000);
-    }
-    Ok(Instant::now(rt)?.duration_since(begun))
-}
-
-// The first looks come at once, up to 16 milliseconds ahead. The others have to wait 2, 5, 8, 11 and 14.
-#[test]
-fn looks_are_further_apart_in_a_crowd(rt: HostRuntime) -> Result<(), Fail> {
-    let took = time_in_a_crowd(&rt, rt.alloc())?;
-    assert!(rt;
-        took > Duration::from_millis(35) && took < Duration::from_secs(10),
-        "{took:?}"
-    );
     Ok(())
 }
 

@@ -57,20 +57,38 @@ fn sleep_for_each<R: Wait + Enter>(rt: &R, fifodir: Shared, length: u64, awake: 
     me.leave(rt);
 }
 
-/// Starts so many threads that sleep.
-fn start<R: Threads + Wait + Enter + Copy + Send + 'static>(
+/// Rests since this look, and counts in `awake` that it rests no more.
+fn rest<R: Wait>(rt: &R, fifodir: &Shared, looked: Looked, awake: &AtomicU64) {
+    fifodir
+        .bell()
+        .rest(rt, looked, Duration::from_secs(FOR_EVER));
+    awake.fetch_add(1, Ordering::SeqCst);
+}
+
+/// What a thread does at a bell.
+#[derive(Clone, Copy)]
+pub(crate) enum Sleep {
+    /// It sleeps until each message of so many letters is there.
+    UntilEach(u64),
+    /// It rests since this look.
+    Rest(Looked),
+}
+
+/// Starts so many threads that sleep, and count in `awake` when they are awake.
+pub(crate) fn start<R: Threads + Wait + Enter + Copy + Send + 'static>(
     rt: &R,
     fifodir: &Shared,
+    sleep: Sleep,
     count: u64,
-    length: u64,
     awake: &Arc<AtomicU64, Global>,
 ) -> io::Result<()> {
     let rt = *rt;
     for _ in 0..count {
         let fifodir = Arc::try_clone(fifodir)?;
         let awake = Arc::try_clone(awake)?;
-        let _ = thread::spawn(&rt, move || {
-            sleep_for_each(&rt, fifodir, length, &awake)
+        let _ = thread::spawn(&rt, move || match sleep {
+            Sleep::UntilEach(length) => sleep_for_each(&rt, fifodir, length, &awake),
+            Sleep::Rest(looked) => rest(&rt, &fifodir, looked, &awake),
         })?;
     }
     Ok(())
@@ -132,7 +150,8 @@ fn heard_at<R: Abort + Threads + Wait + Enter + Clock + Copy + Send + 'static>(
 ) -> Result<u64, Fail> {
     let letters = run_of(alloc, b'a', length)?;
     let awake = Arc::new(alloc, AtomicU64::new(0))?;
-    start(rt, fifodir, count, length as u64, &awake)?;
+    let sleep = Sleep::UntilEach(length as u64);
+    start(rt, fifodir, sleep, count, &awake)?;
     let mut sender = new_sender(rt, fifodir);
     let heard = messages_heard(rt, fifodir, is_late, &mut sender, &letters, count, &awake);
     sender.leave(rt);
@@ -179,7 +198,7 @@ fn woken_by_three<R: Abort + Threads + Wait + Enter + Clock + Copy + Send + 'sta
     let letters = run_of(alloc, b'a', 1)?;
     let fifodir = open_late(alloc, 4)?;
     let awake = Arc::new(alloc, AtomicU64::new(0))?;
-    start(rt, &fifodir, 1, 3, &awake)?;
+    start(rt, &fifodir, Sleep::UntilEach(3), 1, &awake)?;
     let reader = new_reader(rt, &fifodir);
     let mut sender = new_sender(rt, &fifodir);
     let _ = come_to_an_end(rt, &awake, 1);
@@ -235,28 +254,6 @@ fn who_missed_a_ring_does_not_sleep(rt: HostRuntime) -> Result<(), Fail> {
 /// How many rest at once. A close doesn't wake as many by itself.
 const RESTING: u64 = 12;
 
-/// Starts so many threads that rest since this look, and count in `awake` that they rest no more.
-pub(crate) fn start_rests<R: Threads + Wait + Copy + Send + 'static>(
-    rt: &R,
-    fifodir: &Shared,
-    looked: Looked,
-    count: u64,
-    awake: &Arc<AtomicU64, Global>,
-) -> io::Result<()> {
-    let rt = *rt;
-    for _ in 0..count {
-        let fifodir = Arc::try_clone(fifodir)?;
-        let awake = Arc::try_clone(awake)?;
-        let _ = thread::spawn(&rt, move || {
-            fifodir
-                .bell()
-                .rest(&rt, looked, Duration::from_secs(FOR_EVER));
-            awake.fetch_add(1, Ordering::SeqCst);
-        })?;
-    }
-    Ok(())
-}
-
 /// How many of those who rest are awake after a letter, whether all are after a close, and whether one is that missed the close.
 fn woken_from_rest<R: Abort + Threads + Wait + Enter + Clock + Copy + Send + 'static>(
     rt: &R,
@@ -267,14 +264,14 @@ fn woken_from_rest<R: Abort + Threads + Wait + Enter + Clock + Copy + Send + 'st
     let mut sender = new_sender(rt, &fifodir);
     let (_, looked) = sender.look();
     let waiter = fifodir.admit();
-    let started = start_rests(rt, &fifodir, looked, RESTING, &awake);
+    let started = start(rt, &fifodir, Sleep::Rest(looked), RESTING, &awake);
     give_time(rt);
     let _ = sender.send(rt, &[Letter::LEAST]);
     give_time(rt);
     let after_letter = awake.load(Ordering::SeqCst);
     let _ = sender.close(rt);
     let woken = come_to_an_end(rt, &awake, RESTING);
-    let started_late = start_rests(rt, &fifodir, looked, 1, &awake);
+    let started_late = start(rt, &fifodir, Sleep::Rest(looked), 1, &awake);
     let missed = come_to_an_end(rt, &awake, RESTING + 1);
     fifodir.dismiss(waiter);
     sender.leave(rt);

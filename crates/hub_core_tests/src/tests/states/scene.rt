@@ -2,7 +2,7 @@
 ghost use Rattle.std.specs.Arc.{arc_value};
 ghost use Rattle.hub_fifodir.specs.Passes.{IsPublisherOf, IsTicketOf};
 
-use super::Call;
+use super::table::Call;
 use crate::tests::fixtures::word;
 use crate::tests::passes::{Shared, next_id, publisher, ticket};
 use crate::tests::posts::end_all;
