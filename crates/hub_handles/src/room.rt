@@ -19,11 +19,25 @@ impl Room {
         let events = fillers(alloc, MOST_TAKEN as usize)?;
         Ok(Room { events })
     }
+
+    /// Room for so many events, for a take that is larger. It is filled with what the last take left here.
+    // Copies of many events at a time take a fifth of the time that it takes to put in one after the other.
+    pub fn larger(&self, alloc: Global, size: usize) -> Result<Vec<Event>, AllocError>
+        ensures { IfOk result (λ events. vec_len events ≡ size) }
+    {
+        let mut events = Vec::with_capacity(alloc, size)?;
+        for _ in 0..size / self.events.len() {
+            events.extend_from_slice(&self.events)?;
+        }
+        let rest = size - events.len();
+        events.extend_from_slice(&self.events[..rest])?;
+        Ok(events)
+    }
 }
 
 /// Room for so many events.
 // (A size that is a parameter keeps the proof from writing the events out.)
-pub fn fillers(alloc: Global, size: usize) -> Result<Vec<Event>, AllocError>
+fn fillers(alloc: Global, size: usize) -> Result<Vec<Event>, AllocError>
     ensures { IfOk result (λ events. vec_len events ≡ size) }
 {
     vec![in alloc; Event::FILLER; size]

@@ -144,8 +144,6 @@ fn excerpt_of(letters: &[Letter], mut room: Vec<Letter>) -> Excerpt
     requires fits { length letters.now ≤ vec_capacity room }
     ensures { result ≡ letters.now }
 {
-    for letter in letters {
-        room.push_reserved(*letter);
-    }
+    room.extend_from_slice(letters).unwrap();
     Excerpt::of(room)
 }

@@ -5,7 +5,7 @@ ghost use Rattle.std.specs.Arc.{arc_value};
 ghost use Rattle.hub_fifodir.specs.Passes.{IsTicketOf, HasSoundSight, MayRefuseTicket, ticket_view};
 ghost use Rattle.hub_requests.specs.declared.bounds.TheConstants.{MOST_TAKEN};
 
-use crate::room::{Room, fillers};
+use crate::room::Room;
 use hub_fifodir::{Enter, Fifodir, Pause, Ticket};
 use hub_letters::{Letter, MOST_GATHERED};
 use hub_record::{Event, SubError, Taken};
@@ -112,7 +112,7 @@ impl Subscription {
         if count <= room.events.len() {
             return self.take_through(rt, count, &mut room.events, letters);
         }
-        match fillers(alloc, count) {
+        match room.larger(alloc, count) {
             Ok(mut events) => self.take_through(rt, count, &mut events, letters),
             Err(_) => Reply::No(Refusal::Memory),
         }

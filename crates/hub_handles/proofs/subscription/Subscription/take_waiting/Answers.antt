@@ -10,8 +10,8 @@ returns-in_default g c = waits_lacking _ _ c.count_waiting.ensures.looked c.in-O
 pub returns-then-count-len : goal.returns-then-count-len
 returns-then-count-len g c = waits_some _ _ _ c.in-Ok.waiting _ _ c.count_waiting.ensures.looked c.in-Ok.ensures.waits c.min.ensures c.take_through.ensures
 
-pub returns-in-Ok-fillers : goal.returns-in-Ok-fillers
-returns-in-Ok-fillers g c = waits_some _ _ _ c.in-Ok.waiting _ _ c.count_waiting.ensures.looked c.in-Ok.ensures.waits c.min.ensures c.take_through-in-Ok-fillers.ensures
+pub returns-in-Ok-larger : goal.returns-in-Ok-larger
+returns-in-Ok-larger g c = waits_some _ _ _ c.in-Ok.waiting _ _ c.count_waiting.ensures.looked c.in-Ok.ensures.waits c.min.ensures c.take_through-in-Ok-larger.ensures
 
-pub returns-in-Err-fillers : goal.returns-in-Err-fillers
-returns-in-Err-fillers g c = waits_lacking _ _ c.count_waiting.ensures.looked c.in-Ok.ensures.waits.1
+pub returns-in-Err-larger : goal.returns-in-Err-larger
+returns-in-Err-larger g c = waits_lacking _ _ c.count_waiting.ensures.looked c.in-Ok.ensures.waits.1
