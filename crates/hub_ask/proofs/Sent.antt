@@ -1,5 +1,5 @@
 -- Requests that were sent, one after another.
-use Rattle.std.proofs.Common.{◌≡◌, ℕ, ◌+◌, ◌<◌, List, [], ◌∷◌, ◌++◌, length, take, drop, get_or, Bool, true, if◌then◌else◌, Option, None, Some, Result, Ok, Err, IfOk, IfErr, OnErr, IsErrAnd, inl, inr, refl, sym, ap, ◌∙◌, subst, append-nil, append_assoc, take-append-drop}
+use Rattle.std.proofs.Common.{◌≡◌, ℕ, ◌+◌, ◌<◌, ◌≤◌, List, [], ◌∷◌, ◌++◌, length, take, drop, get_or, Bool, true, if◌then◌else◌, Option, None, Some, Result, Ok, Err, IfOk, IfErr, OnErr, IsErrAnd, inl, inr, refl, sym, ap, ◌∙◌, subst, append-nil, append_assoc, take_all, take-append-drop}
 use Rattle.std.proofs.lemmas.List.{take_more}
 use Rattle.std.proofs.lemmas.Grind.{flat_map-append}
 use Rattle.std.specs.List.{flat_map}
@@ -185,6 +185,11 @@ pub front_so_far : {X : Type 0} (f : X → List Request) (xs : List X) (i : ℕ)
     → Appends sent sends (lines_of_requests (flat_map f (take i xs))) → SendsFront sent sends (flat_map f xs)
 front_so_far f xs i sent sends asked =
     subst (SendsFront sent sends) (sym (flat_map-append f (take i xs) (drop i xs)) ∙ ap (flat_map f) (take-append-drop i xs)) (fronts_none sent sends (flat_map f (take i xs)) (flat_map f (drop i xs)) asked)
+
+-- behind the last element, those of all were sent
+pub all_sent : {X : Type 0} (f : X → List Request) (xs : List X) (i : ℕ) (sent sends : Option (List ℕ)) → length xs ≤ i
+    → Appends sent sends (lines_of_requests (flat_map f (take i xs))) → Appends sent sends (lines_of_requests (flat_map f xs))
+all_sent f xs i sent sends end asked = subst (λ l. Appends sent sends (lines_of_requests (flat_map f l))) (take_all i xs end) asked
 
 -- and then the first ones of the next element
 pub front_at : {X : Type 0} (f : X → List Request) (xs : List X) (i : ℕ) (d : X) (requests : List Request) (sent mid sends : Option (List ℕ)) → i < length xs

@@ -1,5 +1,5 @@
 -- A wait, and what is asked after it.
-use Rattle.std.specs.Prelude.{◌≡◌, ◌⊎◌, ℕ, List, [], ◌∷◌, codes, flat_map, if◌then◌else◌, Option, None, Some}
+use Rattle.std.specs.Prelude.{◌≡◌, ◌≢◌, ◌⊎◌, ℕ, List, [], ◌∷◌, codes, flat_map, if◌then◌else◌, Option, None, Some}
 use Rattle.std.specs.Io.KnownBytes.{Appends}
 use Rattle.std.specs.Fmt.{decimal}
 use Rattle.hub_letters.specs.declared.want.Want as wants
@@ -9,7 +9,7 @@ use Rattle.hub_requests.specs.declared.request.Request.{Request}
 use Rattle.hub_requests.specs.declared.request.Request.TheVariants as request
 use Rattle.hub_protocol.specs.Spelling.{text_of_want}
 use Rattle.hub_ask.specs.Lines.{joined}
-use Rattle.hub_ask.specs.Sending.{SendsFront}
+use Rattle.hub_ask.specs.Sending.{SendsFront, lines_of_requests}
 use Rattle.hub_ask.specs.Outcomes.{TellsOfWait}
 use Rattle.hub_client.specs.declared.fault.RelayError.TheVariants as relay
 use Rattle.hub_io.specs.Faults.{AppendsPart}
@@ -40,6 +40,12 @@ questions want text names = flat_map (λ name. if is_name (text name) then quest
 abbrev pub AsksAbout : {Name : Type 0} → (word : List ℕ) → (text : Name → List ℕ) → List Name → (sent sends : Option (List ℕ)) → Type 0
 AsksAbout word text names sent sends =
     (sends ≡ sent) ⊎ ((want : wants.Want) × (word ≡ text_of_want want) × SendsFront sent sends (questions want text names))
+
+-- All of these questions were sent. If the word is none of a want, nothing was sent.
+abbrev pub AsksAll : {Name : Type 0} → (word : List ℕ) → (text : Name → List ℕ) → List Name → (sent sends : Option (List ℕ)) → Type 0
+AsksAll word text names sent sends =
+    (((want : wants.Want) → word ≢ text_of_want want) × (sends ≡ sent))
+    ⊎ ((want : wants.Want) × (word ≡ text_of_want want) × Appends sent sends (lines_of_requests (questions want text names)))
 
 -- what was sent: the bytes before and after
 abbrev pub Asking : Type 1

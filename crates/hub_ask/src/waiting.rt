@@ -6,7 +6,7 @@ ghost use Rattle.hub_requests.specs.declared.request.Request.TheVariants as requ
 ghost use Rattle.hub_client.specs.Passing.{has_lf};
 ghost use Rattle.hub_ask.specs.Lines.{bytes_of, joined};
 ghost use Rattle.hub_ask.specs.Sending.{SendsFront, lines_of_requests};
-ghost use Rattle.hub_ask.specs.Waiting.{AsksAbout, FailsToEnd, IsEnded, questions, questions_about, reply_of, wait_words};
+ghost use Rattle.hub_ask.specs.Waiting.{AsksAbout, AsksAll, FailsToEnd, IsEnded, questions, questions_about, reply_of, wait_words};
 ghost use Rattle.hub_requests.specs.Texts.{text_of};
 
 use crate::client::Client;
@@ -94,8 +94,10 @@ fn explain_each<H: Wait, SR: Replies, SW: Requests, F: Write>(
     client: &mut Client<SR, SW>,
     notes: &mut F,
 ) -> Result<(), AskError>
-    ensures { SendsFront (SW.contents client.old.sender) (SW.contents client.new.sender)
+    ensures asked { SendsFront (SW.contents client.old.sender) (SW.contents client.new.sender)
         (questions want (λ name. name.now) names.now) }
+    ensures all { OnOk result (Appends (SW.contents client.old.sender) (SW.contents client.new.sender)
+        (lines_of_requests (questions want (λ name. name.now) names.now))) }
 {
     'names: for text in names {
         if let Some(name) = Name::of(alloc, text.as_bytes())? {
@@ -114,8 +116,10 @@ fn explain<H: Wait, SR: Replies, SW: Requests, F: Write>(
     client: &mut Client<SR, SW>,
     notes: &mut F,
 ) -> Result<(), AskError>
-    ensures { AsksAbout want.now (λ name. name.now) names.now
+    ensures asked { AsksAbout want.now (λ name. name.now) names.now
         (SW.contents client.old.sender) (SW.contents client.new.sender) }
+    ensures all { OnOk result (AsksAll want.now (λ name. name.now) names.now
+        (SW.contents client.old.sender) (SW.contents client.new.sender)) }
 {
     let Some(want) = want_of(want) else {
         return Ok(());
