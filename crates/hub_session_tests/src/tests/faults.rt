@@ -1,15 +1,12 @@
 //! The lines of faults on standard error.
 use hub_client::RelayError;
-use hub_endings::{
-    Fault, HubLine, ListenFault, Listening, LookFault, LookListening, StopCause, tell_faults,
-};
+use hub_endings::{Fault, ListenFault, LookFault, tell_faults};
 use hub_fakes::Narrow;
 use hub_io::FrontError;
 use hub_server::{Report, ServeError};
 use std::alloc::Global;
 use std::io;
 use std::io::ErrorKind;
-use std::process::Abort;
 use std::test::Fail;
 
 static OWN: [(Fault, &str); 7] = [
@@ -101,59 +98,6 @@ static KINDS: [(ErrorKind, ListenFault); 8] = [
     (ErrorKind::AddrInUse, ListenFault::Untold),
 ];
 
-static STOPPED: [(StopCause, &str); 6] = [
-    (StopCause::Read, "could not read from its client"),
-    (StopCause::Write, "its client left before it read its reply"),
-    (StopCause::Turns, "too many reads"),
-    (StopCause::Memory, "out of memory"),
-    (StopCause::Silent, "no whole line came (--idle)"),
-    (StopCause::Deaf, "its reply was not taken (--idle)"),
-];
-
-static OF_HUBS: [(HubLine, &str); 8] = [
-    (
-        HubLine::More { sessions: 1 },
-        "ftrighub: 1 more sessions stopped\n",
-    ),
-    (
-        HubLine::More {
-            sessions: 18_446_744_073_709_551_615,
-        },
-        "ftrighub: 18446744073709551615 more sessions stopped\n",
-    ),
-    (
-        HubLine::Wills { wills: 2 },
-        "ftrighub: 2 wills not carried out\n",
-    ),
-    (
-        HubLine::Full { sessions: 64 },
-        "ftrighub: all 64 sessions are taken, and clients wait\n",
-    ),
-    (
-        HubLine::LookFull,
-        "ftrighub: no session is free for those who only look, and clients wait\n",
-    ),
-    (HubLine::Restored, "ftrighub: socket file restored\n"),
-    (
-        HubLine::LookRestored,
-        "ftrighub: socket file restored (--look)\n",
-    ),
-    (HubLine::Failed(Fault::Accept), "ftrighub: cannot accept\n"),
-];
-
-/// The mode of a hub that listens, and its line.
-static MODES: [(Option<u32>, &str); 3] = [
-    (None, "ftrighub: 1.2.3 listens at a/hub (1024 sessions)\n"),
-    (
-        Some(0o600),
-        "ftrighub: 1.2.3 listens at a/hub (mode 0600, 1024 sessions)\n",
-    ),
-    (
-        Some(0o666),
-        "ftrighub: 1.2.3 listens at a/hub (mode 0666, 1024 sessions)\n",
-    ),
-];
-
 static OF_RELAYING: [(RelayError, &str); 7] = [
     (RelayError::Input, "ftrighub: read failed\n"),
     (RelayError::Output, "ftrighub: write failed\n"),
@@ -164,33 +108,33 @@ static OF_RELAYING: [(RelayError, &str); 7] = [
     (RelayError::Memory, "ftrighub: out of memory\n"),
 ];
 
-fn expect_line(rt: &impl Abort, alloc: Global, fault: Fault, line: &str) {
+/// Whether a fault is told by this line, in one write.
+fn is_told_as(alloc: Global, fault: Fault, line: &str) -> bool {
     let mut told: Vec<u8> = Vec::new(alloc);
-    assert!(rt; fault.tell(alloc, &mut told).is_ok());
-    assert_eq!(rt; told.as_slice(), line.as_bytes());
+    let is_line = fault.tell(alloc, &mut told).is_ok() && told.as_slice() == line.as_bytes();
     let mut counted = Narrow::new(1_000, 0);
-    assert!(rt; fault.tell(alloc, &mut counted).is_ok());
-    assert_eq!(rt; counted.writes, 1, "{line}");
+    is_line && fault.tell(alloc, &mut counted).is_ok() && counted.writes == 1
 }
 
 #[test]
 fn each_fault_has_its_line(rt: HostRuntime) {
+    let alloc: Global = rt.alloc();
     for (fault, line) in &OWN {
-        expect_line(&rt, rt.alloc(), *fault, line);
+        assert!(rt; is_told_as(alloc, *fault, line), "{line}");
     }
-    let turns = Fault::from(FrontError::Turns);
-    expect_line(&rt, rt.alloc(), turns, "ftrighub: too many reads\n");
-    let memory = Fault::from(ServeError::Memory);
-    expect_line(&rt, rt.alloc(), memory, "ftrighub: out of memory\n");
     for (fault, line) in &OF_RELAYING {
-        expect_line(&rt, rt.alloc(), Fault::from(*fault), line);
+        assert!(rt; is_told_as(alloc, Fault::from(*fault), line), "{line}");
     }
     for (fault, line) in &OF_LISTENING {
-        expect_line(&rt, rt.alloc(), Fault::from(*fault), line);
+        assert!(rt; is_told_as(alloc, Fault::from(*fault), line), "{line}");
     }
     for (fault, line) in &OF_LOOKING {
-        expect_line(&rt, rt.alloc(), fault.at_look(), line);
+        assert!(rt; is_told_as(alloc, fault.at_look(), line), "{line}");
     }
+    let turns = Fault::from(FrontError::Turns);
+    assert!(rt; is_told_as(alloc, turns, "ftrighub: too many reads\n"));
+    let memory = Fault::from(ServeError::Memory);
+    assert!(rt; is_told_as(alloc, memory, "ftrighub: out of memory\n"));
 }
 
 #[test]
@@ -198,73 +142,6 @@ fn each_error_of_a_file_is_told_by_its_kind(rt: HostRuntime) {
     for (kind, fault) in &KINDS {
         assert_eq!(rt; ListenFault::from(io::Error::from(*kind)), *fault);
     }
-}
-
-fn expect_hub_line(rt: &impl Abort, alloc: Global, said: HubLine, line: &str) {
-    let mut told: Vec<u8> = Vec::new(alloc);
-    assert!(rt; said.tell(alloc, &mut told).is_ok());
-    assert_eq!(rt; told.as_slice(), line.as_bytes());
-}
-
-#[test]
-fn each_line_of_a_hub_has_its_text(rt: HostRuntime) -> Result<(), Fail> {
-    for (said, line) in &OF_HUBS {
-        expect_hub_line(&rt, rt.alloc(), *said, line);
-    }
-    for (cause, text) in &STOPPED {
-        let stopped = HubLine::Stopped {
-            number: 12,
-            seconds: 3_600,
-            lines: 75,
-            cause: *cause,
-        };
-        let line = format!(in rt.alloc();
-            "ftrighub: session 12 stopped after 3600 s (lines: 75): {text}\n"
-        )?;
-        expect_hub_line(&rt, rt.alloc(), stopped, line.as_str());
-    }
-    Ok(())
-}
-
-#[test]
-fn a_hub_says_that_it_listens(rt: HostRuntime) {
-    for (mode, line) in &MODES {
-        let mut told: Vec<u8> = Vec::new(rt.alloc());
-        let listening = Listening {
-            version: "1.2.3",
-            socket: "a/hub",
-            mode: *mode,
-            sessions: 1_024,
-            look: None,
-        };
-        assert!(rt; listening.tell(rt.alloc(), &mut told).is_ok());
-        assert_eq!(rt; told.as_slice(), line.as_bytes());
-    }
-}
-
-#[test]
-fn a_hub_says_that_it_listens_at_two_sockets(rt: HostRuntime) -> Result<(), Fail> {
-    let look = Some(LookListening {
-        socket: "b/look",
-        mode: 0o622,
-        sessions: 48,
-    });
-    for (mode, own) in &[(None, ""), (Some(0o660), "mode 0660, ")] {
-        let mut told: Vec<u8> = Vec::new(rt.alloc());
-        let listening = Listening {
-            version: "1.2.3",
-            socket: "a/hub",
-            mode: *mode,
-            sessions: 64,
-            look,
-        };
-        assert!(rt; listening.tell(rt.alloc(), &mut told).is_ok());
-        let line = format!(in rt.alloc();
-            "ftrighub: 1.2.3 listens at a/hub ({own}64 sessions), and at b/look for those who only look (mode 0622, at most 48 of these)\n"
-        )?;
-        assert_eq!(rt; told.as_slice(), line.as_bytes());
-    }
-    Ok(())
 }
 
 /// What four sessions ended with, whether the gate failed, and the lines.
@@ -292,17 +169,29 @@ static REPORTS: [([Result<u64, FrontError>; 4], bool, &str); 4] = [
     ),
 ];
 
+/// Whether such a report is told by these lines.
+fn is_reported_as(
+    alloc: Global,
+    results: [Result<u64, FrontError>; 4],
+    gate_failed: bool,
+    lines: &str,
+) -> Result<bool, Fail> {
+    let report = Report {
+        results: Vec::from_array(alloc, results)?,
+        gate_failed,
+    };
+    let mut told: Vec<u8> = Vec::new(alloc);
+    tell_faults(alloc, &report, &mut told)?;
+    Ok(told.as_slice() == lines.as_bytes() && report.is_clean() == lines.is_empty())
+}
+
 #[test]
 fn faults_in_the_order_of_acceptance(rt: HostRuntime) -> Result<(), Fail> {
     for (results, gate_failed, lines) in &REPORTS {
-        let report = Report {
-            results: Vec::from_array(rt.alloc(), *results)?,
-            gate_failed: *gate_failed,
-        };
-        let mut told: Vec<u8> = Vec::new(rt.alloc());
-        tell_faults(rt.alloc(), &report, &mut told)?;
-        assert_eq!(rt; told.as_slice(), lines.as_bytes());
-        assert_eq!(rt; report.is_clean(), lines.is_empty());
+        assert!(rt;
+            is_reported_as(rt.alloc(), *results, *gate_failed, lines)?,
+            "{lines}"
+        );
     }
     Ok(())
 }

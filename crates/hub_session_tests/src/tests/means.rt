@@ -1,7 +1,7 @@
 //! Means that note what a session does, and a desk that is told nothing by a test.
 ghost use Rattle.std.specs.Prelude.{None};
 
-use hub_gather::{Enter, Means, Sink, Source};
+use hub_gather::{Enter, Means, Sink, Source, Stay, serve_by};
 use hub_io::{FrontError, write_whole};
 use hub_requests::{Desk, Refusal, Reply, Request};
 use std::alloc::{AllocError, Global};
@@ -49,6 +49,18 @@ impl Noting {
     fn note_fault(&mut self) {
         let _ = self.steps.push(b'!');
     }
+}
+
+/// A session by means that note its steps, of which a test knows nothing.
+pub fn run<H: Wait + Enter, D: Desk, R: Source, W: Sink>(
+    rt: &H,
+    alloc: Global,
+    means: &mut Noting,
+    desk: &mut D,
+    reader: &mut R,
+    writer: &mut W,
+) -> Result<u64, FrontError> {
+    serve_by::<H, D, R, W, Noting>(rt, alloc, Stay::Long, means, desk, reader, writer)
 }
 
 /// The word of a request that a test here makes.

@@ -113,41 +113,58 @@ fn comes_to_wait<H: Wait>(rt: &H, quota: &Quota) -> bool {
     false
 }
 
+/// Whether so few of the sessions may look, and the others are the first door's.
+fn keeps_the_rest<H>(rt: &H, alloc: Global, sessions: u64, few: u64) -> Result<bool, Fail>
+where
+    H: Abort + Files + Net + Clock + Threads + Wait + Copy + Send + Drop + 'static,
+{
+    let doors = make_doors(rt, alloc, sessions)?;
+    let lookers = working(rt, alloc, &doors.looking, few)?;
+    let looking = (doors.of_looking.crowd(rt), doors.of_first.crowd(rt));
+    let others = working(rt, alloc, &doors.first, sessions.saturating_sub(few))?;
+    Ok(
+        lookers.is_some()
+            && looking == ((true, false), (false, false))
+            && others.is_some()
+            && doors.of_first.crowd(rt) == (true, false),
+    )
+}
+
 #[test]
 fn a_quarter_is_kept_for_the_first_door(rt: HostRuntime) -> Result<(), Fail> {
-    let alloc: Global = rt.alloc();
     for (sessions, few) in &ROWS {
         assert_eq!(rt; most_looking(*sessions), *few);
-        let doors = make_doors(&rt, alloc, *sessions)?;
-        let lookers = working(&rt, alloc, &doors.looking, *few)?;
-        assert!(rt; lookers.is_some(), "{sessions}");
-        assert_eq!(rt; doors.of_looking.crowd(&rt), (true, false), "{sessions}");
-        assert_eq!(rt; doors.of_first.crowd(&rt), (false, false), "{sessions}");
-        let others = working(&rt, alloc, &doors.first, sessions.saturating_sub(*few))?;
-        assert!(rt; others.is_some(), "{sessions}");
-        assert_eq!(rt; doors.of_first.crowd(&rt), (true, false), "{sessions}");
+        assert!(rt;
+            keeps_the_rest(&rt, rt.alloc(), *sessions, *few)?,
+            "{sessions}"
+        );
     }
     Ok(())
 }
 
+/// Whether the first door has all of these sessions, and the other one gets one that is given back.
+fn gives_all<H>(rt: &H, alloc: Global, sessions: u64) -> Result<bool, Fail>
+where
+    H: Abort + Files + Net + Clock + Threads + Wait + Copy + Send + Drop + 'static,
+{
+    let doors = make_doors(rt, alloc, sessions)?;
+    let Some(mut workers) = working(rt, alloc, &doors.first, sessions)? else {
+        return Ok(false);
+    };
+    let is_full = doors.of_looking.crowd(rt) == (true, false);
+    let asked = asking(rt, &doors.looking)?;
+    let comes = comes_to_wait(rt, &doors.of_looking);
+    if let Some(worker) = workers.pop() {
+        worker.door.leave(rt);
+        worker.door.leave(rt);
+    }
+    Ok(asked.join(rt) && is_full && comes && doors.of_first.crowd(rt) == (true, false))
+}
+
 #[test]
 fn the_first_door_may_have_all(rt: HostRuntime) -> Result<(), Fail> {
-    let alloc: Global = rt.alloc();
     for (sessions, _) in &ROWS {
-        let doors = make_doors(&rt, alloc, *sessions)?;
-        let Some(mut workers) = working(&rt, alloc, &doors.first, *sessions)? else {
-            assert!(rt; false, "{sessions}");
-            return Ok(());
-        };
-        assert_eq!(rt; doors.of_looking.crowd(&rt), (true, false), "{sessions}");
-        let asked = asking(&rt, &doors.looking)?;
-        assert!(rt; comes_to_wait(&rt, &doors.of_looking), "{sessions}");
-        if let Some(worker) = workers.pop() {
-            worker.door.leave(&rt);
-            worker.door.leave(&rt);
-        }
-        assert!(rt; asked.join(&rt), "{sessions}");
-        assert_eq!(rt; doors.of_first.crowd(&rt), (true, false), "{sessions}");
+        assert!(rt; gives_all(&rt, rt.alloc(), *sessions)?, "{sessions}");
     }
     Ok(())
 }

@@ -83,22 +83,21 @@ static OUTCOMES: [Row; 10] = [
     ),
 ];
 
-fn expect_outcome<H: AllocGlobal + Abort + Wait + Enter>(rt: &H, row: &Row) {
+/// Whether a session comes to that, and ends its desk once.
+fn comes_to<H: AllocGlobal + Wait + Enter>(rt: &H, row: &Row) -> bool {
     let mut desk = PlainDesk { asked: 0, ended: 0 };
     let mut reader = Dripping::new(b"sub w\nstatus w\n\nclose w\n", 64, row.1);
     let mut writer = Narrow::new(64, row.2);
     let served = stays(rt, rt.alloc(), row.0, &mut desk, &mut reader, &mut writer);
-    assert_eq!(rt; served, row.3, "{row:?}");
-    assert_eq!(rt; desk.asked, row.4, "{row:?}");
-    assert_eq!(rt; desk.ended, 1, "{row:?}");
-    assert_eq!(rt; writer.writes, row.5, "{row:?}");
-    assert_eq!(rt; writer.bytes_held(), row.6.as_bytes(), "{row:?}");
+    served == row.3
+        && (desk.asked, desk.ended, writer.writes) == (row.4, 1, row.5)
+        && writer.bytes_held() == row.6.as_bytes()
 }
 
 #[test]
 fn the_desk_is_ended_once_however_a_session_ends(rt: HostRuntime) {
     for row in &OUTCOMES {
-        expect_outcome(&rt, row);
+        assert!(rt; comes_to(&rt, row), "{row:?}");
     }
 }
 
@@ -108,11 +107,8 @@ fn a_writer_that_takes_nothing(rt: HostRuntime) {
     let mut reader = Dripping::new(b"sub w\n\nsub w\n", 64, 0);
     let mut writer = Stuck { writes: 0 };
     let served = stays_long(&rt, rt.alloc(), &mut desk, &mut reader, &mut writer);
-    assert_eq!(rt; served, Err(FrontError::Write));
-    assert_eq!(rt; desk.asked, 2);
-    assert_eq!(rt; desk.ended, 1);
-    assert_eq!(rt; reader.reads, 1);
-    assert_eq!(rt; writer.writes, 1);
+    let counts = (desk.asked, desk.ended, reader.reads, writer.writes);
+    assert_eq!(rt; (served, counts), (Err(FrontError::Write), (2, 1, 1, 1)));
 }
 
 /// Lines whose session leaves a subscription, a listener and a will behind if it isn't ended.
@@ -123,22 +119,34 @@ static LEAVING: &str =
 /// of the service: its will was carried out.
 static LEFT: [(u64, &str); 2] = [(0, "ok\nok\nok 1\nok 2\nok 3\nok 0\nok\n"), (1, "")];
 
+/// Whether a session of this desk writes that, by a writer of which this write fails.
+fn leaves<H: AllocGlobal + Wait + Enter>(
+    rt: &H,
+    desk: &mut LocalDesk,
+    fails_at: u64,
+    text: &str,
+) -> bool {
+    let mut reader = LEAVING.as_bytes();
+    let mut writer = Narrow::new(64, fails_at);
+    let served = stays_long(rt, rt.alloc(), desk, &mut reader, &mut writer);
+    served.is_ok() == (fails_at == 0) && writer.bytes_held() == text.as_bytes()
+}
+
+/// Whether the next session of the desk finds nothing left of it.
+fn finds_nothing<H: AllocGlobal + Wait + Enter>(rt: &H, desk: &mut LocalDesk) -> bool {
+    let mut reader = b"about w\nabout v\nstatus v\n".as_slice();
+    let mut written: Vec<u8> = Vec::new(rt.alloc());
+    let served = stays_long(rt, rt.alloc(), desk, &mut reader, &mut written);
+    let left = b"ok dir 0 4 100 hold 0 0 0\nok svc 1 64 100 hold 0 0 0\nok 5 6 open\n".as_slice();
+    served == Ok(3) && written.as_slice() == left
+}
+
 #[test]
 fn a_session_whose_write_fails_leaves_nothing_behind(rt: HostRuntime) -> Result<(), Fail> {
     for (fails_at, text) in &LEFT {
         let mut desk = LocalDesk::new(rt.alloc())?;
-        let mut reader = LEAVING.as_bytes();
-        let mut writer = Narrow::new(64, *fails_at);
-        let served = stays_long(&rt, rt.alloc(), &mut desk, &mut reader, &mut writer);
-        assert_eq!(rt; served.is_ok(), *fails_at == 0);
-        assert_eq!(rt; writer.bytes_held(), text.as_bytes());
-        let mut reader = b"about w\nabout v\nstatus v\n".as_slice();
-        let mut written: Vec<u8> = Vec::new(rt.alloc());
-        let served = stays_long(&rt, rt.alloc(), &mut desk, &mut reader, &mut written);
-        assert_eq!(rt; served, Ok(3));
-        let left =
-            b"ok dir 0 4 100 hold 0 0 0\nok svc 1 64 100 hold 0 0 0\nok 5 6 open\n".as_slice();
-        assert_eq!(rt; written.as_slice(), left);
+        assert!(rt; leaves(&rt, &mut desk, *fails_at, text), "{fails_at}");
+        assert!(rt; finds_nothing(&rt, &mut desk), "{fails_at}");
     }
     Ok(())
 }
