@@ -9,7 +9,7 @@ use crate::asking_help::{
 use crate::command_line::Plan;
 use crate::options::{Made, NAMES, PLAIN, Read, asking, flag, operands, socket_in, valued, values};
 use clap::error::ErrorKind;
-use clap::{Arg, ArgMatches, Command, Error};
+use clap::{Arg, ArgMatches};
 use std::alloc::Global;
 
 const WORDS: &str = "words";
@@ -88,24 +88,32 @@ pub(crate) fn ask_command<'a>(alloc: Global, known: Option<&'a str>) -> Made<'a>
     asking(alloc, known, "ask", (ASK_ABOUT, ASK_LINES))?.arg(words)
 }
 
-pub(crate) fn wait_command<'a>(alloc: Global, known: Option<&'a str>) -> Made<'a> {
-    let first = Arg::new(alloc, FIRST)
+// The time limit of what waits.
+fn timeout<'a>(alloc: Global) -> Arg<'a> {
+    valued(alloc, TIMEOUT, "D").help("Time limit, such as 500ms, 0.5s, 90 (seconds), 2m or 1h")
+}
+
+fn quiet<'a>(alloc: Global) -> Arg<'a> {
+    flag(alloc, QUIET)
+        .short('q')
+        .help("Write nothing but errors")
+}
+
+fn first<'a>(alloc: Global) -> Arg<'a> {
+    Arg::new(alloc, FIRST)
         .value_name("WANT")
         .help("State to wait for; `any` before it is for any one of the services")
         .value_parser(FIRSTS.as_slice())
-        .required(true);
-    let timeout = valued(alloc, TIMEOUT, "D")
-        .alias("for")?
-        .help("Time limit, such as 500ms, 0.5s, 90 (seconds), 2m or 1h");
-    let now = flag(alloc, NOW).help("Don't wait for the hub, or for names to be made");
-    let quiet = flag(alloc, QUIET)
-        .short('q')
-        .help("Write nothing but errors");
+        .required(true)
+}
+
+pub(crate) fn wait_command<'a>(alloc: Global, known: Option<&'a str>) -> Made<'a> {
+    let timeout = timeout(alloc).alias("for")?;
     asking(alloc, known, "wait", (WAIT_ABOUT, WAIT_LINES))?
         .arg(timeout)?
-        .arg(now)?
-        .arg(quiet)?
-        .arg(first)?
+        .arg(flag(alloc, NOW).help("Don't wait for the hub, or for names to be made"))?
+        .arg(quiet(alloc))?
+        .arg(first(alloc))?
         .arg(operands(alloc, NAMES, "NAME").help("Names of services"))
 }
 
@@ -114,32 +122,26 @@ pub(crate) fn status_command<'a>(alloc: Global, known: Option<&'a str>) -> Made<
         .value_name("NAME")
         .help("Names of fifodirs; without one, all of the hub")
         .num_args(0..);
-    let json = flag(alloc, JSON).help("Write an object of JSON on a line for each fifodir");
     asking(alloc, known, "status", (STATUS_ABOUT, STATUS_LINES))?
-        .arg(json)?
+        .arg(flag(alloc, JSON).help("Write an object of JSON on a line for each fifodir"))?
         .arg(names)
 }
 
+fn pattern<'a>(alloc: Global) -> Arg<'a> {
+    valued(alloc, PATTERN, "P").help("Write the hits of this pattern, and not each letter")
+}
+
 pub(crate) fn follow_command<'a>(alloc: Global, known: Option<&'a str>) -> Made<'a> {
-    let pattern = valued(alloc, PATTERN, "P").help(
-        "Write the hits of this pattern, and not each letter",
-    );
-    let plain = flag(alloc, PLAIN).help("Write the letters alone");
     let json = flag(alloc, JSON)
         .help("Write an object of JSON for each letter or hit")
         .conflicts_with(PLAIN)?;
-    let once = flag(alloc, ONCE).help("End with the first letter, or the first hit");
-    let timeout = valued(alloc, TIMEOUT, "D").help(
-        "Time limit, such as 500ms, 0.5s, 90 (seconds), 2m or 1h",
-    );
-    let retry = flag(alloc, RETRY).help("If the hub ends, wait for the next one, and go on");
     asking(alloc, known, "follow", (FOLLOW_ABOUT, FOLLOW_LINES))?
-        .arg(pattern)?
-        .arg(plain)?
+        .arg(pattern(alloc))?
+        .arg(flag(alloc, PLAIN).help("Write the letters alone"))?
         .arg(json)?
-        .arg(once)?
-        .arg(timeout)?
-        .arg(retry)?
+        .arg(flag(alloc, ONCE).help("End with the first letter, or the first hit"))?
+        .arg(timeout(alloc))?
+        .arg(flag(alloc, RETRY).help("If the hub ends, wait for the next one, and go on"))?
         .arg(operands(alloc, NAMES, "NAME").help("Names of fifodirs"))
 }
 
@@ -199,7 +201,7 @@ fn with_names<'a, 'b>(
     }
 }
 
-pub(crate) fn wait_plan<'a>(alloc: Global, found: &ArgMatches<'a>) -> Result<Plan<'a>, Error> {
+pub(crate) fn wait_plan<'a>(alloc: Global, found: &ArgMatches<'a>) -> Read<'a> {
     let first = found.get_str(FIRST).unwrap_or("");
     let rest = found.get_strs(NAMES).unwrap_or(&[]);
     let Some((span, want, others)) = wish_of(first, rest) else {

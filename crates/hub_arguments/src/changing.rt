@@ -62,18 +62,21 @@ pub struct Hold<'a> {
     pub told: Option<State>,
 }
 
-pub(crate) fn tell_command<'a>(alloc: Global, known: Option<&'a str>) -> Made<'a> {
-    let name = Arg::new(alloc, NAME)
+fn service<'a>(alloc: Global) -> Arg<'a> {
+    Arg::new(alloc, NAME)
         .value_name("NAME")
         .help("Name of the service")
-        .required(true);
+        .required(true)
+}
+
+pub(crate) fn tell_command<'a>(alloc: Global, known: Option<&'a str>) -> Made<'a> {
     let state = Arg::new(alloc, STATE)
         .value_name("STATE")
         .help("Where it is")
         .value_parser(STATES.as_slice())
         .required(true);
     asking(alloc, known, "tell", (TELL_ABOUT, TELL_LINES))?
-        .arg(name)?
+        .arg(service(alloc))?
         .arg(state)
 }
 
@@ -81,10 +84,6 @@ pub(crate) fn hold_command<'a>(alloc: Global, known: Option<&'a str>) -> Made<'a
     let told = valued(alloc, TELL, "STATE")
         .help("Where it is now, to be told at the beginning")
         .value_parser(STATES.as_slice());
-    let name = Arg::new(alloc, NAME)
-        .value_name("NAME")
-        .help("Name of the service")
-        .required(true);
     let will = Arg::new(alloc, WILL)
         .value_name("WILL")
         .help("Where it is when this command has ended")
@@ -92,7 +91,7 @@ pub(crate) fn hold_command<'a>(alloc: Global, known: Option<&'a str>) -> Made<'a
         .default_value("down");
     asking(alloc, known, "hold", (HOLD_ABOUT, HOLD_LINES))?
         .arg(told)?
-        .arg(name)?
+        .arg(service(alloc))?
         .arg(will)
 }
 
@@ -111,15 +110,12 @@ fn total<'a>(alloc: Global) -> Arg<'a> {
 }
 
 pub(crate) fn make_command<'a>(alloc: Global, known: Option<&'a str>) -> Made<'a> {
-    let plain = flag(alloc, PLAIN).help("Make plain fifodirs, which take any letters");
-    let unready = flag(alloc, NO_READINESS).help("The services don't report that they are ready");
-    let hold = flag(alloc, HOLD).help("Refuse what has no room, and evict no subscriber");
     asking(alloc, known, "make", (MAKE_ABOUT, MAKE_LINES))?
-        .arg(plain)?
-        .arg(unready)?
+        .arg(flag(alloc, PLAIN).help("Make plain fifodirs, which take any letters"))?
+        .arg(flag(alloc, NO_READINESS).help("The services don't report that they are ready"))?
         .arg(waiting(alloc))?
         .arg(total(alloc))?
-        .arg(hold)?
+        .arg(flag(alloc, HOLD).help("Refuse what has no room, and evict no subscriber"))?
         .arg(operands(alloc, NAMES, "NAME").help("Names of what is made"))
 }
 

@@ -15,7 +15,7 @@ use crate::changing::{
 };
 use crate::help::{ABOUT, LINES};
 use crate::help_words::words_of_help;
-use crate::options::SOCKET;
+use crate::options::{Made, Read, SOCKET};
 use crate::serving::{
     HubOptions, call_command, call_plan, script_command, serve_command, serve_plan,
 };
@@ -32,7 +32,7 @@ use std::{env, io};
 pub(crate) const NAME: &str = "ftrighub";
 
 /// The program's version, which `--version` prints after its name.
-pub const VERSION: &str = "0.4.0-dev";
+pub const VERSION: &str = "0.5.0-dev";
 
 /// What the program is to do.
 #[derive(Drop, Debug, PartialEq, Eq)]
@@ -101,23 +101,24 @@ fn program<'a>(alloc: Global) -> Command<'a> {
         .subcommand_required(true)
 }
 
+// The command with this subcommand, unless memory ran out for one of them.
+fn with<'a>(command: Made<'a>, subcommand: Made<'a>) -> Made<'a> {
+    command?.subcommand(subcommand?)
+}
+
 // The path of the socket for words that name none may be known.
-fn command<'a>(
-    alloc: Global,
-    is_forever: bool,
-    known: Option<&'a str>,
-) -> Result<Command<'a>, AllocError> {
-    program(alloc)
-        .subcommand(make_command(alloc, known)?)?
-        .subcommand(tell_command(alloc, known)?)?
-        .subcommand(wait_command(alloc, known)?)?
-        .subcommand(status_command(alloc, known)?)?
-        .subcommand(follow_command(alloc, known)?)?
-        .subcommand(hold_command(alloc, known)?)?
-        .subcommand(ask_command(alloc, known)?)?
-        .subcommand(serve_command(alloc, is_forever)?)?
-        .subcommand(call_command(alloc, known)?)?
-        .subcommand(script_command(alloc))
+fn command<'a>(alloc: Global, is_forever: bool, known: Option<&'a str>) -> Made<'a> {
+    let command = Ok(program(alloc));
+    let command = with(command, make_command(alloc, known));
+    let command = with(command, tell_command(alloc, known));
+    let command = with(command, wait_command(alloc, known));
+    let command = with(command, status_command(alloc, known));
+    let command = with(command, follow_command(alloc, known));
+    let command = with(command, hold_command(alloc, known));
+    let command = with(command, ask_command(alloc, known));
+    let command = with(command, serve_command(alloc, is_forever));
+    let command = with(command, call_command(alloc, known));
+    with(command, Ok(script_command(alloc)))
 }
 
 /// Why words are no plan.
@@ -163,6 +164,22 @@ fn help_for(alloc: Global, words: &[String]) -> Result<Option<Error>, AllocError
     )
 }
 
+// What the words that matched ask for.
+fn plan_of<'a>(alloc: Global, matches: &ArgMatches<'a>, known: Option<&'a OwnSocket>) -> Read<'a> {
+    match matches.subcommand() {
+        Some(("serve", found)) => serve_plan(alloc, found, known),
+        Some(("call", found)) => Ok(call_plan(found)),
+        Some(("ask", found)) => ask_plan(alloc, found),
+        Some(("make", found)) => make_plan(alloc, found),
+        Some(("tell", found)) => Ok(tell_plan(found)),
+        Some(("hold", found)) => Ok(hold_plan(found)),
+        Some(("wait", found)) => wait_plan(alloc, found),
+        Some(("status", found)) => status_plan(alloc, found),
+        Some(("follow", found)) => follow_plan(alloc, found),
+        _ => Ok(Plan::Script),
+    }
+}
+
 /// Reads the words. The first word is the program's name, which the usage lines print. `known` is the socket for words that
 /// name none, if there is one.
 pub fn read_words<'a>(
@@ -179,18 +196,7 @@ pub fn read_words<'a>(
     if known.is_none() && lacks_socket(&matches) {
         return Err(WordsError::NoSocket);
     }
-    Ok(match matches.subcommand() {
-        Some(("serve", found)) => serve_plan(alloc, found, known)?,
-        Some(("call", found)) => call_plan(found),
-        Some(("ask", found)) => ask_plan(alloc, found)?,
-        Some(("make", found)) => make_plan(alloc, found)?,
-        Some(("tell", found)) => tell_plan(found),
-        Some(("hold", found)) => hold_plan(found),
-        Some(("wait", found)) => wait_plan(alloc, found)?,
-        Some(("status", found)) => status_plan(alloc, found)?,
-        Some(("follow", found)) => follow_plan(alloc, found)?,
-        _ => Plan::Script,
-    })
+    Ok(plan_of(alloc, &matches, known)?)
 }
 
 /// What the words of the command line ask for.

@@ -10,14 +10,14 @@ fn is_command(word: &str) -> bool {
 
 /// The words that ask for help in the place of these: no word is `-h`, and `help WORD ..` is `WORD .. --help`, by which a misspelt WORD
 /// is told as it is without `help`.
-pub(crate) fn words_of_help(
+pub(crate) fn words_of_help<'a>(
     alloc: Global,
-    words: &[String],
-) -> Result<Option<Vec<String>>, AllocError> {
+    words: &'a [String],
+) -> Result<Option<Vec<&'a str>>, AllocError> {
     let mut asked = Vec::new(alloc);
-    asked.push(String::from_str(alloc, NAME)?)?;
+    asked.push(NAME)?;
     let Some(first) = words.get(1) else {
-        asked.push(String::from_str(alloc, "-h")?)?;
+        asked.push("-h")?;
         return Ok(Some(asked));
     };
     let has_word = words.get(2).is_some_and(|word| is_command(word));
@@ -25,8 +25,8 @@ pub(crate) fn words_of_help(
         return Ok(None);
     }
     for word in words.iter().skip(2) {
-        asked.push(String::from_str(alloc, word)?)?;
+        asked.push(word.as_str())?;
     }
-    asked.push(String::from_str(alloc, "--help")?)?;
+    asked.push("--help")?;
     Ok(Some(asked))
 }

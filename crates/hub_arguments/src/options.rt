@@ -1,7 +1,7 @@
 //! What the subcommands share: their options, and how a subcommand that asks a hub begins.
 
 use crate::command_line::Plan;
-use clap::{Arg, ArgAction, ArgMatches, Command};
+use clap::{Arg, ArgAction, ArgMatches, Command, Error};
 use std::alloc::{AllocError, Global};
 
 /// The name of the socket among the arguments.
@@ -13,11 +13,11 @@ pub(crate) const NAMES: &str = "names";
 /// The word of an option that two subcommands have.
 pub(crate) const PLAIN: &str = "plain";
 
-/// A command, unless memory runs out.
+/// A command, unless memory ran out.
 pub(crate) type Made<'a> = Result<Command<'a>, AllocError>;
 
-/// What the words ask for, unless memory runs out.
-pub(crate) type Read<'a> = Result<Plan<'a>, AllocError>;
+/// What the words ask for, or what is wrong with them.
+pub(crate) type Read<'a> = Result<Plan<'a>, Error>;
 
 /// The option `--WORD VALUE`.
 pub(crate) fn valued<'a>(alloc: Global, word: &'a str, value: &'a str) -> Arg<'a> {

@@ -8,14 +8,14 @@ ghost use Rattle.hub_arguments.specs.declared.serving.TheConstants.{LEAST_WITH_L
 
 use crate::command_line::Plan;
 use crate::help::{CALL_ABOUT, CALL_LINES, SCRIPT_ABOUT, SCRIPT_LINES, SERVE_ABOUT, SERVE_LINES};
-use crate::options::{SOCKET, SOCKET_HELP, or_known, socket_in};
+use crate::options::{Made, Read, SOCKET, SOCKET_HELP, or_known, socket_in};
 use crate::serving_options::{
     FOREVER, IDLE, LOOK, LOOK_MODE, MADE, MODE, READY, SESSIONS, SETUP, forever, idle, look,
     look_mode, made, mode, ready, sessions, setup,
 };
 use crate::socket::{OwnSocket, ROOT_SOCKET};
 use clap::error::ErrorKind;
-use clap::{Arg, ArgMatches, Command, Error};
+use clap::{Arg, ArgMatches, Command};
 use std::alloc::{AllocError, Global};
 
 /// The most connections of a `serve` that ends.
@@ -92,10 +92,8 @@ pub(crate) fn script_command<'a>(alloc: Global) -> Command<'a> {
         .after_help(SCRIPT_LINES)
 }
 
-pub(crate) fn serve_command<'a>(
-    alloc: Global,
-    is_forever: bool,
-) -> Result<Command<'a>, AllocError> {
+// What each `serve` has.
+fn any_serve<'a>(alloc: Global, is_forever: bool) -> Made<'a> {
     let path = socket(alloc)
         .help("Path of the socket; --forever can do without it")
         .required(!is_forever);
@@ -104,20 +102,26 @@ pub(crate) fn serve_command<'a>(
         .after_help(SERVE_LINES)
         .arg(path)?
         .arg(sessions(alloc, is_forever))?
-        .arg(forever(alloc))?
-        .arg(ready(alloc)?)?
-        .arg(mode(alloc)?)?
-        .arg(idle(alloc)?)?
-        .arg(setup(alloc)?)?
-        .arg(look(alloc)?)?
-        .arg(look_mode(alloc)?)?
-        .arg(made(alloc)?)
+        .arg(forever(alloc))
 }
 
-pub(crate) fn call_command<'a>(
-    alloc: Global,
-    known: Option<&'a str>,
-) -> Result<Command<'a>, AllocError> {
+// The command with this option, unless memory ran out for one of them.
+fn with<'a>(command: Made<'a>, option: Result<Arg<'a>, AllocError>) -> Made<'a> {
+    command?.arg(option?)
+}
+
+pub(crate) fn serve_command<'a>(alloc: Global, is_forever: bool) -> Made<'a> {
+    let command = any_serve(alloc, is_forever);
+    let command = with(command, ready(alloc));
+    let command = with(command, mode(alloc));
+    let command = with(command, idle(alloc));
+    let command = with(command, setup(alloc));
+    let command = with(command, look(alloc));
+    let command = with(command, look_mode(alloc));
+    with(command, made(alloc))
+}
+
+pub(crate) fn call_command<'a>(alloc: Global, known: Option<&'a str>) -> Made<'a> {
     let path = or_known(socket(alloc).help(SOCKET_HELP), known);
     Command::new(alloc, "call")
         .about(CALL_ABOUT)
@@ -240,7 +244,7 @@ pub(crate) fn serve_plan<'a>(
     alloc: Global,
     found: &ArgMatches<'a>,
     known: Option<&'a OwnSocket>,
-) -> Result<Plan<'a>, Error> {
+) -> Read<'a> {
     if !found.get_flag(FOREVER) {
         return Ok(Plan::Serve {
             socket: socket_in(found),
