@@ -114,9 +114,14 @@ def users_of(crate, line):
     return [it for it in functions_in(crate) if named.search("\n".join(texts[it.file][it.first - 1 : it.last]))]
 
 
+def proved_in(crate, path):
+    """Returns the functions whose proof a file of proofs/ is."""
+    return [it for it in functions_in(crate) if Path(path).parent == Path("proofs", *whole_path(crate, it).split("::"))]
+
+
 def changed_by(edit):
-    """Returns the functions that an edit changes, be it in a constant that they name. If it changes anything else, that is None: all
-    functions of the crate may rest on it. A line `use` or `///` says nothing."""
+    """Returns the functions that an edit changes, be it in a constant that they name or in their proof. If it changes anything else, that
+    is None: all functions of the crate may rest on it. A line `use` or `///` says nothing."""
     texts, found = {}, []
     for path, old, new in edit.pairs:
         text = texts.get(path) or (edit.crate / path).read_text(encoding="utf-8")
@@ -126,6 +131,8 @@ def changed_by(edit):
         users = [inside[-1]] if inside else users_of(edit.crate, line)
         if path.endswith(".rt") and users is not None:
             found += users
+        elif proved := proved_in(edit.crate, path):
+            found += proved
         elif not re.match(r"(ghost )?use |\s*///", line):
             return None
         texts[path] = text.replace(old, new)
