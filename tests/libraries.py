@@ -9,19 +9,25 @@ has changed meanwhile, its libraries are of these sources: out/libraries has the
 
 `rt ci` would put libraries of earlier checks in the place of its own. So these are removed before it, also where a run that was killed had
 set them aside; `rt check` makes them again.
+
+`rt ci` estimates what memory a proof needs, at up to twice what it takes, and so leaves processors idle: with four and 24 GB it took 96
+minutes for 225 minutes' work. So it is told by RT_JOBS to prove one crate a processor, if there is memory for that.
 """
 
 import functools
 import hashlib
+import os
 import shutil
 import signal
 import subprocess
 import sys
 
 from editing import ROOT
-from running import kit
+from running import at_a_time, kit, processors
 
 RECORD = ROOT / "out" / "libraries"
+# The memory that there has to be for each processor. The largest proof, of hub_core_tests, takes 6 GB, and most take up to 3.
+MEMORY = 5 << 30
 # Prints the stamp that `rt` gives each library for the sources as they are. The words are the folder of the toolchain's programs, and
 # that of the repository. A crate's stamp rests on those below it, which are asked for once.
 STAMPS = """import functools, sys
@@ -63,13 +69,19 @@ def fault_of(name):
     return f"the library {name} isn't known to be of the sources as they are"
 
 
+def environment():
+    """Returns the environment in which `rt ci` proves one crate a processor. If memory is short, `rt ci` finds out how many it has room for."""
+    count = processors()
+    return {"RT_JOBS": str(count), **os.environ} if at_a_time(MEMORY) == count else {**os.environ}
+
+
 def main(command):
     signal.signal(signal.SIGINT, signal.SIG_DFL)
     before = stamps()
     RECORD.unlink(missing_ok=True)
     for folder in [*map(library_of, before), *ROOT.glob(".git/rt-aside/*/rlib")]:
         shutil.rmtree(folder, ignore_errors=True)
-    status = subprocess.run(command, check=False).returncode
+    status = subprocess.run(command, env=environment(), check=False).returncode
     stamps.cache_clear()
     if status == 0 and stamps() == before:
         lines = [f"{name} {stamp} {made}\n" for name, stamp in before.items() if (made := sum_of(name))]
