@@ -99,36 +99,55 @@ fn behind_a_mutex<R: Runtime + Wait>(rt: &R, alloc: Global, all: &mut u64) -> Re
     Ok(start.elapsed(rt)?)
 }
 
+/// Threads that take what is published, each of which adds itself to the count once it has subscribed.
+fn start_listeners<R: Runtime + Wait + Enter + Threads + Sync + Send + 'static>(
+    rt: &R,
+    alloc: Global,
+    fifodir: &Arc<Fifodir, Global>,
+    subscribed: &Arc<AtomicU64, Global>,
+    listeners: u64,
+) -> Result<Vec<JoinHandle<u64>>> {
+    let mut running = Vec::new(alloc);
+    for _ in 0..listeners {
+        let (theirs, count) = (Arc::try_clone(fifodir)?, Arc::try_clone(subscribed)?);
+        let own = rt.clone()?;
+        running.push(thread::spawn(rt, move || -> u64 { took(&own, &theirs, &count) })?)?;
+    }
+    Ok(running)
+}
+
+fn wait_for<R: Wait>(rt: &R, subscribed: &AtomicU64, listeners: u64) {
+    'subscribing: for _ in rt.forever() {
+        if subscribed.load(Ordering::SeqCst) >= listeners {
+            break;
+        }
+        thread::yield_now();
+    }
+}
+
+/// How many letters the listeners took together.
+fn join_all<R: Threads>(rt: &R, running: Vec<JoinHandle<u64>>) -> u64 {
+    let mut taken = 0_u64;
+    for listener in running {
+        taken = taken.saturating_add(listener.join(rt));
+    }
+    taken
+}
+
 /// Letters a second from one publisher to so many listeners, each on a thread of its own.
 pub fn threads<R: Runtime + AllocGlobal + Wait + Enter + Threads + Sync + Send + 'static>(
     rt: &R,
     alloc: Global,
     listeners: u64,
 ) -> Result<()> {
-    let fifodir = Arc::new(
-        alloc,
-        Fifodir::new(alloc, Kind::Plain, limits(Policy::Hold)?)?,
-    )?;
-    let ready = Arc::new(alloc, AtomicU64::new(0))?;
-    let mut running: Vec<JoinHandle<u64>> = Vec::new(alloc);
-    for _ in 0..listeners {
-        let theirs = Arc::try_clone(&fifodir)?;
-        let subscribed = Arc::try_clone(&ready)?;
-        let own = rt.clone()?;
-        running.push(thread::spawn(rt, move || -> u64 { took(&own, &theirs, &subscribed) })?)?;
-    }
-    'subscribing: for _ in rt.forever() {
-        if ready.load(Ordering::SeqCst) >= listeners {
-            break;
-        }
-        thread::yield_now();
-    }
+    let fifodir = Fifodir::new(alloc, Kind::Plain, limits(Policy::Hold)?)?;
+    let fifodir = Arc::new(alloc, fifodir)?;
+    let subscribed = Arc::new(alloc, AtomicU64::new(0))?;
+    let running = start_listeners(rt, alloc, &fifodir, &subscribed, listeners)?;
+    wait_for(rt, &subscribed, listeners);
     let start = Instant::now(rt)?;
     publish_all(rt, alloc, &fifodir)?;
-    let mut taken = 0_u64;
-    'joins: while !running.is_empty() {
-        taken = taken.saturating_add(running.remove(0).join(rt));
-    }
+    let taken = join_all(rt, running);
     let elapsed = start.elapsed(rt)?;
     println!(rt;
         "{listeners} listeners on threads: {} letters a second published, {} taken",

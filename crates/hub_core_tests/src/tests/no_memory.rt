@@ -8,7 +8,7 @@ use crate::tests::fixtures::word;
 use crate::tests::no_memory::records::{
     a_locked_is_used, a_record_evicts, a_record_is_used, letters_are_read,
 };
-use crate::tests::passes::{Sender, Shared, new_sender, open, open_with, publisher, ticket};
+use crate::tests::passes::{new_sender, open, open_with, publisher, ticket};
 use crate::tests::waits::{Deed, Doing, open_post};
 use hub_fifodir::{Enter, Fifodir, Publisher};
 use hub_letters::{Flags, Letter, MOST_GATHERED, State, Want};
@@ -41,13 +41,14 @@ fn sent_twice<R: Wait>(
 }
 
 /// Each call of a fifodir's two publishers and its ticket.
-fn passes_are_used<R: Abort + Wait + Enter>(rt: &R, fifodir: &Fifodir, ab: &[Letter]) -> bool {
-    let mut one = publisher(rt, fifodir);
-    let mut other = publisher(rt, fifodir);
-    let mut reader = ticket(rt, fifodir);
+fn passes_are_used<R: Abort + Wait + Enter>(rt: &R, alloc: Global) -> Result<bool, Fail> {
+    let (fifodir, ab) = (open(alloc, Kind::Plain, (2, 100, 10))?, word(alloc, "ab")?);
+    let mut one = publisher(rt, &fifodir);
+    let mut other = publisher(rt, &fifodir);
+    let mut reader = ticket(rt, &fifodir);
     let mut out = [Event::FILLER; 4];
     mark();
-    let sent = sent_twice(rt, fifodir, &mut one, ab);
+    let sent = sent_twice(rt, &fifodir, &mut one, &ab);
     fifodir.meet(rt, &mut one, &mut reader);
     let seen = (fifodir.status(&mut reader).number, fifodir.front(&mut one));
     let taken = fifodir.take_into(rt, &mut reader, &mut out);
@@ -60,21 +61,25 @@ fn passes_are_used<R: Abort + Wait + Enter>(rt: &R, fifodir: &Fifodir, ab: &[Let
     fifodir.leave(rt, other);
     fifodir.cancel(rt, reader);
     mark();
-    sent == (Ok(0), Err(PubError::Full))
-        && seen == (2, 2)
-        && (taken, nothing, end) == (Taken::Got(2), Taken::Nothing, Taken::End)
-        && closed == (Ok(()), Err(Closed))
-        && numbers == (1, 1, 0, 2)
-        && kind == Kind::Plain
+    Ok(
+        sent == (Ok(0), Err(PubError::Full))
+            && seen == (2, 2)
+            && (taken, nothing, end) == (Taken::Got(2), Taken::Nothing, Taken::End)
+            && closed == (Ok(()), Err(Closed))
+            && numbers == (1, 1, 0, 2)
+            && kind == Kind::Plain,
+    )
 }
 
 /// The calls of a publisher and of a ticket that it evicts.
-fn a_ticket_is_evicted<R: Abort + Wait + Enter>(rt: &R, fifodir: &Fifodir, ab: &[Letter]) -> bool {
-    let mut one = publisher(rt, fifodir);
-    let mut reader = ticket(rt, fifodir);
+fn a_ticket_is_evicted<R: Abort + Wait + Enter>(rt: &R, alloc: Global) -> Result<bool, Fail> {
+    let fifodir = open_with(alloc, Kind::Plain, (2, 100, 10), Policy::Evict)?;
+    let ab = word(alloc, "ab")?;
+    let mut one = publisher(rt, &fifodir);
+    let mut reader = ticket(rt, &fifodir);
     let mut out = [Event::FILLER; 4];
     mark();
-    let sent = sent_twice(rt, fifodir, &mut one, ab);
+    let sent = sent_twice(rt, &fifodir, &mut one, &ab);
     let taken = fifodir.take_into(rt, &mut reader, &mut out);
     let seen = (
         fifodir.status(&mut reader).number,
@@ -83,37 +88,38 @@ fn a_ticket_is_evicted<R: Abort + Wait + Enter>(rt: &R, fifodir: &Fifodir, ab: &
     fifodir.leave(rt, one);
     fifodir.cancel(rt, reader);
     mark();
-    sent == (Ok(0), Ok(2)) && taken == Taken::Evicted && seen == (4, 4)
+    Ok(sent == (Ok(0), Ok(2)) && taken == Taken::Evicted && seen == (4, 4))
 }
 
 /// The calls of a publisher that are refused because its fifodir is closed, has given its total, or finds the letters
 /// unlawful.
-fn publishers_are_refused<R: Abort + Wait + Enter>(
-    rt: &R,
-    fifodir: &Fifodir,
-    su: &[Letter],
-    x: &[Letter],
-) -> bool {
-    let mut one = publisher(rt, fifodir);
+fn publishers_are_refused<R: Abort + Wait + Enter>(rt: &R, alloc: Global) -> Result<bool, Fail> {
+    let fifodir = open(alloc, Kind::Service, (2, 2, 10))?;
+    let (su, x) = (word(alloc, "su")?, word(alloc, "x")?);
+    let mut one = publisher(rt, &fifodir);
     mark();
-    let unlawful = fifodir.publish(rt, &mut one, x);
-    let sent = fifodir.publish(rt, &mut one, su);
-    let spent = fifodir.publish(rt, &mut one, x);
+    let unlawful = fifodir.publish(rt, &mut one, &x);
+    let sent = fifodir.publish(rt, &mut one, &su);
+    let spent = fifodir.publish(rt, &mut one, &x);
     let closed = (
         fifodir.close(rt, &mut one),
         fifodir.close(rt, &mut one),
-        fifodir.publish(rt, &mut one, x),
+        fifodir.publish(rt, &mut one, &x),
     );
     fifodir.leave(rt, one);
     mark();
-    (unlawful, sent, spent) == (Err(PubError::Unlawful(0)), Ok(0), Err(PubError::Spent))
-        && closed == (Ok(()), Err(Closed), Err(PubError::Closed))
+    let sent = (unlawful, sent, spent);
+    Ok(
+        sent == (Err(PubError::Unlawful(0)), Ok(0), Err(PubError::Spent))
+            && closed == (Ok(()), Err(Closed), Err(PubError::Closed)),
+    )
 }
 
 /// The calls of two publishers that tell where a service is. The first letters are those of a start.
-fn a_service_is_told<R: Abort + Wait + Enter>(rt: &R, fifodir: &Shared) -> bool {
-    let mut one = new_sender(rt, fifodir);
-    let mut other = new_sender(rt, fifodir);
+fn a_service_is_told<R: Abort + Wait + Enter>(rt: &R, alloc: Global) -> Result<bool, Fail> {
+    let fifodir = open(alloc, Kind::Service, (64, 100, 10))?;
+    let mut one = new_sender(rt, &fifodir);
+    let mut other = new_sender(rt, &fifodir);
     mark();
     let told = (
         one.tell(rt, State::Up),
@@ -130,7 +136,10 @@ fn a_service_is_told<R: Abort + Wait + Enter>(rt: &R, fifodir: &Shared) -> bool 
     other.leave(rt);
     mark();
     let refused = Some(Err(PubError::Closed));
-    told == (Some(Ok(0)), Some(Ok(2)), None, Some(Ok(2))) && closed == (Ok(()), refused, refused)
+    Ok(
+        told == (Some(Ok(0)), Some(Ok(2)), None, Some(Ok(2)))
+            && closed == (Ok(()), refused, refused),
+    )
 }
 
 /// The calls of a listener.
@@ -186,16 +195,13 @@ fn post_ends<R: Wait>(rt: &R, mut post: Post) {
 }
 
 /// Waits at a post that catches up, and its end.
-fn posts_are_used<R: Abort + Wait + Enter>(
-    rt: &R,
-    fifodir: Shared,
-    mut supervisor: Sender,
-    letters: Vec<Letter>,
-    more: &[Letter],
-) -> bool {
-    let _ = supervisor.send(rt, more);
+fn posts_are_used<R: Abort + Wait + Enter>(rt: &R, alloc: Global) -> Result<bool, Fail> {
+    let (first, letters) = (word(alloc, "s")?, word(alloc, "u")?);
+    let service = open(alloc, Kind::Service, (64, 100, 10))?;
+    let mut supervisor = new_sender(rt, &service);
+    let _ = supervisor.send(rt, &first);
     let mut pause = Doing::new(supervisor, Deed::Send("u"), letters, 1);
-    let mut posts = [open_post(rt, fifodir, Want::Up, true)];
+    let mut posts = [open_post(rt, service, Want::Up, true)];
     mark();
     let heard = svlisten(rt, &mut posts, Span::All, 0, &mut pause, |_posts| 7);
     let verdict = svwait(rt, &mut posts, Span::All, 1, &mut pause);
@@ -204,7 +210,7 @@ fn posts_are_used<R: Abort + Wait + Enter>(
     post_ends(rt, post);
     mark();
     let calls = pause.end(rt);
-    heard == (7, Verdict::Late) && verdict == Verdict::Yes && seen == (2, 1) && calls == 1
+    Ok(heard == (7, Verdict::Late) && verdict == Verdict::Yes && seen == (2, 1) && calls == 1)
 }
 
 /// A call that takes memory, by which `tests/no-memory` sees that it counts.
@@ -217,26 +223,17 @@ fn memory_is_taken(alloc: Global) -> io::Result<bool> {
 
 #[test]
 fn these_calls_take_no_memory(rt: HostRuntime) -> Result<(), Fail> {
-    let plain = open(rt.alloc(), Kind::Plain, (2, 100, 10))?;
-    let evicting = open_with(rt.alloc(), Kind::Plain, (2, 100, 10), Policy::Evict)?;
-    let service = open(rt.alloc(), Kind::Service, (64, 100, 10))?;
-    let (s, u) = (word(rt.alloc(), "s")?, word(rt.alloc(), "u")?);
-    let ab = word(rt.alloc(), "ab")?;
-    let short = open(rt.alloc(), Kind::Service, (2, 2, 10))?;
-    let told = open(rt.alloc(), Kind::Service, (64, 100, 10))?;
-    let (su, x) = (word(rt.alloc(), "su")?, word(rt.alloc(), "x")?);
     assert!(rt; memory_is_taken(rt.alloc())?);
     assert!(rt; letters_are_read());
     assert!(rt; a_record_is_used(rt.alloc())?);
     assert!(rt; a_record_evicts(rt.alloc())?);
     assert!(rt; a_locked_is_used(rt.alloc())?);
-    assert!(rt; passes_are_used(&rt, &plain, &ab));
-    assert!(rt; a_ticket_is_evicted(&rt, &evicting, &ab));
-    assert!(rt; publishers_are_refused(&rt, &short, &su, &x));
-    assert!(rt; a_service_is_told(&rt, &told));
+    assert!(rt; passes_are_used(&rt, rt.alloc())?);
+    assert!(rt; a_ticket_is_evicted(&rt, rt.alloc())?);
+    assert!(rt; publishers_are_refused(&rt, rt.alloc())?);
+    assert!(rt; a_service_is_told(&rt, rt.alloc())?);
     assert!(rt; a_listener_is_used(rt.alloc())?);
     assert!(rt; a_watch_is_judged());
-    let supervisor = new_sender(&rt, &service);
-    assert!(rt; posts_are_used(&rt, service, supervisor, u, &s));
+    assert!(rt; posts_are_used(&rt, rt.alloc())?);
     Ok(())
 }

@@ -63,9 +63,15 @@ fn awaits<H: Wait + Enter, D: Desk>(rt: &H, desk: &mut D) -> bool {
     matches!(replies, (Reply::Done, Reply::Late, Reply::Late))
 }
 
-/// Whether the desk tells about the fifodir of this name, which it knows.
-fn tells<H: Wait + Enter, D: Desk>(rt: &H, desk: &mut D, name: Name) -> bool {
-    let about = Request::About { name };
+fn name<H: AllocGlobal + Abort>(rt: &H, text: &str) -> Name {
+    name_of(rt, rt.alloc(), text).expect(rt, "memory")
+}
+
+/// Whether the desk tells about a fifodir that it knows.
+fn tells<H: AllocGlobal + Abort + Wait + Enter, D: Desk>(rt: &H, desk: &mut D) -> bool {
+    let about = Request::About {
+        name: name(rt, "web"),
+    };
     mark();
     let reply = desk.ask(rt, &about);
     mark();
@@ -73,9 +79,9 @@ fn tells<H: Wait + Enter, D: Desk>(rt: &H, desk: &mut D, name: Name) -> bool {
 }
 
 /// Whether the desk tells where the service is to be, and that it is there already.
-fn is_told<H: Wait + Enter, D: Desk>(rt: &H, desk: &mut D, name: Name) -> bool {
+fn is_told<H: AllocGlobal + Abort + Wait + Enter, D: Desk>(rt: &H, desk: &mut D) -> bool {
     let tell = Request::Tell {
-        name,
+        name: name(rt, "db"),
         state: State::Ready,
     };
     mark();
@@ -141,6 +147,26 @@ fn end<H: Wait, D: Desk>(rt: &H, desk: &mut D) {
     mark();
 }
 
+/// Whether a local desk answers so.
+fn local_answers<H: AllocGlobal + Abort + Wait + Enter>(rt: &H) -> bool {
+    let mut desk = new_local(rt);
+    run(rt, &mut desk, HOLDS);
+    let answers = awaits(rt, &mut desk) && tells(rt, &mut desk) && is_told(rt, &mut desk);
+    end(rt, &mut desk);
+    answers
+}
+
+/// Whether a shared desk answers so.
+fn shared_answers<H: AllocGlobal + Abort + Wait + Enter>(rt: &H) -> bool {
+    let mut desk = alone(rt);
+    run(rt, &mut desk, HOLDS);
+    let are_awaited = nothing_waits(rt, &mut desk) && awaits(rt, &mut desk);
+    let answers = are_awaited && tells(rt, &mut desk) && is_told(rt, &mut desk);
+    end(rt, &mut desk);
+    desk.release(rt);
+    answers
+}
+
 /// The parts of requests are made of what holds them, and lent.
 fn parts_are_lent(alloc: Global, name: Name) -> Result<bool, AllocError> {
     let text = String::from_str(alloc, "ab")?;
@@ -168,32 +194,11 @@ fn parts_are_lent(alloc: Global, name: Name) -> Result<bool, AllocError> {
 
 #[test]
 fn these_calls_take_no_memory(rt: HostRuntime) -> Result<(), Fail> {
-    let name = name_of(&rt, rt.alloc(), "web")?;
-    assert!(rt; parts_are_lent(rt.alloc(), name)?);
+    assert!(rt; parts_are_lent(rt.alloc(), name(&rt, "web"))?);
     assert!(rt; eight_hold(rt.alloc())?, "a record that holds");
     assert!(rt; eight_are_evicted(rt.alloc())?, "a record that evicts");
     assert!(rt; eight_of_a_session(&rt), "eight of a session");
-    let known = name_of(&rt, rt.alloc(), "web")?;
-    let also = name_of(&rt, rt.alloc(), "web")?;
-    let mut local = new_local(&rt);
-    run(&rt, &mut local, HOLDS);
-    assert!(rt; awaits(&rt, &mut local), "awaits of a local desk");
-    assert!(rt; tells(&rt, &mut local, known), "an about of a local desk");
-    let db = name_of(&rt, rt.alloc(), "db")?;
-    assert!(rt; is_told(&rt, &mut local, db), "tells of a local desk");
-    end(&rt, &mut local);
-    let also_db = name_of(&rt, rt.alloc(), "db")?;
-    let mut shared = alone(&rt);
-    run(&rt, &mut shared, HOLDS);
-    let nothing_waits = nothing_waits(&rt, &mut shared);
-    let awaits = awaits(&rt, &mut shared);
-    let tells = tells(&rt, &mut shared, also);
-    let is_told = is_told(&rt, &mut shared, also_db);
-    end(&rt, &mut shared);
-    shared.release(&rt);
-    assert!(rt; nothing_waits, "nothing waits");
-    assert!(rt; awaits, "awaits of a shared desk");
-    assert!(rt; tells, "an about of a shared desk");
-    assert!(rt; is_told, "tells of a shared desk");
+    assert!(rt; local_answers(&rt), "a local desk");
+    assert!(rt; shared_answers(&rt), "a shared desk");
     Ok(())
 }

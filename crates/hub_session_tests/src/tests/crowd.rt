@@ -81,41 +81,50 @@ fn are_all(letters: &[u8]) -> bool {
 
 type Taking = JoinHandle<Option<Vec<u8>>>;
 
-fn start_taking<H: Threads>(
-    rt: &H,
-    alloc: Global,
-    mut client: Client,
-    running: &mut Vec<Taking>,
-) -> io::Result<()> {
+type Publishing = JoinHandle<Option<(Client, u64)>>;
+
+/// Has the client subscribe, and then take what comes on a thread of its own.
+fn start_taking<H: Threads>(rt: &H, alloc: Global, mut client: Client) -> io::Result<Taking> {
     if client.ask(b"sub web")? != b"ok 1".as_slice() {
         return Err(io::Error::from(io::ErrorKind::Other));
     }
-    running.push(thread::spawn(rt, move || take_all(alloc, client).ok())?)?;
-    Ok(())
+    Ok(thread::spawn(rt, move || take_all(alloc, client).ok())?)
 }
 
-/// Runs the clients. Each one that listens has subscribed before the first letter comes.
-fn run_all<H: Threads>(rt: &H, alloc: Global, mut clients: Vec<Client>) -> io::Result<bool> {
-    let mut taking: Vec<Taking> = Vec::new(alloc);
-    let mut publishing: Vec<JoinHandle<Option<(Client, u64)>>> = Vec::new(alloc);
-    let Some(mut first) = clients.pop() else {
-        return Ok(false);
-    };
-    first.ask(b"dir web 8 1000000")?;
-    start_taking(rt, alloc, first, &mut taking)?;
-    for _ in 1..HALF {
+/// Has half of the clients take what comes.
+fn start_listeners<H: Threads>(
+    rt: &H,
+    alloc: Global,
+    clients: &mut Vec<Client>,
+) -> io::Result<Vec<Taking>> {
+    let mut taking = Vec::new(alloc);
+    for _ in 0..HALF {
         if let Some(client) = clients.pop() {
-            start_taking(rt, alloc, client, &mut taking)?;
+            taking.push(start_taking(rt, alloc, client)?)?;
         }
     }
+    Ok(taking)
+}
+
+/// Has the other half publish.
+fn start_publishers<H: Threads>(
+    rt: &H,
+    alloc: Global,
+    mut clients: Vec<Client>,
+) -> io::Result<Vec<Publishing>> {
+    let mut publishing = Vec::new(alloc);
     for publisher in 0..HALF {
         if let Some(client) = clients.pop() {
             let handle = thread::spawn(rt, move || publish_all(client, publisher).ok())?;
             publishing.push(handle)?;
         }
     }
-    let mut was_full = false;
-    let mut closer = None;
+    Ok(publishing)
+}
+
+/// Closes the fifodir once all have published. Returns whether it was ever full.
+fn end_publishers<H: Threads>(rt: &H, publishing: Vec<Publishing>) -> io::Result<bool> {
+    let (mut was_full, mut closer) = (false, None);
     for handle in publishing {
         if let Some((client, full)) = handle.join(rt) {
             was_full = was_full || full > 0;
@@ -125,6 +134,18 @@ fn run_all<H: Threads>(rt: &H, alloc: Global, mut clients: Vec<Client>) -> io::R
     if let Some(mut client) = closer {
         client.ask(b"close web")?;
     }
+    Ok(was_full)
+}
+
+/// Runs the clients. Each one that listens has subscribed before the first letter comes.
+fn run_all<H: Threads>(rt: &H, alloc: Global, mut clients: Vec<Client>) -> io::Result<bool> {
+    let Some(first) = clients.last_mut() else {
+        return Ok(false);
+    };
+    first.ask(b"dir web 8 1000000")?;
+    let taking = start_listeners(rt, alloc, &mut clients)?;
+    let publishing = start_publishers(rt, alloc, clients)?;
+    let was_full = end_publishers(rt, publishing)?;
     Ok(are_right(rt, taking) && was_full)
 }
 

@@ -191,29 +191,37 @@ fn a_door_gives_back_as_it_asks(rt: HostRuntime) -> Result<(), Fail> {
     Ok(())
 }
 
-// A session that is over wakes one who may take its place, also where others wait that may not.
+/// The sessions of these threads are over.
+fn leave_all<H: Clock + Wait + Copy>(rt: &H, workers: &[Worker<H>]) {
+    for worker in workers {
+        worker.door.leave(rt);
+    }
+}
+
+/// Whether a session that is over wakes one who may take its place, also where others wait that may not.
+fn wakes_its_own<H>(rt: &H, alloc: Global) -> Result<bool, Fail>
+where
+    H: Abort + Files + Net + Clock + Threads + Wait + Copy + Send + Drop + 'static,
+{
+    let doors = make_doors(rt, alloc, 2)?;
+    let lookers = working(rt, alloc, &doors.looking, 1)?;
+    let others = working(rt, alloc, &doors.first, 1)?;
+    let (Some(lookers), Some(others)) = (lookers, others) else {
+        return Ok(false);
+    };
+    let looks = asking(rt, &doors.looking)?;
+    let one_looks = comes_to_wait(rt, &doors.of_looking);
+    let works = asking(rt, &doors.first)?;
+    let one_works = comes_to_wait(rt, &doors.of_first);
+    leave_all(rt, &others);
+    let has_worked = works.join(rt);
+    let still_looks = doors.of_looking.crowd(rt) == (true, true);
+    leave_all(rt, &lookers);
+    Ok(one_looks && one_works && has_worked && still_looks && looks.join(rt))
+}
+
 #[test]
 fn each_door_has_wakes_of_its_own(rt: HostRuntime) -> Result<(), Fail> {
-    let alloc: Global = rt.alloc();
-    let doors = make_doors(&rt, alloc, 2)?;
-    let lookers = working(&rt, alloc, &doors.looking, 1)?;
-    let others = working(&rt, alloc, &doors.first, 1)?;
-    let (Some(lookers), Some(others)) = (lookers, others) else {
-        assert!(rt; false);
-        return Ok(());
-    };
-    let looks = asking(&rt, &doors.looking)?;
-    assert!(rt; comes_to_wait(&rt, &doors.of_looking));
-    let works = asking(&rt, &doors.first)?;
-    assert!(rt; comes_to_wait(&rt, &doors.of_first));
-    for other in others.iter() {
-        other.door.leave(&rt);
-    }
-    assert!(rt; works.join(&rt));
-    assert_eq!(rt; doors.of_looking.crowd(&rt), (true, true));
-    for looker in lookers.iter() {
-        looker.door.leave(&rt);
-    }
-    assert!(rt; looks.join(&rt));
+    assert!(rt; wakes_its_own(&rt, rt.alloc())?);
     Ok(())
 }
