@@ -26,7 +26,7 @@ from editing import ROOT
 from running import at_a_time, kit, processors
 
 RECORD = ROOT / "out" / "libraries"
-# The memory that there has to be for each processor. The largest proof, of hub_core_tests, takes 6 GB, and most take up to 3.
+# The memory that there has to be for each processor. The largest proof, of hub_core_tests, takes 7 GB, and most take up to 3.
 MEMORY = 5 << 30
 # Prints the stamp that `rt` gives each library for the sources as they are. The words are the folder of the toolchain's programs, and
 # that of the repository. A crate's stamp rests on those below it, which are asked for once.
