@@ -32,7 +32,7 @@ use std::{env, io};
 pub(crate) const NAME: &str = "ftrighub";
 
 /// The program's version, which `--version` prints after its name.
-pub const VERSION: &str = "0.4.0";
+pub const VERSION: &str = "0.5.0-dev";
 
 /// What the program is to do.
 #[derive(Drop, Debug, PartialEq, Eq)]
