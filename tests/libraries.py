@@ -10,8 +10,8 @@ has changed meanwhile, its libraries are of these sources: out/libraries has the
 `rt ci` would put libraries of earlier checks in the place of its own. So these are removed before it, also where a run that was killed had
 set them aside; `rt check` makes them again.
 
-`rt ci` estimates what memory a proof needs, at up to twice what it takes, and so leaves processors idle: with four and 24 GB it took 96
-minutes for 225 minutes' work. So it is told by RT_JOBS to prove one crate a processor, if there is memory for that.
+`rt ci` estimates what memory a proof needs, at up to twice what it takes, and so leaves processors idle: with four and 24 GB it takes 95
+minutes for 240 minutes' work. So it is told by RT_JOBS to prove one crate a processor, if there is memory for that.
 """
 
 import functools

@@ -77,22 +77,22 @@ fn ask_each<H: Wait, SR: Replies, SW: Requests, F: Sink>(
     rt: &H,
     alloc: Global,
     name: &str,
-    will: &Request,
-    told: &Option<Request>,
+    will: Request,
+    told: Option<Request>,
     client: &mut Client<SR, SW>,
     notes: &mut F,
 ) -> Result<Outcome, AskError>
     ensures ok { IfOk result (IsAsked
         (streams SW.contents SR.remaining F.contents F.faults client.old notes.old)
         (streams SW.contents SR.remaining F.contents F.faults client.new notes.new)
-        will.now told.now name.now) }
+        will told name.now) }
     ensures err { IfErr result (FailsToAskEach
         (streams SW.contents SR.remaining F.contents F.faults client.old notes.old)
         (streams SW.contents SR.remaining F.contents F.faults client.new notes.new)
-        will.now told.now) }
+        will told) }
 {
-    match leave(rt, alloc, name, will, client, notes)? {
-        Outcome::Done => say(rt, alloc, name, told, client, notes),
+    match leave(rt, alloc, name, &will, client, notes)? {
+        Outcome::Done => say(rt, alloc, name, &told, client, notes),
         outcome => Ok(outcome),
     }
 }
@@ -181,15 +181,15 @@ pub fn hold_as_told<H: Wait, D: Dial, R: Source, F: Sink>(
     let Some(named) = Name::of(alloc, hold.name.as_bytes())? else {
         return Err(Ending::Refused(BadWords::NotName));
     };
+    let mut chunk = new_chunk(alloc, CHUNK)?;
     let told = request_of(hold.told, &named)?;
     let will = Request::Will {
         name: named,
         state: hold.will,
     };
-    let mut chunk = new_chunk(alloc, CHUNK)?;
     let ((receiver, sender), tie) = dialer.tie(socket, ANSWER)?;
     let mut client = Client::new(receiver, sender);
-    let outcome = ask_each(rt, alloc, hold.name, &will, &told, &mut client, notes)?;
+    let outcome = ask_each(rt, alloc, hold.name, will, told, &mut client, notes)?;
     hold_on(rt, &tie, &mut chunk, outcome, input)?;
     Ok(outcome.status())
 }
