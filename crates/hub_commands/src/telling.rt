@@ -77,9 +77,9 @@ pub fn tell_state<H: Wait, D: Dial, F: Sink>(
     let Some(named) = Name::of(alloc, name.as_bytes())? else {
         return Err(Ending::Refused(BadWords::NotName));
     };
-    let request = Request::Tell { name: named, state };
     let (receiver, sender) = dialer.dial(socket, ANSWER)?;
     let mut client = Client::new(receiver, sender);
+    let request = Request::Tell { name: named, state };
     let outcome = tell(rt, alloc, name, &request, &mut client, notes)?;
     Ok(outcome.status())
 }
