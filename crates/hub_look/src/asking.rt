@@ -44,25 +44,25 @@ pub(crate) fn ask_once<H: Wait, SR: Replies, SW: Requests>(
 pub(crate) fn ask_about<H: Wait, SR: Replies, SW: Requests, F: Sink>(
     rt: &H,
     alloc: Global,
-    request: &Request,
+    request: Request,
     name: &str,
     peer: &mut Peer<SR, SW>,
     notes: &mut F,
 ) -> Result<Heard, Stop>
-    requires { IsLook request.now }
+    requires { IsLook request }
     ensures begun { peer.new.begun ≡ peer.old.begun }
     ensures ok { IfOk result (λ heard. IsHeard
         (streams SW.contents SR.remaining F.contents F.faults peer.old.client notes.old)
         (streams SW.contents SR.remaining F.contents F.faults peer.new.client notes.new)
-        request.now (line_of heard)) }
+        request (line_of heard)) }
     ensures err { IfErr result IsOwnStop }
 {
-    let heard = peer.ask(rt, alloc, request)?;
-    if let BorrowedReply::No(refusal) = heard.reply() {
+    let answer = ask_once(rt, alloc, request, peer)?;
+    if let BorrowedReply::No(refusal) = answer.reply() {
         tell_refusal(alloc, name, refusal, notes)?;
         return Err(Stop::Reply(Outcome::Refused));
     }
-    Ok(heard)
+    Ok(answer)
 }
 
 /// Asks for a handle at a fifodir by the look that these words spell. If it is refused, that is told of this name, and the command
@@ -89,7 +89,7 @@ pub(crate) fn handle_for<H: Wait, SR: Replies, SW: Requests, F: Sink>(
             return Err(Stop::Reply(Outcome::Refused));
         }
     };
-    let heard = ask_about(rt, alloc, &request, name, peer, notes)?;
+    let heard = ask_about(rt, alloc, request, name, peer, notes)?;
     match heard.reply() {
         BorrowedReply::Number(handle) => Ok(handle),
         _ => Err(Stop::Fault(AskError::Unknown)),
@@ -120,7 +120,7 @@ pub(crate) fn look_up<H: Wait, SR: Replies, SW: Requests, F: Sink>(
             return Ok(Err(refusal));
         }
     };
-    let heard = peer.ask(rt, alloc, &request)?;
+    let heard = ask_once(rt, alloc, request, peer)?;
     if let BorrowedReply::No(refusal) = heard.reply() {
         tell_refusal(alloc, name, refusal, notes)?;
         return Ok(Err(refusal));

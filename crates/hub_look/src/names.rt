@@ -65,7 +65,7 @@ pub(crate) fn all_names<H: Wait, SR: Replies, SW: Requests, F: Sink>(
     // Each reply but the last has a name at least.
     'replies: for _ in 0..MOST_NAMES + 1 {
         let from = names.len() as u64;
-        let heard = ask_about(rt, alloc, &Request::Names { from }, "names", peer, notes)?;
+        let heard = ask_about(rt, alloc, Request::Names { from }, "names", peer, notes)?;
         match heard.reply() {
             BorrowedReply::Listed(listed) => put_names(alloc, listed, &mut names)?,
             BorrowedReply::Nothing => return Ok(names),

@@ -82,8 +82,8 @@ fn subscribe_between<H: Wait, SR: Replies, SW: Requests, F: Sink>(
             is_over: false,
         }));
     }
-    let request = Request::Cancel { id: handle };
-    let heard = ask_about(rt, alloc, &request, name, peer, notes)?;
+    let cancel = Request::Cancel { id: handle };
+    let heard = ask_about(rt, alloc, cancel, name, peer, notes)?;
     match heard.reply() {
         BorrowedReply::Done | BorrowedReply::Number(_) => Ok(None),
         _ => Err(Stop::Fault(AskError::Unknown)),
