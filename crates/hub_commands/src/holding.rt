@@ -71,8 +71,8 @@ fn say<H: Wait, SR: Replies, SW: Requests, F: Sink>(
     }
 }
 
-#[tactic(auto, using(crate::proofs::Held::asked_both, crate::proofs::Held::asked_in_vain))]
 // Leaves the will first: if the session ends before the other request, nothing was said that no will takes back.
+#[tactic(auto, using(crate::proofs::Held::asked_both, crate::proofs::Held::asked_in_vain))]
 fn ask_each<H: Wait, SR: Replies, SW: Requests, F: Sink>(
     rt: &H,
     alloc: Global,
@@ -123,8 +123,8 @@ fn read_out<H: Wait, T: Tie, R: Source>(
     unreachable!()
 }
 
-#[tactic(auto, using(crate::proofs::Held::is_not_read))]
 // Reads the input to its end if both requests were carried out.
+#[tactic(auto, using(crate::proofs::Held::is_not_read))]
 fn hold_on<H: Wait, T: Tie, R: Source>(
     rt: &H,
     tie: &T,
