@@ -1,9 +1,9 @@
 //! The program `ftrighub`: runs the words of the command line with the real streams, and ends with the status.
 #![tactic(auto)]
 
-use hub_commands::run;
 use hub_dialing::Dialer;
 use hub_endings::{Notes, end_status, tell_end};
+use hub_running::run;
 use std::alloc::Global;
 use std::io;
 use std::process::ExitCode;

@@ -1,5 +1,4 @@
 pub mod Requested
-pub mod Planned
 pub mod Lookings
 pub mod Replied
 pub mod Doing

@@ -10,4 +10,3 @@ pub mod Asked
 pub mod Telling
 pub mod Making
 pub mod Holding
-pub mod Running

@@ -1,8 +1,7 @@
-//! The subcommands.
+//! The subcommands of clients.
 //!
-//! [`run`] does what the words of a command line say. [`ask_words`], [`make_fifodirs`], [`tell_state`], [`hold_as_told`],
-//! [`wait_as_told`], [`show_status`] and [`follow_as_told`] each make one connection by a [`Dial`](hub_dialing::Dial), and none if
-//! their words are refused. `serve` is that of `hub_serving`, and `call` that of `hub_dialing`.
+//! [`ask_words`], [`make_fifodirs`], [`tell_state`], [`hold_as_told`], [`wait_as_told`], [`show_status`] and [`follow_as_told`] each
+//! make one connection by a [`Dial`](hub_dialing::Dial), and none if their words are refused.
 //!
 //! They return the exit status, or an [`Ending`](hub_endings::Ending).
 #![tactic(auto)]
@@ -14,7 +13,6 @@ mod hinting;
 mod holding;
 mod making;
 mod noting;
-mod running;
 mod saying;
 mod shaping;
 mod showing;
@@ -25,9 +23,7 @@ pub use asking::ask_words;
 pub use following::follow_as_told;
 pub use holding::hold_as_told;
 pub use hub_arguments::Hold;
-pub use hub_requests::Enter;
 pub use making::make_fifodirs;
-pub use running::run;
 pub use showing::show_status;
 pub use telling::tell_state;
 pub use waiting::wait_as_told;

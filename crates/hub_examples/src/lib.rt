@@ -24,6 +24,7 @@ pub mod protocol;
 pub mod record;
 pub mod requests;
 pub mod rights;
+pub mod running;
 pub mod script;
 pub mod server;
 pub mod serving;

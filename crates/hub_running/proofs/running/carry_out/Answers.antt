@@ -1,7 +1,7 @@
 use Rattle.std.proofs.Common.{◌≡◌, inl, refl}
 use Rattle.hub_dialing.specs.Calls.{calling}
-use Rattle.hub_commands.proofs.Planned.{same_plan, same_words}
-use Rattle.hub_commands.proofs.running.carry_out.Goals as goal
+use Rattle.hub_running.proofs.Planned.{same_plan, same_words}
+use Rattle.hub_running.proofs.running.carry_out.Goals as goal
 
 pub returns-in_ok-serve-in-Serve : goal.returns-in_ok-serve-in-Serve
 returns-in_ok-serve-in-Serve g c =

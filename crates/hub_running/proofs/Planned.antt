@@ -5,7 +5,7 @@ use Rattle.hub_ask.specs.Lines.{joined}
 use Rattle.hub_commands.specs.Asking.{Asks}
 use Rattle.hub_dialing.specs.Calls.{Calling}
 use Rattle.hub_dialing.specs.Dialing.{Dialing}
-use Rattle.hub_commands.specs.Running.{CarriesOut, Hands}
+use Rattle.hub_running.specs.Running.{CarriesOut, Hands}
 use Rattle.hub_endings.specs.declared.ending.Ending.{Ending}
 use Rattle.hub_server.specs.Sessions.{Reading, Writing}
 

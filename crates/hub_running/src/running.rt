@@ -1,16 +1,12 @@
 //! What the program does with the words of its command line.
 ghost use Rattle.hub_dialing.specs.Calls.{calling};
 ghost use Rattle.hub_dialing.specs.Dialing.{dialing};
-ghost use Rattle.hub_commands.specs.Running.{CarriesOut, Judges, Runs};
+ghost use Rattle.hub_running.specs.Running.{CarriesOut, Judges, Runs};
 
-use crate::asking::ask_words;
-use crate::following::follow_as_told;
-use crate::holding::hold_as_told;
-use crate::making::make_fifodirs;
-use crate::showing::show_status;
-use crate::telling::tell_state;
-use crate::waiting::wait_as_told;
 use hub_arguments::{Plan, Start, begin, own_socket, own_words};
+use hub_commands::{
+    ask_words, follow_as_told, hold_as_told, make_fifodirs, show_status, tell_state, wait_as_told,
+};
 use hub_dialing::{Dial, call};
 use hub_endings::{BadWords, Ending, Fault};
 use hub_io::{Sink, Source};

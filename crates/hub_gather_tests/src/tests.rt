@@ -1,0 +1,5 @@
+mod gathering;
+mod held;
+mod lost;
+mod means;
+mod stays;
