@@ -1,5 +1,5 @@
 -- The request of a form.
-use Rattle.std.proofs.Common.{◌≡◌, ℕ, zero, suc, List, [], ◌∷◌, length, take, true, false, refl, sym, ap, ◌∙◌, subst, arith, rules}
+use Rattle.std.proofs.Common.{◌≡◌, zero, suc, List, [], ◌∷◌, length, take, true, false, refl, sym, ap, ◌∙◌, subst, arith, rules}
 use Rattle.std.specs.List.{AllZip}
 use Rattle.hub_requests.specs.Ranges.{IsInRange}
 use Rattle.hub_requests.specs.declared.request.Request.{Request}
@@ -8,7 +8,7 @@ use Rattle.hub_protocol.specs.declared.table.Kind.{Kind}
 use Rattle.hub_protocol.specs.declared.table.Kind.TheVariants as kind
 use Rattle.hub_protocol.specs.declared.table.Ending.{Ending}
 use Rattle.hub_protocol.specs.declared.table.Ending.TheVariants as ending
-use Rattle.hub_protocol.specs.Table.{Row, IsWord, kinds_of, ending_of, row_in, table}
+use Rattle.hub_protocol.specs.Table.{Row, kinds_of, ending_of, row_in, table}
 use Rattle.hub_protocol.specs.Spelling.{Form, Field, Name, Number, Letters, Mode, Span, Want, State, Will, Last, Nothing, Names, Pattern, Evict, IsForm, IsSoundForm, IsOf, EndsAs, IsWithin, form_of, request_from, says}
 use Rattle.hub_protocol.specs.Lines.{AreWithinKinds, IsWithinKind, IsMadeOf, field_as, fields_as, last_as}
 use Rattle.hub_protocol.proofs.Rows.{EachRow, of_word, word_at}
@@ -31,12 +31,6 @@ IsMadeBy row = (fields : List Field) (last : Last) → form_of (request_from (sa
 
 each_is_made : EachRow IsMadeBy table
 each_is_made = search rules
-
--- each word is that of a request
-pub some_word : (word : List ℕ) → IsWord word → (r : Request) × ((form_of r).word ≡ word)
-some_word word is =
-    let by_row = of_word IsMadeBy each_is_made word is [] Nothing in
-    (request_from (says (row_in table word).word [] Nothing), ap (λ form. form.word) by_row ∙ word_at word is)
 
 read_field : (k : Kind) (field : Field) → IsOf k field → IsWithinKind k field → field_as k field ≡ field
 read_field kind.Name (Name name) h within = refl

@@ -1,6 +1,7 @@
 -- What the parts of a line show about its form.
 use Rattle.std.proofs.Common.{◌≡◌, ◌≢◌, ℕ, ◌≤◌, List, ◌∷◌, ◌++◌, length, map, Result, Ok, Err, IfOk, IfErr, sym, ap, ◌∙◌, subst, rules}
 use Rattle.std.specs.List.{AllZip}
+use Rattle.hub_requests.specs.Ranges.{IsInRange}
 use Rattle.hub_requests.specs.declared.request.Request.{Request}
 use Rattle.hub_requests.specs.declared.reply.Refusal.{Refusal}
 use Rattle.hub_requests.specs.declared.reply.Refusal.TheVariants.{Memory}
@@ -61,18 +62,18 @@ has_form text word kinds end pieces left read last is row row' e zip so_far ends
 abbrev pub shown : List ℕ → List code.Field → Last → Form
 shown word list last = says word (fields_shown (kinds_of word) list) last
 
-pub line_form : (text word : List ℕ) (list : List code.Field) (last : Last) (kinds : List Kind) (end : Ending) (rest left : rests.Rest) → IsWord word → kinds_of word ≡ kinds → ending_of word ≡ end
-    → fields_of text ≡ word ∷ pieces_of rest → AreRead kinds rest list left → EndsAs end last → pieces_of left ≡ pieces_of_last last
-    → HasForm text (shown word list last)
-line_form text word list last kinds end rest left is row row' e read ends behind =
-    subst (λ ks. HasForm text (says word (fields_shown ks list) last)) (sym row)
-    (has_form text word kinds end (pieces_of rest) (pieces_of left) (fields_shown kinds list) last is row row' e read.each read.pieces ends behind)
+pub line_form : (text word said : List ℕ) (list : List code.Field) (last : Last) (kinds : List Kind) (end : Ending) (rest left : rests.Rest) → said ≡ word → IsWord word → kinds_of word ≡ kinds
+    → ending_of word ≡ end → fields_of text ≡ word ∷ pieces_of rest → AreRead kinds rest list left → EndsAs end last → pieces_of left ≡ pieces_of_last last
+    → HasForm text (shown said list last)
+line_form text word said list last kinds end rest left same is row row' e read ends behind =
+    subst (λ w. HasForm text (shown w list last)) (sym same) (subst (λ ks. HasForm text (says word (fields_shown ks list) last)) (sym row)
+    (has_form text word kinds end (pieces_of rest) (pieces_of left) (fields_shown kinds list) last is row row' e read.each read.pieces ends behind))
 
-pub line_within : (word : List ℕ) (list : List code.Field) (last : Last) (kinds : List Kind) → kinds_of word ≡ kinds → AllZip IsWithinKind kinds (fields_shown kinds list) → AreWithinKinds (shown word list last)
-line_within word list last kinds row within = subst (λ ks. AllZip IsWithinKind ks (fields_shown ks list)) (sym row) within
+pub line_within : (word said : List ℕ) (list : List code.Field) (last : Last) (kinds : List Kind) → said ≡ word → kinds_of word ≡ kinds → AllZip IsWithinKind kinds (fields_shown kinds list) → AreWithinKinds (shown said list last)
+line_within word said list last kinds same row within = subst (λ ks. AllZip IsWithinKind ks (fields_shown ks list)) (sym (ap kinds_of same ∙ row)) within
 
-pub line_beyond : (word : List ℕ) (list : List code.Field) (last : Last) (kinds : List Kind) → kinds_of word ≡ kinds → (AllZip IsWithinKind kinds (fields_shown kinds list) → ⊥) → AreWithinKinds (shown word list last) → ⊥
-line_beyond word list last kinds row out within = out (subst (λ ks. AllZip IsWithinKind ks (fields_shown ks list)) row within)
+pub line_beyond : (word said : List ℕ) (list : List code.Field) (last : Last) (kinds : List Kind) → said ≡ word → kinds_of word ≡ kinds → (AllZip IsWithinKind kinds (fields_shown kinds list) → ⊥) → AreWithinKinds (shown said list last) → ⊥
+line_beyond word said list last kinds same row out within = out (subst (λ ks. AllZip IsWithinKind ks (fields_shown ks list)) (ap kinds_of same ∙ row) within)
 
 -- a line is read as a request of its form, or memory runs out
 pub reading_of : (text : List ℕ) (form : Form) (result : Result Request Refusal) → IsText text → HasForm text form → AreWithinKinds form
@@ -85,3 +86,8 @@ reading_of text form (Ok request) is has within made lacks = record {
 reading_of text form (Err refusal) is has within made lacks =
     let some = some_request form has.formed within in
     subst (λ r. IsReading text (Err r)) (sym lacks) (some.0, record { text = is; form = subst (HasForm text) (sym some.1) has; within = some.2 })
+
+-- what is read is in range
+pub reading_in_range : (text : List ℕ) (result : Result Request Refusal) → IsReading text result → IfOk result IsInRange
+reading_in_range text (Ok request) reading = reading.within
+reading_in_range text (Err refusal) reading = tt

@@ -1,5 +1,5 @@
 -- The row of a word.
-use Rattle.std.proofs.Common.{inl, inr, ◌≡◌, ℕ, zero, suc, ◌+◌, ◌<◌, ◌≤◌, List, [], ◌∷◌, length, get_or, map, true, false, Some, ap, ◌∙◌, arith}
+use Rattle.std.proofs.Common.{inl, inr, ◌≡◌, ℕ, zero, suc, ◌+◌, ◌<◌, ◌≤◌, List, [], ◌∷◌, length, get_or, map, true, false, Some, sym, ap, ◌∙◌, arith, rules}
 use Rattle.std.specs.Borrow.{Bor}
 use Rattle.std.specs.Str.{bytes_eq}
 use Rattle.std.proofs.lemmas.Bool.{cases_lt, cases_eq}
@@ -8,7 +8,8 @@ use Rattle.std.proofs.lemmas.Slice.Eq.{bytes_eq-Decides}
 use Rattle.std.proofs.lemmas.List.Sums.{fails_before_first, passes_at_first}
 use Rattle.hub_protocol.specs.declared.table.Kind.{Kind}
 use Rattle.hub_protocol.specs.declared.table.Ending.{Ending}
-use Rattle.hub_protocol.specs.Table.{Row, IsRowOf, IsWord, no_row, place_in, row_in, row_shown, table}
+use Rattle.hub_protocol.specs.declared.table.Verb.{Verb}
+use Rattle.hub_protocol.specs.Table.{Row, IsRowOf, IsWord, no_row, place_in, row_in, row_shown, table, word_of}
 
 -- the first row with the word is here if it isn't before
 place_here : (rows : List Row) (word : List ℕ) (i : ℕ) (d : Row) → i < length rows → i ≤ place_in rows word → bytes_eq (get_or rows i d).word word ≡ true → place_in rows word ≡ i
@@ -31,7 +32,7 @@ place_behind rows word i d below after miss = elim (cases_eq i (place_in rows wo
 ]
 
 abbrev pub CodeRow : Type 0
-CodeRow = Bor (List ℕ) × Bor (List Kind) × Ending
+CodeRow = Bor (List ℕ) × Verb × Bor (List Kind) × Ending
 
 shown_at : (rows : List CodeRow) (i : ℕ) (d : CodeRow) → i < length rows → get_or (map row_shown rows) i (row_shown d) ≡ row_shown (get_or rows i d)
 shown_at rows i d below = get_or-map row_shown rows i d (row_shown d) below
@@ -70,3 +71,10 @@ each_at P (row ∷ rows) (suc i) d each below = each_at P rows i d each.1 (omega
 
 pub of_word : (P : Row → Type 0) → EachRow P table → (word : List ℕ) → IsWord word → P (row_in table word)
 of_word P each word is = each_at P table (place_in table word) no_row each is
+
+each_is_of_verb : EachRow (λ row. row.word ≡ word_of row.verb) table
+each_is_of_verb = search rules
+
+-- a word is that of its row's verb
+pub word_of_row : (word : List ℕ) (row : Row) → IsWord word → row_in table word ≡ row → word_of row.verb ≡ word
+word_of_row word row is e = ap (λ r. word_of r.verb) (sym e) ∙ sym (of_word (λ row. row.word ≡ word_of row.verb) each_is_of_verb word is) ∙ word_at word is

@@ -13,7 +13,7 @@ use Rattle.hub_protocol.specs.declared.line.Last.TheVariants as last
 use Rattle.hub_protocol.specs.declared.line.Rest as rests
 use Rattle.hub_protocol.specs.declared.line.Rest.TheVariants as rest
 use Rattle.hub_protocol.specs.declared.line.Line as lines
-use Rattle.hub_protocol.specs.Table.{kinds_of, ending_of}
+use Rattle.hub_protocol.specs.Table.{kinds_of, ending_of, word_of}
 use Rattle.hub_protocol.specs.Spelling.{Field, Name, Number, Letters, Mode, Span, Want, State, Will, Last, Nothing, Names, Pattern, Evict, Form, IsOf, IsSound, EndsAs, digit_of, evict_in, fields_of, first_of, flag_in, letters_in, mode_in, name_in, names_in, number_in, others_of, pattern_in, pieces_of_last, says, span_in, state_in, text_of_field, want_in, will_in}
 
 abbrev pub field_shown : fields.Field → Field
@@ -42,7 +42,7 @@ abbrev pub fields_shown : List Kind → List fields.Field → List Field
 fields_shown kinds list = take (length kinds) (map field_shown list)
 
 abbrev pub form_shown : lines.Line → Form
-form_shown line = says line.word.now (fields_shown (kinds_of line.word.now) line.fields.now) (last_shown line.last)
+form_shown line = let word = word_of line.verb in says word (fields_shown (kinds_of word) line.fields.now) (last_shown line.last)
 
 -- the number is in its range
 abbrev pub IsWithinKind : Kind → Field → Type 0

@@ -6,7 +6,7 @@ ghost use Rattle.hub_protocol.specs.Spelling.{IsOf, fields_of, text_of_field};
 ghost use Rattle.hub_protocol.specs.Lines.{AreAllSound, AreRead, IsEnd, IsFieldOf, IsWithinKind, field_shown, fields_shown, pieces_of};
 
 use crate::fields::{are_letters, are_names, is_pattern, numeral, split_at_space};
-use crate::table::{Ending, Kind, MOST_FIELDS};
+use crate::table::{Ending, Kind, MOST_FIELDS, Verb};
 use crate::words::Spelled;
 use hub_letters::{Mode, Span, State, Want};
 use hub_requests::{Name, Will};
@@ -40,10 +40,10 @@ pub enum Rest<'a> {
     Text(&'a [u8]),
 }
 
-/// What a line says. Behind the fields of the word's row are others, which say nothing.
+/// What a line says. Behind the fields of the verb's row are others, which say nothing.
 #[derive(Clone, Copy)]
 pub struct Line<'a> {
-    pub word: &'a [u8],
+    pub verb: Verb,
     pub fields: &'a [Field<'a>],
     pub last: Last<'a>,
 }

@@ -38,7 +38,7 @@ fn read_text(alloc: Global, text: &[u8]) -> Result<Request, Bad>
     ensures in_range { IfOk result IsInRange }
 {
     let (word, rest) = first_piece(text);
-    let Some((_, kinds, ending)) = row_of(word) else {
+    let Some((_, verb, kinds, ending)) = row_of(word) else {
         return Err(Bad::Word);
     };
     let mut fields = [Field::Number(0); MOST_FIELDS];
@@ -52,7 +52,7 @@ fn read_text(alloc: Global, text: &[u8]) -> Result<Request, Bad>
         return Err(Bad::Range);
     }
     let line = Line {
-        word,
+        verb,
         fields: &fields,
         last,
     };

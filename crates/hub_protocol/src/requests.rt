@@ -3,12 +3,12 @@ ghost use Rattle.std.specs.Prelude.{◌≡◌, ◌∷◌, [], length, IfOk, IfEr
 ghost use Rattle.hub_requests.specs.declared.reply.Refusal.TheVariants as no;
 ghost use Rattle.hub_protocol.specs.Spelling as spelled;
 ghost use Rattle.hub_protocol.specs.Spelling.{EndsSoundly, IsName, IsPatternText, IsForm, IsSound, AreLetters, AreNames, evict_in, fields_of, flag_in, form_of, letters_in, mode_in, name_in, names_in, number_in, pattern_in, span_in, state_in, want_in, will_in};
-ghost use Rattle.hub_protocol.specs.Table.{IsWord};
+ghost use Rattle.hub_protocol.specs.Table.{word_of};
 ghost use Rattle.hub_protocol.specs.declared.table.TheConstants.{MOST_FIELDS};
 ghost use Rattle.hub_protocol.specs.Lines.{AreAllSound, AreWithinKinds, IsMadeOf, field_shown, form_shown, last_shown};
 
 use crate::line::{Field, Last, Line};
-use crate::table::forms;
+use crate::table::{Verb, forms};
 use hub_letters::{Letter, Mode, Span, State, Want};
 use hub_record::Letters;
 use hub_requests::{Name, Names, PatternText, Refusal, Request, Will};
@@ -169,7 +169,7 @@ pub fn request_of(alloc: Global, line: &Line<'_>) -> Result<Request, Refusal>
 {
     let fields = line.fields;
     made_of(
-        alloc, line.word, &fields[0], &fields[1], &fields[2], &fields[3], &line.last,
+        alloc, line.verb, &fields[0], &fields[1], &fields[2], &fields[3], &line.last,
     )
 }
 
@@ -203,47 +203,35 @@ macro_rules! request {
     };
 }
 
-// The request of the word. The words of each part are matched by themselves.
+// The request of the verb.
 macro_rules! made {
-    (($alloc:ident, $said:ident, $fields:expr, $end:ident) ($a:ident $b:ident $c:ident $d:ident)
-     $($word:literal $request:ident $read:tt $ending:ident $(($last:ident))?)*
-     ;
-     $($later:literal $other:ident $says:tt $ends:ident $(($behind:ident))?)*
-     ;
-     $($third:literal $one:ident $tells:tt $stops:ident $(($after:ident))?)*) => {{
+    (($alloc:ident, $verb:ident, $fields:expr, $end:ident) ($a:ident $b:ident $c:ident $d:ident)
+     $($word:literal $request:ident $read:tt $ending:ident $(($last:ident))?)*) => {{
         let ($a, $b, $c, $d) = $fields;
-        match $said {
-            $($word => request!($alloc $end $request $read $ending $(($last))?),)*
-            _ => match $said {
-                $($later => request!($alloc $end $other $says $ends $(($behind))?),)*
-                _ => match $said {
-                    $($third => request!($alloc $end $one $tells $stops $(($after))?),)*
-                    _ => unreachable!(),
-                },
-            },
+        match $verb {
+            $(Verb::$request => request!($alloc $end $request $read $ending $(($last))?),)*
         }
     }};
 }
 
 fn made_of(
     alloc: Global,
-    word: &[u8],
+    verb: Verb,
     a: &Field<'_>,
     b: &Field<'_>,
     c: &Field<'_>,
     d: &Field<'_>,
     last: &Last<'_>,
 ) -> Result<Request, Refusal>
-    requires word { IsWord word.now }
     requires first { IsSound (field_shown a.now) }
     requires second { IsSound (field_shown b.now) }
     requires third { IsSound (field_shown c.now) }
     requires fourth { IsSound (field_shown d.now) }
     requires ending { EndsSoundly (last_shown last.now) }
-    ensures ok { IfOk result (λ request. IsMadeOf word.now
+    ensures ok { IfOk result (λ request. IsMadeOf (word_of verb)
         (field_shown a.now ∷ field_shown b.now ∷ field_shown c.now ∷ field_shown d.now ∷ [])
         (last_shown last.now) (form_of request)) }
     ensures err { IfErr result (λ refusal. refusal ≡ no.Memory) }
 {
-    forms!(made(alloc, word, (a, b, c, d), last))
+    forms!(made(alloc, verb, (a, b, c, d), last))
 }

@@ -41,8 +41,30 @@ pub enum Ending {
     Evict,
 }
 
-/// A word, the fields behind it, and what ends its line.
-pub type Row = (&'static [u8], &'static [Kind], Ending);
+/// What a line asks for: the request that is made of it.
+#[derive(Clone, Copy)]
+pub enum Verb {
+    Dir,
+    Svc,
+    Sub,
+    Pub,
+    Tell,
+    Will,
+    Take,
+    Cancel,
+    Close,
+    Status,
+    About,
+    Listen,
+    Poll,
+    Await,
+    Next,
+    Wait,
+    Names,
+}
+
+/// A word, what its line asks for, the fields behind the word, and what ends the line.
+pub type Row = (&'static [u8], Verb, &'static [Kind], Ending);
 
 const NAME: Kind = Kind::Name;
 
@@ -74,8 +96,7 @@ const TURNS: Kind = Kind::Number(0, MOST_TURNS);
 pub const MOST_FIELDS: usize = 4;
 
 /// Hands the forms of all requests to the macro `$read`, behind what that is given: the word of each, the request, the place
-/// and the kind of each field, and what ends the line. All that the crate does with a word is written from here. Semicolons part
-/// them in three, since one match of all words would be too long for a proof.
+/// and the kind of each field, and what ends the line. All that the crate does with a word is written from here.
 macro_rules! forms {
     ($read:ident $given:tt) => {
         $read! {
@@ -86,14 +107,12 @@ macro_rules! forms {
             b"pub" Pub { name: a NAME, letters: b LETTERS } Nothing
             b"tell" Tell { name: a NAME, state: b STATE } Nothing
             b"will" Will { name: a NAME, state: b WILL } Nothing
-            ;
             b"take" Take { id: a ANY, max: b MAX } Nothing
             b"cancel" Cancel { id: a ANY } Nothing
             b"close" Close { name: a NAME } Nothing
             b"status" Status { name: a NAME } Nothing
             b"about" About { name: a NAME } Nothing
             b"listen" Listen { name: a NAME, mode: b MODE } Pattern(pattern)
-            ;
             b"poll" Poll { id: a ANY } Nothing
             b"await" Await { id: a ANY, turns: b TURNS } Nothing
             b"next" Next { id: a ANY, turns: b TURNS } Nothing
@@ -108,8 +127,8 @@ pub(crate) use forms;
 // The rows of the table.
 macro_rules! rows {
     ($given:tt $places:tt
-     $($word:literal $request:ident { $($field:ident: $place:ident $kind:ident),* } $ending:ident $(($last:ident))? $(;)?)*) => {
-        &[$(($word, &[$($kind),*], Ending::$ending)),*]
+     $($word:literal $request:ident { $($field:ident: $place:ident $kind:ident),* } $ending:ident $(($last:ident))?)*) => {
+        &[$(($word, Verb::$request, &[$($kind),*], Ending::$ending)),*]
     };
 }
 

@@ -83,7 +83,7 @@ macro_rules! end {
 // Appends the word of the request, its fields and its end.
 macro_rules! appended {
     (($said:ident, $out:ident) $places:tt
-     $($word:literal $request:ident { $($field:ident: $place:ident $kind:ident),* } $ending:ident $(($last:ident))? $(;)?)*) => {
+     $($word:literal $request:ident { $($field:ident: $place:ident $kind:ident),* } $ending:ident $(($last:ident))?)*) => {
         match $said {
             $(Request::$request { $($field,)* $($last)? } => {
                 append_form($word, &[$(told!($kind $field)),*], end!($ending $($last)?), $out)

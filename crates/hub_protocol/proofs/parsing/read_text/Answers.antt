@@ -1,11 +1,12 @@
 use Rattle.std.proofs.Common.{◌≡◌, ◌∷◌, ℕ, List, sym, ap, subst, arith}
-use Rattle.hub_protocol.specs.Table.{IsWord}
+use Rattle.hub_protocol.specs.Table.{IsWord, word_of}
 use Rattle.hub_protocol.specs.Spelling.{fields_of}
 use Rattle.hub_protocol.specs.Lines.{last_shown, pieces_of}
 use Rattle.hub_protocol.specs.Reading.{first_word}
 use Rattle.hub_protocol.proofs.FormLines.{first_word-fields}
 use Rattle.hub_protocol.proofs.FormRequests.{beyond}
-use Rattle.hub_protocol.proofs.LineForms.{few_kinds, line_beyond, line_form, line_within, no_form_fields, no_form_last, reading_of}
+use Rattle.hub_protocol.proofs.LineForms.{few_kinds, line_beyond, line_form, line_within, no_form_fields, no_form_last, reading_in_range, reading_of}
+use Rattle.hub_protocol.proofs.Rows.{word_of_row}
 use Rattle.hub_protocol.proofs.parsing.read_text.Goals as goal
 
 first : (line word : List ℕ) (more : List (List ℕ)) → fields_of line ≡ word ∷ more → IsWord word → IsWord (first_word line)
@@ -56,22 +57,31 @@ returns-then-not-are_within-clause-reading c =
     let row = c.in-Some.ensures in
     let ends = c.in-Some-last_of.ensures in
     let kinds = ap (λ r. r.kinds) row.1 in
-    let has = line_form c.args.text.now c.first_piece.result.0.now _ (last_shown c.in-Some-last_of.last) _ _ c.first_piece.result.1 _ row.0 kinds (ap (λ r. r.ending) row.1) c.first_piece.ensures c.in-Some-read_fields.ensures ends.0 ends.1 in
-    (c.requires, _, has, beyond _ has.formed (line_beyond c.first_piece.result.0.now _ (last_shown c.in-Some-last_of.last) _ kinds c.if-not-are_within.ensures))
+    let said = word_of_row c.first_piece.result.0.now _ row.0 row.1 in
+    let has = line_form c.args.text.now c.first_piece.result.0.now (word_of c.in-Some.verb) _ (last_shown c.in-Some-last_of.last) _ _ c.first_piece.result.1 _ said row.0 kinds (ap (λ r. r.ending) row.1) c.first_piece.ensures c.in-Some-read_fields.ensures ends.0 ends.1 in
+    (c.requires, _, has, beyond _ has.formed (line_beyond c.first_piece.result.0.now (word_of c.in-Some.verb) _ (last_shown c.in-Some-last_of.last) _ said kinds c.if-not-are_within.ensures))
 
 pub request_of-requires-clause-formed : goal.request_of-requires-clause-formed
 request_of-requires-clause-formed c =
     let row = c.in-Some.ensures in
     let ends = c.in-Some-last_of.ensures in
-    (line_form c.args.text.now c.first_piece.result.0.now _ (last_shown c.in-Some-last_of.last) _ _ c.first_piece.result.1 _ row.0 (ap (λ r. r.kinds) row.1) (ap (λ r. r.ending) row.1) c.first_piece.ensures c.in-Some-read_fields.ensures ends.0 ends.1).formed
+    let said = word_of_row c.first_piece.result.0.now _ row.0 row.1 in
+    (line_form c.args.text.now c.first_piece.result.0.now (word_of c.in-Some.verb) _ (last_shown c.in-Some-last_of.last) _ _ c.first_piece.result.1 _ said row.0 (ap (λ r. r.kinds) row.1) (ap (λ r. r.ending) row.1) c.first_piece.ensures c.in-Some-read_fields.ensures ends.0 ends.1).formed
 
 pub request_of-requires-clause-within : goal.request_of-requires-clause-within
-request_of-requires-clause-within c = line_within c.first_piece.result.0.now _ (last_shown c.in-Some-last_of.last) _ (ap (λ r. r.kinds) c.in-Some.ensures.1) c.if-not-are_within.ensures
+request_of-requires-clause-within c =
+    let row = c.in-Some.ensures in
+    let said = word_of_row c.first_piece.result.0.now _ row.0 row.1 in
+    line_within c.first_piece.result.0.now (word_of c.in-Some.verb) _ (last_shown c.in-Some-last_of.last) _ said (ap (λ r. r.kinds) row.1) c.if-not-are_within.ensures
 
 pub returns-clause-reading : goal.returns-clause-reading
 returns-clause-reading c =
     let row = c.in-Some.ensures in
     let ends = c.in-Some-last_of.ensures in
     let kinds = ap (λ r. r.kinds) row.1 in
-    let has = line_form c.args.text.now c.first_piece.result.0.now _ (last_shown c.in-Some-last_of.last) _ _ c.first_piece.result.1 _ row.0 kinds (ap (λ r. r.ending) row.1) c.first_piece.ensures c.in-Some-read_fields.ensures ends.0 ends.1 in
-    reading_of c.args.text.now _ c.request_of.result c.requires has (line_within c.first_piece.result.0.now _ (last_shown c.in-Some-last_of.last) _ kinds c.if-not-are_within.ensures) c.request_of.ensures.ok c.request_of.ensures.err
+    let said = word_of_row c.first_piece.result.0.now _ row.0 row.1 in
+    let has = line_form c.args.text.now c.first_piece.result.0.now (word_of c.in-Some.verb) _ (last_shown c.in-Some-last_of.last) _ _ c.first_piece.result.1 _ said row.0 kinds (ap (λ r. r.ending) row.1) c.first_piece.ensures c.in-Some-read_fields.ensures ends.0 ends.1 in
+    reading_of c.args.text.now _ c.request_of.result c.requires has (line_within c.first_piece.result.0.now (word_of c.in-Some.verb) _ (last_shown c.in-Some-last_of.last) _ said kinds c.if-not-are_within.ensures) c.request_of.ensures.ok c.request_of.ensures.err
+
+pub returns-clause-in_range : goal.returns-clause-in_range
+returns-clause-in_range c = reading_in_range c.args.text.now c.request_of.result (returns-clause-reading c)

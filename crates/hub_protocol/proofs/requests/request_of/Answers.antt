@@ -4,6 +4,7 @@ use Rattle.hub_requests.specs.declared.reply.Refusal.{Refusal}
 use Rattle.hub_protocol.specs.declared.table.Ending.{Ending}
 use Rattle.hub_protocol.specs.declared.table.Ending.TheVariants as ending
 use Rattle.hub_protocol.specs.declared.line.Field as code
+use Rattle.hub_protocol.specs.Table.{word_of}
 use Rattle.hub_protocol.specs.Spelling.{Form, Field, Last, Nothing, Names, Pattern, Evict, EndsAs, EndsSoundly, form_of}
 use Rattle.hub_protocol.specs.Lines.{IsMadeOf, field_shown, form_shown, last_shown}
 use Rattle.hub_protocol.proofs.FormRequests.{is_form}
@@ -37,6 +38,7 @@ if_made (Err error) word list more last form e is h = h
 pub returns-clause-ok : goal.returns-clause-ok
 returns-clause-ok c =
     let line = c.args.line.now in
-    if_made c.made_of.result line.word.now _ (map field_shown line.fields.now) (last_shown line.last) (form_shown line) (four line.fields.now _ c.requires.whole)
-    (λ (made : Form) (h : IsMadeOf line.word.now (map field_shown line.fields.now) (last_shown line.last) made). is_form (form_shown line) made (map field_shown line.fields.now) c.requires.formed c.requires.within refl h)
+    let word = word_of line.verb in
+    if_made c.made_of.result word _ (map field_shown line.fields.now) (last_shown line.last) (form_shown line) (four line.fields.now _ c.requires.whole)
+    (λ (made : Form) (h : IsMadeOf word (map field_shown line.fields.now) (last_shown line.last) made). is_form (form_shown line) made (map field_shown line.fields.now) c.requires.formed c.requires.within refl h)
     c.made_of.ensures.ok
