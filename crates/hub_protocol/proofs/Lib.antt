@@ -2,6 +2,7 @@ pub mod Numerals
 pub mod Splits
 pub mod Appending
 pub mod Rows
+pub mod WordMeanings
 pub mod Visible
 pub mod SameWords
 pub mod FieldLists

@@ -2,6 +2,7 @@ pub mod Table
 pub mod Spelling
 pub mod Reading
 pub mod Fields
+pub mod Meanings
 pub mod Lines
 pub mod Writing
 pub mod Replies

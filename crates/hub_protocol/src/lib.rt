@@ -8,6 +8,7 @@
 mod about;
 mod fields;
 mod line;
+mod meanings;
 mod parsing;
 mod replies;
 mod reply_pieces;

@@ -10,6 +10,7 @@ ghost use Rattle.hub_protocol.specs.ReplyLines.{AreCountTexts, IsCountOf, IsCoun
 
 use crate::fields::spaces;
 use crate::line::{Rest, first_piece};
+use crate::meanings::meaning_of;
 use hub_requests::{MOST_SERVICES, Refusal};
 use itoa::Buffer;
 use std::str;
@@ -30,25 +31,26 @@ pub enum Head {
     No,
 }
 
+const HEADS: &[(&[u8], Head)] = &[
+    (b"ok", Head::Done),
+    (b"got", Head::Got),
+    (b"hit", Head::Hit),
+    (b"none", Head::Nothing),
+    (b"end", Head::End),
+    (b"evicted", Head::Evicted),
+    (b"yes", Head::Yes),
+    (b"never", Head::Never),
+    (b"late", Head::Late),
+    (b"names", Head::Listed),
+    (b"no", Head::No),
+];
+
 /// What this word begins. None if it begins no reply.
 pub fn head_of(word: &[u8]) -> Option<Head>
     ensures { MatchOption result ((head : head) → word.now ≢ text_of_head head)
         (λ head. word.now ≡ text_of_head head) }
 {
-    Some(match word {
-        b"ok" => Head::Done,
-        b"got" => Head::Got,
-        b"hit" => Head::Hit,
-        b"none" => Head::Nothing,
-        b"end" => Head::End,
-        b"evicted" => Head::Evicted,
-        b"yes" => Head::Yes,
-        b"never" => Head::Never,
-        b"late" => Head::Late,
-        b"names" => Head::Listed,
-        b"no" => Head::No,
-        _ => return None,
-    })
+    meaning_of(HEADS, word)
 }
 
 /// Whether the last piece says `closed`. None if it says neither that nor `open`.
@@ -149,30 +151,32 @@ fn placed_refusal(word: &[u8], place: &[u8]) -> Option<Refusal>
     Some(Refusal::Unlawful(place))
 }
 
+// The refusals that are one word.
+const REFUSALS: &[(&[u8], Refusal)] = &[
+    (b"long", Refusal::Long),
+    (b"text", Refusal::Text),
+    (b"word", Refusal::Word),
+    (b"form", Refusal::Form),
+    (b"range", Refusal::Range),
+    (b"right", Refusal::Right),
+    (b"name", Refusal::Name),
+    (b"exists", Refusal::Exists),
+    (b"kind", Refusal::Kind),
+    (b"id", Refusal::Id),
+    (b"many", Refusal::Many),
+    (b"spent", Refusal::Spent),
+    (b"closed", Refusal::Closed),
+    (b"full", Refusal::Full),
+    (b"pattern", Refusal::Pattern),
+    (b"overlong", Refusal::Overlong),
+    (b"memory", Refusal::Memory),
+];
+
 // The refusal that is this word alone.
 fn plain_refusal(word: &[u8]) -> Option<Refusal>
     ensures { IsPlainOf word.now result }
 {
-    Some(match word {
-        b"long" => Refusal::Long,
-        b"text" => Refusal::Text,
-        b"word" => Refusal::Word,
-        b"form" => Refusal::Form,
-        b"range" => Refusal::Range,
-        b"right" => Refusal::Right,
-        b"name" => Refusal::Name,
-        b"exists" => Refusal::Exists,
-        b"kind" => Refusal::Kind,
-        b"id" => Refusal::Id,
-        b"many" => Refusal::Many,
-        b"spent" => Refusal::Spent,
-        b"closed" => Refusal::Closed,
-        b"full" => Refusal::Full,
-        b"pattern" => Refusal::Pattern,
-        b"overlong" => Refusal::Overlong,
-        b"memory" => Refusal::Memory,
-        _ => return None,
-    })
+    meaning_of(REFUSALS, word)
 }
 
 /// The number of 64 bits whose numeral the text is, without leading zeros. None if it isn't a numeral.

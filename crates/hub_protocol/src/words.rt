@@ -2,6 +2,7 @@
 ghost use Rattle.std.specs.Prelude.{◌≡◌, ◌≢◌, ℕ, List, MatchOption};
 ghost use Rattle.hub_protocol.specs.Spelling.{text_of_mode, text_of_span, text_of_state, text_of_want, text_of_will};
 
+use crate::meanings::meaning_of;
 use hub_letters::{Mode, Span, State, Want};
 use hub_requests::Will;
 
@@ -20,6 +21,8 @@ pub trait Spelled: Copy {
             (λ x. text.now ≡ Self.word x) };
 }
 
+const MODES: &[(&[u8], Mode)] = &[(b"once", Mode::Once), (b"repeat", Mode::Repeat)];
+
 impl Spelled for Mode {
     ghost word = { text_of_mode };
 
@@ -31,13 +34,18 @@ impl Spelled for Mode {
     }
 
     fn of_word(text: &[u8]) -> Option<Mode> {
-        match text {
-            b"once" => Some(Mode::Once),
-            b"repeat" => Some(Mode::Repeat),
-            _ => None,
-        }
+        meaning_of(MODES, text)
     }
 }
+
+const WANTS: &[(&[u8], Want)] = &[
+    (b"up", Want::Up),
+    (b"ready", Want::Ready),
+    (b"down", Want::Down),
+    (b"finished", Want::Finished),
+    (b"restarted", Want::Restarted),
+    (b"restarted-ready", Want::RestartedReady),
+];
 
 impl Spelled for Want {
     ghost word = { text_of_want };
@@ -54,17 +62,11 @@ impl Spelled for Want {
     }
 
     fn of_word(text: &[u8]) -> Option<Want> {
-        Some(match text {
-            b"up" => Want::Up,
-            b"ready" => Want::Ready,
-            b"down" => Want::Down,
-            b"finished" => Want::Finished,
-            b"restarted" => Want::Restarted,
-            b"restarted-ready" => Want::RestartedReady,
-            _ => return None,
-        })
+        meaning_of(WANTS, text)
     }
 }
+
+const SPANS: &[(&[u8], Span)] = &[(b"all", Span::All), (b"any", Span::Any)];
 
 impl Spelled for Span {
     ghost word = { text_of_span };
@@ -77,13 +79,17 @@ impl Spelled for Span {
     }
 
     fn of_word(text: &[u8]) -> Option<Span> {
-        match text {
-            b"all" => Some(Span::All),
-            b"any" => Some(Span::Any),
-            _ => None,
-        }
+        meaning_of(SPANS, text)
     }
 }
+
+const STATES: &[(&[u8], State)] = &[
+    (b"off", State::Off),
+    (b"down", State::Down),
+    (b"up", State::Up),
+    (b"ready", State::Ready),
+    (b"failed", State::Failed),
+];
 
 impl Spelled for State {
     ghost word = { text_of_state };
@@ -99,16 +105,16 @@ impl Spelled for State {
     }
 
     fn of_word(text: &[u8]) -> Option<State> {
-        Some(match text {
-            b"off" => State::Off,
-            b"down" => State::Down,
-            b"up" => State::Up,
-            b"ready" => State::Ready,
-            b"failed" => State::Failed,
-            _ => return None,
-        })
+        meaning_of(STATES, text)
     }
 }
+
+const WILLS: &[(&[u8], Will)] = &[
+    (b"off", Will::Off),
+    (b"down", Will::Down),
+    (b"failed", Will::Failed),
+    (b"none", Will::None),
+];
 
 impl Spelled for Will {
     ghost word = { text_of_will };
@@ -123,12 +129,6 @@ impl Spelled for Will {
     }
 
     fn of_word(text: &[u8]) -> Option<Will> {
-        Some(match text {
-            b"off" => Will::Off,
-            b"down" => Will::Down,
-            b"failed" => Will::Failed,
-            b"none" => Will::None,
-            _ => return None,
-        })
+        meaning_of(WILLS, text)
     }
 }
