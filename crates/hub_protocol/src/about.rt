@@ -9,20 +9,19 @@ ghost use Rattle.hub_protocol.specs.Lines.{pieces_of};
 ghost use Rattle.hub_protocol.specs.Replies.{IsCount, IsSoundAbout};
 
 use crate::line::{Rest, first_piece};
+use crate::meanings::meaning_of;
 use crate::reply_pieces::number_of;
 use hub_record::{Kind, Policy};
 use hub_requests::About;
+
+const KINDS: &[(&[u8], Kind)] = &[(b"dir", Kind::Plain), (b"svc", Kind::Service)];
 
 /// The kind that this word tells.
 pub fn kind_of(word: &[u8]) -> Option<Kind>
     ensures { MatchOption result ((k : kind) → word.now ≢ word_of_kind k)
         (λ k. word.now ≡ word_of_kind k) }
 {
-    match word {
-        b"dir" => Some(Kind::Plain),
-        b"svc" => Some(Kind::Service),
-        _ => None,
-    }
+    meaning_of(KINDS, word)
 }
 
 /// What all that is left tells of a fifodir of this kind.
@@ -85,15 +84,13 @@ fn policy_in(rest: Rest<'_>) -> Option<(Policy, Rest<'_>)>
     Some((policy_of(word)?, rest))
 }
 
+const POLICIES: &[(&[u8], Policy)] = &[(b"hold", Policy::Hold), (b"evict", Policy::Evict)];
+
 fn policy_of(word: &[u8]) -> Option<Policy>
     ensures { MatchOption result ((p : policy) → word.now ≢ word_of_policy p)
         (λ p. word.now ≡ word_of_policy p) }
 {
-    match word {
-        b"hold" => Some(Policy::Hold),
-        b"evict" => Some(Policy::Evict),
-        _ => None,
-    }
+    meaning_of(POLICIES, word)
 }
 
 fn number_in(rest: Rest<'_>) -> Option<(u64, Rest<'_>)>
