@@ -10,10 +10,11 @@ use Rattle.hub_protocol.specs.Replies.{IsShown, Shows}
 use Rattle.hub_protocol.specs.declared.replies.BorrowedReply.{BorrowedReply}
 use Rattle.hub_protocol.specs.declared.replies.BorrowedReply.TheVariants as shown
 use Rattle.hub_record.specs.declared.Status.{Status}
-use Rattle.hub_look.specs.Looking.{LooksBy}
+use Rattle.hub_ask.specs.Hearing.{line_of}
+use Rattle.hub_ask.specs.declared.heard.Heard.{Heard}
 use Rattle.hub_look.specs.Streams.{IsHeard, Streams}
 use Rattle.hub_look.specs.Subscribing.{AreBegun, AreCancelled, IsBegun, IsBetween, IsCancelled, IsHandled, IsNew, IsNumbered, IsSubscribed, IsTried, name_of, sub_line}
-use Rattle.hub_look.specs.Tables.{IsJudged, Verdict}
+use Rattle.hub_look.specs.Tables.{IsFoundBy, IsJudged, Verdict}
 use Rattle.hub_look.specs.declared.following.Form.{Form}
 use Rattle.hub_look.specs.declared.following.Form.TheVariants.{Line, Plain, Json}
 use Rattle.hub_look.specs.declared.stop.Stop.{Stop}
@@ -25,13 +26,15 @@ number_shown n (reply.Number m) h = ap reply.Number (sym h)
 number_shown n it h = absurd h
 
 -- the reply gives a handle
-pub handled : (before after : Streams) (line : List ℕ) (look : Result Request Refusal) (asked : Request) (text : List ℕ) (handle : ℕ)
-    → LooksBy line look → look ≡ Ok asked → IsHeard before after asked text → IsShown text (shown.Number handle) → IsHandled before after line handle
-handled before after line look asked text handle looks is heard shows = record {
-  request = asked;
-  spelled = subst (LooksBy line) is looks;
-  replied = replied_so before after asked text (shown.Number handle) (reply.Number handle) shows heard (number_shown handle shows.reply shows.shows);
-}
+pub handled : (before after : Streams) (line name : List ℕ) (found : Result Heard Refusal) (heard : Heard) (handle : ℕ)
+    → IsFoundBy before after line name found → found ≡ Ok heard → IsShown (line_of heard) (shown.Number handle) → IsHandled before after line handle
+handled before after line name found heard handle h is shows =
+    let by = subst (IsFoundBy before after line name) is h in
+    record {
+      request = by.asked;
+      spelled = by.spelled;
+      replied = replied_so before after by.asked (line_of heard) (shown.Number handle) (reply.Number handle) shows by.answered (number_shown handle shows.reply shows.shows);
+    }
 
 -- the hub says how many events there are
 pub counted : (before after : Streams) (name : List ℕ) (verdict : Verdict) (status : Status) → IsJudged before after name verdict → verdict ≡ Ok status

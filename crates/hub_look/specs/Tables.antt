@@ -59,6 +59,17 @@ abbrev pub IsLookedUp : (before after : Streams) (asked : Request) (name : List 
 IsLookedUp before after asked name looked =
     MatchResult looked (λ heard. IsHeard before after asked (line_of heard)) (IsRefused before after asked name)
 
+-- The look that this line spells was sent once, and this was heard. There is no note of it.
+pub record IsHeardBy (before after : Streams) (line heard : List ℕ) : Type 0 where
+  pub asked : Request
+  pub spelled : LooksBy line (Ok asked)
+  pub answered : IsHeard before after asked heard
+
+-- The look that this line spells was sent once, and this was heard, which is no refusal. Or each look that it spells is refused.
+abbrev pub IsFoundBy : (before after : Streams) (line name : List ℕ) → Result Heard Refusal → Type 0
+IsFoundBy before after line name found = MatchResult found (λ heard. IsHeardBy before after line (line_of heard))
+    (λ refusal. (asked : Request) → spelling (form_of asked) ≡ line → IsRefused before after asked name refusal)
+
 -- The status of the name was asked for once, and this is what the hub says of it.
 abbrev pub IsJudged : (before after : Streams) (name : List ℕ) → Verdict → Type 0
 IsJudged before after name (Ok status) = IsReplied before after (request.Status name) (reply.State status)

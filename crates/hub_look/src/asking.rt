@@ -1,6 +1,5 @@
 //! Looks at one fifodir.
 ghost use Rattle.std.specs.Prelude.{◌≡◌, IfOk, IfErr};
-ghost use Rattle.hub_requests.specs.declared.request.Request.{Request as request};
 ghost use Rattle.hub_protocol.specs.Spelling.{form_of, spelling};
 ghost use Rattle.hub_ask.specs.Asking.{IsAnswered};
 ghost use Rattle.hub_ask.specs.Hearing.{line_of};
@@ -8,7 +7,7 @@ ghost use Rattle.hub_ask.specs.Lines.{joined};
 ghost use Rattle.hub_look.specs.Stops.{IsOwnFault, IsOwnStop};
 ghost use Rattle.hub_look.specs.Streams.{IsHeard, streams};
 ghost use Rattle.hub_look.specs.Subscribing.{IsHandled};
-ghost use Rattle.hub_look.specs.Tables.{IsJudged, IsLookedUp};
+ghost use Rattle.hub_look.specs.Tables.{IsFoundBy, IsJudged, IsLookedUp};
 ghost use Rattle.hub_look.specs.Looking.{IsLook};
 
 use crate::look::look_of;
@@ -40,6 +39,31 @@ pub(crate) fn ask_once<H: Wait, SR: Replies, SW: Requests>(
     Ok(peer.ask(rt, alloc, &request)?)
 }
 
+// Sends a look, and returns the reply, or the refusal, which is told of this name.
+fn ask_or_tell<H: Wait, SR: Replies, SW: Requests, F: Sink>(
+    rt: &H,
+    alloc: Global,
+    request: Request,
+    name: &str,
+    peer: &mut Peer<SR, SW>,
+    notes: &mut F,
+) -> Result<Result<Heard, Refusal>, Stop>
+    requires { IsLook request }
+    ensures begun { peer.new.begun ≡ peer.old.begun }
+    ensures ok { IfOk result (IsLookedUp
+        (streams SW.contents SR.remaining F.contents F.faults peer.old.client notes.old)
+        (streams SW.contents SR.remaining F.contents F.faults peer.new.client notes.new)
+        request name.now) }
+    ensures err { IfErr result IsOwnFault }
+{
+    let heard = ask_once(rt, alloc, request, peer)?;
+    if let BorrowedReply::No(refusal) = heard.reply() {
+        tell_refusal(alloc, name, refusal, notes)?;
+        return Ok(Err(refusal));
+    }
+    Ok(Ok(heard))
+}
+
 /// Sends a look, and returns the reply. If it is refused, that is told of this name, and the command ends.
 pub(crate) fn ask_about<H: Wait, SR: Replies, SW: Requests, F: Sink>(
     rt: &H,
@@ -57,12 +81,35 @@ pub(crate) fn ask_about<H: Wait, SR: Replies, SW: Requests, F: Sink>(
         request (line_of heard)) }
     ensures err { IfErr result IsOwnStop }
 {
-    let answer = ask_once(rt, alloc, request, peer)?;
-    if let BorrowedReply::No(refusal) = answer.reply() {
-        tell_refusal(alloc, name, refusal, notes)?;
-        return Err(Stop::Reply(Outcome::Refused));
+    match ask_or_tell(rt, alloc, request, name, peer, notes)? {
+        Ok(heard) => Ok(heard),
+        Err(_) => Err(Stop::Reply(Outcome::Refused)),
     }
-    Ok(answer)
+}
+
+/// Sends the look at this name that these words spell, and returns the reply, or the refusal, which is told.
+pub(crate) fn look_up<H: Wait, SR: Replies, SW: Requests, F: Sink>(
+    rt: &H,
+    alloc: Global,
+    words: &[&str],
+    name: &str,
+    peer: &mut Peer<SR, SW>,
+    notes: &mut F,
+) -> Result<Result<Heard, Refusal>, Stop>
+    ensures begun { peer.new.begun ≡ peer.old.begun }
+    ensures ok { IfOk result (IsFoundBy
+        (streams SW.contents SR.remaining F.contents F.faults peer.old.client notes.old)
+        (streams SW.contents SR.remaining F.contents F.faults peer.new.client notes.new)
+        (joined (λ word. word.now) words.now) name.now) }
+    ensures err { IfErr result IsOwnFault }
+{
+    match look_of(alloc, words)? {
+        Ok(request) => ask_or_tell(rt, alloc, request, name, peer, notes),
+        Err(refusal) => {
+            tell_refusal(alloc, name, refusal, notes)?;
+            Ok(Err(refusal))
+        }
+    }
 }
 
 /// Asks for a handle at a fifodir by the look that these words spell. If it is refused, that is told of this name, and the command
@@ -82,50 +129,14 @@ pub(crate) fn handle_for<H: Wait, SR: Replies, SW: Requests, F: Sink>(
         (joined (λ word. word.now) words.now)) }
     ensures err { IfErr result IsOwnStop }
 {
-    let request = match look_of(alloc, words)? {
-        Ok(request) => request,
-        Err(refusal) => {
-            tell_refusal(alloc, name, refusal, notes)?;
-            return Err(Stop::Reply(Outcome::Refused));
-        }
+    let heard = match look_up(rt, alloc, words, name, peer, notes)? {
+        Ok(heard) => heard,
+        Err(_) => return Err(Stop::Reply(Outcome::Refused)),
     };
-    let heard = ask_about(rt, alloc, request, name, peer, notes)?;
     match heard.reply() {
         BorrowedReply::Number(handle) => Ok(handle),
         _ => Err(Stop::Fault(AskError::Unknown)),
     }
-}
-
-/// Sends the look at this name that these words spell, and returns the reply, or the refusal, which is told.
-pub(crate) fn look_up<H: Wait, SR: Replies, SW: Requests, F: Sink>(
-    rt: &H,
-    alloc: Global,
-    words: &[&str],
-    name: &str,
-    peer: &mut Peer<SR, SW>,
-    notes: &mut F,
-) -> Result<Result<Heard, Refusal>, Stop>
-    ensures begun { peer.new.begun ≡ peer.old.begun }
-    ensures ok { (asked : request) → spelling (form_of asked) ≡ joined (λ word. word.now) words.now
-        → IfOk result (IsLookedUp
-        (streams SW.contents SR.remaining F.contents F.faults peer.old.client notes.old)
-        (streams SW.contents SR.remaining F.contents F.faults peer.new.client notes.new)
-        asked name.now) }
-    ensures err { IfErr result IsOwnFault }
-{
-    let request = match look_of(alloc, words)? {
-        Ok(request) => request,
-        Err(refusal) => {
-            tell_refusal(alloc, name, refusal, notes)?;
-            return Ok(Err(refusal));
-        }
-    };
-    let heard = ask_once(rt, alloc, request, peer)?;
-    if let BorrowedReply::No(refusal) = heard.reply() {
-        tell_refusal(alloc, name, refusal, notes)?;
-        return Ok(Err(refusal));
-    }
-    Ok(Ok(heard))
 }
 
 /// How the fifodir is, or why the hub doesn't say, which is told.

@@ -1,11 +1,12 @@
 use Rattle.hub_requests.specs.declared.request.Request.TheVariants as request
+use Rattle.hub_look.proofs.Refusals.{looked_up_by}
 use Rattle.hub_look.proofs.Looked.{refused_so, spelled_about, about_told}
 use Rattle.hub_look.proofs.describing.about_of.Goals as goal
 
 pub returns-in-Err-clause-ok : goal.returns-in-Err-clause-ok
 returns-in-Err-clause-ok g c =
-    refused_so _ _ (request.About c.args.name.now) c.args.name.now c.in_ok-heard.field-0 c.in-Err.refusal (c.in_ok-heard.ensures.ok (request.About c.args.name.now) (spelled_about c.args.name.now)) c.in-Err.is
+    refused_so _ _ (request.About c.args.name.now) c.args.name.now c.in_ok-heard.field-0 c.in-Err.refusal (looked_up_by _ _ (request.About c.args.name.now) _ c.args.name.now c.in_ok-heard.field-0 c.in_ok-heard.ensures.ok (spelled_about c.args.name.now)) c.in-Err.is
 
 pub returns-in-About-clause-ok : goal.returns-in-About-clause-ok
 returns-in-About-clause-ok g c =
-    about_told _ _ c.args.name.now c.in_ok-heard.field-0 c.in-Ok.heard c.in-About.about (c.in_ok-heard.ensures.ok (request.About c.args.name.now) (spelled_about c.args.name.now)) c.in-Ok.is c.in-About.ensures
+    about_told _ _ c.args.name.now c.in_ok-heard.field-0 c.in-Ok.heard c.in-About.about (looked_up_by _ _ (request.About c.args.name.now) _ c.args.name.now c.in_ok-heard.field-0 c.in_ok-heard.ensures.ok (spelled_about c.args.name.now)) c.in-Ok.is c.in-About.ensures
