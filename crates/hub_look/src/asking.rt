@@ -36,7 +36,9 @@ pub(crate) fn ask_once<H: Wait, SR: Replies, SW: Requests>(
         (spelling (form_of request)) (line_of heard)) }
     ensures err { IfErr result IsOwnFault }
 {
-    Ok(peer.ask(rt, alloc, &request)?)
+    let heard = peer.ask(rt, alloc, &request);
+    drop(request);
+    Ok(heard?)
 }
 
 // Sends a look, and returns the reply, or the refusal, which is told of this name.

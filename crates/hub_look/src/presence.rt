@@ -22,8 +22,9 @@ fn is_there<H: Wait, SR: Replies, SW: Requests>(
         Ok(request) => request,
         Err(_) => return Ok(true),
     };
-    let heard = peer.ask(rt, alloc, &request)?;
-    Ok(!matches!(heard.reply(), BorrowedReply::No(Refusal::Name)))
+    let heard = peer.ask(rt, alloc, &request);
+    drop(request);
+    Ok(!matches!(heard?.reply(), BorrowedReply::No(Refusal::Name)))
 }
 
 /// Whether the hub has all of these fifodirs, by a look at each. It writes nothing.
