@@ -1,5 +1,6 @@
 pub mod Asked
 pub mod Asks
+pub mod Columns
 pub mod Judged
 pub mod Listed
 pub mod LinesSoFar

@@ -1,5 +1,6 @@
 //! The rows of a table of fifodirs.
 ghost use Rattle.std.specs.Prelude.{◌≡◌, ◌++◌, [], IfOk, OnOk};
+ghost use Rattle.std.specs.Fmt.{decimal};
 ghost use Rattle.hub_requests.specs.Texts.{word_of_policy};
 ghost use Rattle.hub_look.specs.Descriptions.{beside, closed_mark, columns_of, kind_word, pending_column, plain_column, row_of, state_column};
 
@@ -78,38 +79,49 @@ fn state_column(alloc: Global, kind: Kind, status: Status) -> Result<String, All
     Ok(column)
 }
 
+// Puts a number behind the line.
+fn put_number(alloc: Global, number: u64, line: &mut String) -> Result<(), AllocError>
+    ensures { OnOk result (line.new.bytes.items
+        ≡ line.old.bytes.items ++ decimal number) }
+{
+    line.push_str(number.to_string(alloc)?.as_str())
+}
+
+// Puts a number behind the line, in a column of this width.
+fn put_number_column(
+    alloc: Global,
+    width: usize,
+    number: u64,
+    line: &mut String,
+) -> Result<(), AllocError>
+    ensures { OnOk result (line.new.bytes.items
+        ≡ line.old.bytes.items ++ beside width (decimal number) []) }
+{
+    put_column(width, number.to_string(alloc)?.as_str(), line)
+}
+
 // The column of what is pending.
 fn pending_column(alloc: Global, about: About) -> Result<String, AllocError>
     ensures { IfOk result (λ it. it.bytes.items ≡ pending_column about) }
 {
     let mut column = String::new(alloc);
-    column.push_str(about.pending.to_string(alloc)?.as_str())?;
+    put_number(alloc, about.pending, &mut column)?;
     column.push_str(" of ")?;
-    column.push_str(about.waiting.to_string(alloc)?.as_str())?;
+    put_number(alloc, about.waiting, &mut column)?;
     Ok(column)
 }
 
-// The columns behind the name.
-fn columns_of(alloc: Global, it: Description) -> Result<String, AllocError>
-    ensures { IfOk result (λ columns. columns.bytes.items ≡ columns_of it) }
+// Puts the columns behind the name behind the line.
+fn put_columns(alloc: Global, it: Description, line: &mut String) -> Result<(), AllocError>
+    ensures { OnOk result (line.new.bytes.items ≡ line.old.bytes.items ++ columns_of it) }
 {
     let Description { about, status } = it;
-    let mut columns = String::new(alloc);
-    put_column(7, kind_word(about.kind), &mut columns)?;
-    put_column(
-        15,
-        state_column(alloc, about.kind, status)?.as_str(),
-        &mut columns,
-    )?;
-    put_column(9, status.number.to_string(alloc)?.as_str(), &mut columns)?;
-    put_column(
-        11,
-        about.subscriptions.to_string(alloc)?.as_str(),
-        &mut columns,
-    )?;
-    put_column(12, pending_column(alloc, about)?.as_str(), &mut columns)?;
-    columns.push_str(policy_word(about.policy))?;
-    Ok(columns)
+    put_column(7, kind_word(about.kind), line)?;
+    put_column(15, state_column(alloc, about.kind, status)?.as_str(), line)?;
+    put_number_column(alloc, 9, status.number, line)?;
+    put_number_column(alloc, 11, about.subscriptions, line)?;
+    put_column(12, pending_column(alloc, about)?.as_str(), line)?;
+    line.push_str(policy_word(about.policy))
 }
 
 /// Puts a row behind the table. The names have a column of this width.
@@ -138,6 +150,7 @@ pub(crate) fn put_described(
     ensures { OnOk result (table.new.bytes.items
         ≡ table.old.bytes.items ++ row_of width name.now (columns_of it)) }
 {
-    let columns = columns_of(alloc, it)?;
-    put_row(width, name, columns.as_str(), table)
+    put_column(width, name, table)?;
+    put_columns(alloc, it, table)?;
+    table.push_str("\n")
 }
