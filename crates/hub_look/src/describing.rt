@@ -16,7 +16,7 @@ use std::alloc::Global;
 use std::sync::Wait;
 
 /// What a hub says of a fifodir.
-#[derive(Clone, Copy, Debug, PartialEq, Eq)]
+#[derive(Clone, Copy)]
 pub(crate) struct Description {
     /// What it is, and how much was there before its status was asked for: that makes a session one of its publishers.
     pub(crate) about: About,

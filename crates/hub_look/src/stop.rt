@@ -16,7 +16,7 @@ use hub_requests::{Refusal, Reply};
 use std::alloc::{AllocError, Global};
 
 /// Why a command ends before its work is done.
-#[derive(Clone, Copy, Debug, PartialEq, Eq)]
+#[derive(Clone, Copy)]
 pub(crate) enum Stop {
     /// A fault.
     Fault(AskError),

@@ -22,7 +22,7 @@ use std::sync::Wait;
 const TRIES: u64 = 100;
 
 /// A fifodir that is followed.
-#[derive(Drop, Debug, PartialEq, Eq)]
+#[derive(Drop)]
 pub(crate) struct Followed {
     pub(crate) name: String,
     /// The handle of the subscription or the listener.
