@@ -1,5 +1,6 @@
 //! Listeners.
-ghost use Rattle.std.specs.Prelude.{◌≡◌, ◌+◌, ◌≤◌, length, string_bytes, IfOk, IfErr, OnOk};
+ghost use Rattle.std.specs.Prelude.{◌≡◌, ◌+◌, ◌≤◌, [], length, string_bytes, vec_capacity, IfOk, IfErr, OnOk};
+ghost use Rattle.std.specs.String.{string_capacity};
 ghost use Rattle.hub_listen.specs.Hit.{IsPattern};
 ghost use Rattle.hub_listen.specs.Inside.{listening_of, IsKept};
 ghost use Rattle.hub_listen.specs.Listening.{Listening, Feeds, new_listening, is_spent};
@@ -78,6 +79,21 @@ impl Model for Listener {
     ghost invariant = { IsKept };
 }
 
+/// Room for the text, for the letters since the last hit and for those of the last hit.
+fn new_rooms(alloc: Global) -> Result<(String, Vec<Letter>, Vec<Letter>), AllocError>
+    ensures text { IfOk result (λ rooms. (string_bytes rooms.0 ≡ [])
+        × (MOST_GATHERED ≤ string_capacity rooms.0)) }
+    ensures letters { IfOk result (λ rooms. (rooms.1.items ≡ [])
+        × (MOST_GATHERED ≤ vec_capacity rooms.1)) }
+    ensures hit { IfOk result (λ rooms. (rooms.2.items ≡ [])
+        × (MOST_GATHERED ≤ vec_capacity rooms.2)) }
+{
+    let text = String::with_capacity(alloc, MOST_GATHERED)?;
+    let letters = Vec::with_capacity(alloc, MOST_GATHERED)?;
+    let hit = Vec::with_capacity(alloc, MOST_GATHERED)?;
+    Ok((text, letters, hit))
+}
+
 impl Listener {
     /// A listener that has heard nothing. All of its room is made here.
     pub fn new(alloc: Global, pattern: &str, mode: Mode) -> Result<Listener, ListenError>
@@ -88,13 +104,14 @@ impl Listener {
     {
         let pattern = Pattern::new(alloc, pattern)?;
         let alive = Alive::new(alloc, &pattern.nfa)?;
+        let (text, letters, hit) = new_rooms(alloc)?;
         Ok(Listener {
             pattern,
             mode,
-            text: String::with_capacity(alloc, MOST_GATHERED)?,
+            text,
             alive,
-            letters: Vec::with_capacity(alloc, MOST_GATHERED)?,
-            hit: Vec::with_capacity(alloc, MOST_GATHERED)?,
+            letters,
+            hit,
         })
     }
 
