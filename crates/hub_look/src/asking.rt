@@ -37,6 +37,7 @@ pub(crate) fn ask_once<H: Wait, SR: Replies, SW: Requests>(
     ensures err { IfErr result IsOwnFault }
 {
     let heard = peer.ask(rt, alloc, &request);
+    // So no exit drops it, which would be a path for each kind of request in the proof.
     drop(request);
     Ok(heard?)
 }

@@ -23,6 +23,7 @@ fn is_there<H: Wait, SR: Replies, SW: Requests>(
         Err(_) => return Ok(true),
     };
     let heard = peer.ask(rt, alloc, &request);
+    // As in `ask_once`, no exit drops it.
     drop(request);
     Ok(!matches!(heard?.reply(), BorrowedReply::No(Refusal::Name)))
 }
