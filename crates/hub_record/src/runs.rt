@@ -1,7 +1,7 @@
 //! Any list of calls on a new record, with the replies and what each id gathered.
 ghost use Rattle.std.specs.Prelude.{◌≡◌, ◌≤◌, ◌+◌, ◌-◌, ◌++◌, ◌∷◌, [], List, ℕ, None, IfOk, OnOk, OnErr, length, map, nat_eq};
 ghost use Rattle.std.specs.Map.{lookup};
-ghost use Rattle.hub_record.specs.World.{World as Modelled, empty_world};
+ghost use Rattle.hub_record.specs.World.{World as Modelled, empty_world, after_take, take_reply};
 ghost use Rattle.hub_record.specs.Kept.{Represents};
 ghost use Rattle.hub_record.specs.Runs.{IsRun, world_after, SaidTo, after_call, AllGatherSinceMark};
 ghost use Rattle.hub_record.specs.Runs.{by, letters_published, gathered_from, lists_of, with_more_events};
@@ -76,16 +76,49 @@ impl World {
             Call::Publish { who, letters } => return Ok(Said::Published(
                 self.state.publish(*who, letters.items()),
             )),
-            Call::Take { id, max } => {
-                let waiting = self.state.waiting(*id).unwrap_or(0) as usize;
-                let mut out = vec![in alloc; Event::FILLER; waiting.min(*max)]?;
-                let reply = self.state.take_into(*id, &mut out);
-                append(&mut self.gathered, *id, &out)?;
-                return Ok(Said::Took(reply));
-            }
+            Call::Take { id, max } => return Ok(Said::Took(self.take(alloc, *id, *max)?)),
             Call::Cancel { id } => return Ok(Said::Cancelled(self.state.cancel(*id))),
             Call::Close => return Ok(Said::Shut(self.state.close())),
         }
+    }
+
+    /// Takes at most `max` events for an id, and appends them to its list.
+    fn take(
+        &mut self,
+        alloc: Global,
+        id: u64,
+        max: usize,
+    ) -> Result<Result<Taken, NoId>, AllocError>
+        ensures reply { (w : Modelled) → Represents self.old.state w
+            → IfOk result (λ reply. reply ≡ take_reply w id max) }
+        ensures after { (w : Modelled) → Represents self.old.state w
+            → OnOk result (Represents self.new.state (after_take w id max)) }
+        ensures gathered { (w : Modelled) → Represents self.old.state w
+            → lists_of self.old.gathered.entries ≡ gathered_from 1 w.subscriptions
+            → OnOk result (lists_of self.new.gathered.entries ≡ gathered_from 1
+            (after_take w id max).subscriptions) }
+        ensures replies { self.new.replies ≡ self.old.replies }
+    {
+        let waiting = self.state.waiting(id).unwrap_or(0) as usize;
+        let mut out = vec![in alloc; Event::FILLER; waiting.min(max)]?;
+        let reply = self.state.take_into(id, &mut out);
+        append(&mut self.gathered, id, &out)?;
+        Ok(reply)
+    }
+
+    /// Carries out one call, and keeps its reply. After an error the world is inconsistent and must be dropped.
+    fn step(&mut self, alloc: Global, call: &Call) -> Result<(), AllocError>
+        ensures said { (w : Modelled) → Represents self.old.state w
+            → OnOk result ((said : Said) × SaidTo w call.now said
+            × (self.new.replies.items ≡ self.old.replies.items ++ said ∷ [])
+            × Represents self.new.state (after_call w call.now said)
+            × (lists_of self.old.gathered.entries ≡ gathered_from 1 w.subscriptions
+            → lists_of self.new.gathered.entries ≡ gathered_from 1
+            (after_call w call.now said).subscriptions)) }
+    {
+        let said = self.answer(alloc, call)?;
+        self.replies.push(said)?;
+        Ok(())
     }
 }
 
@@ -141,8 +174,7 @@ pub fn replay(
         gathered: IndexMap::new(alloc),
     };
     for call in calls {
-        let said = world.answer(alloc, call)?;
-        world.replies.push(said)?;
+        world.step(alloc, call)?;
     }
     Ok(world)
 }
