@@ -1,8 +1,5 @@
--- What the numbers of a command line may be.
-use Rattle.std.specs.Prelude.{ℕ, ◌≤◌, nat_le, ◌&&◌, Option, None, Some, if◌then◌else◌}
-
-abbrev pub IsInRange : (least most : ℕ) → ℕ → Type 0
-IsInRange least most number = (least ≤ number) × (number ≤ most)
+-- What is kept of the numbers of a command line.
+use Rattle.std.specs.Prelude.{ℕ, nat_le, ◌&&◌, Option, None, Some, if◌then◌else◌}
 
 -- the number, if it is in range
 abbrev pub kept_in : (least most : ℕ) → Option ℕ → Option ℕ

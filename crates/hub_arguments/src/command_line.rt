@@ -7,32 +7,26 @@ ghost use Rattle.hub_arguments.specs.declared.command_line.Start.TheVariants.{En
 ghost use Rattle.hub_arguments.specs.declared.command_line.WordsError.TheVariants.{Text};
 
 use crate::asking::{
-    Follow, Wish, ask_command, ask_plan, follow_command, follow_plan, status_command, status_plan,
-    wait_command, wait_plan,
+    ask_command, ask_plan, follow_command, follow_plan, status_command, status_plan, wait_command,
+    wait_plan,
 };
-use crate::changing::{
-    Hold, Shape, hold_command, hold_plan, make_command, make_plan, tell_command, tell_plan,
-};
+use crate::changing::{hold_command, hold_plan, make_command, make_plan, tell_command, tell_plan};
 use crate::help::{ABOUT, LINES};
 use crate::help_words::words_of_help;
 use crate::options::{Made, Read, SOCKET};
-use crate::serving::{
-    HubOptions, call_command, call_plan, script_command, serve_command, serve_plan,
-};
+use crate::serving::{call_command, call_plan, script_command, serve_command, serve_plan};
 use crate::socket::OwnSocket;
 use clap::error::ErrorKind;
 use clap::{ArgMatches, Command, Error};
 use hub_io::FrontError;
 use hub_letters::State;
+use hub_options::{Follow, Hold, HubOptions, Shape, VERSION, Wish};
 use std::alloc::{AllocError, AllocGlobal, Global};
 use std::rt::Runtime;
 use std::{env, io};
 
 /// The program's name in the usage lines, whatever name it was started by.
 pub(crate) const NAME: &str = "ftrighub";
-
-/// The program's version, which `--version` prints after its name.
-pub const VERSION: &str = "0.5.0-dev";
 
 /// What the program is to do.
 #[derive(Drop, Debug, PartialEq, Eq)]

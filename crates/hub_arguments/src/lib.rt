@@ -17,10 +17,7 @@ mod serving;
 mod serving_options;
 mod socket;
 
-pub use asking::{Follow, Wish};
-pub use changing::{Hold, Shape};
 pub use command_line::{
-    Plan, Start, VERSION, WordsError, begin, early_status, own_words, read_words, status_of,
+    Plan, Start, WordsError, begin, early_status, own_words, read_words, status_of,
 };
-pub use serving::{HubOptions, LookOptions};
 pub use socket::{OwnSocket, derived_socket, own_socket};

@@ -1,10 +1,12 @@
 //! The subcommands that serve sessions, and `call`, which reaches them.
-ghost use Rattle.std.specs.Prelude.{◌≡◌, ℕ, ◌<◌, ◌≤◌, ◌^◌, ◌||◌, None, Some, IsSomeAnd, MatchOption, codes, is_none, is_some, nat_le, true, unwrap_or};
+ghost use Rattle.std.specs.Prelude.{◌≡◌, ◌<◌, ◌^◌, ◌||◌, None, Some, IsSomeAnd, MatchOption, codes, is_none, nat_le, true, unwrap_or};
 ghost use Rattle.std.specs.Option.{SomeIff};
 ghost use Rattle.std.specs.Str.Parse.{IsNumeral, digits_value, without_leading_plus};
 ghost use Rattle.hub_arguments.specs.Environment.{IsServedAt};
-ghost use Rattle.hub_arguments.specs.Ranges.{IsInRange, kept_in};
-ghost use Rattle.hub_arguments.specs.declared.serving.TheConstants.{LEAST_WITH_LOOK, MOST_CLIENTS, MOST_CONNECTIONS, MOST_DESCRIPTOR, MOST_IDLE, MOST_MADE, OPEN_TO_ALL};
+ghost use Rattle.hub_options.specs.Ranges.{IsInRange};
+ghost use Rattle.hub_options.specs.declared.serving.TheConstants.{LEAST_WITH_LOOK, MOST_CLIENTS, MOST_MADE};
+ghost use Rattle.hub_arguments.specs.Ranges.{kept_in};
+ghost use Rattle.hub_arguments.specs.declared.serving.TheConstants.{MOST_CONNECTIONS, OPEN_TO_ALL};
 
 use crate::command_line::Plan;
 use crate::help::{CALL_ABOUT, CALL_LINES, SCRIPT_ABOUT, SCRIPT_LINES, SERVE_ABOUT, SERVE_LINES};
@@ -16,71 +18,19 @@ use crate::serving_options::{
 use crate::socket::{OwnSocket, ROOT_SOCKET};
 use clap::error::ErrorKind;
 use clap::{Arg, ArgMatches, Command};
+use hub_options::{
+    HubOptions, LEAST_WITH_LOOK, LookOptions, MOST_CLIENTS, MOST_DESCRIPTOR, MOST_IDLE, MOST_MADE,
+};
 use std::alloc::{AllocError, Global};
 
 /// The most connections of a `serve` that ends.
 const MOST_CONNECTIONS: u64 = 64;
-
-/// The most clients at the same time of one that doesn't.
-const MOST_CLIENTS: u64 = 1_024;
-
-const MOST_DESCRIPTOR: u64 = 65_535;
-
-/// The most seconds that a session may be idle.
-const MOST_IDLE: u64 = 1_000_000;
-
-/// The most fifodirs that one session may make.
-const MOST_MADE: u64 = 256;
-
-/// The fewest sessions of a hub with two sockets: one of them is kept for the first.
-const LEAST_WITH_LOOK: u64 = 2;
 
 /// The mode of a socket that any user may connect to.
 const OPEN_TO_ALL: u32 = 0o666;
 
 const TOO_FEW: &str =
     "--look needs at least two sessions: one of them is kept for the first socket";
-
-/// A second socket, whose sessions only look.
-#[derive(Clone, Copy, Debug, PartialEq, Eq)]
-pub struct LookOptions<'a> {
-    /// The path of the socket.
-    pub socket: &'a str,
-    /// The permission bits of the socket's file.
-    pub mode: u32,
-}
-
-/// How a hub is served without end.
-#[derive(Clone, Copy, Debug, PartialEq, Eq)]
-pub struct HubOptions<'a> {
-    /// The path of the socket.
-    pub socket: &'a str,
-    /// Whether the folder `/run/ftrighub` is made if it isn't there.
-    pub makes_folder: bool,
-    /// How many sessions there may be at the same time.
-    pub sessions: u64,
-    /// The permission bits of the socket's file. None: those that the process's umask leaves.
-    pub mode: Option<u32>,
-    /// The descriptor that gets a newline once the hub listens, as the `notification-fd` of s6 does. None: there is none.
-    pub ready: Option<u64>,
-    /// How many seconds a session may be idle: its client sends no whole line, or takes no whole reply, while the session waits for
-    /// it. None: without end.
-    pub idle: Option<u64>,
-    /// The path of the file whose lines are carried out before the hub listens. None: there is none.
-    pub setup: Option<&'a str>,
-    /// The second socket. Its sessions count among the others. None: there is none.
-    pub look: Option<LookOptions<'a>>,
-    /// How many fifodirs one session may make.
-    pub names: u64,
-    // The folder is made for root's socket only.
-    ghost folder_is: { makes_folder ≡ true → socket.now ≡ codes "/run/ftrighub/hub.socket" },
-    ghost sessions_are: { IsInRange 1 MOST_CLIENTS sessions },
-    ghost ready_is: { (d : ℕ) → ready ≡ Some d → IsInRange 0 MOST_DESCRIPTOR d },
-    ghost idle_is: { (seconds : ℕ) → idle ≡ Some seconds → IsInRange 1 MOST_IDLE seconds },
-    // Each of two sockets has a session.
-    ghost look_is: { is_some look ≡ true → LEAST_WITH_LOOK ≤ sessions },
-    ghost names_are: { IsInRange 1 MOST_MADE names },
-}
 
 fn socket<'a>(alloc: Global) -> Arg<'a> {
     Arg::new(alloc, SOCKET).value_name("SOCKET")

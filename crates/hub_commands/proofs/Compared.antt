@@ -2,7 +2,7 @@
 use Rattle.std.proofs.Common.{◌≡◌, ◌≢◌, ℕ, List, [], ◌∷◌, ◌++◌, Bool, Option, None, Result, Ok, Err, IfOk, IfErr, IsErrAnd, MatchBool, true, false, inl, inr, refl, sym, ap, ◌∙◌, subst}
 use Rattle.std.proofs.KnownBytes.{Appends-nil, Consumes-nil}
 use Rattle.hub_client.specs.declared.fault.RelayError.TheVariants as relay
-use Rattle.hub_arguments.specs.declared.changing.Shape.{Shape}
+use Rattle.hub_options.specs.declared.changing.Shape.{Shape}
 use Rattle.hub_ask.specs.Asking.{FailsToAsk, IsAnswered}
 use Rattle.hub_ask.specs.declared.fault.AskError.{AskError}
 use Rattle.hub_ask.specs.declared.fault.AskError.TheVariants as ask

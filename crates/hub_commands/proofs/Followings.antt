@@ -1,6 +1,6 @@
 -- What `follow` does over one connection after another.
 use Rattle.std.proofs.Common.{◌≡◌, ◌≤◌, ℕ, suc, List, true, false, Option, None, Some, MatchOption, is_some, Result, Ok, Err, IsErrAnd, MatchResult, refl, sym, ap, ◌∙◌, inl, inr, subst}
-use Rattle.hub_arguments.specs.declared.asking.Follow.{Follow}
+use Rattle.hub_options.specs.declared.asking.Follow.{Follow}
 use Rattle.hub_ask.specs.declared.deadline.Deadline.{Deadline}
 use Rattle.hub_ask.specs.declared.exchanging.TheConstants.{ANSWER}
 use Rattle.hub_ask.specs.declared.fault.AskError.{AskError}

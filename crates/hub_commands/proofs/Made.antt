@@ -1,7 +1,7 @@
 -- What a hub says to a `make`, and one name after another.
 use Rattle.std.proofs.Common.{◌≡◌, ℕ, suc, ◌+◌, ◌<◌, ◌≤◌, List, [], ◌∷◌, ◌++◌, length, take, drop, get_or, Some, Result, Ok, Err, IfErr, IsErrAnd, refl, sym, ap, ◌∙◌, subst, take_all, take-append-drop, drop-cons}
 use Rattle.std.proofs.lemmas.List.{take_more}
-use Rattle.hub_arguments.specs.declared.changing.Shape.{Shape}
+use Rattle.hub_options.specs.declared.changing.Shape.{Shape}
 use Rattle.hub_ask.specs.declared.fault.AskError.{AskError}
 use Rattle.hub_ask.specs.declared.outcome.Outcome.{Outcome}
 use Rattle.hub_ask.specs.declared.outcome.Outcome.TheVariants.{Done, Refused, Never, Late, Nothing}

@@ -1,6 +1,6 @@
 -- How a `make` ends.
 use Rattle.std.proofs.Common.{◌≡◌, ℕ, List, Result, Ok, IsErrAnd, map, false, subst}
-use Rattle.hub_arguments.specs.declared.changing.Shape.{Shape}
+use Rattle.hub_options.specs.declared.changing.Shape.{Shape}
 use Rattle.hub_ask.specs.Outcomes.{status_of}
 use Rattle.hub_ask.specs.declared.client.Client.{Client}
 use Rattle.hub_ask.specs.declared.exchanging.TheConstants.{ANSWER}

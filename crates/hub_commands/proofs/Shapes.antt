@@ -3,7 +3,7 @@ use Rattle.std.proofs.Common.{◌≡◌, ◌≢◌, Bool, ◌&&◌, true, false,
 use Rattle.std.specs.Bool.{beq}
 use Rattle.std.proofs.lemmas.Bool.{and_from, and_parts, eq-eqb, eqb-true, false≢true}
 use denote.Enum.Bare.{sameb}
-use Rattle.hub_arguments.specs.declared.changing.Shape.{Shape}
+use Rattle.hub_options.specs.declared.changing.Shape.{Shape}
 use Rattle.hub_record.specs.contracts.Kind as kinds
 use Rattle.hub_record.specs.contracts.limits.Policy as policies
 use Rattle.hub_record.specs.declared.Kind.{Kind}

@@ -1,6 +1,6 @@
 -- What `follow` does over its connections.
 use Rattle.std.specs.Prelude.{◌≡◌, ◌⊎◌, ◌≤◌, ℕ, zero, suc, List, codes, Bool, Option, None, Some, Result, Ok, Err, is_some, true, false}
-use Rattle.hub_arguments.specs.declared.asking.Follow.{Follow}
+use Rattle.hub_options.specs.declared.asking.Follow.{Follow}
 use Rattle.hub_ask.specs.Outcomes.{status_of}
 use Rattle.hub_client.specs.declared.fault.RelayError.TheVariants as relay
 use Rattle.hub_ask.specs.declared.deadline.Deadline.{Deadline}

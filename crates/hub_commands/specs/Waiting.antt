@@ -1,6 +1,6 @@
 -- What `wait` does.
 use Rattle.std.specs.Prelude.{◌≡◌, ◌⊎◌, ⊤, ℕ, ◌+◌, ◌<◌, ◌≤◌, min, true, false, Bool, List, [], ◌∷◌, codes, Option, None, Some, Result, Ok, Err}
-use Rattle.hub_arguments.specs.declared.asking.Wish.{Wish}
+use Rattle.hub_options.specs.declared.asking.Wish.{Wish}
 use Rattle.hub_ask.specs.Asking.{IsAnswered, IsBrokenOff}
 use Rattle.hub_ask.specs.Durations.{SpellsDuration}
 use Rattle.hub_ask.specs.Lines.{joined}

@@ -7,13 +7,13 @@ ghost use Rattle.hub_commands.specs.Holding.{FailsToAskEach, FailsToLeave, Fails
 use crate::making::made_told;
 use crate::noting::note_refusal;
 use crate::telling::tell;
-use hub_arguments::Hold;
 use hub_ask::{ANSWER, AskError, Client, Outcome, Replies, Requests};
 use hub_client::RelayError;
 use hub_dialing::{Dial, Tie};
 use hub_endings::{BadWords, Ending};
 use hub_io::{CHUNK, Sink, Source, new_chunk};
 use hub_letters::State;
+use hub_options::Hold;
 use hub_requests::{Name, Request};
 use std::alloc::{AllocError, Global};
 use std::sync::Wait;

@@ -22,7 +22,7 @@ mod waiting;
 pub use asking::ask_words;
 pub use following::follow_as_told;
 pub use holding::hold_as_told;
-pub use hub_arguments::Hold;
+pub use hub_options::Hold;
 pub use making::make_fifodirs;
 pub use showing::show_status;
 pub use telling::tell_state;

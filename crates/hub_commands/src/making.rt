@@ -9,11 +9,11 @@ ghost use Rattle.hub_commands.specs.Making.{FailsToLook, FailsToMake, FailsToMak
 
 use crate::noting::{note, note_refusal};
 use crate::shaping::{request_for, shape_of, unlike_text};
-use hub_arguments::Shape;
 use hub_ask::{ANSWER, AskError, Client, Outcome, Replies, Requests};
 use hub_dialing::Dial;
 use hub_endings::{BadWords, Ending};
 use hub_io::Sink;
+use hub_options::Shape;
 use hub_protocol::BorrowedReply;
 use hub_requests::{About, Name, Refusal, Request};
 use std::alloc::{AllocError, Global};

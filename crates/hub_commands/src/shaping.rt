@@ -2,7 +2,7 @@
 ghost use Rattle.std.specs.Prelude.{◌≡◌, ◌++◌, IfOk, OnOk};
 ghost use Rattle.hub_commands.specs.Making.{evict_text, evicts, limits_text, plain_text, readiness_text, request_for, service_text, shape_of, shape_text, unlike_text};
 
-use hub_arguments::Shape;
+use hub_options::Shape;
 use hub_record::{Kind, Policy};
 use hub_requests::{About, Name, Request};
 use std::alloc::{AllocError, Global};

@@ -10,7 +10,6 @@ ghost use Rattle.hub_commands.specs.Waiting.{Begins, EndsTry, GoesOn, IsLimit, I
 
 use crate::breaking::breaks;
 use crate::saying::Sayings;
-use hub_arguments::Wish;
 use hub_ask::{
     AskError, Client, Deadline, GRACE, Line, MOST_TURNS, Outcome, Replies, Requests, delay_of,
     end_wait, millis_of, wait_line,
@@ -18,6 +17,7 @@ use hub_ask::{
 use hub_dialing::Dial;
 use hub_endings::{BadWords, Ending, Fault};
 use hub_io::Sink;
+use hub_options::Wish;
 use std::alloc::Global;
 use std::rt::Clock;
 use std::sync::Wait;

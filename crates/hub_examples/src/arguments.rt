@@ -1,5 +1,6 @@
-// crates.txt: YOURS: hub_arguments
-use hub_arguments::{HubOptions, OwnSocket, Plan, WordsError, read_words, status_of};
+// crates.txt: YOURS: hub_arguments hub_options
+use hub_arguments::{OwnSocket, Plan, WordsError, read_words, status_of};
+use hub_options::HubOptions;
 use std::alloc::Global;
 
 /// The socket that the words name, or `known` if they may do without one. None if they need none. The first word is the program's

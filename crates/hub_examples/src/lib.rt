@@ -20,6 +20,7 @@ pub mod listen;
 pub mod local;
 pub mod look;
 pub mod names;
+pub mod options;
 pub mod protocol;
 pub mod record;
 pub mod requests;

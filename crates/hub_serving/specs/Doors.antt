@@ -1,6 +1,6 @@
 -- The second socket of a hub, at which sessions only look.
 use Rattle.std.specs.Prelude.{ℕ, Option, None, Some}
-use Rattle.hub_arguments.specs.declared.serving.LookOptions.{LookOptions}
+use Rattle.hub_options.specs.declared.serving.LookOptions.{LookOptions}
 use Rattle.hub_endings.specs.declared.listening.LookListening.{LookListening}
 use Rattle.hub_server.specs.Quotas.{most_looking}
 

@@ -25,7 +25,7 @@ mod troubles;
 mod watching;
 
 pub use desks::serve_all;
-pub use hub_arguments::HubOptions;
+pub use hub_options::HubOptions;
 pub use hub_requests::Enter;
 pub use living::serve_forever;
 pub use serving::serve;

@@ -2,7 +2,7 @@
 
 ghost use Rattle.std.specs.Prelude.{◌≡◌, OnOk, flat_map};
 ghost use Rattle.std.specs.Io.KnownBytes.{Appends};
-ghost use Rattle.hub_arguments.specs.declared.command_line.TheConstants.{VERSION as version};
+ghost use Rattle.hub_options.specs.declared.version.TheConstants.{VERSION as version};
 ghost use Rattle.hub_endings.specs.Faults.{line_with};
 ghost use Rattle.hub_endings.specs.HubLines.{listening_text};
 ghost use Rattle.hub_serving.specs.Doors.{look_listening};
@@ -18,9 +18,9 @@ use crate::places::{AllInPlace, Places};
 use crate::setup::read_setup;
 use crate::troubles::Troubles;
 use crate::watching::{Pending, Watcher};
-use hub_arguments::{HubOptions, LookOptions, VERSION};
 use hub_endings::{Fault, HubLine, Listening, LookListening};
 use hub_front::{Enter, Stay};
+use hub_options::{HubOptions, LookOptions, VERSION};
 use hub_server::most_looking;
 use hub_shared::Hub;
 use hub_wait::Patience;
