@@ -10,4 +10,5 @@ pub mod Bounding
 pub mod Unfinished
 pub mod Timing
 pub mod Asking
+pub mod Streams
 pub mod Waiting

@@ -8,9 +8,8 @@ use Rattle.hub_ask.specs.declared.fault.AskError.{AskError}
 use Rattle.hub_ask.specs.declared.fault.AskError.TheVariants as ask
 use Rattle.hub_ask.specs.declared.outcome.Outcome.{Outcome}
 use Rattle.hub_ask.specs.declared.outcome.Outcome.TheVariants.{Done, Refused, Never, Late, Nothing}
-use Rattle.hub_look.specs.Streams.{IsToldTo, Streams}
-use Rattle.hub_look.specs.Tables.{note_of}
-use Rattle.hub_look.proofs.Refusals.{no_shown}
+use Rattle.hub_ask.specs.Streams.{IsToldTo, Streams, note_of}
+use Rattle.hub_ask.proofs.Replied.{no_shown, replied_by}
 use Rattle.hub_protocol.specs.Replies.{IsShown, Shows}
 use Rattle.hub_protocol.specs.Spelling.{form_of, spelling}
 use Rattle.hub_protocol.specs.declared.replies.BorrowedReply.{BorrowedReply}
@@ -25,7 +24,6 @@ use Rattle.hub_requests.specs.declared.reply.Refusal.TheVariants.{Exists}
 use Rattle.hub_commands.specs.Asked.{FailsOnce}
 use Rattle.hub_commands.specs.Making.{FailsToLook, FailsToMake, IsCompared, IsJudged, IsMade, IsThere, RepliesToAbout, RepliesToMake, about_told, made_told, request_for, shape_of, unlike_text}
 use Rattle.hub_commands.specs.Notes.{reason_of}
-use Rattle.hub_look.proofs.Takes.{replied_by}
 use Rattle.hub_commands.proofs.Replied.{refused_by}
 
 -- ---- the replies

@@ -5,11 +5,10 @@ use Rattle.hub_ask.specs.declared.client.Client.{Client}
 use Rattle.hub_ask.specs.declared.exchanging.TheConstants.{ANSWER}
 use Rattle.hub_ask.specs.declared.fault.AskError.{AskError}
 use Rattle.hub_ask.specs.declared.outcome.Outcome.{Outcome}
-use Rattle.hub_look.specs.Streams.{Streams, streams}
-use Rattle.hub_server.specs.Sessions.{Writing}
+use Rattle.hub_ask.specs.Streams.{Streams, streams, Told}
+use Rattle.hub_io.specs.Counted.{Writing}
 use Rattle.hub_commands.specs.Asked.{DoesWith}
 use Rattle.hub_dialing.specs.Dialing.{Dialing, OverOne}
-use Rattle.hub_commands.specs.Looking.{Told}
 use Rattle.hub_endings.specs.declared.ending.BadWords.{BadWords}
 use Rattle.hub_endings.specs.declared.ending.Ending.{Ending}
 use Rattle.hub_endings.specs.declared.ending.Ending.TheVariants.{Failed}

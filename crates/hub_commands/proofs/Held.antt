@@ -9,12 +9,12 @@ use Rattle.hub_ask.specs.declared.fault.AskError.{AskError}
 use Rattle.hub_ask.specs.declared.outcome.Outcome.{Outcome}
 use Rattle.hub_ask.specs.declared.outcome.Outcome.TheVariants.{Done, Refused, Never, Late, Nothing}
 use Rattle.hub_letters.specs.declared.state.State.{State}
-use Rattle.hub_look.specs.Streams.{IsReplied, Streams, streams}
+use Rattle.hub_ask.specs.Streams.{IsReplied, Streams, streams}
 use Rattle.hub_requests.specs.declared.request.Request.{Request}
 use Rattle.hub_requests.specs.declared.reply.Reply.TheVariants as reply
 use Rattle.hub_requests.specs.declared.request.Request.TheVariants as request
 use Rattle.hub_requests.specs.declared.will.Will.{Will}
-use Rattle.hub_server.specs.Sessions.{Reading, Writing}
+use Rattle.hub_io.specs.Counted.{Reading, Writing}
 use Rattle.hub_dialing.specs.Dialing.{Dialing}
 use Rattle.hub_commands.specs.Holding.{FailsToAskEach, FailsToRead, FailsToSay, HoldsAsTold, IsAsked, IsHeld, IsSaid, beside, request_of}
 use Rattle.hub_commands.specs.Telling.{RefusesName}

@@ -1,5 +1,4 @@
 pub mod Requested
-pub mod Lookings
 pub mod Replied
 pub mod Doing
 pub mod Told
@@ -9,4 +8,3 @@ pub mod Shapes
 pub mod Compared
 pub mod Makes
 pub mod Waits
-pub mod Followings

@@ -5,7 +5,7 @@ use Rattle.hub_options.specs.declared.changing.Shape.{Shape}
 use Rattle.hub_ask.specs.declared.fault.AskError.{AskError}
 use Rattle.hub_ask.specs.declared.outcome.Outcome.{Outcome}
 use Rattle.hub_ask.specs.declared.outcome.Outcome.TheVariants.{Done, Refused, Never, Late, Nothing}
-use Rattle.hub_look.specs.Streams.{Streams}
+use Rattle.hub_ask.specs.Streams.{Streams}
 use Rattle.hub_protocol.specs.declared.replies.BorrowedReply.{BorrowedReply}
 use Rattle.hub_protocol.specs.declared.replies.BorrowedReply.TheVariants as shown
 use Rattle.hub_requests.specs.declared.about.About.{About}

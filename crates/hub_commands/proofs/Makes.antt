@@ -6,8 +6,8 @@ use Rattle.hub_ask.specs.declared.client.Client.{Client}
 use Rattle.hub_ask.specs.declared.exchanging.TheConstants.{ANSWER}
 use Rattle.hub_ask.specs.declared.fault.AskError.{AskError}
 use Rattle.hub_ask.specs.declared.outcome.Outcome.{Outcome}
-use Rattle.hub_look.specs.Streams.{streams}
-use Rattle.hub_server.specs.Sessions.{Writing}
+use Rattle.hub_ask.specs.Streams.{streams}
+use Rattle.hub_io.specs.Counted.{Writing}
 use Rattle.hub_dialing.specs.Dialing.{Dialing}
 use Rattle.hub_commands.specs.Making.{FailsToMakeEach, MakesAsTold, MakesEach, RefusesNames}
 use Rattle.hub_endings.specs.declared.ending.Ending.{Ending}

@@ -1,10 +1,8 @@
 -- What a reply to a request shows.
 use Rattle.std.proofs.Common.{◌≡◌, ℕ, List, Option, refl, subst}
 use Rattle.hub_ask.specs.Asking.{IsAnswered}
-use Rattle.hub_look.specs.Streams.{IsToldTo}
-use Rattle.hub_look.specs.Tables.{note_of}
-use Rattle.hub_look.proofs.Refusals.{no_shown}
-use Rattle.hub_look.proofs.Takes.{replied_by}
+use Rattle.hub_ask.specs.Streams.{IsToldTo, note_of}
+use Rattle.hub_ask.proofs.Replied.{no_shown, replied_by}
 use Rattle.hub_protocol.specs.Replies.{IsShown, Shows}
 use Rattle.hub_protocol.specs.Spelling.{form_of, spelling}
 use Rattle.hub_protocol.specs.declared.replies.BorrowedReply.{BorrowedReply}

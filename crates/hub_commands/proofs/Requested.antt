@@ -1,5 +1,5 @@
 -- A request that came to nothing.
-use Rattle.std.proofs.Common.{◌≡◌, ℕ, ◌+◌, ◌≤◌, List, Option, Result, Ok, Err, Some, IsErrAnd, false, inl, inr, refl, sym, subst, ap}
+use Rattle.std.proofs.Common.{◌≡◌, ℕ, ◌+◌, ◌≤◌, List, Option, Result, Ok, Err, Some, IsErrAnd, false, inr, refl, sym, subst, ap}
 use Rattle.hub_ask.specs.Asking.{HasNoReply, IsWritten}
 use Rattle.hub_ask.specs.Outcomes.{Tells, outcome_of, status_of}
 use Rattle.hub_ask.specs.declared.duration.TheConstants.{MOST_TURNS}
@@ -7,7 +7,8 @@ use Rattle.hub_ask.specs.declared.exchanging.TheConstants.{ANSWER}
 use Rattle.hub_ask.specs.declared.fault.AskError.{AskError}
 use Rattle.hub_ask.specs.declared.outcome.Outcome.{Outcome}
 use Rattle.hub_client.specs.Passing.{has_lf}
-use Rattle.hub_commands.specs.Asking.{Asks, IsAsked, Ends, Going}
+use Rattle.hub_commands.specs.Asking.{Asks, IsAsked, Ends}
+use Rattle.hub_ask.specs.Streams.{Going}
 use Rattle.hub_dialing.specs.Dialing.{Dialing, OverOne}
 use Rattle.hub_commands.specs.Hints.{Hints, refusal_in, refusal_of}
 use Rattle.hub_endings.specs.declared.ending.BadWords.{BadWords}
@@ -19,7 +20,7 @@ use Rattle.hub_protocol.specs.declared.replies.BorrowedReply.{BorrowedReply}
 use Rattle.hub_protocol.specs.declared.replies.BorrowedReply.TheVariants as shown
 use Rattle.hub_requests.specs.declared.reply.Reply.{Reply}
 use Rattle.hub_requests.specs.declared.reply.Reply.TheVariants as reply
-use Rattle.hub_server.specs.Sessions.{Writing}
+use Rattle.hub_io.specs.Counted.{Writing}
 
 -- what went over the connection that was made
 pub over_one : {D SR SW : Type 0} (d : Dialing D SR SW) (old new : D) (socket : List ℕ) (millis : ℕ) (went : Going) (receive receives : SR) (send sends : SW)

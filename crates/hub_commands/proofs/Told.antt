@@ -6,7 +6,7 @@ use Rattle.hub_ask.specs.declared.exchanging.TheConstants.{ANSWER}
 use Rattle.hub_ask.specs.declared.fault.AskError.{AskError}
 use Rattle.hub_ask.specs.declared.outcome.Outcome.{Outcome}
 use Rattle.hub_letters.specs.declared.state.State.{State}
-use Rattle.hub_look.specs.Streams.{streams}
+use Rattle.hub_ask.specs.Streams.{streams}
 use Rattle.hub_protocol.specs.declared.replies.BorrowedReply.{BorrowedReply}
 use Rattle.hub_protocol.specs.declared.replies.BorrowedReply.TheVariants as shown
 use Rattle.hub_requests.specs.declared.request.Request.TheVariants as request
@@ -14,7 +14,7 @@ use Rattle.hub_requests.specs.declared.reply.Refusal.{Refusal}
 use Rattle.hub_requests.specs.declared.reply.Reply.{Reply}
 use Rattle.hub_requests.specs.declared.reply.Reply.TheVariants as reply
 use Rattle.hub_protocol.specs.Replies.{Shows}
-use Rattle.hub_server.specs.Sessions.{Writing}
+use Rattle.hub_io.specs.Counted.{Writing}
 use Rattle.hub_dialing.specs.Dialing.{Dialing}
 use Rattle.hub_commands.specs.Telling.{FailsToTell, IsTold, RefusesName, RepliesToTell, TellsAsTold, verdict_of}
 use Rattle.hub_endings.specs.declared.ending.Ending.{Ending}

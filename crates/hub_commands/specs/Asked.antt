@@ -7,16 +7,14 @@ use Rattle.hub_ask.specs.declared.exchanging.TheConstants.{ANSWER}
 use Rattle.hub_ask.specs.declared.fault.AskError.{AskError}
 use Rattle.hub_ask.specs.declared.fault.AskError.TheVariants as ask
 use Rattle.hub_ask.specs.declared.outcome.Outcome.{Outcome}
-use Rattle.hub_look.specs.Streams.{Streams, IsNoted, IsReplied}
-use Rattle.hub_look.specs.Tables.{note_of}
+use Rattle.hub_ask.specs.Streams.{Streams, IsNoted, IsReplied, note_of, Told}
 use Rattle.hub_protocol.specs.Spelling.{form_of, spelling}
 use Rattle.hub_requests.specs.declared.request.Request.{Request}
 use Rattle.hub_requests.specs.declared.reply.Reply.{Reply}
 use Rattle.hub_requests.specs.declared.reply.Reply.TheVariants as reply
 use Rattle.hub_requests.specs.declared.reply.Refusal.{Refusal}
-use Rattle.hub_server.specs.Sessions.{Writing}
+use Rattle.hub_io.specs.Counted.{Writing}
 use Rattle.hub_dialing.specs.Dialing.{Dialing, OverOne}
-use Rattle.hub_commands.specs.Looking.{Told}
 use Rattle.hub_commands.specs.Notes.{reason_of}
 use Rattle.hub_endings.specs.declared.ending.BadWords.{BadWords}
 use Rattle.hub_endings.specs.declared.ending.Ending.{Ending}

@@ -6,6 +6,7 @@ use Rattle.hub_ask.specs.declared.duration.TheConstants.{MOST_TURNS}
 use Rattle.hub_ask.specs.declared.exchanging.TheConstants.{ANSWER}
 use Rattle.hub_ask.specs.declared.fault.AskError.{AskError}
 use Rattle.hub_ask.specs.declared.outcome.Outcome.{Outcome}
+use Rattle.hub_ask.specs.Streams.{Going}
 use Rattle.hub_client.specs.Passing.{has_lf}
 use Rattle.hub_dialing.specs.Dialing.{Dialing, OverOne}
 use Rattle.hub_commands.specs.Hints.{Hints, refusal_of}
@@ -19,11 +20,7 @@ use Rattle.hub_protocol.specs.Replies.{IsOfHub}
 use Rattle.hub_requests.specs.Texts.{text_of}
 use Rattle.hub_requests.specs.declared.reply.Refusal.{Refusal}
 use Rattle.hub_requests.specs.declared.reply.Reply.{Reply}
-use Rattle.hub_server.specs.Sessions.{Writing}
-
--- what goes over a connection: what had been sent before and after, and what was left of the peer's bytes before and after
-abbrev pub Going : Type 1
-Going = (sent sends had has : Option (List ℕ)) → Type 0
+use Rattle.hub_io.specs.Counted.{Writing}
 
 -- Why a request has no reply: memory ran out before it was made, or no connection came about, or it went wrong over the one
 -- connection. Until there is a connection, nothing is touched.

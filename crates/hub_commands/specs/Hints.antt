@@ -1,14 +1,14 @@
 -- What a person may do about a refusal of `ask`.
 use Rattle.std.specs.Prelude.{◌≡◌, ℕ, ◌==◌, List, ◌∷◌, [], ◌++◌, take, position, if◌then◌else◌, codes, Option, None, Some}
 use Rattle.std.specs.Str.{bytes_eq}
-use Rattle.hub_look.specs.Streams.{IsToldTo}
+use Rattle.hub_ask.specs.Streams.{IsToldTo}
 use Rattle.hub_protocol.specs.declared.replies.BorrowedReply.{BorrowedReply}
 use Rattle.hub_protocol.specs.declared.replies.BorrowedReply.TheVariants as shown
 use Rattle.hub_requests.specs.declared.reply.Reply.{Reply}
 use Rattle.hub_requests.specs.declared.reply.Reply.TheVariants as reply
 use Rattle.hub_requests.specs.declared.reply.Refusal.{Refusal}
 use Rattle.hub_requests.specs.declared.reply.Refusal.TheVariants.{Long, Text, Word, Form, Range, Right, Name, Exists, Kind, Id, Many, Spent, Closed, Unlawful, Full, Pattern, Overlong, Memory}
-use Rattle.hub_server.specs.Sessions.{Writing}
+use Rattle.hub_io.specs.Counted.{Writing}
 use Rattle.hub_commands.specs.declared.hinting.TheConstants.{FORMS}
 
 -- ---- the hint

@@ -8,13 +8,13 @@ use Rattle.hub_ask.specs.declared.outcome.Outcome.{Outcome}
 use Rattle.hub_ask.specs.declared.outcome.Outcome.TheVariants.{Done, Refused}
 use Rattle.hub_io.specs.Telling.{Rises}
 use Rattle.hub_letters.specs.declared.state.State.{State}
-use Rattle.hub_look.specs.Streams.{Streams, IsReplied}
+use Rattle.hub_ask.specs.Streams.{Streams, IsReplied}
 use Rattle.hub_requests.specs.declared.request.Request.{Request}
 use Rattle.hub_requests.specs.declared.request.Request.TheVariants as request
 use Rattle.hub_requests.specs.declared.reply.Reply.TheVariants as reply
 use Rattle.hub_requests.specs.declared.reply.Refusal.{Refusal}
 use Rattle.hub_requests.specs.declared.will.Will.{Will}
-use Rattle.hub_server.specs.Sessions.{Reading, Writing}
+use Rattle.hub_io.specs.Counted.{Reading, Writing}
 use Rattle.hub_commands.specs.Asked.{DoesWith, FailsOnce, IsRefused}
 use Rattle.hub_dialing.specs.Dialing.{Dialing}
 use Rattle.hub_commands.specs.Making.{RepliesToMake}

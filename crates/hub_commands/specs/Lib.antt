@@ -3,9 +3,6 @@ pub mod Asking
 pub mod Waiting
 pub mod Sayings
 pub mod Notes
-pub mod Breaking
-pub mod Looking
-pub mod Following
 pub mod Asked
 pub mod Telling
 pub mod Making

@@ -6,8 +6,7 @@ use Rattle.hub_options.specs.declared.changing.Shape.{Shape}
 use Rattle.hub_ask.specs.declared.fault.AskError.{AskError}
 use Rattle.hub_ask.specs.declared.outcome.Outcome.{Outcome}
 use Rattle.hub_ask.specs.declared.outcome.Outcome.TheVariants.{Done, Refused}
-use Rattle.hub_look.specs.Streams.{Streams, IsNoted, IsReplied, IsToldTo}
-use Rattle.hub_look.specs.Tables.{note_of}
+use Rattle.hub_ask.specs.Streams.{Streams, IsNoted, IsReplied, IsToldTo, note_of}
 use Rattle.hub_protocol.specs.declared.replies.BorrowedReply.{BorrowedReply}
 use Rattle.hub_protocol.specs.declared.replies.BorrowedReply.TheVariants as shown
 use Rattle.hub_record.specs.declared.Kind.{Kind}
@@ -22,7 +21,7 @@ use Rattle.hub_requests.specs.declared.reply.Reply.{Reply}
 use Rattle.hub_requests.specs.declared.reply.Reply.TheVariants as reply
 use Rattle.hub_requests.specs.declared.reply.Refusal.{Refusal}
 use Rattle.hub_requests.specs.declared.reply.Refusal.TheVariants.{Exists}
-use Rattle.hub_server.specs.Sessions.{Writing}
+use Rattle.hub_io.specs.Counted.{Writing}
 use Rattle.hub_commands.specs.Asked.{DoesWith, FailsOnce, IsRefused}
 use Rattle.hub_dialing.specs.Dialing.{Dialing}
 use Rattle.hub_endings.specs.declared.ending.BadWords.{BadWords}

@@ -1,7 +1,7 @@
 -- The lines that say for what a wait waits, if it isn't for a service yet.
 use Rattle.std.specs.Prelude.{◌≡◌, ◌⊎◌, ℕ, List, ◌++◌, length, ◌==◌, if◌then◌else◌, codes, true, false, Option}
 use Rattle.hub_ask.specs.Lines.{joined}
-use Rattle.hub_look.specs.Streams.{IsToldTo}
+use Rattle.hub_ask.specs.Streams.{IsToldTo}
 use Rattle.hub_commands.specs.declared.saying.Sayings.{Sayings}
 
 -- about the hub at this socket

@@ -2,12 +2,11 @@
 use Rattle.std.specs.Prelude.{◌≡◌, ◌⊎◌, ⊤, ℕ, ◌+◌, ◌<◌, ◌≤◌, min, true, false, Bool, List, [], ◌∷◌, codes, Option, None, Some, Result, Ok, Err}
 use Rattle.hub_options.specs.declared.asking.Wish.{Wish}
 use Rattle.hub_ask.specs.Asking.{IsAnswered, IsBrokenOff}
-use Rattle.hub_ask.specs.Durations.{SpellsDuration}
 use Rattle.hub_ask.specs.Lines.{joined}
 use Rattle.hub_ask.specs.Outcomes.{TellsOfWait, status_of}
 use Rattle.hub_ask.specs.Waiting.{Asking, AsksAbout, FailsToEnd, IsEnded, reply_of, wait_words}
 use Rattle.hub_ask.specs.declared.client.Client.{Client}
-use Rattle.hub_ask.specs.declared.duration.TheConstants.{MOST_MILLIS, MOST_TURNS}
+use Rattle.hub_ask.specs.declared.duration.TheConstants.{MOST_TURNS}
 use Rattle.hub_ask.specs.declared.fault.AskError.{AskError}
 use Rattle.hub_ask.specs.declared.fault.AskError.TheVariants as ask
 use Rattle.hub_ask.specs.declared.outcome.Outcome.{Outcome}
@@ -18,6 +17,7 @@ use Rattle.hub_client.specs.Passing.{has_lf}
 use Rattle.hub_requests.specs.Texts.{text_of}
 use Rattle.hub_commands.specs.Asking.{Ends}
 use Rattle.hub_dialing.specs.Dialing.{Dialing, OverOne}
+use Rattle.hub_endings.specs.Words.{IsLimit}
 use Rattle.hub_endings.specs.declared.ending.BadWords.{BadWords}
 use Rattle.hub_endings.specs.declared.ending.BadWords.TheVariants as bad
 use Rattle.hub_endings.specs.declared.ending.Ending.{Ending}
@@ -25,29 +25,6 @@ use Rattle.hub_endings.specs.declared.ending.Ending.TheVariants.{Refused, Stoppe
 use Rattle.hub_endings.specs.declared.fault.Fault.TheVariants.{Memory, Connect, Ask}
 
 -- ---- its words
-
--- it is no duration, or one that is too long
-abbrev pub IsNoDuration : (duration : List ℕ) → Type 0
-IsNoDuration duration = (millis : ℕ) → SpellsDuration duration millis → MOST_MILLIS < millis
-
--- the words are refused by the name of this duration, unless it has an LF
-abbrev pub NamesDuration : (duration : List ℕ) → BadWords → Type 0
-NamesDuration duration bad.Word = has_lf duration ≡ true
-NamesDuration duration (bad.Duration text) = (has_lf duration ≡ false) × (text.bytes.items ≡ duration)
-NamesDuration duration other = ⊥
-
--- the milliseconds of a duration
-abbrev pub IsLimitOf : (duration : List ℕ) → Result (Option ℕ) Ending → Type 0
-IsLimitOf duration (Ok None) = ⊥
-IsLimitOf duration (Ok (Some millis)) = SpellsDuration duration millis × (millis ≤ MOST_MILLIS)
-IsLimitOf duration (Err (Refused words)) = IsNoDuration duration × NamesDuration duration words
-IsLimitOf duration (Err (Stopped report)) = ⊥
-IsLimitOf duration (Err (Failed fault)) = IsNoDuration duration × (fault ≡ Memory)
-
--- those of the duration that is told, or none if none is told; text gives its bytes
-abbrev pub IsLimit : {T : Type 0} → (text : T → List ℕ) → Option T → Result (Option ℕ) Ending → Type 0
-IsLimit text None result = result ≡ Ok None
-IsLimit text (Some duration) result = IsLimitOf (text duration) result
 
 -- a wait for this isn't the same as two of them one after the other
 abbrev pub IsRestart : (want : List ℕ) → Type 0

@@ -2,7 +2,7 @@
 ghost use Rattle.std.specs.Prelude.{◌≡◌, ◌==◌, position};
 ghost use Rattle.hub_commands.specs.Hints.{Hints, first_word, form_hint, hint_in, hint_of, refusal_in};
 
-use crate::noting::write_line;
+use hub_ask::write_note;
 use hub_io::Sink;
 use hub_protocol::BorrowedReply;
 use hub_requests::Refusal;
@@ -133,6 +133,6 @@ pub(crate) fn note_hint<F: Sink>(line: &[u8], reply: BorrowedReply<'_>, notes: &
         notes.old notes.new line.now (refusal_in reply.entry) }
 {
     if let Some(refusal) = refusal_in(reply) {
-        write_line(hint_of(line, refusal), notes);
+        write_note(hint_of(line, refusal), notes);
     }
 }

@@ -1,6 +1,6 @@
 //! The subcommand `hold`: a will for a service, for as long as standard input goes on.
 ghost use Rattle.std.specs.Prelude.{◌≡◌, ◌<◌, length, IfOk, IfErr, OnOk};
-ghost use Rattle.hub_look.specs.Streams.{streams};
+ghost use Rattle.hub_ask.specs.Streams.{streams};
 ghost use Rattle.hub_dialing.specs.Dialing.{dialing};
 ghost use Rattle.hub_commands.specs.Holding.{FailsToAskEach, FailsToLeave, FailsToRead, FailsToSay, HoldsAsTold, IsAsked, IsHeld, IsLeftSo, IsReadOut, IsSaid, request_of};
 

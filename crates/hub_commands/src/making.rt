@@ -1,15 +1,15 @@
 //! The subcommand `make`: fifodirs as they are wanted.
 ghost use Rattle.std.specs.Prelude.{◌≡◌, ◌≢◌, map, false, MatchBool, IfOk, IfErr, IfSome, IfNone};
 ghost use Rattle.std.specs.List.{list_all};
-ghost use Rattle.hub_look.specs.Streams.{streams};
+ghost use Rattle.hub_ask.specs.Streams.{streams};
 ghost use Rattle.hub_requests.specs.Names.{is_name};
 ghost use Rattle.hub_requests.specs.declared.reply.Refusal.TheVariants.{Exists};
 ghost use Rattle.hub_dialing.specs.Dialing.{dialing};
 ghost use Rattle.hub_commands.specs.Making.{FailsToLook, FailsToMake, FailsToMakeEach, IsCompared, IsJudged, IsMade, MakesAsTold, MakesEach, about_told, made_told, outcome_after};
 
-use crate::noting::{note, note_refusal};
+use crate::noting::note_refusal;
 use crate::shaping::{request_for, shape_of, unlike_text};
-use hub_ask::{ANSWER, AskError, Client, Outcome, Replies, Requests};
+use hub_ask::{ANSWER, AskError, Client, Outcome, Replies, Requests, note};
 use hub_dialing::Dial;
 use hub_endings::{BadWords, Ending};
 use hub_io::Sink;

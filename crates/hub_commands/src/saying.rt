@@ -1,11 +1,10 @@
 //! The lines that say for what a wait waits, if it isn't for a service yet.
 ghost use Rattle.std.specs.Prelude.{◌≡◌, true, false, OnOk, OnErr};
-ghost use Rattle.hub_look.specs.Streams.{IsToldTo};
+ghost use Rattle.hub_ask.specs.Streams.{IsToldTo};
 ghost use Rattle.hub_commands.specs.Sayings.{AreSaid, IsSaid, are, hub_line, names_line};
 
-use crate::noting::write_line;
 use crate::waiting::Delay;
-use hub_ask::Deadline;
+use hub_ask::{Deadline, write_note};
 use hub_io::Sink;
 use std::alloc::{AllocError, Global};
 use std::rt::Clock;
@@ -98,7 +97,7 @@ fn say_hub<F: Sink>(alloc: Global, socket: &str, notes: &mut F) -> Result<(), Al
     ensures err { OnErr result (notes.new ≡ notes.old) }
 {
     let line = format!(in alloc; "ftrighub: waiting for the hub at {socket}\n")?;
-    write_line(line.as_bytes(), notes);
+    write_note(line.as_bytes(), notes);
     Ok(())
 }
 
@@ -119,6 +118,6 @@ fn say_names<F: Sink>(alloc: Global, names: &[&str], notes: &mut F) -> Result<()
     let text = list.as_str();
     let verb = are(names.len());
     let line = format!(in alloc; "ftrighub: waiting until {text} {verb} made\n")?;
-    write_line(line.as_bytes(), notes);
+    write_note(line.as_bytes(), notes);
     Ok(())
 }

@@ -1,6 +1,6 @@
 //! The subcommand `tell`: where a service is.
 ghost use Rattle.std.specs.Prelude.{◌≡◌, IfOk, IfErr};
-ghost use Rattle.hub_look.specs.Streams.{streams};
+ghost use Rattle.hub_ask.specs.Streams.{streams};
 ghost use Rattle.hub_requests.specs.declared.request.Request.TheVariants as request;
 ghost use Rattle.hub_dialing.specs.Dialing.{dialing};
 ghost use Rattle.hub_commands.specs.Telling.{FailsToTell, IsTold, TellsAsTold, verdict_of};

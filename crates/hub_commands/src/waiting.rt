@@ -6,16 +6,15 @@ ghost use Rattle.hub_ask.specs.declared.duration.TheConstants.{MOST_TURNS};
 ghost use Rattle.hub_ask.specs.declared.waiting.TheConstants.{GRACE};
 ghost use Rattle.hub_client.specs.Passing.{has_lf};
 ghost use Rattle.hub_dialing.specs.Dialing.{dialing};
-ghost use Rattle.hub_commands.specs.Waiting.{Begins, EndsTry, GoesOn, IsLimit, IsRestart, IsTried, WaitsAsTold, WaitsOn, wishing};
+ghost use Rattle.hub_commands.specs.Waiting.{Begins, EndsTry, GoesOn, IsRestart, IsTried, WaitsAsTold, WaitsOn, wishing};
 
-use crate::breaking::breaks;
 use crate::saying::Sayings;
 use hub_ask::{
     AskError, Client, Deadline, GRACE, Line, MOST_TURNS, Outcome, Replies, Requests, delay_of,
     end_wait, millis_of, wait_line,
 };
 use hub_dialing::Dial;
-use hub_endings::{BadWords, Ending, Fault};
+use hub_endings::{BadWords, Ending, Fault, limit_of};
 use hub_io::Sink;
 use hub_options::Wish;
 use std::alloc::Global;
@@ -36,22 +35,6 @@ pub(crate) enum Delay {
     Names,
     /// Nothing: the longest wait of a hub is over.
     Time,
-}
-
-/// The milliseconds of this duration, if there is one. A text that is none is refused.
-pub(crate) fn limit_of(alloc: Global, timeout: Option<&str>) -> Result<Option<u64>, Ending>
-    ensures { IsLimit (λ text. text.now) timeout.entry result }
-{
-    let Some(text) = timeout else {
-        return Ok(None);
-    };
-    if let Some(millis) = millis_of(text) {
-        return Ok(Some(millis));
-    }
-    if breaks(text) {
-        return Err(Ending::Refused(BadWords::Word));
-    }
-    Err(Ending::Refused(BadWords::Duration(String::from_str(alloc, text)?)))
 }
 
 // Whether a service has to go down during the wait, so that two waits one after the other aren't one.

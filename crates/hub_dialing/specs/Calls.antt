@@ -7,7 +7,7 @@ use Rattle.hub_client.specs.declared.fault.RelayError.TheVariants as relay
 use Rattle.hub_endings.specs.declared.fault.Fault.{Fault}
 use Rattle.hub_endings.specs.declared.fault.Fault.TheVariants.{Relay}
 use Rattle.hub_io.specs.Telling.{Rises}
-use Rattle.hub_server.specs.Sessions.{Reading, Writing}
+use Rattle.hub_io.specs.Counted.{Reading, Writing}
 
 -- the result of a call whose relay ended so
 abbrev pub call_result : Result ℕ RelayError → Result ℕ Fault

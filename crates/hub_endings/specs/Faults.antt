@@ -15,7 +15,7 @@ use Rattle.std.specs.declared.io.ErrorKind.{ErrorKind}
 use Rattle.std.specs.declared.io.ErrorKind.TheVariants.{NotFound, NotADirectory, PermissionDenied, ReadOnlyFilesystem, StorageFull, QuotaExceeded, OutOfMemory}
 use Rattle.hub_io.specs.declared.fault.FrontError.{FrontError}
 use Rattle.hub_io.specs.declared.fault.FrontError.TheVariants as passing
-use Rattle.hub_server.specs.Reports.{serve_text}
+use Rattle.hub_reports.specs.Reports.{serve_text}
 use Rattle.hub_requests.specs.Texts.{word_of}
 use Rattle.hub_endings.specs.declared.refused_line.RefusedLine.{RefusedLine}
 

@@ -1,5 +1,6 @@
 pub mod Faults
 pub mod HubLines
 pub mod BadWords
+pub mod Words
 pub mod Endings
 pub mod Troubles

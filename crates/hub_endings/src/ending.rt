@@ -9,7 +9,7 @@ use crate::fault::Fault;
 use crate::stopped::tell_faults;
 use hub_ask::AskError;
 use hub_io::FrontError;
-use hub_server::Report;
+use hub_reports::Report;
 use std::alloc::{AllocError, Global};
 use std::io::Write;
 use std::{fmt, io};

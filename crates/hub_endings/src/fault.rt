@@ -11,7 +11,7 @@ use crate::refused_line::RefusedLine;
 use hub_ask::AskError;
 use hub_client::RelayError;
 use hub_io::FrontError;
-use hub_server::ServeError;
+use hub_reports::ServeError;
 use std::alloc::{AllocError, Global};
 use std::error::Error;
 use std::io::Write;

@@ -20,6 +20,7 @@ mod refused_line;
 mod stop_cause;
 mod stopped;
 mod trouble;
+mod words;
 
 pub use ending::{BadWords, Ending, end_status, tell_end};
 pub use fault::Fault;
@@ -32,3 +33,4 @@ pub use refused_line::RefusedLine;
 pub use stop_cause::StopCause;
 pub use stopped::tell_faults;
 pub use trouble::{Trouble, TroubleAt};
+pub use words::{any_breaks, breaks, limit_of};

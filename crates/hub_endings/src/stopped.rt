@@ -5,7 +5,7 @@ ghost use Rattle.hub_endings.specs.Faults.{session_line, session_lines, report_l
 
 use crate::fault::Fault;
 use hub_io::FrontError;
-use hub_server::Report;
+use hub_reports::Report;
 use std::alloc::Global;
 use std::io;
 use std::io::Write;

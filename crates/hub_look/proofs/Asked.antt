@@ -5,7 +5,7 @@ use Rattle.hub_requests.specs.declared.reply.Reply.{Reply}
 use Rattle.hub_ask.specs.declared.fault.AskError.{AskError}
 use Rattle.hub_ask.specs.declared.outcome.Outcome.{Outcome}
 use Rattle.hub_look.specs.Stops.{IsOwnStop, StopsWith}
-use Rattle.hub_look.specs.Streams.{IsToldTo, Streams}
+use Rattle.hub_ask.specs.Streams.{IsToldTo, Streams}
 use Rattle.hub_look.specs.Follows.{Beginning, Manner, Scene, EndsFollow, EndsLookAt, FollowsTo, GoesOn, IsSeenTo, IsUnderWay, LooksOn, AreAsked, IsSaid, IsTaken, EndsLooks, EndsTake, again_line, begins_by, scene}
 use Rattle.hub_look.specs.Subscribing.{AreBegun, name_of}
 use Rattle.hub_look.specs.declared.following.Following.{Following}

@@ -8,7 +8,7 @@ use Rattle.hub_ask.specs.declared.fault.AskError.TheVariants.{Relay}
 use Rattle.hub_ask.specs.declared.outcome.Outcome.{Outcome}
 use Rattle.hub_ask.specs.declared.outcome.Outcome.TheVariants.{Done}
 use Rattle.hub_look.specs.Stops.{IsFaultOf, IsOwnFault, IsOwnStop, IsRefusal}
-use Rattle.hub_look.specs.Streams.{Streams}
+use Rattle.hub_ask.specs.Streams.{Streams}
 use Rattle.hub_look.specs.declared.stop.Stop.{Stop}
 use Rattle.hub_look.specs.declared.stop.Stop.TheVariants.{Fault}
 use Rattle.hub_look.specs.Tables.{FailsToShow, FailsToShowAll, ListsNames, ShowsAll, ShowsTable, Finding, AreDescribed, IsDescribed, IsTable, head_of, outcome_after, outcome_of_all, row_by, rows_of, table_of, top_of, width_of}

@@ -14,7 +14,7 @@ use Rattle.hub_protocol.specs.declared.replies.BorrowedReply.TheVariants as show
 use Rattle.hub_protocol.proofs.FormLines.{fields_of-join}
 use Rattle.hub_protocol.proofs.Visible.{visible_names}
 use Rattle.hub_ask.specs.Asking.{IsAnswered}
-use Rattle.hub_look.specs.Streams.{IsHeard, IsReplied, Streams}
+use Rattle.hub_ask.specs.Streams.{IsHeard, IsReplied, Streams}
 use Rattle.hub_look.specs.Tables.{AreListed, ListsNames}
 
 -- the line that was heard is that of the reply

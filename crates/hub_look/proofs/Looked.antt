@@ -1,5 +1,5 @@
 -- What a look at a name shows.
-use Rattle.std.proofs.Common.{◌≡◌, ℕ, List, [], ◌++◌, codes, append-nil, Result, Ok, Err, inl, inr, refl, sym, ap, subst}
+use Rattle.std.proofs.Common.{◌≡◌, ℕ, List, [], ◌++◌, codes, append-nil, Result, Ok, Err, inl, inr, sym, ap, subst}
 use Rattle.hub_record.specs.declared.Status.{Status}
 use Rattle.hub_requests.specs.declared.about.About.{About}
 use Rattle.hub_requests.specs.declared.request.Request.{Request}
@@ -12,9 +12,8 @@ use Rattle.hub_protocol.specs.Spelling.{form_of, spelling}
 use Rattle.hub_protocol.specs.declared.replies.BorrowedReply.TheVariants as shown
 use Rattle.hub_ask.specs.Hearing.{line_of}
 use Rattle.hub_ask.specs.declared.heard.Heard.{Heard}
-use Rattle.hub_look.specs.Streams.{Streams}
+use Rattle.hub_ask.specs.Streams.{Streams}
 use Rattle.hub_look.specs.Tables.{IsAbout, IsDescribed, IsJudged, IsLookedUp, IsRefused}
-use Rattle.hub_look.specs.declared.describing.Description.{Description}
 use Rattle.hub_look.proofs.Listed.{replied_so}
 
 -- the lines of two words

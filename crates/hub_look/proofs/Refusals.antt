@@ -5,15 +5,16 @@ use Rattle.hub_requests.specs.declared.request.Request.{Request}
 use Rattle.hub_requests.specs.declared.reply.Refusal.{Refusal}
 use Rattle.hub_requests.specs.declared.reply.Reply.{Reply}
 use Rattle.hub_requests.specs.declared.reply.Reply.TheVariants as reply
-use Rattle.hub_protocol.specs.Replies.{IsOfHub, IsShown, Shows}
+use Rattle.hub_protocol.specs.Replies.{IsOfHub, IsShown}
 use Rattle.hub_protocol.specs.Spelling.{form_of, spelling}
 use Rattle.hub_protocol.specs.declared.replies.BorrowedReply.TheVariants as shown
 use Rattle.hub_ask.specs.Asking.{IsAnswered}
 use Rattle.hub_ask.specs.Hearing.{line_of}
 use Rattle.hub_ask.specs.declared.heard.Heard.{Heard}
+use Rattle.hub_ask.proofs.Replied.{no_shown}
 use Rattle.hub_look.specs.Looking.{LooksBy}
-use Rattle.hub_look.specs.Streams.{IsHeard, IsReplied, IsToldTo, Streams}
-use Rattle.hub_look.specs.Tables.{IsFoundBy, IsLookedUp, IsRefused, note_of, reason_of}
+use Rattle.hub_ask.specs.Streams.{IsHeard, IsReplied, IsToldTo, Streams, note_of}
+use Rattle.hub_look.specs.Tables.{IsFoundBy, IsLookedUp, IsRefused, reason_of}
 use Rattle.hub_look.specs.declared.stop.Stop.{Stop}
 
 -- a hub would refuse the line
@@ -25,10 +26,6 @@ refused_here sent had noted notes faults failed asked line name look refusal spe
   why = inr (refl, subst (LooksBy (spelling (form_of asked))) is (subst (λ it. LooksBy it look) (sym spells) looks));
   told = record { sent = refl; had = refl; noted = told };
 }
-
-pub no_shown : (refusal : Refusal) (it : Reply) → Shows (shown.No refusal) it → it ≡ reply.No refusal
-no_shown refusal (reply.No other) same = ap reply.No (sym same)
-no_shown refusal it h = absurd h
 
 -- the hub refused the look
 pub refused_there : (sent sends had has noted notes : Option (List ℕ)) (faults failed : Option ℕ) (asked : Request) (name text : List ℕ) (refusal : Refusal)

@@ -1,7 +1,6 @@
 -- How a fifodir was subscribed to.
 use Rattle.std.proofs.Common.{◌≡◌, ◌≢◌, ℕ, ◌+◌, suc, ◌<◌, List, [], ◌∷◌, ◌++◌, Option, None, Some, MatchOption, Result, Ok, Err, IfOk, map, length, take, get_or, refl, sym, ap, ◌∙◌, subst, inl, inr}
 use Rattle.std.proofs.lemmas.List.{take_more}
-use Rattle.hub_requests.specs.declared.request.Request.{Request}
 use Rattle.hub_requests.specs.declared.request.Request.TheVariants as request
 use Rattle.hub_requests.specs.declared.reply.Refusal.{Refusal}
 use Rattle.hub_requests.specs.declared.reply.Reply.{Reply}
@@ -12,7 +11,7 @@ use Rattle.hub_protocol.specs.declared.replies.BorrowedReply.TheVariants as show
 use Rattle.hub_record.specs.declared.Status.{Status}
 use Rattle.hub_ask.specs.Hearing.{line_of}
 use Rattle.hub_ask.specs.declared.heard.Heard.{Heard}
-use Rattle.hub_look.specs.Streams.{IsHeard, Streams}
+use Rattle.hub_ask.specs.Streams.{IsHeard, Streams}
 use Rattle.hub_look.specs.Subscribing.{AreBegun, AreCancelled, IsBegun, IsBetween, IsCancelled, IsHandled, IsNew, IsNumbered, IsSubscribed, IsTried, name_of, sub_line}
 use Rattle.hub_look.specs.Tables.{IsFoundBy, IsJudged, Verdict}
 use Rattle.hub_look.specs.declared.following.Form.{Form}

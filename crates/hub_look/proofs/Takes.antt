@@ -1,13 +1,11 @@
 -- What a reply makes of a fifodir that is followed.
 use Rattle.std.proofs.Common.{◌≡◌, ◌≢◌, ℕ, List, Bool, IsErrAnd, true, false, if◌then◌else◌, Option, None, Some, MatchOption, Result, Ok, Err, OnOk, IfErr, length, refl, sym, ap, ◌∙◌, subst, codes, Bor}
 use Rattle.std.specs.Io.KnownBytes.{Appends}
-use Rattle.hub_requests.specs.Texts.{text_of}
-use Rattle.hub_requests.specs.declared.request.Request.{Request}
 use Rattle.hub_requests.specs.declared.request.Request.TheVariants as request
 use Rattle.hub_requests.specs.declared.reply.Refusal.{Refusal}
 use Rattle.hub_requests.specs.declared.reply.Reply.{Reply}
 use Rattle.hub_requests.specs.declared.reply.Reply.TheVariants as reply
-use Rattle.hub_protocol.specs.Replies.{IsOfHub, IsShown, Shows}
+use Rattle.hub_protocol.specs.Replies.{IsShown, Shows}
 use Rattle.hub_protocol.specs.Spelling.{form_of, spelling}
 use Rattle.hub_protocol.specs.declared.replies.BorrowedReply.{BorrowedReply}
 use Rattle.hub_protocol.specs.declared.replies.BorrowedReply.TheVariants as shown
@@ -21,13 +19,13 @@ use Rattle.hub_ask.specs.declared.outcome.Outcome.TheVariants as outcome
 use Rattle.hub_look.specs.EventLines.{IsTextOf, number_after}
 use Rattle.hub_look.specs.Follows.{Manner, IsTaken, IsWrittenFor, EndsTake, FailsToWrite, GoesOn, ends_by, followed_after, told_of, written_of}
 use Rattle.hub_look.specs.Subscribing.{name_of}
-use Rattle.hub_look.specs.Streams.{IsNoted, IsReplied, IsToldTo, Streams}
-use Rattle.hub_look.specs.Tables.{note_of, reason_of}
+use Rattle.hub_ask.specs.Streams.{IsNoted, IsToldTo, Streams, note_of}
+use Rattle.hub_look.specs.Tables.{reason_of}
 use Rattle.hub_look.specs.declared.following.Form.{Form}
 use Rattle.hub_look.specs.declared.stop.Stop.{Stop}
 use Rattle.hub_look.specs.declared.stop.Stop.TheVariants as stops
 use Rattle.hub_look.specs.declared.subscribing.Followed.{Followed}
-use Rattle.hub_look.proofs.Refusals.{no_shown}
+use Rattle.hub_ask.proofs.Replied.{no_shown, replied_by}
 
 -- ---- which reply is shown
 
@@ -42,17 +40,6 @@ end_shown it h = absurd h
 evicted_shown : (it : Reply) → Shows shown.Evicted it → it ≡ reply.Evicted
 evicted_shown reply.Evicted h = refl
 evicted_shown it h = absurd h
-
--- the reply to a request, by what was shown of it
-pub replied_by : (sent sends had has noted : Option (List ℕ)) (faults : Option ℕ) (asked : Request) (text : List ℕ) (read : BorrowedReply) (it : Reply) (h : IsShown text read)
-    → h.reply ≡ it → IsAnswered sent sends had has (spelling (form_of asked)) text
-    → IsReplied (record { sent = sent; had = had; noted = noted; faults = faults }) (record { sent = sends; had = has; noted = noted; faults = faults }) asked it
-replied_by sent sends had has noted faults asked text read it h same answered = record {
-  of_hub = subst IsOfHub same h.of_hub;
-  answered = subst (IsAnswered sent sends had has (spelling (form_of asked))) (h.spelled ∙ ap text_of same) answered;
-  noted = refl;
-  faults = refl;
-}
 
 -- ---- one request
 

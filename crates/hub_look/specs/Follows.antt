@@ -13,9 +13,9 @@ use Rattle.hub_ask.specs.declared.outcome.Outcome.{Outcome}
 use Rattle.hub_ask.specs.declared.outcome.Outcome.TheVariants as outcome
 use Rattle.hub_look.specs.EventLines.{IsTextOf, number_after}
 use Rattle.hub_look.specs.Stops.{IsOwnStop, StopsWith}
-use Rattle.hub_look.specs.Streams.{Streams, IsReplied, IsNoted}
+use Rattle.hub_ask.specs.Streams.{Streams, IsReplied, IsNoted, note_of}
 use Rattle.hub_look.specs.Subscribing.{AreBegun, name_of}
-use Rattle.hub_look.specs.Tables.{note_of, reason_of}
+use Rattle.hub_look.specs.Tables.{reason_of}
 use Rattle.hub_look.specs.declared.following.Following.{Following}
 use Rattle.hub_look.specs.declared.following.Form.{Form}
 use Rattle.hub_look.specs.declared.subscribing.Followed.{Followed}

@@ -1,6 +1,5 @@
 pub mod Looking
 pub mod Looks
-pub mod Streams
 pub mod Stops
 pub mod ServiceStates
 pub mod Descriptions

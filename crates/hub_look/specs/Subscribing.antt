@@ -7,7 +7,7 @@ use Rattle.hub_requests.specs.declared.reply.Reply.TheVariants as reply
 use Rattle.hub_record.specs.declared.Status.{Status}
 use Rattle.hub_ask.specs.Lines.{joined}
 use Rattle.hub_look.specs.Looking.{LooksBy}
-use Rattle.hub_look.specs.Streams.{Streams, IsReplied}
+use Rattle.hub_ask.specs.Streams.{Streams, IsReplied}
 use Rattle.hub_look.specs.Tables.{IsJudged}
 use Rattle.hub_look.specs.declared.following.Form.{Form}
 use Rattle.hub_look.specs.declared.following.Form.TheVariants.{Line, Plain, Json}

@@ -21,7 +21,7 @@ use Rattle.hub_ask.specs.declared.outcome.Outcome.{Outcome}
 use Rattle.hub_ask.specs.declared.outcome.Outcome.TheVariants.{Done, Refused}
 use Rattle.hub_look.specs.Descriptions.{columns_of, object_of, row_of}
 use Rattle.hub_look.specs.Looking.{LooksBy}
-use Rattle.hub_look.specs.Streams.{Streams, IsHeard, IsReplied, IsNoted}
+use Rattle.hub_ask.specs.Streams.{Streams, IsHeard, IsReplied, IsNoted, note_of}
 use Rattle.hub_look.specs.declared.describing.Description.{Description}
 
 -- how the fifodir of a name is, or why the hub doesn't say
@@ -40,10 +40,6 @@ reason_of Right = codes "this socket only looks: ask at the hub's own socket"
 reason_of Name = codes "no such fifodir"
 reason_of Closed = codes "closed"
 reason_of refusal = codes "no " ++ word_of refusal
-
--- the line about a name
-abbrev pub note_of : (name reason : List ℕ) → List ℕ
-note_of name reason = name ++ (codes ": " ++ (reason ++ 10 ∷ []))
 
 -- ---- what is asked
 

@@ -5,7 +5,7 @@ ghost use Rattle.hub_ask.specs.Asking.{IsAnswered};
 ghost use Rattle.hub_ask.specs.Hearing.{line_of};
 ghost use Rattle.hub_ask.specs.Lines.{joined};
 ghost use Rattle.hub_look.specs.Stops.{IsOwnFault, IsOwnStop};
-ghost use Rattle.hub_look.specs.Streams.{IsHeard, streams};
+ghost use Rattle.hub_ask.specs.Streams.{IsHeard, streams};
 ghost use Rattle.hub_look.specs.Subscribing.{IsHandled};
 ghost use Rattle.hub_look.specs.Tables.{IsFoundBy, IsJudged, IsLookedUp};
 ghost use Rattle.hub_look.specs.Looking.{IsLook};

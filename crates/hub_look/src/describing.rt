@@ -1,7 +1,7 @@
 //! What a hub says of a fifodir: what it is, and how it is.
 ghost use Rattle.std.specs.Prelude.{◌≡◌, IfOk, IfErr};
 ghost use Rattle.hub_look.specs.Stops.{IsOwnFault};
-ghost use Rattle.hub_look.specs.Streams.{streams};
+ghost use Rattle.hub_ask.specs.Streams.{streams};
 ghost use Rattle.hub_look.specs.Tables.{IsAbout, IsDescribed};
 
 use crate::asking::{look_up, state_of};

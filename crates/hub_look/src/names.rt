@@ -2,7 +2,7 @@
 ghost use Rattle.std.specs.Prelude.{◌≡◌, ◌≢◌, ◌++◌, [], map, IfOk, IfErr, OnOk};
 ghost use Rattle.hub_protocol.specs.Spelling.{fields_of};
 ghost use Rattle.hub_look.specs.Stops.{IsOwnStop};
-ghost use Rattle.hub_look.specs.Streams.{streams};
+ghost use Rattle.hub_ask.specs.Streams.{streams};
 ghost use Rattle.hub_look.specs.Tables.{ListsNames};
 
 use crate::asking::ask_about;

@@ -3,15 +3,15 @@ ghost use Rattle.std.specs.Prelude.{◌≡◌, length, map, IfOk, IfErr, MatchBo
 ghost use Rattle.std.specs.List.{list_all};
 ghost use Rattle.hub_look.specs.Follows.{EndsByItself, EndsFollow, EndsLookAt, EndsLooks, FailsToFollow, FollowsTo, IsSeenTo, LooksOn, again_line, begins_by, manner_of, names_of, scene};
 ghost use Rattle.hub_look.specs.Stops.{IsOwnStop};
-ghost use Rattle.hub_look.specs.Streams.{IsToldTo, streams};
+ghost use Rattle.hub_ask.specs.Streams.{IsToldTo, streams};
 ghost use Rattle.hub_look.specs.Subscribing.{name_of};
 
 use crate::following::Following;
 use crate::peer::Peer;
-use crate::stop::{Stop, write_note};
+use crate::stop::Stop;
 use crate::subscribing::{Followed, subscribe_to_all};
 use crate::taking::take_and_write;
-use hub_ask::{AskError, Outcome, Replies, Requests};
+use hub_ask::{AskError, Outcome, Replies, Requests, write_note};
 use hub_io::Sink;
 use std::alloc::Global;
 use std::rt::Clock;

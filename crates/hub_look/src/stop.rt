@@ -1,16 +1,16 @@
 //! Why a command ends before its work is done.
-ghost use Rattle.std.specs.Prelude.{◌≡◌, ◌++◌, ◌∷◌, [], IfOk, IfErr, OnOk, codes, MatchResult};
+ghost use Rattle.std.specs.Prelude.{◌≡◌, ◌++◌, ◌∷◌, [], IfErr, OnOk, MatchResult};
 ghost use Rattle.std.specs.Io.KnownBytes.{Appends};
 ghost use Rattle.hub_io.specs.Faults.{AppendsPart};
-ghost use Rattle.hub_look.specs.Streams.{IsToldTo};
-ghost use Rattle.hub_look.specs.Tables.{note_of, reason_of};
+ghost use Rattle.hub_ask.specs.Streams.{IsToldTo, note_of};
+ghost use Rattle.hub_look.specs.Tables.{reason_of};
 ghost use Rattle.hub_ask.specs.declared.fault.AskError.TheVariants as ask;
 ghost use Rattle.hub_client.specs.declared.fault.RelayError.TheVariants as relay;
 ghost use Rattle.hub_look.specs.declared.stop.Stop.TheVariants as stops;
 
-use hub_ask::{AskError, Outcome};
+use hub_ask::{AskError, Outcome, note, note_on, write_note};
 use hub_client::RelayError;
-use hub_io::{FrontError, Sink, write_whole};
+use hub_io::{Sink, write_whole};
 use hub_protocol::write_reply;
 use hub_requests::{Refusal, Reply};
 use std::alloc::{AllocError, Global};
@@ -65,23 +65,6 @@ pub(crate) fn write_text<W: Sink>(output: &mut W, text: &[u8]) -> Result<(), Sto
     }
 }
 
-/// Writes a note. That a write fails isn't told.
-pub(crate) fn write_note<F: Sink>(note: &[u8], notes: &mut F)
-    ensures { IsToldTo (F.contents notes.old) (F.contents notes.new)
-        (F.faults notes.old) (F.faults notes.new) note.now }
-{
-    let _: Result<(), FrontError> = write_whole(notes, note);
-}
-
-// The beginning of a note on this name.
-fn note_on(alloc: Global, name: &str) -> Result<Vec<u8>, AllocError>
-    ensures { IfOk result (λ it. it.items ≡ name.now ++ codes ": ") }
-{
-    let mut note = Vec::from_slice(alloc, name.as_bytes())?;
-    note.extend_from_slice(b": ")?;
-    Ok(note)
-}
-
 // Puts a line that says why the hub refuses something behind these bytes.
 fn put_reason(refusal: Refusal, line: &mut Vec<u8>) -> Result<(), AllocError>
     ensures { OnOk result (line.new.items ≡ line.old.items ++ (reason_of refusal ++ 10 ∷ [])) }
@@ -106,7 +89,7 @@ pub(crate) fn tell_refusal<F: Sink>(
     ensures ok { OnOk result (IsToldTo (F.contents notes.old) (F.contents notes.new)
         (F.faults notes.old) (F.faults notes.new) (note_of name.now (reason_of refusal))) }
 {
-    let mut note = note_on(alloc, name)?;
+    let mut note = note_on(alloc, name.as_bytes())?;
     put_reason(refusal, &mut note)?;
     write_note(&note, notes);
     Ok(())
@@ -122,9 +105,5 @@ pub(crate) fn tell<F: Sink>(
     ensures ok { OnOk result (IsToldTo (F.contents notes.old) (F.contents notes.new)
         (F.faults notes.old) (F.faults notes.new) (note_of name.now what.now)) }
 {
-    let mut note = note_on(alloc, name)?;
-    note.extend_from_slice(what.as_bytes())?;
-    note.push(b'\n')?;
-    write_note(&note, notes);
-    Ok(())
+    note(alloc, name.as_bytes(), what.as_bytes(), notes)
 }

@@ -3,7 +3,7 @@ ghost use Rattle.std.specs.Prelude.{◌≡◌, ◌++◌, ◌∷◌, [], map, Ok,
 ghost use Rattle.hub_record.specs.declared.Status.{Status as status};
 ghost use Rattle.hub_ask.specs.Lines.{joined};
 ghost use Rattle.hub_look.specs.Stops.{IsOwnStop};
-ghost use Rattle.hub_look.specs.Streams.{streams};
+ghost use Rattle.hub_ask.specs.Streams.{streams};
 ghost use Rattle.hub_look.specs.Subscribing.{AreBegun, IsBegun, IsCancelled, IsNumbered, IsSubscribed, IsTried, name_of};
 ghost use Rattle.hub_look.specs.Tables.{IsJudged};
 

@@ -1,7 +1,7 @@
 //! A table of how fifodirs are, or an object of JSON for each.
 ghost use Rattle.std.specs.Prelude.{◌≡◌, ◌⊎◌, ◌++◌, map, IfOk, IfErr, OnOk};
 ghost use Rattle.hub_look.specs.Stops.{IsFaultOf, IsOwnFault, IsRefusal};
-ghost use Rattle.hub_look.specs.Streams.{streams};
+ghost use Rattle.hub_ask.specs.Streams.{streams};
 ghost use Rattle.hub_look.specs.Tables.{FailsToShow, FailsToShowAll, FailsToShowStates, IsTable, ShowsAll, ShowsStates, ShowsTable, headings_of, outcome_after, row_by, top_of, width_of};
 
 use crate::describing::{Description, describe};

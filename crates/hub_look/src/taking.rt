@@ -1,12 +1,12 @@
 //! What comes next of a fifodir that is followed, and how it is written.
-ghost use Rattle.std.specs.Prelude.{◌≡◌, ℕ, List, length, true, Err, Ok, IfOk, IfErr, OnOk, if◌then◌else◌, is_some};
+ghost use Rattle.std.specs.Prelude.{◌≡◌, ℕ, List, length, true, Err, Ok, IfErr, OnOk, if◌then◌else◌, is_some};
 ghost use Rattle.std.specs.Io.KnownBytes.{Appends};
 ghost use Rattle.hub_requests.specs.declared.reply.Reply.{Reply as replies};
 ghost use Rattle.hub_ask.specs.declared.outcome.Outcome.TheVariants as outcome;
 ghost use Rattle.hub_look.specs.EventLines.{IsTextOf, number_after};
 ghost use Rattle.hub_look.specs.Follows.{EndsTake, FailsToWrite, GoesOn, IsTaken, manner_of, written_of};
 ghost use Rattle.hub_look.specs.Subscribing.{name_of};
-ghost use Rattle.hub_look.specs.Streams.{streams};
+ghost use Rattle.hub_ask.specs.Streams.{streams};
 ghost use Rattle.hub_look.specs.declared.stop.Stop.TheVariants as stops;
 
 use crate::asking::ask_once;

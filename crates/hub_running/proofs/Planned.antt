@@ -7,7 +7,7 @@ use Rattle.hub_dialing.specs.Calls.{Calling}
 use Rattle.hub_dialing.specs.Dialing.{Dialing}
 use Rattle.hub_running.specs.Running.{CarriesOut, Hands}
 use Rattle.hub_endings.specs.declared.ending.Ending.{Ending}
-use Rattle.hub_server.specs.Sessions.{Reading, Writing}
+use Rattle.hub_io.specs.Counted.{Reading, Writing}
 
 -- what is done with a plan is done with the same plan
 pub same_plan : {D SR SW CR CW R W F : Type 0} (d : Dialing D SR SW) (c : Calling D CR CW) (r : Reading R) (w : Writing W) (n : Writing F) (old new : Hands D R W F) (plan other : Plan)

@@ -7,8 +7,8 @@ use Rattle.hub_commands.specs.Asking.{Asks}
 use Rattle.hub_dialing.specs.Calls.{Calling, IsCall}
 use Rattle.hub_dialing.specs.Dialing.{Dialing}
 use Rattle.hub_commands.specs.Holding.{HoldsAsTold}
-use Rattle.hub_commands.specs.Following.{FollowsAsTold}
-use Rattle.hub_commands.specs.Looking.{ShowsStatus}
+use Rattle.hub_showing.specs.Following.{FollowsAsTold}
+use Rattle.hub_showing.specs.Looking.{ShowsStatus}
 use Rattle.hub_commands.specs.Making.{MakesAsTold}
 use Rattle.hub_commands.specs.Telling.{TellsAsTold}
 use Rattle.hub_commands.specs.Waiting.{WaitsAsTold, wishing}
@@ -19,8 +19,8 @@ use Rattle.hub_endings.specs.declared.fault.Fault.{Fault}
 use Rattle.hub_endings.specs.declared.fault.Fault.TheVariants.{Script, Memory}
 use Rattle.hub_io.specs.declared.fault.FrontError.{FrontError}
 use Rattle.hub_script.specs.Output.{Serves, Stops}
-use Rattle.hub_server.specs.Sessions.{Reading, Writing}
-use Rattle.hub_server.specs.declared.report.Report.{Report}
+use Rattle.hub_io.specs.Counted.{Reading, Writing}
+use Rattle.hub_reports.specs.declared.report.Report.{Report}
 
 -- what the program has: a dialer, and its three streams
 pub record Hands (D R W F : Type 0) : Type 0 where

@@ -4,16 +4,15 @@ ghost use Rattle.hub_dialing.specs.Dialing.{dialing};
 ghost use Rattle.hub_running.specs.Running.{CarriesOut, Judges, Runs};
 
 use hub_arguments::{Plan, Start, begin, own_socket, own_words};
-use hub_commands::{
-    ask_words, follow_as_told, hold_as_told, make_fifodirs, show_status, tell_state, wait_as_told,
-};
+use hub_commands::{ask_words, hold_as_told, make_fifodirs, tell_state, wait_as_told};
 use hub_dialing::{Dial, call};
 use hub_endings::{BadWords, Ending, Fault};
 use hub_io::{Sink, Source};
+use hub_reports::Report;
 use hub_requests::Enter;
 use hub_script::script;
-use hub_server::Report;
 use hub_serving::{serve, serve_forever};
+use hub_showing::{follow_as_told, show_status};
 use std::alloc::{AllocGlobal, Global};
 use std::fs::{File, Files};
 use std::io::ErrorKind;

@@ -4,7 +4,7 @@ use Rattle.std.proofs.lemmas.List.{length_push}
 use Rattle.hub_front.specs.declared.stay.Stay.{Stay}
 use Rattle.hub_server.specs.declared.gate.Next.TheVariants as next
 use Rattle.hub_server.specs.declared.promise.Session.{Session}
-use Rattle.hub_server.specs.declared.report.ServeError.{ServeError}
+use Rattle.hub_reports.specs.declared.report.ServeError.{ServeError}
 use Rattle.hub_server.specs.Gates.{Giving, Gave, IsAsked, StopsEarly}
 use Rattle.hub_server.specs.Promised.{AreOver, IsShare, streams_of}
 use Rattle.std.proofs.lemmas.List.Elements.{All-push}

@@ -6,7 +6,8 @@ use Rattle.std.proofs.lemmas.List.Elements.{All-head, All-tail}
 use Rattle.hub_front.specs.Serving.{Asking}
 use Rattle.hub_io.specs.declared.fault.FrontError.{FrontError}
 use Rattle.hub_front.specs.declared.stay.Stay.{Stay}
-use Rattle.hub_server.specs.Sessions.{Reading, Writing, IsResult}
+use Rattle.hub_io.specs.Counted.{Reading, Writing}
+use Rattle.hub_server.specs.Sessions.{IsResult}
 use Rattle.hub_server.specs.declared.promise.Session.{Session}
 use Rattle.hub_server.specs.Promised.{AreOver, IsShare, streams_of}
 use Rattle.hub_server.specs.Reports.{AreResults}

@@ -2,9 +2,9 @@
 use Rattle.std.specs.Prelude.{◌≡◌, ◌⊎◌, ℕ, ◌<◌, ◌≤◌, Bool, true, false, List, [], ◌∷◌, length}
 use Rattle.hub_server.specs.declared.gate.Next.{Next}
 use Rattle.hub_server.specs.declared.gate.Next.TheVariants.{Session, Failed, Over}
-use Rattle.hub_server.specs.declared.report.ServeError.{ServeError}
-use Rattle.hub_server.specs.declared.report.ServeError.TheVariants.{Spawn}
-use Rattle.hub_server.specs.declared.spawning.NoThread.{NoThread}
+use Rattle.hub_reports.specs.declared.report.ServeError.{ServeError}
+use Rattle.hub_reports.specs.declared.report.ServeError.TheVariants.{Spawn}
+use Rattle.hub_reports.specs.declared.spawning.NoThread.{NoThread}
 
 -- how a gate gives: the gate before, what it gives, the gate after
 abbrev pub Giving : Type 0 → Type 0 → Type 0 → Type 1

@@ -1,15 +1,12 @@
 -- What a report shows.
-use Rattle.std.specs.Prelude.{ℕ, Bool, List, codes, Result}
+use Rattle.std.specs.Prelude.{ℕ, Bool, List, Result}
 use Rattle.std.specs.List.{AllZip}
 use Rattle.hub_front.specs.Serving.{Asking}
 use Rattle.hub_front.specs.declared.stay.Stay.{Stay}
-use Rattle.hub_io.specs.Faults.{fault_text}
 use Rattle.hub_io.specs.declared.fault.FrontError.{FrontError}
-use Rattle.hub_io.specs.declared.fault.FrontError.TheVariants as passing
-use Rattle.hub_server.specs.declared.report.ServeError.{ServeError}
-use Rattle.hub_server.specs.declared.report.ServeError.TheVariants.{Spawn, Memory}
 use Rattle.hub_server.specs.Gates.{Giving, Closing, IsAsked, ThenCloses}
-use Rattle.hub_server.specs.Sessions.{Reading, Writing, IsResult}
+use Rattle.hub_io.specs.Counted.{Reading, Writing}
+use Rattle.hub_server.specs.Sessions.{IsResult}
 
 -- each session, which may stay so long, has its result, in order
 abbrev pub AreResults : {D R W : Type 0} → Stay → (D → Type 0) → Asking D → (D → D → Type 0) → Reading R → Writing W → List (R × W) → List (Result ℕ FrontError) → Type 0
@@ -22,8 +19,3 @@ pub record IsReport {D R W G : Type 0} (stay : Stay) (begins : D → Type 0) (as
   pub given : List (R × W)
   pub asked : ThenCloses closes (λ last. IsAsked gives most old given failed last) new
   pub each : AreResults stay begins asks ends r w given results
-
--- the text of an error
-abbrev pub serve_text : ServeError → List ℕ
-serve_text (Spawn refused) = codes "cannot start a session"
-serve_text Memory = fault_text passing.Memory

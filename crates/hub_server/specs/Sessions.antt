@@ -1,23 +1,13 @@
 -- What the result of one session shows.
-use Rattle.std.specs.Prelude.{◌≡◌, ◌≢◌, ℕ, List, Option, Result, Err, IfOk, IfErr}
+use Rattle.std.specs.Prelude.{◌≡◌, ◌≢◌, ℕ, Result, Err, IfOk, IfErr}
 use Rattle.hub_io.specs.Faults.{read_faults, write_faults}
 use Rattle.hub_front.specs.Serving.{Asking, Finished, ReadsWithin, most_reads}
 use Rattle.hub_front.specs.declared.stay.Stay.{Stay}
 use Rattle.hub_gather.specs.Gathering.{StoppedIn}
+use Rattle.hub_io.specs.Counted.{Reading, Writing}
 use Rattle.hub_io.specs.Telling.{Rises}
 use Rattle.hub_io.specs.declared.fault.FrontError.{FrontError}
 use Rattle.hub_io.specs.declared.fault.FrontError.TheVariants.{Memory}
-
--- what is counted of readers: what they have left, how many reads were made, and how many of them failed
-pub record Reading (R : Type 0) : Type 0 where
-  pub remaining : R → Option (List ℕ)
-  pub reads : R → Option ℕ
-  pub faults : R → Option ℕ
-
--- what is counted of writers: what they have got, and how many writes failed
-pub record Writing (W : Type 0) : Type 0 where
-  pub contents : W → Option (List ℕ)
-  pub faults : W → Option ℕ
 
 -- a desk that begins so has served the lines of the reader, in a session that may stay so long, as far as the result says, and was ended
 pub record IsServed {D R W : Type 0} (stay : Stay) (begins : D → Type 0) (asks : Asking D) (ends : D → D → Type 0) (r : Reading R) (w : Writing W)

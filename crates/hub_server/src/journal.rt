@@ -5,8 +5,8 @@ ghost use Rattle.hub_server.specs.Sessions.{IsEnded};
 
 use crate::desks::Desks;
 use crate::promise::Session;
-use crate::report::ServeError;
 use hub_io::{FrontError, Sink, Source};
+use hub_reports::ServeError;
 use std::alloc::AllocError;
 use std::sync::Wait;
 

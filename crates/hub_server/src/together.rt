@@ -9,21 +9,16 @@ use crate::desks::Desks;
 use crate::gate::{Gate, Next};
 use crate::journal::Untold;
 use crate::promise::Session;
-use crate::report::{Report, ServeError};
 use crate::serving::serve_session;
-use crate::spawning::{NoThread, spawn_with};
 use crate::started::{Started, join_over, results_of};
 use hub_front::Enter;
 use hub_io::{FrontError, Sink, Source};
+use hub_reports::{NoThread, Report, ServeError, spawn_with};
 use std::alloc::{AllocError, Global};
 use std::snapshot::Snapshot;
 use std::sync::atomic::{AtomicBool, Ordering};
 use std::sync::{Arc, Wait};
 use std::thread::Threads;
-
-/// The bytes of stack of a session's thread: 2 MiB. The deepest session that was found, with a pattern of 200 unclosed
-/// groups, takes 256 KiB.
-pub const STACK_SIZE: usize = 2 << 20;
 
 type Running<R, W, O> = Started<Result<u64, FrontError>, Session<R, W, O>>;
 

@@ -4,7 +4,8 @@ use Rattle.hub_front.specs.Serving.{Asking}
 use Rattle.hub_front.specs.declared.stay.Stay.{Stay}
 use Rattle.hub_io.specs.Telling.{Rises}
 use Rattle.hub_io.specs.declared.fault.FrontError.TheVariants.{Memory}
-use Rattle.hub_server.specs.Sessions.{Reading, Writing, IsEnded}
+use Rattle.hub_io.specs.Counted.{Reading, Writing}
+use Rattle.hub_server.specs.Sessions.{IsEnded}
 
 -- a count that stays grew by none
 grows_by_none : (told : Option ℕ) → Rises told told 0

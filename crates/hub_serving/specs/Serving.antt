@@ -3,7 +3,7 @@ use Rattle.std.specs.Prelude.{◌≡◌, ⊤}
 use Rattle.hub_endings.specs.declared.fault.Fault.{Fault}
 use Rattle.hub_endings.specs.declared.fault.Fault.TheVariants.{Listen, Taken, Notify, Setup, SetupLine, Lost, Look, Accept, Connect, Memory, Script, Serve, Session, Relay, Ask}
 use Rattle.hub_endings.specs.declared.listen_fault.ListenFault.TheVariants.{Untold}
-use Rattle.hub_server.specs.declared.report.ServeError.{ServeError}
+use Rattle.hub_reports.specs.declared.report.ServeError.{ServeError}
 
 -- it couldn't listen and doesn't tell why, memory ran out before the first session, or its sessions stopped so
 abbrev pub FailsToServe : (ServeError → Type 0) → Fault → Type 0

@@ -1,5 +1,5 @@
 use Rattle.std.proofs.Common.{◌≡◌, ◌∙◌, inl, inr, refl, true, false, subst, MatchOption}
-use Rattle.hub_look.specs.Streams.{streams}
+use Rattle.hub_ask.specs.Streams.{streams}
 use Rattle.hub_requests.specs.Names.{is_name}
 use Rattle.hub_requests.specs.declared.request.Request.TheVariants as request
 use Rattle.hub_dialing.specs.Dialing.{dialing}

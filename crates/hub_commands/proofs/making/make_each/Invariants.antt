@@ -1,5 +1,5 @@
 use Rattle.std.proofs.Common.{take}
-use Rattle.hub_look.specs.Streams.{streams}
+use Rattle.hub_ask.specs.Streams.{streams}
 use Rattle.hub_commands.specs.Making.{MakesEach}
 use Rattle.hub_commands.proofs.making.make_each.Given as goal
 

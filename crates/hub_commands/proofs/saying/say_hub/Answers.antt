@@ -1,9 +1,9 @@
 use Rattle.std.proofs.Common.{◌∙◌, subst}
-use Rattle.hub_look.specs.Streams.{IsToldTo}
+use Rattle.hub_ask.specs.Streams.{IsToldTo}
 use Rattle.hub_commands.proofs.saying.say_hub.Goals as goal
 
 pub returns-clause-ok : goal.returns-clause-ok
 returns-clause-ok g c =
     let made = c.in_ok-line.ensures.ok in
     let bytes = c.as_bytes.ensures.value in
-    subst (λ it. IsToldTo (g.F.Write.contents c.args.notes.now) (g.F.Write.contents c.write_line.new.notes) (g.F.Sink.faults c.args.notes.now) (g.F.Sink.faults c.write_line.new.notes) it) (bytes ∙ made) c.write_line.ensures
+    subst (λ it. IsToldTo (g.F.Write.contents c.args.notes.now) (g.F.Write.contents c.write_note.new.notes) (g.F.Sink.faults c.args.notes.now) (g.F.Sink.faults c.write_note.new.notes) it) (bytes ∙ made) c.write_note.ensures

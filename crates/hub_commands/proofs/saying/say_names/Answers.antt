@@ -1,6 +1,6 @@
 use Rattle.std.proofs.Common.{◌≡◌, List, ℕ, length, ◌++◌, codes, ◌∙◌, ap, subst, Bor}
 use Rattle.hub_ask.specs.Lines.{joined}
-use Rattle.hub_look.specs.Streams.{IsToldTo}
+use Rattle.hub_ask.specs.Streams.{IsToldTo}
 use Rattle.hub_commands.specs.Sayings.{are, names_line}
 use Rattle.hub_commands.proofs.saying.say_names.Goals as goal
 
@@ -17,4 +17,4 @@ returns-clause-ok g c =
     let bytes = c.as_bytes.ensures.value in
     let line : c.as_bytes.result.now ≡ names_line (λ (name : Bor (List ℕ)). name.now) c.args.names.now =
     bytes ∙ made ∙ same_line (λ (name : Bor (List ℕ)). name.now) c.args.names.now c.as_str-text.result.now c.are-verb.result.now (c.as_str-text.ensures.value ∙ c.in_ok-list.ensures.ok) c.are-verb.ensures in
-    subst (λ it. IsToldTo (g.F.Write.contents c.args.notes.now) (g.F.Write.contents c.write_line.new.notes) (g.F.Sink.faults c.args.notes.now) (g.F.Sink.faults c.write_line.new.notes) it) line c.write_line.ensures
+    subst (λ it. IsToldTo (g.F.Write.contents c.args.notes.now) (g.F.Write.contents c.write_note.new.notes) (g.F.Sink.faults c.args.notes.now) (g.F.Sink.faults c.write_note.new.notes) it) line c.write_note.ensures

@@ -1,4 +1,4 @@
-use Rattle.hub_look.specs.Streams.{streams}
+use Rattle.hub_ask.specs.Streams.{streams}
 use Rattle.hub_look.proofs.Asked.{begun_so, said_so}
 use Rattle.hub_look.proofs.news.begin.Goals as goal
 

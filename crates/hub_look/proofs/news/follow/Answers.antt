@@ -1,5 +1,5 @@
 use Rattle.hub_look.specs.Follows.{begins_by, manner_of, names_of}
-use Rattle.hub_look.specs.Streams.{streams}
+use Rattle.hub_ask.specs.Streams.{streams}
 use Rattle.hub_look.proofs.Asked.{fault_of_stop, outcome_of_stop}
 use Rattle.hub_look.proofs.news.follow.Goals as goal
 

@@ -1,6 +1,6 @@
 use Rattle.std.proofs.Common.{◌∙◌}
 use Rattle.hub_look.specs.Follows.{begins_by, manner_of, names_of}
-use Rattle.hub_look.specs.Streams.{streams}
+use Rattle.hub_ask.specs.Streams.{streams}
 use Rattle.hub_look.proofs.Asked.{begins, continues_by, ends_after_by, ends_before}
 use Rattle.hub_look.proofs.news.follow_on.Goals as goal
 

@@ -1,6 +1,6 @@
 use Rattle.std.proofs.Common.{◌≡◌}
 use Rattle.hub_look.specs.Follows.{IsUnderWay, begins_by, manner_of, names_of, scene}
-use Rattle.hub_look.specs.Streams.{streams}
+use Rattle.hub_ask.specs.Streams.{streams}
 use Rattle.hub_look.proofs.news.follow_on.Given as goal
 
 -- the fifodirs are followed, and the peer began at the same sender

@@ -1,6 +1,6 @@
 use Rattle.std.proofs.Common.{◌≡◌, length}
 use Rattle.hub_look.specs.Follows.{LooksOn, manner_of, scene}
-use Rattle.hub_look.specs.Streams.{streams}
+use Rattle.hub_ask.specs.Streams.{streams}
 use Rattle.hub_look.proofs.news.look_at_each.Given as goal
 
 -- the hub was asked some times, and the peer began at the same sender

@@ -1,5 +1,5 @@
 use Rattle.std.proofs.Common.{◌≡◌, ℕ}
-use Rattle.hub_look.specs.Streams.{streams}
+use Rattle.hub_ask.specs.Streams.{streams}
 use Rattle.hub_look.specs.Subscribing.{AreCancelled}
 use Rattle.hub_look.proofs.subscribing.subscribe_numbered.Given as goal
 

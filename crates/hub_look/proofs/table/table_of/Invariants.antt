@@ -1,5 +1,5 @@
 use Rattle.std.proofs.Common.{◌≡◌, take}
-use Rattle.hub_look.specs.Streams.{streams}
+use Rattle.hub_ask.specs.Streams.{streams}
 use Rattle.hub_look.specs.Tables.{top_of}
 use Rattle.hub_look.proofs.Judged.{IsSoFar}
 use Rattle.hub_look.proofs.table.table_of.Given as goal

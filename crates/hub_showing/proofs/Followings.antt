@@ -9,13 +9,13 @@ use Rattle.hub_ask.specs.declared.outcome.Outcome.{Outcome}
 use Rattle.hub_ask.specs.declared.outcome.Outcome.TheVariants.{Late}
 use Rattle.hub_look.specs.Looks.{OnlyLooks}
 use Rattle.hub_look.specs.declared.following.Following.{Following}
-use Rattle.hub_server.specs.Sessions.{Writing}
-use Rattle.hub_server.specs.declared.report.Report.{Report}
-use Rattle.hub_commands.specs.Asking.{Going}
-use Rattle.hub_commands.specs.Breaking.{follow_breaks}
+use Rattle.hub_io.specs.Counted.{Writing}
+use Rattle.hub_reports.specs.declared.report.Report.{Report}
+use Rattle.hub_ask.specs.Streams.{Going}
+use Rattle.hub_showing.specs.Breaking.{follow_breaks}
 use Rattle.hub_dialing.specs.Dialing.{Dialing}
-use Rattle.hub_commands.specs.Following.{AfterLooks, AreTried, Course, FailsThere, FollowsAsTold, FollowsOn, FollowsThere, Having, IsAbsence, IsGoodFollow, IsLimitOfFollow, IsLookedThere, IsReached, IsSilent, IsUnreached, IsUntil, LooksThere, course, following_wanted, is_some_of, some_of}
-use Rattle.hub_commands.specs.Waiting.{IsLimit}
+use Rattle.hub_showing.specs.Following.{AfterLooks, AreTried, Course, FailsThere, FollowsAsTold, FollowsOn, FollowsThere, Having, IsAbsence, IsGoodFollow, IsLimitOfFollow, IsLookedThere, IsReached, IsSilent, IsUnreached, IsUntil, LooksThere, course, following_wanted, is_some_of, some_of}
+use Rattle.hub_endings.specs.Words.{IsLimit}
 use Rattle.hub_endings.specs.declared.ending.Ending.{Ending}
 use Rattle.hub_endings.specs.declared.ending.Ending.TheVariants.{Refused, Stopped, Failed}
 use Rattle.hub_endings.specs.declared.fault.Fault.{Fault}

@@ -11,16 +11,14 @@ use Rattle.hub_ask.specs.declared.outcome.Outcome.{Outcome}
 use Rattle.hub_ask.specs.declared.outcome.Outcome.TheVariants.{Late}
 use Rattle.hub_look.specs.Follows.{Beginning, FailsToFollow, FollowsTo, Manner, begins_by, manner_of, names_of}
 use Rattle.hub_look.specs.Looks.{OnlyLooks}
-use Rattle.hub_look.specs.Streams.{IsToldTo, Streams}
+use Rattle.hub_ask.specs.Streams.{IsToldTo, Streams, Going, Told}
 use Rattle.hub_look.specs.declared.following.Following.{Following}
 use Rattle.hub_look.specs.declared.following.Form.{Form}
 use Rattle.hub_look.specs.declared.following.Form.TheVariants as form
-use Rattle.hub_server.specs.Sessions.{Writing}
-use Rattle.hub_commands.specs.Asking.{Going}
-use Rattle.hub_commands.specs.Breaking.{follow_breaks}
+use Rattle.hub_io.specs.Counted.{Writing}
+use Rattle.hub_showing.specs.Breaking.{follow_breaks}
 use Rattle.hub_dialing.specs.Dialing.{Dialing, OverOne}
-use Rattle.hub_commands.specs.Looking.{Told}
-use Rattle.hub_commands.specs.Waiting.{IsLimit}
+use Rattle.hub_endings.specs.Words.{IsLimit}
 use Rattle.hub_endings.specs.declared.ending.BadWords.{BadWords}
 use Rattle.hub_endings.specs.declared.ending.BadWords.TheVariants as bad
 use Rattle.hub_endings.specs.declared.ending.Ending.{Ending}

@@ -1,7 +1,8 @@
--- What a command that looks at a hub has sent, heard and told.
-use Rattle.std.specs.Prelude.{◌≡◌, ◌⊎◌, ℕ, List, Option}
+-- What a client has sent to a hub, heard of it, and told people.
+use Rattle.std.specs.Prelude.{◌≡◌, ◌⊎◌, ℕ, List, [], ◌∷◌, ◌++◌, codes, Option}
 use Rattle.std.specs.Io.KnownBytes.{Appends}
 use Rattle.hub_io.specs.Faults.{AppendsPart}
+use Rattle.hub_io.specs.Counted.{Writing}
 use Rattle.hub_io.specs.Telling.{Rises}
 use Rattle.hub_requests.specs.Texts.{text_of}
 use Rattle.hub_requests.specs.declared.request.Request.{Request}
@@ -48,3 +49,17 @@ pub record IsNoted (before after : Streams) (note : List ℕ) : Type 0 where
   pub sent : after.sent ≡ before.sent
   pub had : after.had ≡ before.had
   pub noted : IsToldTo before.noted after.noted before.faults after.faults note
+
+-- the line about a name
+abbrev pub note_of : (name reason : List ℕ) → List ℕ
+note_of name reason = name ++ (codes ": " ++ (reason ++ 10 ∷ []))
+
+-- what goes over a connection: what had been sent before and after, and what was left of the peer's bytes before and after
+abbrev pub Going : Type 1
+Going = (sent sends had has : Option (List ℕ)) → Type 0
+
+-- the streams of a command: what goes over its connection, and its notes before and after
+abbrev pub Told : {F : Type 0} → Writing F → (notes note : F) → ((before after : Streams) → Type 0) → Going
+Told n notes note holds sent sends had has = holds
+    (record { sent = sent; had = had; noted = n.contents notes; faults = n.faults notes })
+    (record { sent = sends; had = has; noted = n.contents note; faults = n.faults note })

@@ -3,19 +3,16 @@ ghost use Rattle.std.specs.Prelude.{◌≡◌, ◌≤◌, Err, IfErr, IfOk, Matc
 ghost use Rattle.hub_ask.specs.declared.exchanging.TheConstants.{ANSWER};
 ghost use Rattle.hub_ask.specs.declared.fault.AskError.TheVariants as ask;
 ghost use Rattle.hub_ask.specs.declared.outcome.Outcome.TheVariants as outcome;
-ghost use Rattle.hub_look.specs.Streams.{IsToldTo};
-ghost use Rattle.hub_commands.specs.Breaking.{follow_breaks};
+ghost use Rattle.hub_ask.specs.Streams.{IsToldTo};
+ghost use Rattle.hub_showing.specs.Breaking.{follow_breaks};
 ghost use Rattle.hub_dialing.specs.Dialing.{dialing};
-ghost use Rattle.hub_commands.specs.Following.{FollowsAsTold, FollowsOn, FollowsThere, IsAbsence, IsReached, IsUntil, course, following_wanted, form_of, gone_line, is_end, some_of};
+ghost use Rattle.hub_showing.specs.Following.{FollowsAsTold, FollowsOn, FollowsThere, IsAbsence, IsReached, IsUntil, course, following_wanted, form_of, gone_line, is_end, some_of};
 ghost use Rattle.hub_endings.specs.declared.fault.Fault.TheVariants as faults;
 
-use crate::breaking::{any_breaks, breaks};
-use crate::noting::write_line;
-use crate::waiting::limit_of;
-use hub_ask::{ANSWER, AskError, Deadline, Outcome, Replies, Requests};
+use hub_ask::{ANSWER, AskError, Deadline, Outcome, Replies, Requests, write_note};
 use hub_client::RelayError;
 use hub_dialing::Dial;
-use hub_endings::{BadWords, Ending, Fault};
+use hub_endings::{BadWords, Ending, Fault, any_breaks, breaks, limit_of};
 use hub_io::Sink;
 use hub_look::{Following, Form, Limited, Peer, are_there, follow};
 use hub_options::Follow;
@@ -169,7 +166,7 @@ fn wait_out<F: Sink>(error: AskError, is_patient: bool, notes: &mut F) -> Result
     if !is_patient || !is_end(error) {
         return Err(Fault::Ask(error));
     }
-    write_line(GONE, notes);
+    write_note(GONE, notes);
     Ok(())
 }
 

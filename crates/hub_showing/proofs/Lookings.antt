@@ -5,30 +5,35 @@ use Rattle.hub_ask.specs.declared.exchanging.TheConstants.{ANSWER}
 use Rattle.hub_ask.specs.declared.fault.AskError.{AskError}
 use Rattle.hub_ask.specs.declared.outcome.Outcome.{Outcome}
 use Rattle.hub_look.specs.Looks.{OnlyLooks}
-use Rattle.hub_look.specs.Streams.{Streams}
+use Rattle.hub_ask.specs.Streams.{Going, Told}
 use Rattle.hub_look.specs.Tables.{FailsToShowStates, ShowsStates}
-use Rattle.hub_server.specs.Sessions.{Writing}
-use Rattle.hub_commands.specs.Asking.{Going}
-use Rattle.hub_commands.specs.Breaking.{any_breaks}
+use Rattle.hub_io.specs.Counted.{Writing}
+use Rattle.hub_endings.specs.Words.{any_breaks}
 use Rattle.hub_dialing.specs.Dialing.{Dialing}
-use Rattle.hub_commands.specs.Looking.{LooksOver, LooksWith, ShowsStatus, Told}
+use Rattle.hub_showing.specs.Looking.{LooksOver, LooksWith, ShowsStatus}
 use Rattle.hub_endings.specs.declared.ending.BadWords.{BadWords}
 use Rattle.hub_endings.specs.declared.ending.BadWords.TheVariants as bad
 use Rattle.hub_endings.specs.declared.ending.Ending.{Ending}
 use Rattle.hub_endings.specs.declared.ending.Ending.TheVariants.{Failed}
 use Rattle.hub_endings.specs.declared.fault.Fault.TheVariants.{Ask}
-use Rattle.hub_commands.proofs.Requested.{over_one}
 
 -- what went over the connection, if the client began with its streams as they were
 over_it : {D SR SW : Type 0} (d : Dialing D SR SW) (old new : D) (socket : List ℕ) (went : Going) (receive receives : SR) (send sends : SW) (begun : SW) (sent had : Option (List ℕ))
     → d.reaches old socket ANSWER (Ok (receive, send)) new → begun ≡ send → ∥ OnlyLooks (d.contents begun) (d.contents sends) ∥₁
     → sent ≡ d.contents send → had ≡ d.remaining receive → went sent (d.contents sends) had (d.remaining receives) → LooksOver d old new socket went
 over_it d old new socket went receive receives send sends begun sent had reached is_begun looks is_sent is_had over =
-    over_one d old new socket ANSWER (λ sent sends had has. ∥ OnlyLooks sent sends ∥₁ × went sent sends had has) receive receives send sends reached (
-      subst (λ it. ∥ OnlyLooks (d.contents it) (d.contents sends) ∥₁) is_begun looks,
-      subst (λ it. went it (d.contents sends) (d.remaining receive) (d.remaining receives)) is_sent
-          (subst (λ it. went sent (d.contents sends) it (d.remaining receives)) is_had over),
-    )
+    record {
+      receive = receive;
+      receives = receives;
+      send = send;
+      sends = sends;
+      reached = reached;
+      over = (
+        subst (λ it. ∥ OnlyLooks (d.contents it) (d.contents sends) ∥₁) is_begun looks,
+        subst (λ it. went it (d.contents sends) (d.remaining receive) (d.remaining receives)) is_sent
+            (subst (λ it. went sent (d.contents sends) it (d.remaining receives)) is_had over),
+      );
+    }
 
 -- it has an outcome
 pub looks_so : {D SR SW : Type 0} (d : Dialing D SR SW) (old new : D) (socket : List ℕ) (breaks : Bool) (refused : BadWords) (untouched : Type 0) (goes : Outcome → Going) (fails : AskError → Going)

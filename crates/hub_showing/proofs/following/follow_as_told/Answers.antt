@@ -1,7 +1,7 @@
 use Rattle.std.proofs.Common.{refl, sym, inl, ◌∙◌}
 use Rattle.hub_dialing.specs.Dialing.{dialing}
-use Rattle.hub_commands.proofs.Followings.{limit_told, told_by_limit, told_in_vain}
-use Rattle.hub_commands.proofs.following.follow_as_told.Goals as goal
+use Rattle.hub_showing.proofs.Followings.{limit_told, told_by_limit, told_in_vain}
+use Rattle.hub_showing.proofs.following.follow_as_told.Goals as goal
 
 pub returns-then-follow_breaks : goal.returns-then-follow_breaks
 returns-then-follow_breaks g c = (inl (refl, sym c.follow_breaks.ensures ∙ c.if-follow_breaks.true), refl, refl)

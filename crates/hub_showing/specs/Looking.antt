@@ -5,11 +5,10 @@ use Rattle.hub_ask.specs.declared.exchanging.TheConstants.{ANSWER}
 use Rattle.hub_ask.specs.declared.fault.AskError.{AskError}
 use Rattle.hub_ask.specs.declared.outcome.Outcome.{Outcome}
 use Rattle.hub_look.specs.Looks.{OnlyLooks}
-use Rattle.hub_look.specs.Streams.{Streams}
+use Rattle.hub_ask.specs.Streams.{Going, Told}
 use Rattle.hub_look.specs.Tables.{FailsToShowStates, ShowsStates}
-use Rattle.hub_server.specs.Sessions.{Writing}
-use Rattle.hub_commands.specs.Asking.{Going}
-use Rattle.hub_commands.specs.Breaking.{any_breaks}
+use Rattle.hub_io.specs.Counted.{Writing}
+use Rattle.hub_endings.specs.Words.{any_breaks}
 use Rattle.hub_dialing.specs.Dialing.{Dialing, OverOne}
 use Rattle.hub_endings.specs.declared.ending.BadWords.{BadWords}
 use Rattle.hub_endings.specs.declared.ending.BadWords.TheVariants as bad
@@ -33,12 +32,6 @@ LooksWith d old new socket breaks refused untouched goes fails (Err (Stopped rep
 LooksWith d old new socket breaks refused untouched goes fails (Err (Failed fault)) = (breaks ≡ false)
     × ((d.reaches old socket ANSWER (Err fault) new × untouched)
     ⊎ ((error : AskError) × (fault ≡ Ask error) × LooksOver d old new socket (fails error)))
-
--- the streams of a command: what goes over its connection, and its notes before and after
-abbrev pub Told : {F : Type 0} → Writing F → (notes note : F) → ((before after : Streams) → Type 0) → Going
-Told n notes note holds sent sends had has = holds
-    (record { sent = sent; had = had; noted = n.contents notes; faults = n.faults notes })
-    (record { sent = sends; had = has; noted = n.contents note; faults = n.faults note })
 
 -- `status` of these names, or of all
 abbrev pub ShowsStatus : {D SR SW F Name : Type 0} → Dialing D SR SW → (old new : D) → (socket : List ℕ) → Writing F → (notes note : F)

@@ -1,7 +1,7 @@
 use Rattle.std.proofs.Common.{ap, sym, ◌∙◌}
 use Rattle.hub_dialing.specs.Dialing.{dialing}
-use Rattle.hub_commands.proofs.Lookings.{shows_in_vain, shows_so}
-use Rattle.hub_commands.proofs.showing.show_status.Goals as goal
+use Rattle.hub_showing.proofs.Lookings.{shows_in_vain, shows_so}
+use Rattle.hub_showing.proofs.showing.show_status.Goals as goal
 
 pub returns-in_err-outcome : goal.returns-in_err-outcome
 returns-in_err-outcome g c =

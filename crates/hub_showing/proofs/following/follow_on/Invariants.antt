@@ -1,7 +1,7 @@
 use Rattle.std.proofs.Common.{◌≡◌, ℕ}
 use Rattle.hub_dialing.specs.Dialing.{dialing}
-use Rattle.hub_commands.specs.Following.{AreTried, following_wanted, is_some_of}
-use Rattle.hub_commands.proofs.following.follow_on.Given as goal
+use Rattle.hub_showing.specs.Following.{AreTried, following_wanted, is_some_of}
+use Rattle.hub_showing.proofs.following.follow_on.Given as goal
 
 -- some connections were tried, and the next one is to follow as it is wanted
 abbrev pub invariant-connections : goal.invariant-connections

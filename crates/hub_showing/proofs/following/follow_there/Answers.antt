@@ -1,10 +1,10 @@
 use Rattle.std.proofs.Common.{inl, inr, refl, ap, ◌∙◌}
 use Rattle.hub_look.specs.Follows.{FailsToFollow, FollowsTo, begins_by, manner_of, names_of}
 use Rattle.hub_dialing.specs.Dialing.{dialing}
-use Rattle.hub_commands.specs.Following.{course}
-use Rattle.hub_commands.specs.Looking.{Told}
-use Rattle.hub_commands.proofs.Followings.{looked_there, same_streams, there_after, there_in_vain, unreached_so}
-use Rattle.hub_commands.proofs.following.follow_there.Goals as goal
+use Rattle.hub_showing.specs.Following.{course}
+use Rattle.hub_ask.specs.Streams.{Told}
+use Rattle.hub_showing.proofs.Followings.{looked_there, same_streams, there_after, there_in_vain, unreached_so}
+use Rattle.hub_showing.proofs.following.follow_there.Goals as goal
 
 pub returns-in-Err : goal.returns-in-Err
 returns-in-Err g c = unreached_so (course (dialing g.D.Dial.reaches g.D.Receiver.Read.remaining g.D.Sender.Write.contents) c.args.socket.now (record { contents = g.F.Write.contents; faults = g.F.Sink.faults }) c.args.following.now c.args.is_patient) (record { dialer = c.args.dialer.now; notes = c.args.notes.now; held = g.W.Write.contents c.args.output.now }) (record { dialer = c.reach.new.dialer; notes = c.args.notes.now; held = g.W.Write.contents c.args.output.now }) c.in-Err.fault c.unreached.result

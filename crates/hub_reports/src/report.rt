@@ -1,6 +1,6 @@
 //! The results of serving.
 ghost use Rattle.std.specs.Prelude.{◌≡◌, ◌↔◌, IsTrue, All, IsOk, Some, false};
-ghost use Rattle.hub_server.specs.declared.report.ServeError.TheVariants.{Memory, Spawn};
+ghost use Rattle.hub_reports.specs.declared.report.ServeError.TheVariants.{Memory, Spawn};
 
 use crate::spawning::NoThread;
 use hub_io::FrontError;
@@ -37,7 +37,7 @@ pub enum ServeError {
 }
 
 impl fmt::Display for ServeError {
-    ghost use Rattle.hub_server.specs.Reports.{serve_text};
+    ghost use Rattle.hub_reports.specs.Reports.{serve_text};
 
     ghost output = { λ fault. Some (serve_text fault) };
 

@@ -1,9 +1,9 @@
 use Rattle.std.proofs.Common.{suc, true, Some, Ok, Err, ap, refl, subst}
 use Rattle.hub_look.specs.declared.following.Following.{Following}
 use Rattle.hub_dialing.specs.Dialing.{dialing}
-use Rattle.hub_commands.specs.Following.{FollowsThere, course}
-use Rattle.hub_commands.proofs.Followings.{follows_in_vain, follows_on, tried_more}
-use Rattle.hub_commands.proofs.following.follow_on.Goals as goal
+use Rattle.hub_showing.specs.Following.{FollowsThere, course}
+use Rattle.hub_showing.proofs.Followings.{follows_in_vain, follows_on, tried_more}
+use Rattle.hub_showing.proofs.following.follow_on.Goals as goal
 
 pub connections-init : goal.connections-init
 connections-init g c = (0, c.following_of-following.ensures, refl)

@@ -1,12 +1,11 @@
 //! The subcommand `status`: how fifodirs are.
 ghost use Rattle.std.specs.Prelude.{◌≡◌};
 ghost use Rattle.hub_dialing.specs.Dialing.{dialing};
-ghost use Rattle.hub_commands.specs.Looking.{ShowsStatus};
+ghost use Rattle.hub_showing.specs.Looking.{ShowsStatus};
 
-use crate::breaking::any_breaks;
 use hub_ask::ANSWER;
 use hub_dialing::Dial;
-use hub_endings::{BadWords, Ending};
+use hub_endings::{BadWords, Ending, any_breaks};
 use hub_io::Sink;
 use hub_look::{Peer, show_states};
 use std::alloc::Global;

@@ -1,0 +1,2 @@
+pub mod Lookings
+pub mod Followings
