@@ -7,11 +7,12 @@ use crate::asking_help::{
     WAIT_LINES,
 };
 use crate::command_line::Plan;
-use crate::options::{Made, NAMES, PLAIN, Read, asking, flag, operands, socket_in, valued, values};
-use clap::error::ErrorKind;
+use crate::options::{
+    Made, NAMES, PLAIN, Read, asking, flag, operands, refused, socket_in, valued, values, with,
+};
 use clap::{Arg, ArgMatches};
 use hub_options::{Follow, Wish};
-use std::alloc::Global;
+use std::alloc::{AllocError, Global};
 
 const WORDS: &str = "words";
 
@@ -50,7 +51,8 @@ pub(crate) fn ask_command<'a>(alloc: Global, known: Option<&'a str>) -> Made<'a>
     let words = operands(alloc, WORDS, "WORD")
         .help("The words of the request")
         .trailing_var_arg(true);
-    asking(alloc, known, "ask", (ASK_ABOUT, ASK_LINES))?.arg(words)
+    let command = asking(alloc, known, "ask", (ASK_ABOUT, ASK_LINES));
+    with(command, Ok(words))
 }
 
 // The time limit of what waits.
@@ -73,41 +75,51 @@ fn first<'a>(alloc: Global) -> Arg<'a> {
 }
 
 pub(crate) fn wait_command<'a>(alloc: Global, known: Option<&'a str>) -> Made<'a> {
-    let timeout = timeout(alloc).alias("for")?;
-    asking(alloc, known, "wait", (WAIT_ABOUT, WAIT_LINES))?
-        .arg(timeout)?
-        .arg(flag(alloc, NOW).help("Don't wait for the hub, or for names to be made"))?
-        .arg(quiet(alloc))?
-        .arg(first(alloc))?
-        .arg(operands(alloc, NAMES, "NAME").help("Names of services"))
+    let command = asking(alloc, known, "wait", (WAIT_ABOUT, WAIT_LINES));
+    let command = with(command, timeout(alloc).alias("for"));
+    let now = flag(alloc, NOW).help("Don't wait for the hub, or for names to be made");
+    let command = with(command, Ok(now));
+    let command = with(command, Ok(quiet(alloc)));
+    let command = with(command, Ok(first(alloc)));
+    let names = operands(alloc, NAMES, "NAME").help("Names of services");
+    with(command, Ok(names))
 }
 
 pub(crate) fn status_command<'a>(alloc: Global, known: Option<&'a str>) -> Made<'a> {
+    let command = asking(alloc, known, "status", (STATUS_ABOUT, STATUS_LINES));
+    let json = flag(alloc, JSON).help("Write an object of JSON on a line for each fifodir");
+    let command = with(command, Ok(json));
     let names = Arg::new(alloc, NAMES)
         .value_name("NAME")
         .help("Names of fifodirs; without one, all of the hub")
         .num_args(0..);
-    asking(alloc, known, "status", (STATUS_ABOUT, STATUS_LINES))?
-        .arg(flag(alloc, JSON).help("Write an object of JSON on a line for each fifodir"))?
-        .arg(names)
+    with(command, Ok(names))
 }
 
 fn pattern<'a>(alloc: Global) -> Arg<'a> {
     valued(alloc, PATTERN, "P").help("Write the hits of this pattern, and not each letter")
 }
 
-pub(crate) fn follow_command<'a>(alloc: Global, known: Option<&'a str>) -> Made<'a> {
-    let json = flag(alloc, JSON)
+// That the letters or hits are written as objects of JSON.
+fn json<'a>(alloc: Global) -> Result<Arg<'a>, AllocError> {
+    flag(alloc, JSON)
         .help("Write an object of JSON for each letter or hit")
-        .conflicts_with(PLAIN)?;
-    asking(alloc, known, "follow", (FOLLOW_ABOUT, FOLLOW_LINES))?
-        .arg(pattern(alloc))?
-        .arg(flag(alloc, PLAIN).help("Write the letters alone"))?
-        .arg(json)?
-        .arg(flag(alloc, ONCE).help("End with the first letter, or the first hit"))?
-        .arg(timeout(alloc))?
-        .arg(flag(alloc, RETRY).help("If the hub ends, wait for the next one, and go on"))?
-        .arg(operands(alloc, NAMES, "NAME").help("Names of fifodirs"))
+        .conflicts_with(PLAIN)
+}
+
+pub(crate) fn follow_command<'a>(alloc: Global, known: Option<&'a str>) -> Made<'a> {
+    let command = asking(alloc, known, "follow", (FOLLOW_ABOUT, FOLLOW_LINES));
+    let command = with(command, Ok(pattern(alloc)));
+    let plain = flag(alloc, PLAIN).help("Write the letters alone");
+    let command = with(command, Ok(plain));
+    let command = with(command, json(alloc));
+    let once = flag(alloc, ONCE).help("End with the first letter, or the first hit");
+    let command = with(command, Ok(once));
+    let command = with(command, Ok(timeout(alloc)));
+    let retry = flag(alloc, RETRY).help("If the hub ends, wait for the next one, and go on");
+    let command = with(command, Ok(retry));
+    let names = operands(alloc, NAMES, "NAME").help("Names of fifodirs");
+    with(command, Ok(names))
 }
 
 pub(crate) fn ask_plan<'a>(alloc: Global, found: &ArgMatches<'a>) -> Read<'a> {
@@ -169,19 +181,16 @@ fn with_names<'a, 'b>(
 pub(crate) fn wait_plan<'a>(alloc: Global, found: &ArgMatches<'a>) -> Read<'a> {
     let first = found.get_str(FIRST).unwrap_or("");
     let rest = found.get_strs(NAMES).unwrap_or(&[]);
-    let Some((span, want, others)) = wish_of(first, rest) else {
-        let mut wait = wait_command(alloc, None)?.bin_name("ftrighub wait")?;
-        return Err(wait.error(ErrorKind::InvalidValue, NO_WISH)?);
+    let Some((span, want, names)) = wish_of(first, rest) else {
+        return Err(refused(wait_command(alloc, None), "ftrighub wait", NO_WISH)?);
     };
-    let mut names = Vec::new(alloc);
-    names.extend_from_slice(others)?;
     let wish = Wish {
         span,
         want,
         timeout: found.get_str(TIMEOUT),
         is_now: found.get_flag(NOW),
         is_quiet: found.get_flag(QUIET),
-        names,
+        names: Vec::from_slice(alloc, names)?,
     };
     Ok(Plan::Wait {
         socket: socket_in(found),

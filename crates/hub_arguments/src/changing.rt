@@ -8,7 +8,9 @@ use crate::changing_help::{
     HOLD_ABOUT, HOLD_LINES, MAKE_ABOUT, MAKE_LINES, TELL_ABOUT, TELL_LINES,
 };
 use crate::command_line::Plan;
-use crate::options::{Made, NAMES, PLAIN, Read, asking, flag, operands, socket_in, valued, values};
+use crate::options::{
+    Made, NAMES, PLAIN, Read, asking, flag, operands, socket_in, valued, values, with,
+};
 use clap::{Arg, ArgMatches, value_parser};
 use hub_letters::State;
 use hub_options::{Hold, Shape};
@@ -45,29 +47,29 @@ fn service<'a>(alloc: Global) -> Arg<'a> {
 }
 
 pub(crate) fn tell_command<'a>(alloc: Global, known: Option<&'a str>) -> Made<'a> {
+    let command = asking(alloc, known, "tell", (TELL_ABOUT, TELL_LINES));
+    let command = with(command, Ok(service(alloc)));
     let state = Arg::new(alloc, STATE)
         .value_name("STATE")
         .help("Where it is")
         .value_parser(STATES.as_slice())
         .required(true);
-    asking(alloc, known, "tell", (TELL_ABOUT, TELL_LINES))?
-        .arg(service(alloc))?
-        .arg(state)
+    with(command, Ok(state))
 }
 
 pub(crate) fn hold_command<'a>(alloc: Global, known: Option<&'a str>) -> Made<'a> {
+    let command = asking(alloc, known, "hold", (HOLD_ABOUT, HOLD_LINES));
     let told = valued(alloc, TELL, "STATE")
         .help("Where it is now, to be told at the beginning")
         .value_parser(STATES.as_slice());
+    let command = with(command, Ok(told));
+    let command = with(command, Ok(service(alloc)));
     let will = Arg::new(alloc, WILL)
         .value_name("WILL")
         .help("Where it is when this command has ended")
         .value_parser(WILLS.as_slice())
         .default_value("down");
-    asking(alloc, known, "hold", (HOLD_ABOUT, HOLD_LINES))?
-        .arg(told)?
-        .arg(service(alloc))?
-        .arg(will)
+    with(command, Ok(will))
 }
 
 fn waiting<'a>(alloc: Global) -> Arg<'a> {
@@ -85,13 +87,17 @@ fn total<'a>(alloc: Global) -> Arg<'a> {
 }
 
 pub(crate) fn make_command<'a>(alloc: Global, known: Option<&'a str>) -> Made<'a> {
-    asking(alloc, known, "make", (MAKE_ABOUT, MAKE_LINES))?
-        .arg(flag(alloc, PLAIN).help("Make plain fifodirs, which take any letters"))?
-        .arg(flag(alloc, NO_READINESS).help("The services don't report that they are ready"))?
-        .arg(waiting(alloc))?
-        .arg(total(alloc))?
-        .arg(flag(alloc, HOLD).help("Refuse what has no room, and evict no subscriber"))?
-        .arg(operands(alloc, NAMES, "NAME").help("Names of what is made"))
+    let command = asking(alloc, known, "make", (MAKE_ABOUT, MAKE_LINES));
+    let plain = flag(alloc, PLAIN).help("Make plain fifodirs, which take any letters");
+    let command = with(command, Ok(plain));
+    let silent = flag(alloc, NO_READINESS).help("The services don't report that they are ready");
+    let command = with(command, Ok(silent));
+    let command = with(command, Ok(waiting(alloc)));
+    let command = with(command, Ok(total(alloc)));
+    let hold = flag(alloc, HOLD).help("Refuse what has no room, and evict no subscriber");
+    let command = with(command, Ok(hold));
+    let names = operands(alloc, NAMES, "NAME").help("Names of what is made");
+    with(command, Ok(names))
 }
 
 // The state of this word, which is one of `STATES`.

@@ -13,7 +13,7 @@ use crate::asking::{
 use crate::changing::{hold_command, hold_plan, make_command, make_plan, tell_command, tell_plan};
 use crate::help::{ABOUT, LINES};
 use crate::help_words::words_of_help;
-use crate::options::{Made, Read, SOCKET};
+use crate::options::{Made, Read, SOCKET, both};
 use crate::serving::{call_command, call_plan, script_command, serve_command, serve_plan};
 use crate::socket::OwnSocket;
 use clap::error::ErrorKind;
@@ -97,19 +97,24 @@ fn program<'a>(alloc: Global) -> Command<'a> {
 
 // The command with this subcommand, unless memory ran out for one of them.
 fn with<'a>(command: Made<'a>, subcommand: Made<'a>) -> Made<'a> {
-    command?.subcommand(subcommand?)
+    let (command, subcommand) = both(command, subcommand)?;
+    command.subcommand(subcommand)
 }
 
-// The path of the socket for words that name none may be known.
-fn command<'a>(alloc: Global, is_forever: bool, known: Option<&'a str>) -> Made<'a> {
-    let command = Ok(program(alloc));
+// The command with the subcommands that ask a hub for one thing, or change something there.
+fn with_requests<'a>(command: Made<'a>, alloc: Global, known: Option<&'a str>) -> Made<'a> {
     let command = with(command, make_command(alloc, known));
     let command = with(command, tell_command(alloc, known));
     let command = with(command, wait_command(alloc, known));
     let command = with(command, status_command(alloc, known));
     let command = with(command, follow_command(alloc, known));
     let command = with(command, hold_command(alloc, known));
-    let command = with(command, ask_command(alloc, known));
+    with(command, ask_command(alloc, known))
+}
+
+// The path of the socket for words that name none may be known.
+fn command<'a>(alloc: Global, is_forever: bool, known: Option<&'a str>) -> Made<'a> {
+    let command = with_requests(Ok(program(alloc)), alloc, known);
     let command = with(command, serve_command(alloc, is_forever));
     let command = with(command, call_command(alloc, known));
     with(command, Ok(script_command(alloc)))
@@ -158,20 +163,41 @@ fn help_for(alloc: Global, words: &[String]) -> Result<Option<Error>, AllocError
     )
 }
 
-// What the words that matched ask for.
-fn plan_of<'a>(alloc: Global, matches: &ArgMatches<'a>, known: Option<&'a OwnSocket>) -> Read<'a> {
-    match matches.subcommand() {
-        Some(("serve", found)) => serve_plan(alloc, found, known),
-        Some(("call", found)) => Ok(call_plan(found)),
-        Some(("ask", found)) => ask_plan(alloc, found),
-        Some(("make", found)) => make_plan(alloc, found),
-        Some(("tell", found)) => Ok(tell_plan(found)),
-        Some(("hold", found)) => Ok(hold_plan(found)),
-        Some(("wait", found)) => wait_plan(alloc, found),
-        Some(("status", found)) => status_plan(alloc, found),
-        Some(("follow", found)) => follow_plan(alloc, found),
+// What the words of a subcommand that asks a hub for one thing ask for.
+fn asking_plan<'a>(alloc: Global, word: &str, found: &ArgMatches<'a>) -> Read<'a> {
+    match word {
+        "ask" => ask_plan(alloc, found),
+        "wait" => wait_plan(alloc, found),
+        "status" => status_plan(alloc, found),
+        "follow" => follow_plan(alloc, found),
         _ => Ok(Plan::Script),
     }
+}
+
+// What the words that matched ask for.
+fn plan_of<'a>(alloc: Global, matches: &ArgMatches<'a>, known: Option<&'a OwnSocket>) -> Read<'a> {
+    let Some((word, found)) = matches.subcommand() else {
+        return Ok(Plan::Script);
+    };
+    match word {
+        "serve" => serve_plan(alloc, found, known),
+        "call" => Ok(call_plan(found)),
+        "make" => make_plan(alloc, found),
+        "tell" => Ok(tell_plan(found)),
+        "hold" => Ok(hold_plan(found)),
+        _ => asking_plan(alloc, word, found),
+    }
+}
+
+// How the words match the command.
+fn matches_of<'a>(
+    alloc: Global,
+    words: &'a [String],
+    known: Option<&'a OwnSocket>,
+) -> Result<ArgMatches<'a>, Error> {
+    let is_forever = words.iter().any(|word| word.as_str() == "--forever");
+    let path = known.map(|own| own.path());
+    command(alloc, is_forever, path)?.try_get_matches_from(words)
 }
 
 /// Reads the words. The first word is the program's name, which the usage lines print. `known` is the socket for words that
@@ -184,9 +210,7 @@ pub fn read_words<'a>(
     if let Some(error) = help_for(alloc, words)? {
         return Err(WordsError::Text(error));
     }
-    let is_forever = words.iter().any(|word| word.as_str() == "--forever");
-    let path = known.map(|own| own.path());
-    let matches = command(alloc, is_forever, path)?.try_get_matches_from(words)?;
+    let matches = matches_of(alloc, words, known)?;
     if known.is_none() && lacks_socket(&matches) {
         return Err(WordsError::NoSocket);
     }

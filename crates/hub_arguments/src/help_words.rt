@@ -8,25 +8,31 @@ fn is_command(word: &str) -> bool {
     word != "help" && !word.starts_with('-')
 }
 
+// These words between the program's name and an option.
+fn asked<'a>(
+    alloc: Global,
+    words: &'a [String],
+    option: &'a str,
+) -> Result<Vec<&'a str>, AllocError> {
+    let mut asked = vec![in alloc; NAME]?;
+    for word in words {
+        asked.push(word.as_str())?;
+    }
+    asked.push(option)?;
+    Ok(asked)
+}
+
 /// The words that ask for help in the place of these: no word is `-h`, and `help WORD ..` is `WORD .. --help`, by which a misspelt WORD
 /// is told as it is without `help`.
 pub(crate) fn words_of_help<'a>(
     alloc: Global,
     words: &'a [String],
 ) -> Result<Option<Vec<&'a str>>, AllocError> {
-    let mut asked = Vec::new(alloc);
-    asked.push(NAME)?;
-    let Some(first) = words.get(1) else {
-        asked.push("-h")?;
-        return Ok(Some(asked));
-    };
-    let has_word = words.get(2).is_some_and(|word| is_command(word));
-    if first.as_str() != "help" || !has_word {
-        return Ok(None);
+    match words {
+        [] | [_] => Ok(Some(asked(alloc, &[], "-h")?)),
+        [_, first, second, ..] if first.as_str() == "help" && is_command(second) => {
+            Ok(Some(asked(alloc, &words[2..], "--help")?))
+        }
+        _ => Ok(None),
     }
-    for word in words.iter().skip(2) {
-        asked.push(word.as_str())?;
-    }
-    asked.push("--help")?;
-    Ok(Some(asked))
 }

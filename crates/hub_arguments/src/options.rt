@@ -1,6 +1,7 @@
 //! What the subcommands share: their options, and how a subcommand that asks a hub begins.
 
 use crate::command_line::Plan;
+use clap::error::ErrorKind;
 use clap::{Arg, ArgAction, ArgMatches, Command, Error};
 use std::alloc::{AllocError, Global};
 
@@ -55,12 +56,33 @@ pub(crate) fn asking<'a>(
         .arg(path)
 }
 
+/// Both of these, unless memory ran out for one of them.
+pub(crate) fn both<A: Drop, B: Drop>(
+    first: Result<A, AllocError>,
+    second: Result<B, AllocError>,
+) -> Result<(A, B), AllocError> {
+    Ok((first?, second?))
+}
+
+/// The command with this argument, unless memory ran out for one of them.
+pub(crate) fn with<'a>(command: Made<'a>, argument: Result<Arg<'a>, AllocError>) -> Made<'a> {
+    let (command, argument) = both(command, argument)?;
+    command.arg(argument)
+}
+
 /// One or more values behind the options.
 pub(crate) fn operands<'a>(alloc: Global, id: &'a str, value: &'a str) -> Arg<'a> {
     Arg::new(alloc, id)
         .value_name(value)
         .required(true)
         .num_args(1..)
+}
+
+/// What is wrong with values that an argument of this command takes. `usage` is how the command is called.
+pub(crate) fn refused(command: Made<'_>, usage: &str, text: &str) -> Result<Error, AllocError> {
+    command?
+        .bin_name(usage)?
+        .error(ErrorKind::InvalidValue, text)
 }
 
 /// The socket that the words name.
@@ -74,7 +96,5 @@ pub(crate) fn values<'a>(
     found: &ArgMatches<'a>,
     id: &str,
 ) -> Result<Vec<&'a str>, AllocError> {
-    let mut values = Vec::new(alloc);
-    values.extend_from_slice(found.get_strs(id).unwrap_or(&[]))?;
-    Ok(values)
+    Vec::from_slice(alloc, found.get_strs(id).unwrap_or(&[]))
 }

@@ -10,13 +10,12 @@ ghost use Rattle.hub_arguments.specs.declared.serving.TheConstants.{MOST_CONNECT
 
 use crate::command_line::Plan;
 use crate::help::{CALL_ABOUT, CALL_LINES, SCRIPT_ABOUT, SCRIPT_LINES, SERVE_ABOUT, SERVE_LINES};
-use crate::options::{Made, Read, SOCKET, SOCKET_HELP, or_known, socket_in};
+use crate::options::{Made, Read, SOCKET, SOCKET_HELP, or_known, refused, socket_in, with};
 use crate::serving_options::{
     FOREVER, IDLE, LOOK, LOOK_MODE, MADE, MODE, READY, SESSIONS, SETUP, forever, idle, look,
     look_mode, made, mode, ready, sessions, setup,
 };
 use crate::socket::{OwnSocket, ROOT_SOCKET};
-use clap::error::ErrorKind;
 use clap::{Arg, ArgMatches, Command};
 use hub_options::{
     HubOptions, LEAST_WITH_LOOK, LookOptions, MOST_CLIENTS, MOST_DESCRIPTOR, MOST_IDLE, MOST_MADE,
@@ -47,17 +46,12 @@ fn any_serve<'a>(alloc: Global, is_forever: bool) -> Made<'a> {
     let path = socket(alloc)
         .help("Path of the socket; --forever can do without it")
         .required(!is_forever);
-    Command::new(alloc, "serve")
+    let command = Command::new(alloc, "serve")
         .about(SERVE_ABOUT)
         .after_help(SERVE_LINES)
-        .arg(path)?
-        .arg(sessions(alloc, is_forever))?
-        .arg(forever(alloc))
-}
-
-// The command with this option, unless memory ran out for one of them.
-fn with<'a>(command: Made<'a>, option: Result<Arg<'a>, AllocError>) -> Made<'a> {
-    command?.arg(option?)
+        .arg(path);
+    let command = with(command, Ok(sessions(alloc, is_forever)));
+    with(command, Ok(forever(alloc)))
 }
 
 pub(crate) fn serve_command<'a>(alloc: Global, is_forever: bool) -> Made<'a> {
@@ -202,8 +196,7 @@ pub(crate) fn serve_plan<'a>(
         });
     }
     let Some(options) = hub_options(found, known) else {
-        let mut serve = serve_command(alloc, true)?.bin_name("ftrighub serve")?;
-        return Err(serve.error(ErrorKind::InvalidValue, TOO_FEW)?);
+        return Err(refused(serve_command(alloc, true), "ftrighub serve", TOO_FEW)?);
     };
     Ok(Plan::ServeForever(options))
 }

@@ -27,18 +27,15 @@ static MODES: [&str; 5] = ["0600", "0620", "0622", "0660", "0666"];
 
 /// How many sessions. With `--forever` there may be more.
 pub(crate) fn sessions<'a>(alloc: Global, forever: bool) -> Arg<'a> {
-    let argument = valued(alloc, SESSIONS, "N");
-    if forever {
-        argument
-            .help("Most clients at once, from 1 to 1024")
-            .value_parser(value_parser!(u64).range(1..1025))
-            .default_value("64")
+    let (help, end, usual) = if forever {
+        ("Most clients at once, from 1 to 1024", 1025, "64")
     } else {
-        argument
-            .help("How many connections, from 1 to 64")
-            .value_parser(value_parser!(u64).range(1..65))
-            .default_value("1")
-    }
+        ("How many connections, from 1 to 64", 65, "1")
+    };
+    valued(alloc, SESSIONS, "N")
+        .help(help)
+        .value_parser(value_parser!(u64).range(1..end))
+        .default_value(usual)
 }
 
 /// Whether it runs until it is stopped.

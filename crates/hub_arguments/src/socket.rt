@@ -1,6 +1,6 @@
 //! The rule for the socket of words that name none.
 ghost use Rattle.std.specs.Prelude.{◌≡◌};
-ghost use Rattle.hub_arguments.specs.Environment.{IsDerived, is_absolute, path_of};
+ghost use Rattle.hub_arguments.specs.Environment.{IsDerived, IsOf, is_absolute, path_of};
 
 use std::alloc::{AllocError, AllocGlobal, Global};
 use std::env;
@@ -58,10 +58,22 @@ pub fn derived_socket(
     ensures { IsDerived named user folder result }
 {
     match named {
-        Ok(path) if !path.is_empty() => return Ok(Some(OwnSocket::Named(path))),
-        Err(VarError::OutOfMemory) => return Err(AllocError),
-        Ok(_) | Err(VarError::NotPresent | VarError::NotUnicode) => {}
+        Ok(path) if !path.is_empty() => Ok(Some(OwnSocket::Named(path))),
+        Err(VarError::OutOfMemory) => Err(AllocError),
+        Ok(_) | Err(VarError::NotPresent | VarError::NotUnicode) => {
+            unnamed_socket(alloc, user, folder)
+        }
     }
+}
+
+// The rule for a user to whom no socket is named.
+fn unnamed_socket(
+    alloc: Global,
+    user: u32,
+    folder: Result<String, VarError>,
+) -> Result<Option<OwnSocket>, AllocError>
+    ensures { IsOf user folder result }
+{
     if user == ROOT {
         return Ok(Some(OwnSocket::OfRoot));
     }

@@ -4,6 +4,8 @@ ghost use Rattle.std.specs.Io.KnownBytes.{Appends};
 ghost use Rattle.hub_letters.specs.declared.span.Span.TheVariants as span;
 ghost use Rattle.hub_requests.specs.declared.request.Request.TheVariants as request;
 ghost use Rattle.hub_client.specs.Passing.{has_lf};
+ghost use Rattle.hub_protocol.specs.Spelling.{form_of, spelling};
+ghost use Rattle.hub_ask.specs.Asking.{FailsToHear, Hears};
 ghost use Rattle.hub_ask.specs.Lines.{bytes_of, joined};
 ghost use Rattle.hub_ask.specs.Sending.{SendsFront, lines_of_requests};
 ghost use Rattle.hub_ask.specs.Waiting.{AsksAbout, AsksAll, FailsToEnd, IsEnded, questions, questions_about, reply_of, wait_words};
@@ -11,6 +13,7 @@ ghost use Rattle.hub_requests.specs.Texts.{text_of};
 
 use crate::client::Client;
 use crate::fault::AskError;
+use crate::heard::Heard;
 use crate::line::Line;
 use crate::notes::{tell_state, want_of};
 use crate::outcome::Outcome;
@@ -59,6 +62,25 @@ fn now(alloc: Global, want: Want, name: Name) -> Result<Request, AllocError>
     })
 }
 
+// Sends the request, and returns the reply, as `Client::hear` does. It takes the request, so that its caller doesn't have to drop it.
+fn hear_once<H: Wait, SR: Replies, SW: Requests>(
+    rt: &H,
+    alloc: Global,
+    request: Request,
+    client: &mut Client<SR, SW>,
+) -> Result<Option<Heard>, AskError>
+    ensures ok { IfOk result (Hears
+        (SW.contents client.old.sender) (SW.contents client.new.sender)
+        (SR.remaining client.old.receiver) (SR.remaining client.new.receiver)
+        (spelling (form_of request))) }
+    ensures err { IfErr result (FailsToHear
+        (SW.contents client.old.sender) (SW.contents client.new.sender)
+        (SR.remaining client.old.receiver) (SR.remaining client.new.receiver)
+        (spelling (form_of request)) client.new.is_broken) }
+{
+    client.hear(rt, alloc, &request)
+}
+
 // Asks whether the service is as wanted and how it is, and writes a line if it isn't as wanted.
 fn explain_one<H: Wait, SR: Replies, SW: Requests, F: Write>(
     rt: &H,
@@ -76,8 +98,8 @@ fn explain_one<H: Wait, SR: Replies, SW: Requests, F: Write>(
         (SW.contents client.old.sender) (SW.contents client.new.sender)
         (questions_about want name)) }
 {
-    let met = client.hear(rt, alloc, &now(alloc, want, name.copy()?)?)?;
-    let status = client.hear(rt, alloc, &Request::Status { name });
+    let met = hear_once(rt, alloc, now(alloc, want, name.copy()?)?, client)?;
+    let status = hear_once(rt, alloc, Request::Status { name }, client);
     tell_state(alloc, want, text, &met, &status, notes)?;
     match status {
         Ok(_) => Ok(()),

@@ -7,3 +7,4 @@ pub mod Writable
 pub mod InPieces
 pub mod Directions
 pub mod Turns
+pub mod Counts

@@ -1,10 +1,11 @@
 -- The turns of a relay.
-use Rattle.std.proofs.Common.{◌≡◌, ◌≢◌, ℕ, ◌+◌, ◌<◌, ◌≤◌, false, List, [], ◌∷◌, ◌++◌, length, take, Option, Result, Err, inl, inr, refl, sym, ap, ◌∙◌, subst, arith, append-nil, append_assoc, length-append}
+use Rattle.std.proofs.Common.{◌≡◌, ◌≢◌, ℕ, ◌+◌, ◌<◌, ◌≤◌, false, List, [], ◌∷◌, ◌++◌, length, take, Option, Result, Ok, Err, inl, inr, refl, sym, ap, ◌∙◌, subst, arith, append-nil, append_assoc, length-append}
 use Rattle.std.proofs.Math.Seq.{take-append_seam}
 use Rattle.std.specs.Io.KnownBytes.{Appends, IsAtEnd}
 use Rattle.std.proofs.KnownBytes.{Consumes-nil, Appends-nil, Appends-trans}
 use Rattle.hub_io.specs.declared.reading.TheConstants.{CHUNK, MAX_READS}
 use Rattle.hub_io.specs.Telling.{Rises}
+use Rattle.hub_io.proofs.Told.{Grows-none, Rises-add}
 use Rattle.hub_client.specs.declared.fault.RelayError.{RelayError}
 use Rattle.hub_client.specs.declared.fault.RelayError.TheVariants.{Input, Output, Send, Receive, Ended, Turns, Memory}
 use Rattle.hub_client.specs.Relaying.{ended_lines, line_count, writable, Finished, Stopped, StopsAt, AreAnswered, AwaitsReply, ReadsWithin}
@@ -176,9 +177,31 @@ goes_on {before = before} {after} {passed} u m line appended m' line' appended' 
   few = omega (arith, u.few, m.spent, m'.spent, m.most, ap length m.kept, length-append before m.bytes, length-append passed after, line_some passed line);
 }
 
-pub within : {T : Type 0} (made makes made' makes' : Option ℕ) (r : Result T RelayError) (n m left : ℕ) → n + m + left ≡ MAX_READS → Rises made makes n → Rises made' makes' m → (r ≡ Err Turns → left ≡ 0)
+within : {T : Type 0} (made makes made' makes' : Option ℕ) (r : Result T RelayError) (n m left : ℕ) → n + m + left ≡ MAX_READS → Rises made makes n → Rises made' makes' m → (r ≡ Err Turns → left ≡ 0)
     → ReadsWithin made makes made' makes' r
 within made makes made' makes' r n m left spent told told' turns = (n, m, omega arith, told, told', λ e. let none : left ≡ 0 = turns e in omega arith)
+
+-- the next line was read
+pub reads_line : {had mid has held between had' has' held' holds' : Option (List ℕ)} {made much makes made' makes' : Option ℕ} {before after passed pending' : List ℕ} {count left left' slack : ℕ} {T : Type 0} (r : Result T RelayError)
+    → IsUnderWay had mid held between had' has' held' holds' made much made' makes' before pending' count left → Moves mid has much makes before after left left' slack passed
+    → (r ≡ Err Turns → left' ≡ 0) → ReadsWithin made makes made' makes' r
+reads_line {made = made} {much} {makes} {made'} {makes'} {left' = left'} r u m turns =
+    within made makes made' makes' r (u.reads + m.reads) u.reads' left' (omega (arith, u.spent, m.spent)) (Rises-add made much makes u.reads m.reads u.asked.told m.told) u.answered.told turns
+
+-- the next line was read, and then its reply
+pub reads_reply : {had mid has held between had' mid' has' held' between' : Option (List ℕ)} {made much makes made' much' makes' : Option ℕ} {before after passed before' after' passed' : List ℕ} {count left some left' slack slack' : ℕ} {T : Type 0} (r : Result T RelayError)
+    → IsUnderWay had mid held between had' mid' held' between' made much made' much' before before' count left → Moves mid has much makes before after left some slack passed
+    → Moves mid' has' much' makes' before' after' some left' slack' passed' → (r ≡ Err Turns → left' ≡ 0) → ReadsWithin made makes made' makes' r
+reads_reply {made = made} {much} {makes} {made'} {much'} {makes'} {left' = left'} r u m n turns =
+    within made makes made' makes' r (u.reads + m.reads) (u.reads' + n.reads) left' (omega (arith, u.spent, m.spent, n.spent)) (Rises-add made much makes u.reads m.reads u.asked.told m.told)
+    (Rises-add made' much' makes' u.reads' n.reads u.answered.told n.told) turns
+
+-- nothing was read
+pub reads_nothing : {T : Type 0} (makes makes' : Option ℕ) (r : Result T RelayError) → r ≢ Err Turns → ReadsWithin makes makes makes' makes' r
+reads_nothing makes makes' r other = within makes makes makes' makes' r 0 0 MAX_READS refl (Grows-none makes) (Grows-none makes') (λ turns. absurd (other turns))
+
+pub ok_is_no_error : (P : Type 0) (n : ℕ) (e : RelayError) → Ok n ≡ Err e → P
+ok_is_no_error P n e is = cc
 
 -- no read was left if that is the error
 pub send_turns : {T : Type 0} (r : Result T RelayError) (e : RelayError) (passed rest : List ℕ) (left' : ℕ) → r ≡ Err e → FailsToSend e passed rest left' → r ≡ Err Turns → left' ≡ 0

@@ -6,6 +6,7 @@ ghost use Rattle.hub_commands.specs.Holding.{FailsToAskEach, FailsToLeave, Fails
 
 use crate::making::made_told;
 use crate::noting::note_refusal;
+use crate::requesting::ask_once;
 use crate::telling::tell;
 use hub_ask::{ANSWER, AskError, Client, Outcome, Replies, Requests};
 use hub_client::RelayError;
@@ -23,20 +24,20 @@ fn leave<H: Wait, SR: Replies, SW: Requests, F: Sink>(
     rt: &H,
     alloc: Global,
     name: &str,
-    will: &Request,
+    will: Request,
     client: &mut Client<SR, SW>,
     notes: &mut F,
 ) -> Result<Outcome, AskError>
     ensures ok { IfOk result (IsLeftSo
         (streams SW.contents SR.remaining F.contents F.faults client.old notes.old)
         (streams SW.contents SR.remaining F.contents F.faults client.new notes.new)
-        will.now name.now) }
+        will name.now) }
     ensures err { IfErr result (FailsToLeave
         (streams SW.contents SR.remaining F.contents F.faults client.old notes.old)
         (streams SW.contents SR.remaining F.contents F.faults client.new notes.new)
-        will.now) }
+        will) }
 {
-    let heard = client.ask(rt, alloc, will)?;
+    let heard = ask_once(rt, alloc, will, client)?;
     match made_told(heard.reply()) {
         Some(Ok(())) => Ok(Outcome::Done),
         Some(Err(refusal)) => {
@@ -52,18 +53,18 @@ fn say<H: Wait, SR: Replies, SW: Requests, F: Sink>(
     rt: &H,
     alloc: Global,
     name: &str,
-    told: &Option<Request>,
+    told: Option<Request>,
     client: &mut Client<SR, SW>,
     notes: &mut F,
 ) -> Result<Outcome, AskError>
     ensures ok { IfOk result (IsSaid
         (streams SW.contents SR.remaining F.contents F.faults client.old notes.old)
         (streams SW.contents SR.remaining F.contents F.faults client.new notes.new)
-        told.now name.now) }
+        told name.now) }
     ensures err { IfErr result (FailsToSay
         (streams SW.contents SR.remaining F.contents F.faults client.old notes.old)
         (streams SW.contents SR.remaining F.contents F.faults client.new notes.new)
-        told.now) }
+        told) }
 {
     match told {
         Some(request) => tell(rt, alloc, name, request, client, notes),
@@ -91,9 +92,13 @@ fn ask_each<H: Wait, SR: Replies, SW: Requests, F: Sink>(
         (streams SW.contents SR.remaining F.contents F.faults client.new notes.new)
         will told) }
 {
-    match leave(rt, alloc, name, &will, client, notes)? {
-        Outcome::Done => say(rt, alloc, name, &told, client, notes),
-        outcome => Ok(outcome),
+    match leave(rt, alloc, name, will, client, notes) {
+        Ok(Outcome::Done) => say(rt, alloc, name, told, client, notes),
+        left => {
+            // So no exit drops it, which would be a path for each kind of request in the proof.
+            drop(told);
+            left
+        }
     }
 }
 

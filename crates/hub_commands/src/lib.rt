@@ -11,6 +11,7 @@ mod hinting;
 mod holding;
 mod making;
 mod noting;
+mod requesting;
 mod saying;
 mod shaping;
 mod telling;

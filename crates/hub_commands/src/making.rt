@@ -8,6 +8,7 @@ ghost use Rattle.hub_dialing.specs.Dialing.{dialing};
 ghost use Rattle.hub_commands.specs.Making.{FailsToLook, FailsToMake, FailsToMakeEach, IsCompared, IsJudged, IsMade, MakesAsTold, MakesEach, about_told, made_told, outcome_after};
 
 use crate::noting::note_refusal;
+use crate::requesting::ask_once;
 use crate::shaping::{request_for, shape_of, unlike_text};
 use hub_ask::{ANSWER, AskError, Client, Outcome, Replies, Requests, note};
 use hub_dialing::Dial;
@@ -87,7 +88,7 @@ fn compare<H: Wait, SR: Replies, SW: Requests, F: Sink>(
         name.now) }
 {
     let look = Request::About { name: name.copy()? };
-    let heard = client.ask(rt, alloc, &look)?;
+    let heard = ask_once(rt, alloc, look, client)?;
     match about_told(heard.reply()) {
         Some(Ok(about)) => Ok(judge(alloc, name, shape_of(about), wanted, notes)?),
         Some(Err(refusal)) => {
@@ -117,7 +118,7 @@ fn make<H: Wait, SR: Replies, SW: Requests, F: Sink>(
         wanted name.now) }
 {
     let request = request_for(wanted, name.copy()?);
-    let heard = client.ask(rt, alloc, &request)?;
+    let heard = ask_once(rt, alloc, request, client)?;
     match made_told(heard.reply()) {
         Some(Ok(())) => Ok(Outcome::Done),
         Some(Err(refusal)) => {

@@ -6,6 +6,7 @@ ghost use Rattle.hub_dialing.specs.Dialing.{dialing};
 ghost use Rattle.hub_commands.specs.Telling.{FailsToTell, IsTold, TellsAsTold, verdict_of};
 
 use crate::noting::note_refusal;
+use crate::requesting::ask_once;
 use hub_ask::{ANSWER, AskError, Client, Outcome, Replies, Requests};
 use hub_dialing::Dial;
 use hub_endings::{BadWords, Ending};
@@ -32,20 +33,20 @@ pub(crate) fn tell<H: Wait, SR: Replies, SW: Requests, F: Sink>(
     rt: &H,
     alloc: Global,
     name: &str,
-    request: &Request,
+    request: Request,
     client: &mut Client<SR, SW>,
     notes: &mut F,
 ) -> Result<Outcome, AskError>
     ensures ok { IfOk result (IsTold
         (streams SW.contents SR.remaining F.contents F.faults client.old notes.old)
         (streams SW.contents SR.remaining F.contents F.faults client.new notes.new)
-        request.now name.now) }
+        request name.now) }
     ensures err { IfErr result (FailsToTell
         (streams SW.contents SR.remaining F.contents F.faults client.old notes.old)
         (streams SW.contents SR.remaining F.contents F.faults client.new notes.new)
-        request.now) }
+        request) }
 {
-    let heard = client.ask(rt, alloc, request)?;
+    let heard = ask_once(rt, alloc, request, client)?;
     match verdict_of(heard.reply()) {
         Some(Ok(())) => Ok(Outcome::Done),
         Some(Err(refusal)) => {
@@ -80,6 +81,6 @@ pub fn tell_state<H: Wait, D: Dial, F: Sink>(
     let (receiver, sender) = dialer.dial(socket, ANSWER)?;
     let mut client = Client::new(receiver, sender);
     let request = Request::Tell { name: named, state };
-    let outcome = tell(rt, alloc, name, &request, &mut client, notes)?;
+    let outcome = tell(rt, alloc, name, request, &mut client, notes)?;
     Ok(outcome.status())
 }

@@ -39,20 +39,21 @@ impl fmt::Display for BadWords {
     ghost output = { λ it. Some (bad_text it) };
 
     fn fmt<W: fmt::Write>(&self, f: &mut fmt::Formatter<W>) -> fmt::Result {
-        match self {
-            BadWords::NotText => f.write_str("an argument is not UTF-8"),
-            BadWords::NoSocket => f.write_str(
+        f.write_str(match self {
+            BadWords::NotText => "an argument is not UTF-8",
+            BadWords::NoSocket =>
                 "no socket: name one by --socket PATH or FTRIGHUB_SOCKET, or set XDG_RUNTIME_DIR",
-            ),
-            BadWords::Word => f.write_str("a word has a line feed"),
-            BadWords::Name => f.write_str("a name has a line feed"),
-            BadWords::NotName => f.write_str("a name has 1 to 32 letters, digits, _, . or -"),
-            BadWords::Duration(text) => write!(
-                f,
-                "\"{text}\" is no duration, such as 500ms, 0.5s, 90, 2m or 1h, up to 1000h"
-            ),
-            BadWords::Restart => f.write_str("a wait for a restart takes 1000s at most"),
-        }
+            BadWords::Word => "a word has a line feed",
+            BadWords::Name => "a name has a line feed",
+            BadWords::NotName => "a name has 1 to 32 letters, digits, _, . or -",
+            BadWords::Duration(text) => {
+                return write!(
+                    f,
+                    "\"{text}\" is no duration, such as 500ms, 0.5s, 90, 2m or 1h, up to 1000h"
+                );
+            }
+            BadWords::Restart => "a wait for a restart takes 1000s at most",
+        })
     }
 }
 

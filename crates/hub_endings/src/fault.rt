@@ -58,23 +58,24 @@ impl fmt::Display for Fault {
     ghost output = { λ it. Some (text_of it) };
 
     fn fmt<W: fmt::Write>(&self, f: &mut fmt::Formatter<W>) -> fmt::Result {
-        match self {
-            Fault::Listen(fault) => write!(f, "{fault}"),
-            Fault::Taken => f.write_str("another server listens there"),
-            Fault::Notify => f.write_str("cannot notify"),
-            Fault::Setup => f.write_str("cannot read the setup"),
-            Fault::SetupLine(line) => write!(f, "{line}"),
-            Fault::Lost => f.write_str("socket file lost"),
-            Fault::Look(fault) => write!(f, "{fault}"),
-            Fault::Accept => f.write_str("cannot accept"),
-            Fault::Connect => f.write_str("cannot connect"),
-            Fault::Memory => write!(f, "{}", FrontError::Memory),
-            Fault::Script(fault) => write!(f, "{fault}"),
-            Fault::Serve(fault) => write!(f, "{fault}"),
-            Fault::Session { number, fault } => write!(f, "session {number}: {fault}"),
-            Fault::Relay(fault) => write!(f, "{fault}"),
-            Fault::Ask(fault) => write!(f, "{fault}"),
-        }
+        let text = match self {
+            Fault::Taken => "another server listens there",
+            Fault::Notify => "cannot notify",
+            Fault::Setup => "cannot read the setup",
+            Fault::Lost => "socket file lost",
+            Fault::Accept => "cannot accept",
+            Fault::Connect => "cannot connect",
+            Fault::Listen(fault) => return fault.fmt(f),
+            Fault::SetupLine(line) => return line.fmt(f),
+            Fault::Look(fault) => return fault.fmt(f),
+            Fault::Memory => return FrontError::Memory.fmt(f),
+            Fault::Script(fault) => return fault.fmt(f),
+            Fault::Serve(fault) => return fault.fmt(f),
+            Fault::Session { number, fault } => return write!(f, "session {number}: {fault}"),
+            Fault::Relay(fault) => return fault.fmt(f),
+            Fault::Ask(fault) => return fault.fmt(f),
+        };
+        f.write_str(text)
     }
 }
 

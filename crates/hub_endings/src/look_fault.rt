@@ -23,12 +23,12 @@ impl fmt::Display for LookFault {
     ghost output = { λ it. Some (look_fault_text it) };
 
     fn fmt<W: fmt::Write>(&self, f: &mut fmt::Formatter<W>) -> fmt::Result {
-        match self {
-            LookFault::Listen(fault) => write!(f, "{fault} (--look)"),
-            LookFault::Taken => f.write_str("another server listens there (--look)"),
-            LookFault::Same => f.write_str("the path is that of the first socket (--look)"),
-            LookFault::Lost => f.write_str("socket file lost (--look)"),
-        }
+        f.write_str(match self {
+            LookFault::Listen(fault) => return write!(f, "{fault} (--look)"),
+            LookFault::Taken => "another server listens there (--look)",
+            LookFault::Same => "the path is that of the first socket (--look)",
+            LookFault::Lost => "socket file lost (--look)",
+        })
     }
 }
 

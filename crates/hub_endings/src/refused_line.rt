@@ -23,26 +23,26 @@ impl fmt::Display for Word {
     ghost output = { λ it. Some (word_of it.0) };
 
     fn fmt<W: fmt::Write>(&self, f: &mut fmt::Formatter<W>) -> fmt::Result {
-        match self.0 {
-            Refusal::Long => f.write_str("long"),
-            Refusal::Text => f.write_str("text"),
-            Refusal::Word => f.write_str("word"),
-            Refusal::Form => f.write_str("form"),
-            Refusal::Range => f.write_str("range"),
-            Refusal::Right => f.write_str("right"),
-            Refusal::Name => f.write_str("name"),
-            Refusal::Exists => f.write_str("exists"),
-            Refusal::Kind => f.write_str("kind"),
-            Refusal::Id => f.write_str("id"),
-            Refusal::Many => f.write_str("many"),
-            Refusal::Spent => f.write_str("spent"),
-            Refusal::Closed => f.write_str("closed"),
-            Refusal::Unlawful(place) => write!(f, "unlawful {place}"),
-            Refusal::Full => f.write_str("full"),
-            Refusal::Pattern => f.write_str("pattern"),
-            Refusal::Overlong => f.write_str("overlong"),
-            Refusal::Memory => f.write_str("memory"),
-        }
+        f.write_str(match self.0 {
+            Refusal::Long => "long",
+            Refusal::Text => "text",
+            Refusal::Word => "word",
+            Refusal::Form => "form",
+            Refusal::Range => "range",
+            Refusal::Right => "right",
+            Refusal::Name => "name",
+            Refusal::Exists => "exists",
+            Refusal::Kind => "kind",
+            Refusal::Id => "id",
+            Refusal::Many => "many",
+            Refusal::Spent => "spent",
+            Refusal::Closed => "closed",
+            Refusal::Unlawful(place) => return write!(f, "unlawful {place}"),
+            Refusal::Full => "full",
+            Refusal::Pattern => "pattern",
+            Refusal::Overlong => "overlong",
+            Refusal::Memory => "memory",
+        })
     }
 }
 

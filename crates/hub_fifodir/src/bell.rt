@@ -179,7 +179,7 @@ impl Fifodir {
 }
 
 /// How often a bell had rung before a look. Only a look gives one, and a pause asks for it, so none comes without a look before it.
-#[derive(Clone, Copy, Debug, PartialEq, Eq, Hash)]
+#[derive(Clone, Copy, Debug, PartialEq, Eq)]
 pub struct Looked {
     rings: u64,
     urgent: u64,

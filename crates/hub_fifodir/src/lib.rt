@@ -46,7 +46,7 @@ pub use ticket::Ticket;
 pub use usage::Usage;
 
 /// Why there is no new publisher. If several reasons hold, the first in this order is reported.
-#[derive(Clone, Copy, Debug, PartialEq, Eq, Hash, Error)]
+#[derive(Clone, Copy, Debug, PartialEq, Eq, Error)]
 pub enum PassError {
     /// [`MOST_PASSES`](hub_record::MOST_PASSES) publishers are current. There is room again after one of them leaves.
     #[error("too many publishers")]

@@ -4,7 +4,7 @@ use crate::bell::{Bell, Looked};
 use std::sync::Wait;
 
 /// Whether a wait goes on after a pause.
-#[derive(Clone, Copy, Debug, PartialEq, Eq, Hash)]
+#[derive(Clone, Copy, Debug, PartialEq, Eq)]
 pub enum Go {
     /// It takes what has come meanwhile, and looks again.
     Again,

@@ -82,7 +82,7 @@ pub fn send_both<R: Threads + Wait + Sync>(
 }
 
 /// An event that was taken and couldn't be sent on.
-#[derive(Clone, Copy, Debug, PartialEq, Eq, Hash, Error)]
+#[derive(Clone, Copy, Debug, PartialEq, Eq, Error)]
 #[error("the event could not be sent on: {why}")]
 pub struct Unsent {
     /// The event. The ticket doesn't take it again, so a caller that wants to send it later has to keep it.

@@ -6,7 +6,7 @@ use hub_record::Enter;
 use std::sync::Wait;
 
 /// How much there is at a fifodir at one moment.
-#[derive(Clone, Copy, Debug, PartialEq, Eq, Hash)]
+#[derive(Clone, Copy, Debug, PartialEq, Eq)]
 pub struct Usage {
     /// How many subscriptions are neither cancelled nor evicted.
     pub subscriptions: u64,

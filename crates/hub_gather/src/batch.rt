@@ -193,6 +193,8 @@ impl Batch {
         let line = parse(self.alloc, &self.line);
         self.make_room::<D, R, W, M>(means, writer, &line)?;
         let reply = means.answer(rt, desk, &line);
+        // Else the proof has a path for each kind of request with each kind of reply.
+        drop(line);
         reply.is_short();
         write_reply(&reply, &mut self.held).unwrap();
         self.line.clear();

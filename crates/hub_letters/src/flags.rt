@@ -6,7 +6,7 @@ ghost use Rattle.hub_letters.specs.Flags.{flags_of, flags_next, flags_folded, no
 use crate::letter::Letter;
 
 /// What the letters so far say of the service. A flag is false if no letter bears on it.
-#[derive(Clone, Copy, Debug, PartialEq, Eq, Hash)]
+#[derive(Clone, Copy, Debug, PartialEq, Eq)]
 pub struct Flags {
     /// The run process runs: the last letter among `s u U d D` is `u` or `U`.
     pub up: bool,

@@ -6,7 +6,7 @@ ghost use Rattle.hub_letters.specs.Flags.{flags_of};
 use std::marker::Model;
 
 /// One byte from 0x21 (`!`) to 0x7E (`~`), as `s6-ftrig-notify` sends it. In contracts a letter is its byte.
-#[derive(Clone, Copy, Debug, PartialEq, Eq, Hash)]
+#[derive(Clone, Copy, Debug, PartialEq, Eq)]
 pub struct Letter {
     byte: u8,
 }

@@ -4,7 +4,7 @@
 pub const MOST_GATHERED: usize = 4_096;
 
 /// Whether a listener goes on after a hit.
-#[derive(Clone, Copy, Debug, PartialEq, Eq, Hash)]
+#[derive(Clone, Copy, Debug, PartialEq, Eq)]
 pub enum Mode {
     /// The listener has one hit, and is spent from then on.
     Once,

@@ -7,7 +7,7 @@ ghost use Rattle.hub_letters.specs.Stages.{stage_of, next_by, stage_by_code, Fol
 use crate::letter::Letter;
 
 /// The stage of a service in its lawful order. A record begins at `Off`.
-#[derive(Clone, Copy, Debug, PartialEq, Eq, Hash)]
+#[derive(Clone, Copy, Debug, PartialEq, Eq)]
 pub enum Stage {
     /// No supervisor: none has started, or the last has exited.
     Off,

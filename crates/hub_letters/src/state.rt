@@ -10,7 +10,7 @@ use crate::word::Word;
 
 /// Where somebody who publishes for a service says that it is. The letters that bring it there from where it is are the
 /// word for the state.
-#[derive(Clone, Copy, Debug, PartialEq, Eq, Hash)]
+#[derive(Clone, Copy, Debug, PartialEq, Eq)]
 pub enum State {
     /// No supervisor runs, and nothing is left of what it started.
     Off,

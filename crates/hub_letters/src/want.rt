@@ -9,7 +9,7 @@ use crate::flags::Flags;
 
 /// The state of a service that a wait asks for, as in `s6-svwait` and `s6-svlisten`. Their `-r` and `-R` ask for a restart
 /// too, but of a service that was up.
-#[derive(Clone, Copy, Debug, PartialEq, Eq, Hash)]
+#[derive(Clone, Copy, Debug, PartialEq, Eq)]
 pub enum Want {
     /// It is up (`-u`).
     Up,

@@ -1,12 +1,12 @@
 -- One more question about a fifodir that is followed.
-use Rattle.std.proofs.Common.{◌≡◌, ℕ, suc, zero, ◌<◌, List, ◌∷◌, ◌++◌, length, take, drop, get_or, set, Bool, true, false, MatchBool, Option, map, Result, Ok, Err, OnOk, IfOk, IfErr, MatchResult, IsErrAnd, refl, sym, ap, ◌∙◌, subst, inl, inr, arith, take_all, take-append-drop, drop-cons}
-use Rattle.std.proofs.lemmas.List.{set-get_or, set_split, take-append-le}
+use Rattle.std.proofs.Common.{◌≡◌, ℕ, suc, zero, ◌<◌, List, ◌∷◌, ◌++◌, length, take, drop, get_or, set, Bool, true, false, MatchBool, Option, map, Result, Ok, Err, OnOk, IfOk, IfErr, MatchResult, IsErrAnd, refl, sym, ap, ◌∙◌, subst, inl, inr, take-append-drop, drop-cons}
+use Rattle.std.proofs.lemmas.List.{set-get_or, set_split}
 use Rattle.hub_requests.specs.declared.reply.Reply.{Reply}
 use Rattle.hub_ask.specs.declared.fault.AskError.{AskError}
 use Rattle.hub_ask.specs.declared.outcome.Outcome.{Outcome}
 use Rattle.hub_look.specs.Stops.{IsOwnStop, StopsWith}
 use Rattle.hub_ask.specs.Streams.{IsToldTo, Streams}
-use Rattle.hub_look.specs.Follows.{Beginning, Manner, Scene, EndsFollow, EndsLookAt, FollowsTo, GoesOn, IsSeenTo, IsUnderWay, LooksOn, AreAsked, IsSaid, IsTaken, EndsLooks, EndsTake, again_line, begins_by, scene}
+use Rattle.hub_look.specs.Follows.{Beginning, Manner, Scene, EndsByItself, EndsFollow, EndsLookAt, EndsRounds, FollowsTo, GoesOn, IsSeenTo, IsUnderWay, LooksOn, AreAsked, IsSaid, IsTaken, EndsLooks, EndsTake, again_line, begins_by, scene}
 use Rattle.hub_look.specs.Subscribing.{AreBegun, name_of}
 use Rattle.hub_look.specs.declared.following.Following.{Following}
 use Rattle.hub_look.specs.declared.stop.Stop.{Stop}
@@ -99,11 +99,11 @@ ends_on manner n before between after holds stop first rest =
 
 -- ---- the whole follow
 
-pub begins : (manner : Manner) (begun : Beginning) (names : List (List ℕ)) (all : List Followed) (streams : Streams) (held : Option (List ℕ))
+begins : (manner : Manner) (begun : Beginning) (names : List (List ℕ)) (all : List Followed) (streams : Streams) (held : Option (List ℕ))
     → map name_of all ≡ names → begun streams names all → IsUnderWay manner begun names held (record { all = all; streams = streams; held = held })
 begins manner begun names all streams held named subscribed = record { start = all; between = streams; named = named; begun = subscribed; count = 0; looks = refl }
 
-pub continues : (manner : Manner) (begun : Beginning) (names : List (List ℕ)) (held : Option (List ℕ)) (now later : Scene)
+continues : (manner : Manner) (begun : Beginning) (names : List (List ℕ)) (held : Option (List ℕ)) (now later : Scene)
     → IsUnderWay manner begun names held now → (count : ℕ) × AreAsked manner count now later → IsUnderWay manner begun names held later
 continues manner begun names held now later h looks =
     let more = asked_on manner h.count looks.0 (record { all = h.start; streams = h.between; held = held }) now later h.looks looks.1 in
@@ -114,13 +114,6 @@ pub ends_before : {T : Type 0} (manner : Manner) (begun : Beginning) (names : Li
     → IsErrAnd result (λ it. it ≡ stop) → IsOwnStop stop → IfErr result (EndsFollow manner begun names after held held)
 ends_before manner begun names after held (Ok it) stop is own = tt
 ends_before manner begun names after held (Err other) stop is own = inl (subst IsOwnStop (sym is) own, refl)
-
--- a reply or a fault ended it
-pub ends_after : {T : Type 0} (manner : Manner) (begun : Beginning) (names : List (List ℕ)) (now : Scene) (after : Streams) (held holds : Option (List ℕ)) (result : Result T Stop) (stop : Stop)
-    → IsErrAnd result (λ it. it ≡ stop) → IsUnderWay manner begun names held now → EndsLooks manner now after holds stop → IfErr result (EndsFollow manner begun names after held holds)
-ends_after manner begun names now after held holds (Ok it) stop is h ends = tt
-ends_after manner begun names now after held holds (Err other) stop is h ends =
-    inr (record { now = now; followed = h; ends = subst (EndsLooks manner now after holds) (sym is) ends })
 
 -- one more round ended it
 pub ends_round : {T : Type 0} (manner : Manner) (before between : Scene) (after : Streams) (holds : Option (List ℕ)) (result : Result T Stop) (stop : Stop)
@@ -140,28 +133,33 @@ pub fault_of_stop : (manner : Manner) (begun : Beginning) (names : List (List �
 fault_of_stop manner begun names after held holds (Ok it) stop is h = tt
 fault_of_stop manner begun names after held holds (Err error) stop is h = subst (EndsFollow manner begun names after held holds) is h
 
--- ---- through a slice of all
+-- ---- from the beginning to the end
 
--- what a slice leaves of a vector of its length
-rewritten : (n : ℕ) (slice rest : List Followed) → length slice ≡ n → take n (slice ++ rest) ≡ slice
-rewritten n slice rest many = take-append-le n slice rest (omega (arith, many)) ∙ take_all n slice (omega (arith, many))
+-- slice has all that were subscribed to
+begins_at : (manner : Manner) (begun : Beginning) (names : List (List ℕ)) (all slice : List Followed) (streams : Streams) (held : Option (List ℕ))
+    → slice ≡ all → map name_of all ≡ names → begun streams names all → IsUnderWay manner begun names held (scene slice streams held)
+begins_at manner begun names all slice streams held same named subscribed =
+    subst (λ it. IsUnderWay manner begun names held (scene it streams held)) (sym same) (begins manner begun names all streams held named subscribed)
 
-pub continues_by : (manner : Manner) (begun : Beginning) (names : List (List ℕ)) (held : Option (List ℕ)) (all slice new rest : List Followed) (n : ℕ) (before after : Streams) (holds held' : Option (List ℕ))
-    → slice ≡ all → length new ≡ length slice → length slice ≡ n
-    → IsUnderWay manner begun names held (record { all = all; streams = before; held = holds })
-    → (count : ℕ) × AreAsked manner count (record { all = slice; streams = before; held = holds }) (record { all = new; streams = after; held = held' })
-    → IsUnderWay manner begun names held (record { all = take n (new ++ rest); streams = after; held = held' })
-continues_by manner begun names held all slice new rest n before after holds held' same many all_of h looks =
-    subst (λ it. IsUnderWay manner begun names held (record { all = it; streams = after; held = held' })) (sym (rewritten n new rest (many ∙ all_of)))
-    (continues manner begun names held (record { all = slice; streams = before; held = holds }) (record { all = new; streams = after; held = held' })
-    (subst (λ it. IsUnderWay manner begun names held (record { all = it; streams = before; held = holds })) (sym same) h) looks)
+-- it ended by itself
+pub ends_itself : (manner : Manner) (begun : Beginning) (names : List (List ℕ)) (all slice new : List Followed) (before after : Streams) (held holds : Option (List ℕ)) (result : Result Outcome Stop)
+    → slice ≡ all → map name_of all ≡ names → begun before names all → IfOk result (EndsRounds manner (scene slice before held) (scene new after holds))
+    → IfOk result (EndsByItself manner begun names after held holds)
+ends_itself manner begun names all slice new before after held holds (Ok went) same named subscribed h =
+    let now = continues manner begun names held (scene slice before held) (scene new after holds) (begins_at manner begun names all slice before held same named subscribed) h.0 in
+    elim (h.1) [
+      | inl over ↦ inl (over.0, record { all = new; followed = now; over = over.1 })
+      | inr late ↦ inr (late.0, late.1, (new, now))
+    ]
+ends_itself manner begun names all slice new before after held holds (Err stop) same named subscribed h = tt
 
-pub ends_after_by : {T : Type 0} (manner : Manner) (begun : Beginning) (names : List (List ℕ)) (all slice : List Followed) (before after : Streams) (held between holds : Option (List ℕ)) (result : Result T Stop) (stop : Stop)
-    → slice ≡ all → IsErrAnd result (λ it. it ≡ stop) → IsUnderWay manner begun names held (record { all = all; streams = before; held = between })
-    → EndsLooks manner (record { all = slice; streams = before; held = between }) after holds stop → IfErr result (EndsFollow manner begun names after held holds)
-ends_after_by manner begun names all slice before after held between holds result stop same is h ends =
-    ends_after manner begun names (record { all = slice; streams = before; held = between }) after held holds result stop is
-    (subst (λ it. IsUnderWay manner begun names held (record { all = it; streams = before; held = between })) (sym same) h) ends
+-- a reply or a fault ended it
+pub ends_after : (manner : Manner) (begun : Beginning) (names : List (List ℕ)) (all slice : List Followed) (before after : Streams) (held holds : Option (List ℕ)) (result : Result Outcome Stop)
+    → slice ≡ all → map name_of all ≡ names → begun before names all → IfErr result (EndsLooks manner (scene slice before held) after holds)
+    → IfErr result (EndsFollow manner begun names after held holds)
+ends_after manner begun names all slice before after held holds (Ok went) same named subscribed h = tt
+ends_after manner begun names all slice before after held holds (Err stop) same named subscribed h =
+    inr (record { now = scene slice before held; followed = begins_at manner begun names all slice before held same named subscribed; ends = h })
 
 -- ---- what is said at the beginning
 

@@ -1,8 +1,10 @@
--- The columns of a row, one after another.
-use Rattle.std.proofs.Common.{◌≡◌, ℕ, List, [], ◌∷◌, ◌++◌, Result, Ok, Err, OnOk, is_ok, if◌then◌else◌, ap, ◌∙◌, subst, append_assoc}
+-- The headings of a table, the columns of a row and the members of an object.
+use Rattle.std.proofs.Common.{◌≡◌, ℕ, ◌==◌, true, false, length, List, [], ◌∷◌, ◌++◌, codes, Result, Ok, Err, OnOk, is_ok, if◌then◌else◌, ap, ◌∙◌, subst, append_assoc, arith}
+use Rattle.std.proofs.lemmas.Bool.{eqb-true}
 use Rattle.std.specs.Fmt.{decimal}
 use Rattle.hub_requests.specs.Texts.{word_of_policy}
-use Rattle.hub_look.specs.Descriptions.{beside, columns_of, in_column, kind_word, pending_column, state_column}
+use Rattle.hub_look.specs.Descriptions.{beside, columns_of, count_members, further, in_column, kind_word, limit_members, member, object_of, pending_column, quoted, row_of, state_column, state_members}
+use Rattle.hub_look.specs.Tables.{head_of, headings_of, width_of}
 use Rattle.hub_look.specs.declared.describing.Description.{Description}
 
 -- what is put behind a column
@@ -26,3 +28,39 @@ all_columns it line a b c d e last policy (Ok done) kind state number subscripti
     (behind c d last 11 (decimal it.about.subscriptions) _ subscriptions
     (behind d e last 12 (pending_column it.about) (word_of_policy it.about.policy) pending (subst (λ word. last ≡ e ++ word) is more)))))
 all_columns it line a b c d e last policy (Err error) kind state number subscriptions pending is more = tt
+
+-- a row, and its end
+pub whole_row : {T E : Type 0} (width : ℕ) (name columns line a b last : List ℕ) (result : Result T E)
+    → a ≡ line ++ beside width name [] → b ≡ a ++ columns → last ≡ (if is_ok result then b ++ 10 ∷ [] else b) → OnOk result (last ≡ line ++ row_of width name columns)
+whole_row width name columns line a b last (Ok done) put more ends =
+    behind line a last width name (columns ++ 10 ∷ []) put (ends ∙ ap (λ it. it ++ 10 ∷ []) more ∙ append_assoc a columns (10 ∷ []))
+whole_row width name columns line a b last (Err error) put more ends = tt
+
+-- what is put behind a part of an object
+behind_part : (line grown last part right : List ℕ) → grown ≡ line ++ part → last ≡ grown ++ right → last ≡ line ++ (part ++ right)
+behind_part line grown last part right put more = more ∙ ap (λ it. it ++ right) put ∙ append_assoc line part right
+
+-- an object, all parts of it
+pub whole_object : {T E : Type 0} (name : List ℕ) (it : Description) (line a b c d e last : List ℕ) (result : Result T E)
+    → a ≡ line ++ 123 ∷ [] → b ≡ a ++ member (codes "name") (quoted name) → c ≡ b ++ further (state_members it) → d ≡ c ++ further (count_members it) → e ≡ d ++ further (limit_members it.about)
+    → last ≡ (if is_ok result then e ++ 125 ∷ 10 ∷ [] else e) → OnOk result (last ≡ line ++ object_of name it)
+whole_object name it line a b c d e last (Ok done) opens named states counts limits ends =
+    behind_part line a last (123 ∷ []) _ opens
+    (behind_part a b last (member (codes "name") (quoted name)) _ named
+    (behind_part b c last (further (state_members it)) _ states
+    (behind_part c d last (further (count_members it)) _ counts (behind_part d e last (further (limit_members it.about)) _ limits ends))))
+whole_object name it line a b c d e last (Err error) opens named states counts limits ends = tt
+
+-- ---- what is above the rows
+
+-- words, since there is no name
+pub headings_none : {Word T E : Type 0} (text : Word → List ℕ) (names : List Word) (table grown : List ℕ) (result : Result T E)
+    → (length names == 0) ≡ true → grown ≡ (if is_ok result then table ++ codes "no services\n" else table) → OnOk result (grown ≡ table ++ headings_of text names)
+headings_none text [] table grown (Ok done) none put = put
+headings_none text (n ∷ names) table grown (Ok done) none put = let is : length (n ∷ names) ≡ 0 = eqb-true (length (n ∷ names)) 0 none in absurd (omega arith)
+headings_none text names table grown (Err error) none put = tt
+
+pub headings_some : {Word T E : Type 0} (text : Word → List ℕ) (names : List Word) (width : ℕ) (table grown : List ℕ) (result : Result T E)
+    → (length names == 0) ≡ false → width ≡ width_of text names → OnOk result (grown ≡ table ++ head_of width) → OnOk result (grown ≡ table ++ headings_of text names)
+headings_some text [] width table grown result some wide put = absurd (let k = some in cc)
+headings_some text (n ∷ names) width table grown result some wide put = subst (λ w. OnOk result (grown ≡ table ++ head_of w)) wide put

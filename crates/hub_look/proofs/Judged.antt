@@ -2,16 +2,19 @@
 use Rattle.std.proofs.Common.{◌≡◌, ◌≢◌, ◌⊎◌, inl, inr, Bool, true, false, IfOk, IfErr, IsErrAnd, ℕ, ◌+◌, ◌<◌, ◌≤◌, max, Option, map, List, [], ◌∷◌, ◌++◌, length, take, get_or, Result, Ok, Err, refl, sym, ap, ◌∙◌, subst, arith, append-nil, append_assoc, take_all}
 use Rattle.std.proofs.lemmas.Bool.{false≢true}
 use Rattle.std.proofs.lemmas.List.{take_more}
+use Rattle.std.specs.Io.KnownBytes.{Appends}
+use Rattle.hub_io.specs.Faults.{AppendsPart}
 use Rattle.hub_client.specs.declared.fault.RelayError.TheVariants as relay
 use Rattle.hub_ask.specs.declared.fault.AskError.{AskError}
 use Rattle.hub_ask.specs.declared.fault.AskError.TheVariants.{Relay}
 use Rattle.hub_ask.specs.declared.outcome.Outcome.{Outcome}
 use Rattle.hub_ask.specs.declared.outcome.Outcome.TheVariants.{Done}
+use Rattle.hub_look.proofs.Subscribed.{map_more}
 use Rattle.hub_look.specs.Stops.{IsFaultOf, IsOwnFault, IsOwnStop, IsRefusal}
 use Rattle.hub_ask.specs.Streams.{Streams}
 use Rattle.hub_look.specs.declared.stop.Stop.{Stop}
 use Rattle.hub_look.specs.declared.stop.Stop.TheVariants.{Fault}
-use Rattle.hub_look.specs.Tables.{FailsToShow, FailsToShowAll, ListsNames, ShowsAll, ShowsTable, Finding, AreDescribed, IsDescribed, IsTable, head_of, outcome_after, outcome_of_all, row_by, rows_of, table_of, top_of, width_of}
+use Rattle.hub_look.specs.Tables.{FailsToShow, FailsToShowAll, ListsNames, ShowsAll, ShowsTable, Finding, AreDescribed, IsDescribed, IsTable, PutsTable, head_of, outcome_after, outcome_of_all, row_by, rows_of, table_of, top_of, width_of}
 
 pub described_more : {Word : Type 0} (text : Word → List ℕ) (before between after : Streams) (names : List Word) (findings : List Finding) (name : Word) (finding : Finding)
     → AreDescribed text before between names findings → IsDescribed between after (text name) finding
@@ -74,20 +77,64 @@ one_more text is_json before between after names at name width top table grown o
       went = went ∙ ap (λ o. outcome_after o finding) h.went ∙ sym (outcome_more h.findings finding);
     })
 
-pub whole_table : {Word : Type 0} (text : Word → List ℕ) (is_json : Bool) (before after : Streams) (names : List Word) (at width : ℕ) (table : List ℕ) (outcome : Outcome)
-    → length names ≤ at → width ≡ width_of text names → IsSoFar text is_json before after (take at names) width (top_of text is_json names) table outcome
-    → IsTable text is_json before after names table outcome
-whole_table text is_json before after names at width table outcome end wide h =
-    let all : IsSoFar text is_json before after names width (top_of text is_json names) table outcome =
-    subst (λ it. IsSoFar text is_json before after it width (top_of text is_json names) table outcome) (take_all at names end) h in
-    record {
-      findings = all.findings;
-      described = all.described;
-      shown = all.shown ∙ ap (λ w. top_of text is_json names ++ rows_of text is_json w names all.findings) wide;
-      went = all.went;
-    }
+pub whole_table : {Word : Type 0} (text : Word → List ℕ) (is_json : Bool) (before after : Streams) (names : List Word) (at width : ℕ) (bytes grown : List ℕ) (outcome : Outcome)
+    → length names ≤ at → width ≡ width_of text names → IsSoFar text is_json before after (take at names) width (bytes ++ top_of text is_json names) grown outcome
+    → PutsTable text is_json before after names bytes grown outcome
+whole_table text is_json before after names at width bytes grown outcome end wide h =
+    let all : IsSoFar text is_json before after names width (bytes ++ top_of text is_json names) grown outcome =
+    subst (λ it. IsSoFar text is_json before after it width (bytes ++ top_of text is_json names) grown outcome) (take_all at names end) h in (
+      table_of text is_json names all.findings,
+      record { findings = all.findings; described = all.described; shown = refl; went = all.went },
+      all.shown ∙ append_assoc bytes (top_of text is_json names) (rows_of text is_json width names all.findings)
+          ∙ ap (λ w. bytes ++ (top_of text is_json names ++ rows_of text is_json w names all.findings)) wide,
+    )
+
+-- a table behind nothing
+table_alone : {Word : Type 0} (text : Word → List ℕ) (is_json : Bool) (before after : Streams) (names : List Word) (bytes table : List ℕ) (outcome : Outcome)
+    → bytes ≡ [] → PutsTable text is_json before after names bytes table outcome → IsTable text is_json before after names table outcome
+table_alone text is_json before after names bytes table outcome none h =
+    subst (λ it. IsTable text is_json before after names it outcome) (sym (h.2 ∙ ap (λ b. b ++ h.0) none)) h.1
+
+-- ---- it is written
+
+pub shows_table : {Word : Type 0} (text : Word → List ℕ) (is_json : Bool) (before after : Streams) (held holds : Option (List ℕ)) (names : List Word) (bytes table written : List ℕ) (outcome : Outcome)
+    → bytes ≡ [] → PutsTable text is_json before after names bytes table outcome → written ≡ table → Appends held holds written
+    → ShowsTable text is_json before after held holds names outcome
+shows_table text is_json before after held holds names bytes table written outcome none h same appends =
+    record { table = table; written = subst (Appends held holds) same appends; is = table_alone text is_json before after names bytes table outcome none h }
+
+-- a part of it is written
+pub cuts_table : {Word T : Type 0} (text : Word → List ℕ) (is_json : Bool) (before after : Streams) (held holds : Option (List ℕ)) (names : List Word) (bytes table written : List ℕ) (outcome : Outcome) (result : Result T Stop) (stop : Stop)
+    → bytes ≡ [] → PutsTable text is_json before after names bytes table outcome → written ≡ table → IsErrAnd result (λ it. it ≡ stop)
+    → (stop ≡ Fault (Relay relay.Output)) × AppendsPart held holds written
+    → IfErr result (IsFaultOf (FailsToShow text is_json before after held holds names))
+cuts_table text is_json before after held holds names bytes table written outcome (Ok done) stop none h same is part = tt
+cuts_table text is_json before after held holds names bytes table written outcome (Err other) stop none h same is part = (
+  Relay relay.Output,
+  is ∙ part.0,
+  record { table = table; outcome = outcome; written = subst (AppendsPart held holds) same part.1; is = table_alone text is_json before after names bytes table outcome none h },
+)
+
+nothing_written : {Word : Type 0} (text : Word → List ℕ) (is_json : Bool) (before after : Streams) (held : Option (List ℕ)) (names : List Word) (error : AskError)
+    → error ≢ Relay relay.Output → FailsToShow text is_json before after held held names error
+nothing_written text is_json before after held names (Relay relay.Output) other = absurd (other refl)
+nothing_written text is_json before after held names error other = refl
+
+-- nothing of it is written
+pub shows_none : {Word T : Type 0} (text : Word → List ℕ) (is_json : Bool) (before after : Streams) (held : Option (List ℕ)) (names : List Word) (result : Result T Stop) (stop : Stop)
+    → IsErrAnd result (λ it. it ≡ stop) → IsOwnFault stop → IfErr result (IsFaultOf (FailsToShow text is_json before after held held names))
+shows_none text is_json before after held names (Ok done) stop is own = tt
+shows_none text is_json before after held names (Err other) stop is own = (own.0, is ∙ own.1, nothing_written text is_json before after held names own.0 own.2)
 
 -- ---- names by their texts
+
+-- one more of them
+pub words_more : {A B : Type 0} (text : A → List ℕ) (bytes : B → List ℕ) (names : List B) (at : ℕ) (name : B) (words grown : List A) (word : A)
+    → at < length names → map text words ≡ map bytes (take at names) → grown ≡ words ++ word ∷ [] → text word ≡ bytes (get_or names at name)
+    → map text grown ≡ map bytes (take (at + 1) names)
+words_more text bytes names at name words grown word within so_far more same =
+    ap (map text) more ∙ map_more text words word ∙ ap (λ it. it ++ text word ∷ []) so_far ∙ ap (λ it. map bytes (take at names) ++ it ∷ []) same
+    ∙ sym (ap (map bytes) (take_more names at name within) ∙ map_more bytes (take at names) (get_or names at name))
 
 described_map : {Word : Type 0} (text : Word → List ℕ) (before after : Streams) (names : List Word) (findings : List Finding)
     → AreDescribed text before after names findings → AreDescribed (λ name. name) before after (map text names) findings
@@ -201,6 +248,14 @@ pub fails_to_show_all : {Word : Type 0} (text : Word → List ℕ) (is_json : Bo
 fails_to_show_all text is_json before between after held holds words names (Ok outcome) same listed h = tt
 fails_to_show_all text is_json before between after held holds words names (Err stop) same listed h =
     inr (h.0, h.1, not_all_shown text is_json before between after held holds words h.0 (listed_words before between (map text words) names same listed) h.2)
+
+-- it stops as what was called did
+pub stops_so : {T : Type 0} (holds : Stop → Type 0) (result : Result T Stop) (stop : Stop) → IsErrAnd result (λ it. it ≡ stop) → holds stop → IfErr result holds
+stops_so holds (Ok it) stop is h = tt
+stops_so holds (Err other) stop is h = subst holds (sym is) h
+
+pub stops_by_fault : {T : Type 0} (result : Result T Stop) (stop : Stop) → IsErrAnd result (λ it. it ≡ stop) → IsOwnFault stop → IfErr result IsOwnStop
+stops_by_fault result stop is own = stops_so IsOwnStop result stop is (inl own)
 
 pub memory_stops : {T : Type 0} (result : Result T Stop) → IsErrAnd result (λ it. it ≡ Fault (Relay relay.Memory)) → IfErr result IsOwnStop
 memory_stops (Ok it) is = tt

@@ -1,5 +1,5 @@
 -- One page of names more.
-use Rattle.std.proofs.Common.{◌≡◌, ◌≢◌, ℕ, ◌+◌, List, [], ◌∷◌, ◌++◌, length, All, Bor, refl, sym, ap, ◌∙◌, subst, arith, append-nil, append_assoc, length-append}
+use Rattle.std.proofs.Common.{◌≡◌, ◌≢◌, ℕ, ◌+◌, List, [], ◌∷◌, ◌++◌, length, All, Bor, Bool, true, false, Result, Ok, Err, IfOk, refl, sym, ap, ◌∙◌, subst, arith, append-nil, append_assoc, length-append}
 use Rattle.std.specs.List.{join_with_byte}
 use Rattle.hub_requests.specs.Listings.{joined}
 use Rattle.hub_requests.specs.Texts.{text_of}
@@ -15,7 +15,8 @@ use Rattle.hub_protocol.proofs.FormLines.{fields_of-join}
 use Rattle.hub_protocol.proofs.Visible.{visible_names}
 use Rattle.hub_ask.specs.Asking.{IsAnswered}
 use Rattle.hub_ask.specs.Streams.{IsHeard, IsReplied, Streams}
-use Rattle.hub_look.specs.Tables.{AreListed, ListsNames}
+use Rattle.hub_look.specs.Tables.{AreListed, IsPagePut, IsPutOf, ListsNames}
+use Rattle.hub_look.specs.declared.stop.Stop.{Stop}
 
 -- the line that was heard is that of the reply
 replied : (before after : Streams) (asked : Request) (line : List ℕ) (it : Reply) → IsHeard before after asked line → IsOfHub it → line ≡ text_of it → IsReplied before after asked it
@@ -94,29 +95,45 @@ listed_all before now after from (p ∷ pages) h last =
 pub none_listed : (before : Streams) → IsListedSoFar before before []
 none_listed before = record { pages = []; listed = refl; all = refl }
 
-place : (before now : Streams) (names : List (List ℕ)) (h : IsListedSoFar before now names) (from : ℕ) → from ≡ length names → from ≡ 0 + length (joined h.pages)
-place before now names h from is =
-    let so : length names ≡ length (joined h.pages) = ap length h.all in
-    omega (arith, is, so)
+-- a reply to the request for the names behind these is put there
+pub page_put : (before after : Streams) (names grown : List (List ℕ)) (from : ℕ) (line : List ℕ) (read : BorrowedReply) (result : Result Bool Stop)
+    → from ≡ length names → IsHeard before after (request.Names from) line → IsShown line read → IfOk result (IsPutOf read names grown) → IfOk result (IsPagePut before after names grown)
+page_put before after names grown from line (shown.Listed listed) (Ok false) is heard shows put =
+    let page = fields_of listed.now in (
+      page,
+      subst (λ n. IsReplied before after (request.Names n) (reply.Listed page)) is
+          (replied_so before after (request.Names from) line (shown.Listed listed) (reply.Listed page) shows heard (page_shown listed shows.reply shows.shows shows.of_hub put.0)),
+      put.1,
+    )
+page_put before after names grown from line shown.Nothing (Ok true) is heard shows put = (
+  subst (λ n. IsReplied before after (request.Names n) reply.Nothing) is
+      (replied_so before after (request.Names from) line shown.Nothing reply.Nothing shows heard (none_shown shows.reply shows.shows)),
+  put,
+)
+page_put before after names grown from line read (Ok are_all) is heard shows put = absurd put
+page_put before after names grown from line read (Err stop) is heard shows put = tt
 
-pub one_page_more : (before now later : Streams) (names grown : List (List ℕ)) (from : ℕ) (line : List ℕ) (listed : Bor (List ℕ))
-    → IsListedSoFar before now names → from ≡ length names → IsHeard now later (request.Names from) line → IsShown line (shown.Listed listed)
-    → listed.now ≢ [] → grown ≡ names ++ fields_of listed.now → IsListedSoFar before later grown
-one_page_more before now later names grown from line listed h is heard shows some more =
-    let page = fields_of listed.now in
-    let one = replied_so now later (request.Names from) line (shown.Listed listed) (reply.Listed page) shows heard (page_shown listed shows.reply shows.shows shows.of_hub some) in
+place : (before now : Streams) (names : List (List ℕ)) (h : IsListedSoFar before now names) → length names ≡ 0 + length (joined h.pages)
+place before now names h =
+    let so : length names ≡ length (joined h.pages) = ap length h.all in
+    omega (arith, so)
+
+pub one_page_more : (before now later : Streams) (names grown : List (List ℕ)) (are_all : Bool)
+    → IsListedSoFar before now names → IsPagePut now later names grown are_all → are_all ≡ false → IsListedSoFar before later grown
+one_page_more before now later names grown false h put is =
+    let page = put.0 in
     record {
       pages = h.pages ++ page ∷ [];
-      listed = listed_more before now later 0 h.pages page h.listed (subst (λ n. IsReplied now later (request.Names n) (reply.Listed page)) (place before now names h from is) one);
-      all = more ∙ ap (λ it. it ++ page) h.all ∙ sym (joined_more h.pages page);
+      listed = listed_more before now later 0 h.pages page h.listed (subst (λ n. IsReplied now later (request.Names n) (reply.Listed page)) (place before now names h) put.1);
+      all = put.2 ∙ ap (λ it. it ++ page) h.all ∙ sym (joined_more h.pages page);
     }
+one_page_more before now later names grown true h put is = absurd (cc)
 
-pub all_pages : (before now after : Streams) (names : List (List ℕ)) (from : ℕ) (line : List ℕ)
-    → IsListedSoFar before now names → from ≡ length names → IsHeard now after (request.Names from) line → IsShown line shown.Nothing → ListsNames before after names
-all_pages before now after names from line h is heard shows =
-    let last = replied_so now after (request.Names from) line shown.Nothing reply.Nothing shows heard (none_shown shows.reply shows.shows) in
-    record {
-      pages = h.pages;
-      listed = listed_all before now after 0 h.pages h.listed (subst (λ n. IsReplied now after (request.Names n) reply.Nothing) (place before now names h from is) last);
-      all = h.all;
-    }
+pub all_pages : (before now after : Streams) (names grown : List (List ℕ)) (are_all : Bool)
+    → IsListedSoFar before now names → IsPagePut now after names grown are_all → are_all ≡ true → ListsNames before after grown
+all_pages before now after names grown true h put is = record {
+  pages = h.pages;
+  listed = listed_all before now after 0 h.pages h.listed (subst (λ n. IsReplied now after (request.Names n) reply.Nothing) (place before now names h) put.0);
+  all = put.1 ∙ h.all;
+}
+all_pages before now after names grown false h put is = absurd (cc)

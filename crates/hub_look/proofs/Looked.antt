@@ -1,5 +1,5 @@
 -- What a look at a name shows.
-use Rattle.std.proofs.Common.{◌≡◌, ℕ, List, [], ◌++◌, codes, append-nil, Result, Ok, Err, inl, inr, sym, ap, subst}
+use Rattle.std.proofs.Common.{◌≡◌, ℕ, List, [], ◌++◌, codes, append-nil, Result, Ok, Err, IfOk, inl, inr, sym, ap, subst}
 use Rattle.hub_record.specs.declared.Status.{Status}
 use Rattle.hub_requests.specs.declared.about.About.{About}
 use Rattle.hub_requests.specs.declared.request.Request.{Request}
@@ -7,13 +7,14 @@ use Rattle.hub_requests.specs.declared.request.Request.TheVariants as request
 use Rattle.hub_requests.specs.declared.reply.Refusal.{Refusal}
 use Rattle.hub_requests.specs.declared.reply.Reply.{Reply}
 use Rattle.hub_requests.specs.declared.reply.Reply.TheVariants as reply
-use Rattle.hub_protocol.specs.Replies.{IsShown, Shows}
+use Rattle.hub_protocol.specs.Replies.{Shows}
 use Rattle.hub_protocol.specs.Spelling.{form_of, spelling}
 use Rattle.hub_protocol.specs.declared.replies.BorrowedReply.TheVariants as shown
 use Rattle.hub_ask.specs.Hearing.{line_of}
 use Rattle.hub_ask.specs.declared.heard.Heard.{Heard}
-use Rattle.hub_ask.specs.Streams.{Streams}
-use Rattle.hub_look.specs.Tables.{IsAbout, IsDescribed, IsJudged, IsLookedUp, IsRefused}
+use Rattle.hub_ask.specs.Streams.{IsHeard, Streams}
+use Rattle.hub_look.specs.Tables.{IsAbout, IsDescribed, IsJudged, IsLookedUp, IsRefused, TellsBy}
+use Rattle.hub_look.specs.declared.stop.Stop.{Stop}
 use Rattle.hub_look.proofs.Listed.{replied_so}
 
 -- the lines of two words
@@ -24,10 +25,10 @@ spelled_status name = ap (λ it. codes "status " ++ it) (sym (append-nil name))
 pub spelled_about : (name : List ℕ) → spelling (form_of (request.About name)) ≡ codes "about " ++ (name ++ [])
 spelled_about name = ap (λ it. codes "about " ++ it) (sym (append-nil name))
 
--- it is refused
-pub refused_so : (before after : Streams) (asked : Request) (name : List ℕ) (looked : Result Heard Refusal) (refusal : Refusal)
-    → IsLookedUp before after asked name looked → looked ≡ Err refusal → IsRefused before after asked name refusal
-refused_so before after asked name looked refusal h is = subst (IsLookedUp before after asked name) is h
+-- it isn't refused
+pub heard_so : (before after : Streams) (asked : Request) (name : List ℕ) (looked : Result Heard Refusal) (heard : Heard)
+    → IsLookedUp before after asked name looked → looked ≡ Ok heard → IsHeard before after asked (line_of heard)
+heard_so before after asked name looked heard h is = subst (IsLookedUp before after asked name) is h
 
 state_shown : (status : Status) (it : Reply) → Shows (shown.State status) it → it ≡ reply.State status
 state_shown status (reply.State other) same = ap reply.State (sym same)
@@ -37,19 +38,33 @@ about_shown : (about : About) (it : Reply) → Shows (shown.About about) it → 
 about_shown about (reply.About other) same = ap reply.About (sym same)
 about_shown about it h = absurd h
 
--- the hub says how it is
-pub state_told : (before after : Streams) (name : List ℕ) (looked : Result Heard Refusal) (heard : Heard) (status : Status)
-    → IsLookedUp before after (request.Status name) name looked → looked ≡ Ok heard → IsShown (line_of heard) (shown.State status) → IsJudged before after name (Ok status)
-state_told before after name looked heard status h is shows =
-    replied_so before after (request.Status name) (line_of heard) (shown.State status) (reply.State status) shows
-    (subst (IsLookedUp before after (request.Status name) name) is h) (state_shown status shows.reply shows.shows)
+-- what the hub says of how it is
+told_status : (before after : Streams) (name : List ℕ) (looked : Result Heard Refusal) (verdict : Result Status Refusal)
+    → IsLookedUp before after (request.Status name) name looked → TellsBy shown.State looked verdict → IsJudged before after name verdict
+told_status before after name (Ok heard) (Ok status) h shows =
+    replied_so before after (request.Status name) (line_of heard) (shown.State status) (reply.State status) shows h (state_shown status shows.reply shows.shows)
+told_status before after name (Err refusal) (Err other) h same = subst (IsRefused before after (request.Status name) name) (sym same) h
+told_status before after name (Ok heard) (Err refusal) h tells = absurd tells
+told_status before after name (Err refusal) (Ok status) h tells = absurd tells
 
--- the hub says what it is
-pub about_told : (before after : Streams) (name : List ℕ) (looked : Result Heard Refusal) (heard : Heard) (about : About)
-    → IsLookedUp before after (request.About name) name looked → looked ≡ Ok heard → IsShown (line_of heard) (shown.About about) → IsAbout before after name (Ok about)
-about_told before after name looked heard about h is shows =
-    replied_so before after (request.About name) (line_of heard) (shown.About about) (reply.About about) shows
-    (subst (IsLookedUp before after (request.About name) name) is h) (about_shown about shows.reply shows.shows)
+pub status_told : (before after : Streams) (name : List ℕ) (looked : Result Heard Refusal) (result : Result (Result Status Refusal) Stop)
+    → IsLookedUp before after (request.Status name) name looked → IfOk result (TellsBy shown.State looked) → IfOk result (IsJudged before after name)
+status_told before after name looked (Ok verdict) h tells = told_status before after name looked verdict h tells
+status_told before after name looked (Err stop) h tells = tt
+
+-- what it says of what it is
+told_about : (before after : Streams) (name : List ℕ) (looked : Result Heard Refusal) (verdict : Result About Refusal)
+    → IsLookedUp before after (request.About name) name looked → TellsBy shown.About looked verdict → IsAbout before after name verdict
+told_about before after name (Ok heard) (Ok about) h shows =
+    replied_so before after (request.About name) (line_of heard) (shown.About about) (reply.About about) shows h (about_shown about shows.reply shows.shows)
+told_about before after name (Err refusal) (Err other) h same = subst (IsRefused before after (request.About name) name) (sym same) h
+told_about before after name (Ok heard) (Err refusal) h tells = absurd tells
+told_about before after name (Err refusal) (Ok about) h tells = absurd tells
+
+pub about_told : (before after : Streams) (name : List ℕ) (looked : Result Heard Refusal) (result : Result (Result About Refusal) Stop)
+    → IsLookedUp before after (request.About name) name looked → IfOk result (TellsBy shown.About looked) → IfOk result (IsAbout before after name)
+about_told before after name looked (Ok verdict) h tells = told_about before after name looked verdict h tells
+about_told before after name looked (Err stop) h tells = tt
 
 -- ---- both looks
 

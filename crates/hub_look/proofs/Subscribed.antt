@@ -1,5 +1,5 @@
 -- How a fifodir was subscribed to.
-use Rattle.std.proofs.Common.{◌≡◌, ◌≢◌, ℕ, ◌+◌, suc, ◌<◌, List, [], ◌∷◌, ◌++◌, Option, None, Some, MatchOption, Result, Ok, Err, IfOk, map, length, take, get_or, refl, sym, ap, ◌∙◌, subst, inl, inr}
+use Rattle.std.proofs.Common.{◌≡◌, ◌≢◌, ℕ, ◌+◌, suc, ◌<◌, ◌≤◌, List, [], ◌∷◌, ◌++◌, Option, None, Some, MatchOption, Result, Ok, Err, IfOk, map, length, take, take_all, get_or, refl, sym, ap, ◌∙◌, subst, inl, inr}
 use Rattle.std.proofs.lemmas.List.{take_more}
 use Rattle.hub_requests.specs.declared.request.Request.TheVariants as request
 use Rattle.hub_requests.specs.declared.reply.Refusal.{Refusal}
@@ -13,7 +13,7 @@ use Rattle.hub_ask.specs.Hearing.{line_of}
 use Rattle.hub_ask.specs.declared.heard.Heard.{Heard}
 use Rattle.hub_ask.specs.Streams.{IsHeard, Streams}
 use Rattle.hub_look.specs.Subscribing.{AreBegun, AreCancelled, IsBegun, IsBetween, IsCancelled, IsHandled, IsNew, IsNumbered, IsSubscribed, IsTried, name_of, sub_line}
-use Rattle.hub_look.specs.Tables.{IsFoundBy, IsJudged, Verdict}
+use Rattle.hub_look.specs.Tables.{IsFoundBy, IsJudged, TellsBy, Verdict}
 use Rattle.hub_look.specs.declared.following.Form.{Form}
 use Rattle.hub_look.specs.declared.following.Form.TheVariants.{Line, Plain, Json}
 use Rattle.hub_look.specs.declared.stop.Stop.{Stop}
@@ -25,15 +25,19 @@ number_shown n (reply.Number m) h = ap reply.Number (sym h)
 number_shown n it h = absurd h
 
 -- the reply gives a handle
-pub handled : (before after : Streams) (line name : List ℕ) (found : Result Heard Refusal) (heard : Heard) (handle : ℕ)
-    → IsFoundBy before after line name found → found ≡ Ok heard → IsShown (line_of heard) (shown.Number handle) → IsHandled before after line handle
-handled before after line name found heard handle h is shows =
-    let by = subst (IsFoundBy before after line name) is h in
-    record {
-      request = by.asked;
-      spelled = by.spelled;
-      replied = replied_so before after by.asked (line_of heard) (shown.Number handle) (reply.Number handle) shows by.answered (number_shown handle shows.reply shows.shows);
-    }
+handled_by : (before after : Streams) (line name : List ℕ) (found : Result Heard Refusal) (handle : ℕ)
+    → IsFoundBy before after line name found → TellsBy shown.Number found (Ok handle) → IsHandled before after line handle
+handled_by before after line name (Ok heard) handle by shows = record {
+  request = by.asked;
+  spelled = by.spelled;
+  replied = replied_so before after by.asked (line_of heard) (shown.Number handle) (reply.Number handle) shows by.answered (number_shown handle shows.reply shows.shows);
+}
+handled_by before after line name (Err refusal) handle by tells = absurd tells
+
+pub handled : (before after : Streams) (line name : List ℕ) (found : Result Heard Refusal) (result : Result ℕ Stop)
+    → IsFoundBy before after line name found → IfOk result (λ handle. TellsBy shown.Number found (Ok handle)) → IfOk result (IsHandled before after line)
+handled before after line name found (Ok handle) by tells = handled_by before after line name found handle by tells
+handled before after line name found (Err stop) by tells = tt
 
 -- the hub says how many events there are
 pub counted : (before after : Streams) (name : List ℕ) (verdict : Verdict) (status : Status) → IsJudged before after name verdict → verdict ≡ Ok status
@@ -87,10 +91,13 @@ cancelled before first second third after name handle number later text read loo
 pub one_try_more : (before now later : Streams) (name : List ℕ) → (tries : ℕ) × AreCancelled tries before now name → IsCancelled now later name → (tries : ℕ) × AreCancelled tries before later name
 one_try_more before now later name so_far more = (suc so_far.0, (now, so_far.1, more))
 
-pub tried_well : (before now after : Streams) (name : List ℕ) (followed : Followed) → (tries : ℕ) × AreCancelled tries before now name → IsNumbered now after name followed → IsTried before after name followed
-tried_well before now after name followed so_far last = record { tries = so_far.0; between = now; cancelled = so_far.1; last = inl last }
+-- a number was found
+pub tried_well : (before now after : Streams) (name : List ℕ) (it : Option Followed) (followed : Followed) → (tries : ℕ) × AreCancelled tries before now name
+    → MatchOption it (IsCancelled now after name) (IsNumbered now after name) → it ≡ Some followed → IsTried before after name followed
+tried_well before now after name it followed so_far h is =
+    record { tries = so_far.0; between = now; cancelled = so_far.1; last = inl (subst (λ it. MatchOption it (IsCancelled now after name) (IsNumbered now after name)) is h) }
 
-pub tried_in_vain : (before now after : Streams) (name : List ℕ) (followed : Followed) → (tries : ℕ) × AreCancelled tries before now name → IsSubscribed now after (sub_line name) name followed → IsTried before after name followed
+tried_in_vain : (before now after : Streams) (name : List ℕ) (followed : Followed) → (tries : ℕ) × AreCancelled tries before now name → IsSubscribed now after (sub_line name) name followed → IsTried before after name followed
 tried_in_vain before now after name followed so_far last = record { tries = so_far.0; between = now; cancelled = so_far.1; last = inr last }
 
 -- no number was found
@@ -135,7 +142,7 @@ begun_more text pattern form before now after (n ∷ names) [] name followed h m
 begun_more text pattern form before now after (n ∷ names) (f ∷ all) name followed h more =
     (h.0, h.1, begun_more text pattern form h.0 now after names all name followed h.2 more)
 
-map_more : {A B : Type 0} (f : A → B) (xs : List A) (x : A) → map f (xs ++ x ∷ []) ≡ map f xs ++ f x ∷ []
+pub map_more : {A B : Type 0} (f : A → B) (xs : List A) (x : A) → map f (xs ++ x ∷ []) ≡ map f xs ++ f x ∷ []
 map_more f [] x = refl
 map_more f (y ∷ xs) x = ap (λ it. f y ∷ it) (map_more f xs x)
 
@@ -147,3 +154,13 @@ one_begun text bytes pattern form before now after names at d all grown followed
     subst (λ it. AreBegun text pattern form before after it grown) (sym (ap (map bytes) (take_more names at d within) ∙ map_more bytes (take at names) (get_or names at d)))
     (subst (AreBegun text pattern form before after (map bytes (take at names) ++ bytes (get_or names at d) ∷ [])) (sym grows)
     (begun_more text pattern form before now after (map bytes (take at names)) all (bytes (get_or names at d)) followed h more))
+
+-- each of them
+pub all_begun : {Word Name : Type 0} (text : Word → List ℕ) (bytes : Name → List ℕ) (pattern : Option Word) (form : Form) (before after : Streams) (names slice : List Name) (at : ℕ) (all : List Followed)
+    → length slice ≤ at → slice ≡ names → AreBegun text pattern form before after (map bytes (take at slice)) all → AreBegun text pattern form before after (map bytes names) all
+all_begun text bytes pattern form before after names slice at all end same h =
+    subst (λ it. AreBegun text pattern form before after (map bytes it) all) (take_all at slice end ∙ same) h
+
+pub all_named : {Name : Type 0} (bytes : Name → List ℕ) (names slice : List Name) (at : ℕ) (all : List Followed)
+    → length slice ≤ at → slice ≡ names → map name_of all ≡ map bytes (take at slice) → map name_of all ≡ map bytes names
+all_named bytes names slice at all end same h = h ∙ ap (map bytes) (take_all at slice end ∙ same)

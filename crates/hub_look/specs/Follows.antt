@@ -8,12 +8,12 @@ use Rattle.hub_requests.specs.declared.reply.Reply.{Reply}
 use Rattle.hub_requests.specs.declared.reply.Reply.TheVariants as reply
 use Rattle.hub_client.specs.declared.fault.RelayError.TheVariants as relay
 use Rattle.hub_ask.specs.declared.fault.AskError.{AskError}
-use Rattle.hub_ask.specs.declared.fault.AskError.TheVariants.{Relay}
+use Rattle.hub_ask.specs.declared.fault.AskError.TheVariants.{Relay, Unknown}
 use Rattle.hub_ask.specs.declared.outcome.Outcome.{Outcome}
 use Rattle.hub_ask.specs.declared.outcome.Outcome.TheVariants as outcome
 use Rattle.hub_look.specs.EventLines.{IsTextOf, number_after}
 use Rattle.hub_look.specs.Stops.{IsOwnStop, StopsWith}
-use Rattle.hub_ask.specs.Streams.{Streams, IsReplied, IsNoted, note_of}
+use Rattle.hub_ask.specs.Streams.{Streams, IsReplied, IsNoted, IsToldTo, note_of}
 use Rattle.hub_look.specs.Subscribing.{AreBegun, name_of}
 use Rattle.hub_look.specs.Tables.{reason_of}
 use Rattle.hub_look.specs.declared.following.Following.{Following}
@@ -77,6 +77,17 @@ GoesOn is_once (reply.Hit letters) = is_once ≡ false
 GoesOn is_once reply.Late = Unit {0}
 GoesOn is_once reply.End = Unit {0}
 GoesOn is_once other = ⊥
+
+-- how a reply stops a follow: as it tells, or as one that no look at a fifodir has
+abbrev pub StopsBy : (is_once : Bool) → Reply → Stop → Type 0
+StopsBy is_once reply (stops.Reply went) = ends_by is_once reply ≡ Some went
+StopsBy is_once reply (stops.Fault error) = (error ≡ Unknown) × (ends_by is_once reply ≡ None) × (GoesOn is_once reply → ⊥)
+
+-- The reply is told and written. noted and notes are the notes before and after, faults and failed how many writes of them had failed.
+pub record IsSettled (manner : Manner) (followed later : Followed) (noted notes : Option (List ℕ)) (faults failed : Option ℕ) (held holds : Option (List ℕ)) (reply : Reply) : Type 0 where
+  pub told : MatchOption (told_of reply) ((notes ≡ noted) × (failed ≡ faults)) (λ reason. IsToldTo noted notes faults failed (note_of (name_of followed) reason))
+  pub written : IsWrittenFor manner followed reply held holds
+  pub moved : later ≡ followed_after manner.is_once followed reply
 
 -- The hub was asked once for what comes next of the fifodir's handle, within so many turns, and this was its reply, which is told and
 -- written.
@@ -170,6 +181,15 @@ pub record EndsLooks (manner : Manner) (before : Scene) (after : Streams) (holds
   pub looks : AreAsked manner count before between
   pub ends : EndsLook manner between after holds stop
 
+-- nothing will come of any of them
+abbrev pub AreOver : List Followed → Type 0
+AreOver all = list_all (λ followed. followed.is_over) all ≡ true
+
+-- Some looks, one after another, until nothing will come of any of the fifodirs, or the time was over.
+abbrev pub EndsRounds : Manner → (before after : Scene) → Outcome → Type 0
+EndsRounds manner before after went =
+    LooksOn manner before after × (((went ≡ outcome.Nothing) × AreOver after.all) ⊎ ((went ≡ outcome.Late) × (manner.is_timed ≡ true)))
+
 -- what is known of the streams after fifodirs of these names were subscribed to, and of what is followed then
 abbrev pub Beginning : Type 1
 Beginning = (after : Streams) → (names : List (List ℕ)) → List Followed → Type 0
@@ -198,10 +218,6 @@ pub record IsUnderWay (manner : Manner) (begins : Beginning) (names : List (List
   pub begun : begins between names start
   pub count : ℕ
   pub looks : AreAsked manner count (record { all = start; streams = between; held = held }) now
-
--- nothing will come of any of them
-abbrev pub AreOver : List Followed → Type 0
-AreOver all = list_all (λ followed. followed.is_over) all ≡ true
 
 -- They were followed until nothing will come any more.
 pub record IsFollowed (manner : Manner) (begins : Beginning) (names : List (List ℕ)) (after : Streams) (held holds : Option (List ℕ)) : Type 0 where

@@ -1,5 +1,5 @@
 -- How fifodirs are, and what is shown of it.
-use Rattle.std.specs.Prelude.{◌≡◌, ◌⊎◌, ℕ, ◌+◌, max, List, [], ◌∷◌, ◌++◌, length, codes, Bool, if◌then◌else◌, Option, Result, Ok, Err, MatchResult}
+use Rattle.std.specs.Prelude.{◌≡◌, ◌≢◌, ◌⊎◌, ℕ, ◌+◌, max, List, [], ◌∷◌, ◌++◌, length, codes, Bool, true, false, if◌then◌else◌, Option, Result, Ok, Err, MatchResult}
 use Rattle.std.specs.Io.KnownBytes.{Appends}
 use Rattle.hub_io.specs.Faults.{AppendsPart}
 use Rattle.hub_client.specs.declared.fault.RelayError.TheVariants as relay
@@ -13,7 +13,10 @@ use Rattle.hub_requests.specs.declared.request.Request.TheVariants as request
 use Rattle.hub_requests.specs.declared.reply.Reply.TheVariants as reply
 use Rattle.hub_requests.specs.declared.reply.Refusal.{Refusal}
 use Rattle.hub_requests.specs.declared.reply.Refusal.TheVariants.{Right, Name, Closed}
-use Rattle.hub_protocol.specs.Spelling.{form_of, spelling}
+use Rattle.hub_protocol.specs.Replies.{IsShown}
+use Rattle.hub_protocol.specs.Spelling.{fields_of, form_of, spelling}
+use Rattle.hub_protocol.specs.declared.replies.BorrowedReply.{BorrowedReply}
+use Rattle.hub_protocol.specs.declared.replies.BorrowedReply.TheVariants as shown
 use Rattle.hub_record.specs.declared.Status.{Status}
 use Rattle.hub_ask.specs.Hearing.{line_of}
 use Rattle.hub_ask.specs.declared.heard.Heard.{Heard}
@@ -66,6 +69,12 @@ abbrev pub IsFoundBy : (before after : Streams) (line name : List ℕ) → Resul
 IsFoundBy before after line name found = MatchResult found (λ heard. IsHeardBy before after line (line_of heard))
     (λ refusal. (asked : Request) → spelling (form_of asked) ≡ line → IsRefused before after asked name refusal)
 
+-- What was heard shows this, in the variant of its kind. Or the look is refused.
+abbrev pub TellsBy : {T : Type 0} → (variant : T → BorrowedReply) → Result Heard Refusal → Result T Refusal → Type 0
+TellsBy variant (Ok heard) (Ok it) = IsShown (line_of heard) (variant it)
+TellsBy variant (Err refusal) (Err other) = other ≡ refusal
+TellsBy variant looked told = ⊥
+
 -- The status of the name was asked for once, and this is what the hub says of it.
 abbrev pub IsJudged : (before after : Streams) (name : List ℕ) → Verdict → Type 0
 IsJudged before after name (Ok status) = IsReplied before after (request.Status name) (reply.State status)
@@ -113,6 +122,18 @@ pub record ListsNames (before after : Streams) (names : List (List ℕ)) : Type 
   pub listed : AreListed before after 0 pages
   pub all : names ≡ joined pages
 
+-- A reply listed some names, which were put behind these, or it listed none.
+abbrev pub IsPutOf : (read : BorrowedReply) (names grown : List (List ℕ)) → (are_all : Bool) → Type 0
+IsPutOf (shown.Listed listed) names grown false = (listed.now ≢ []) × (grown ≡ names ++ fields_of listed.now)
+IsPutOf shown.Nothing names grown true = grown ≡ names
+IsPutOf read names grown are_all = ⊥
+
+-- The hub was asked for the names behind these. Those of its reply were put there, or it listed none.
+abbrev pub IsPagePut : (before after : Streams) (names grown : List (List ℕ)) → (are_all : Bool) → Type 0
+IsPagePut before after names grown false =
+    (page : List (List ℕ)) × IsReplied before after (request.Names (length names)) (reply.Listed page) × (grown ≡ names ++ page)
+IsPagePut before after names grown true = IsReplied before after (request.Names (length names)) reply.Nothing × (grown ≡ names)
+
 -- ---- what is shown
 
 -- the row of a name, or its object, if the hub says how it is
@@ -154,6 +175,10 @@ pub record IsTable {Word : Type 0} (text : Word → List ℕ) (is_json : Bool) (
   pub described : AreDescribed text before after names findings
   pub shown : table ≡ table_of text is_json names findings
   pub went : outcome ≡ outcome_of_all findings
+
+-- That table was put behind these bytes.
+abbrev pub PutsTable : {Word : Type 0} → (text : Word → List ℕ) → (is_json : Bool) → (before after : Streams) → List Word → (bytes grown : List ℕ) → Outcome → Type 0
+PutsTable text is_json before after names bytes grown outcome = (table : List ℕ) × IsTable text is_json before after names table outcome × (grown ≡ bytes ++ table)
 
 -- A table was written, once and whole.
 pub record ShowsTable {Word : Type 0} (text : Word → List ℕ) (is_json : Bool) (before after : Streams) (held holds : Option (List ℕ)) (names : List Word) (outcome : Outcome) : Type 0 where

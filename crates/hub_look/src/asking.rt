@@ -1,13 +1,14 @@
 //! Looks at one fifodir.
-ghost use Rattle.std.specs.Prelude.{◌≡◌, IfOk, IfErr};
+ghost use Rattle.std.specs.Prelude.{◌≡◌, Ok, IfOk, IfErr};
 ghost use Rattle.hub_protocol.specs.Spelling.{form_of, spelling};
+ghost use Rattle.hub_protocol.specs.declared.replies.BorrowedReply.TheVariants as shown;
 ghost use Rattle.hub_ask.specs.Asking.{IsAnswered};
 ghost use Rattle.hub_ask.specs.Hearing.{line_of};
 ghost use Rattle.hub_ask.specs.Lines.{joined};
 ghost use Rattle.hub_look.specs.Stops.{IsOwnFault, IsOwnStop};
 ghost use Rattle.hub_ask.specs.Streams.{IsHeard, streams};
 ghost use Rattle.hub_look.specs.Subscribing.{IsHandled};
-ghost use Rattle.hub_look.specs.Tables.{IsFoundBy, IsJudged, IsLookedUp};
+ghost use Rattle.hub_look.specs.Tables.{IsFoundBy, IsJudged, IsLookedUp, TellsBy};
 ghost use Rattle.hub_look.specs.Looking.{IsLook};
 
 use crate::look::look_of;
@@ -115,6 +116,20 @@ pub(crate) fn look_up<H: Wait, SR: Replies, SW: Requests, F: Sink>(
     }
 }
 
+// The handle that was heard.
+fn handle_of(looked: Result<Heard, Refusal>) -> Result<u64, Stop>
+    ensures ok { IfOk result (λ handle. TellsBy shown.Number looked (Ok handle)) }
+    ensures err { IfErr result IsOwnStop }
+{
+    match looked {
+        Ok(heard) => match heard.reply() {
+            BorrowedReply::Number(handle) => Ok(handle),
+            _ => Err(Stop::Fault(AskError::Unknown)),
+        },
+        Err(_) => Err(Stop::Reply(Outcome::Refused)),
+    }
+}
+
 /// Asks for a handle at a fifodir by the look that these words spell. If it is refused, that is told of this name, and the command
 /// ends.
 pub(crate) fn handle_for<H: Wait, SR: Replies, SW: Requests, F: Sink>(
@@ -132,13 +147,20 @@ pub(crate) fn handle_for<H: Wait, SR: Replies, SW: Requests, F: Sink>(
         (joined (λ word. word.now) words.now)) }
     ensures err { IfErr result IsOwnStop }
 {
-    let heard = match look_up(rt, alloc, words, name, peer, notes)? {
-        Ok(heard) => heard,
-        Err(_) => return Err(Stop::Reply(Outcome::Refused)),
-    };
-    match heard.reply() {
-        BorrowedReply::Number(handle) => Ok(handle),
-        _ => Err(Stop::Fault(AskError::Unknown)),
+    handle_of(look_up(rt, alloc, words, name, peer, notes)?)
+}
+
+// The status that was heard, or the refusal.
+fn status_of(looked: Result<Heard, Refusal>) -> Result<Result<Status, Refusal>, Stop>
+    ensures ok { IfOk result (TellsBy shown.State looked) }
+    ensures err { IfErr result IsOwnFault }
+{
+    match looked {
+        Ok(heard) => match heard.reply() {
+            BorrowedReply::State(status) => Ok(Ok(status)),
+            _ => Err(Stop::Fault(AskError::Unknown)),
+        },
+        Err(why) => Ok(Err(why)),
     }
 }
 
@@ -157,12 +179,5 @@ pub(crate) fn state_of<H: Wait, SR: Replies, SW: Requests, F: Sink>(
         name.now) }
     ensures err { IfErr result IsOwnFault }
 {
-    let heard = match look_up(rt, alloc, &["status", name], name, peer, notes)? {
-        Ok(heard) => heard,
-        Err(refusal) => return Ok(Err(refusal)),
-    };
-    match heard.reply() {
-        BorrowedReply::State(status) => Ok(Ok(status)),
-        _ => Err(Stop::Fault(AskError::Unknown)),
-    }
+    status_of(look_up(rt, alloc, &["status", name], name, peer, notes)?)
 }

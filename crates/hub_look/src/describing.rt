@@ -2,12 +2,13 @@
 ghost use Rattle.std.specs.Prelude.{◌≡◌, IfOk, IfErr};
 ghost use Rattle.hub_look.specs.Stops.{IsOwnFault};
 ghost use Rattle.hub_ask.specs.Streams.{streams};
-ghost use Rattle.hub_look.specs.Tables.{IsAbout, IsDescribed};
+ghost use Rattle.hub_look.specs.Tables.{IsAbout, IsDescribed, TellsBy};
+ghost use Rattle.hub_protocol.specs.declared.replies.BorrowedReply.TheVariants as shown;
 
 use crate::asking::{look_up, state_of};
 use crate::peer::Peer;
 use crate::stop::Stop;
-use hub_ask::{AskError, Replies, Requests};
+use hub_ask::{AskError, Heard, Replies, Requests};
 use hub_io::Sink;
 use hub_protocol::BorrowedReply;
 use hub_record::Status;
@@ -22,6 +23,20 @@ pub(crate) struct Description {
     pub(crate) about: About,
     /// How it is.
     pub(crate) status: Status,
+}
+
+// What was heard of what it is, or the refusal.
+fn about_in(looked: Result<Heard, Refusal>) -> Result<Result<About, Refusal>, Stop>
+    ensures ok { IfOk result (TellsBy shown.About looked) }
+    ensures err { IfErr result IsOwnFault }
+{
+    match looked {
+        Ok(heard) => match heard.reply() {
+            BorrowedReply::About(about) => Ok(Ok(about)),
+            _ => Err(Stop::Fault(AskError::Unknown)),
+        },
+        Err(why) => Ok(Err(why)),
+    }
 }
 
 // What the fifodir is, or why the hub doesn't say, which is told.
@@ -39,14 +54,7 @@ fn about_of<H: Wait, SR: Replies, SW: Requests, F: Sink>(
         name.now) }
     ensures err { IfErr result IsOwnFault }
 {
-    let heard = match look_up(rt, alloc, &["about", name], name, peer, notes)? {
-        Ok(heard) => heard,
-        Err(refusal) => return Ok(Err(refusal)),
-    };
-    match heard.reply() {
-        BorrowedReply::About(about) => Ok(Ok(about)),
-        _ => Err(Stop::Fault(AskError::Unknown)),
-    }
+    about_in(look_up(rt, alloc, &["about", name], name, peer, notes)?)
 }
 
 /// What the fifodir is and how it is, or why the hub doesn't say, which is told once.

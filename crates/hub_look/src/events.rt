@@ -1,9 +1,10 @@
 //! The lines of letters that came.
-ghost use Rattle.std.specs.Prelude.{◌≡◌, ◌++◌, IfOk, OnOk, true};
+ghost use Rattle.std.specs.Prelude.{◌≡◌, ◌++◌, ◌∷◌, [], IfOk, OnOk, true};
 ghost use Rattle.std.specs.List.{list_all};
 ghost use Rattle.std.specs.Option.{option_map};
 ghost use Rattle.hub_requests.specs.Texts.{number_or_dash};
 ghost use Rattle.hub_look.specs.EventLines.{IsStamp, behind, head_of, hit_line, is_stamp_byte, letter_line, lettering, line_of, lines_of, meaning_of, number_after, numbering, object_of, opening_of, saying};
+ghost use Rattle.hub_look.specs.declared.following.Form.TheVariants as forms;
 
 use crate::following::Form;
 use crate::json::{put_number_or_null, put_string, put_string_or_null};
@@ -212,6 +213,30 @@ pub(crate) fn lines_of(
     Ok(lines)
 }
 
+// Puts letters and an LF behind the line.
+fn put_letters(letters: &[u8], line: &mut Vec<u8>) -> Result<(), AllocError>
+    ensures { OnOk result (line.new.items ≡ line.old.items ++ (letters.now ++ 10 ∷ [])) }
+{
+    line.extend_from_slice(letters)?;
+    line.extend_from_slice(b"\n")
+}
+
+// Puts a hit as an object behind the line.
+fn put_hit_object(
+    stamp: &str,
+    name: &str,
+    letters: &[u8],
+    line: &mut Vec<u8>,
+) -> Result<(), AllocError>
+    ensures { OnOk result (line.new.items
+        ≡ line.old.items ++ hit_line forms.Json stamp.now name.now letters.now) }
+{
+    put_opening(stamp, name, line)?;
+    line.extend_from_slice(b",\"letters\":")?;
+    put_string(letters, line)?;
+    line.extend_from_slice(b"}\n")
+}
+
 // Puts the line of a hit, in this form, behind these lines.
 fn put_hit(
     form: Form,
@@ -226,19 +251,10 @@ fn put_hit(
     match form {
         Form::Line => {
             put_head(stamp, name, line)?;
-            line.extend_from_slice(letters)?;
-            line.extend_from_slice(b"\n")
+            put_letters(letters, line)
         }
-        Form::Plain => {
-            line.extend_from_slice(letters)?;
-            line.extend_from_slice(b"\n")
-        }
-        Form::Json => {
-            put_opening(stamp, name, line)?;
-            line.extend_from_slice(b",\"letters\":")?;
-            put_string(letters, line)?;
-            line.extend_from_slice(b"}\n")
-        }
+        Form::Plain => put_letters(letters, line),
+        Form::Json => put_hit_object(stamp, name, letters, line),
     }
 }
 

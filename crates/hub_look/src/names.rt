@@ -3,7 +3,7 @@ ghost use Rattle.std.specs.Prelude.{◌≡◌, ◌≢◌, ◌++◌, [], map, IfO
 ghost use Rattle.hub_protocol.specs.Spelling.{fields_of};
 ghost use Rattle.hub_look.specs.Stops.{IsOwnStop};
 ghost use Rattle.hub_ask.specs.Streams.{streams};
-ghost use Rattle.hub_look.specs.Tables.{ListsNames};
+ghost use Rattle.hub_look.specs.Tables.{IsPagePut, IsPutOf, ListsNames};
 
 use crate::asking::ask_about;
 use crate::peer::Peer;
@@ -47,6 +47,47 @@ fn put_names(alloc: Global, listed: &[u8], names: &mut Vec<String>) -> Result<()
     }
 }
 
+// Puts the names that this reply lists behind these. True if it lists none, so that these are all.
+fn put_listed(
+    alloc: Global,
+    reply: BorrowedReply<'_>,
+    names: &mut Vec<String>,
+) -> Result<bool, Stop>
+    ensures ok { IfOk result (IsPutOf reply.entry (map (λ name. name.bytes.items) names.old.items)
+        (map (λ name. name.bytes.items) names.new.items)) }
+    ensures err { IfErr result IsOwnStop }
+{
+    match reply {
+        BorrowedReply::Listed(listed) => {
+            put_names(alloc, listed, names)?;
+            Ok(false)
+        }
+        BorrowedReply::Nothing => Ok(true),
+        _ => Err(Stop::Fault(AskError::Unknown)),
+    }
+}
+
+// Asks for the names behind these, and puts those of the reply there. True if it lists none, so that these are all.
+fn put_page<H: Wait, SR: Replies, SW: Requests, F: Sink>(
+    rt: &H,
+    alloc: Global,
+    peer: &mut Peer<SR, SW>,
+    names: &mut Vec<String>,
+    notes: &mut F,
+) -> Result<bool, Stop>
+    ensures begun { peer.new.begun ≡ peer.old.begun }
+    ensures ok { IfOk result (IsPagePut
+        (streams SW.contents SR.remaining F.contents F.faults peer.old.client notes.old)
+        (streams SW.contents SR.remaining F.contents F.faults peer.new.client notes.new)
+        (map (λ name. name.bytes.items) names.old.items)
+        (map (λ name. name.bytes.items) names.new.items)) }
+    ensures err { IfErr result IsOwnStop }
+{
+    let from = names.len() as u64;
+    let heard = ask_about(rt, alloc, Request::Names { from }, "names", peer, notes)?;
+    put_listed(alloc, heard.reply(), names)
+}
+
 /// All names of the hub, in the order in which their fifodirs were made.
 pub(crate) fn all_names<H: Wait, SR: Replies, SW: Requests, F: Sink>(
     rt: &H,
@@ -64,12 +105,8 @@ pub(crate) fn all_names<H: Wait, SR: Replies, SW: Requests, F: Sink>(
     let mut names = Vec::new(alloc);
     // Each reply but the last has a name at least.
     'replies: for _ in 0..MOST_NAMES + 1 {
-        let from = names.len() as u64;
-        let heard = ask_about(rt, alloc, Request::Names { from }, "names", peer, notes)?;
-        match heard.reply() {
-            BorrowedReply::Listed(listed) => put_names(alloc, listed, &mut names)?,
-            BorrowedReply::Nothing => return Ok(names),
-            _ => return Err(Stop::Fault(AskError::Unknown)),
+        if put_page(rt, alloc, peer, &mut names, notes)? {
+            return Ok(names);
         }
     }
     Err(Stop::Fault(AskError::Unknown))

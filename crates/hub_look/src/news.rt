@@ -1,7 +1,7 @@
 //! The letters of fifodirs as they come.
 ghost use Rattle.std.specs.Prelude.{◌≡◌, length, map, IfOk, IfErr, MatchBool, OnOk};
 ghost use Rattle.std.specs.List.{list_all};
-ghost use Rattle.hub_look.specs.Follows.{EndsByItself, EndsFollow, EndsLookAt, EndsLooks, FailsToFollow, FollowsTo, IsSeenTo, LooksOn, again_line, begins_by, manner_of, names_of, scene};
+ghost use Rattle.hub_look.specs.Follows.{EndsByItself, EndsFollow, EndsLookAt, EndsLooks, EndsRounds, FailsToFollow, FollowsTo, IsSeenTo, LooksOn, again_line, begins_by, manner_of, names_of, scene};
 ghost use Rattle.hub_look.specs.Stops.{IsOwnStop};
 ghost use Rattle.hub_ask.specs.Streams.{IsToldTo, streams};
 ghost use Rattle.hub_look.specs.Subscribing.{name_of};
@@ -140,6 +140,42 @@ fn say_again<F: Sink>(is_again: bool, notes: &mut F)
     }
 }
 
+// Looks at each, round after round, until a reply ends that, or all are over, or its time.
+fn look_on<H: Wait + Clock, SR: Replies, SW: Requests, W: Sink, F: Sink>(
+    rt: &H,
+    alloc: Global,
+    following: &Following<'_>,
+    all: &mut [Followed],
+    peer: &mut Peer<SR, SW>,
+    output: &mut W,
+    notes: &mut F,
+) -> Result<Outcome, Stop>
+    ensures begun { peer.new.begun ≡ peer.old.begun }
+    ensures ok { IfOk result (EndsRounds (manner_of following.now)
+        (scene all.old (streams SW.contents SR.remaining F.contents F.faults
+        peer.old.client notes.old) (W.contents output.old))
+        (scene all.new (streams SW.contents SR.remaining F.contents F.faults
+        peer.new.client notes.new) (W.contents output.new))) }
+    ensures err { IfErr result (EndsLooks (manner_of following.now)
+        (scene all.old (streams SW.contents SR.remaining F.contents F.faults
+        peer.old.client notes.old) (W.contents output.old))
+        (streams SW.contents SR.remaining F.contents F.faults peer.new.client notes.new)
+        (W.contents output.new)) }
+{
+    let mut came = false;
+    'rounds: for _ in rt.forever() {
+        if are_over(all) {
+            return Ok(Outcome::Nothing);
+        }
+        let Some(left) = following.millis_left(rt) else {
+            return Ok(Outcome::Late);
+        };
+        let turns = turns_each(open_count(all), came).min(left);
+        came = look_at_each(rt, alloc, following, turns, all, peer, output, notes)?;
+    }
+    unreachable!()
+}
+
 // Follows until a reply ends it, or all are over, or its time.
 fn follow_on<H: Wait + Clock, SR: Replies, SW: Requests, W: Sink, F: Sink>(
     rt: &H,
@@ -164,18 +200,7 @@ fn follow_on<H: Wait + Clock, SR: Replies, SW: Requests, W: Sink, F: Sink>(
         (W.contents output.old) (W.contents output.new)) }
 {
     let mut all = begin(rt, alloc, following, peer, notes)?;
-    let mut came = false;
-    'rounds: for _ in rt.forever() {
-        if are_over(&all) {
-            return Ok(Outcome::Nothing);
-        }
-        let Some(left) = following.millis_left(rt) else {
-            return Ok(Outcome::Late);
-        };
-        let turns = turns_each(open_count(&all), came).min(left);
-        came = look_at_each(rt, alloc, following, turns, &mut all, peer, output, notes)?;
-    }
-    unreachable!()
+    look_on(rt, alloc, following, &mut all, peer, output, notes)
 }
 
 /// Writes each letter of the fifodirs, or each hit, as it comes, until all of them are closed, or one of them evicts it, or its time

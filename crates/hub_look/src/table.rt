@@ -2,7 +2,7 @@
 ghost use Rattle.std.specs.Prelude.{◌≡◌, ◌⊎◌, ◌++◌, map, IfOk, IfErr, OnOk};
 ghost use Rattle.hub_look.specs.Stops.{IsFaultOf, IsOwnFault, IsRefusal};
 ghost use Rattle.hub_ask.specs.Streams.{streams};
-ghost use Rattle.hub_look.specs.Tables.{FailsToShow, FailsToShowAll, FailsToShowStates, IsTable, ShowsAll, ShowsStates, ShowsTable, headings_of, outcome_after, row_by, top_of, width_of};
+ghost use Rattle.hub_look.specs.Tables.{FailsToShow, FailsToShowAll, FailsToShowStates, PutsTable, ShowsAll, ShowsStates, ShowsTable, headings_of, outcome_after, row_by, top_of, width_of};
 
 use crate::describing::{Description, describe};
 use crate::names::all_names;
@@ -86,32 +86,32 @@ fn put_finding(
     }
 }
 
-// The rows of these names, or their objects, below what is above them. None of a refused name, which makes the outcome a refusal.
-fn table_of<H: Wait, SR: Replies, SW: Requests, F: Sink>(
+// Puts the table of these names, or their objects, behind this one. No row of a refused name, which makes the outcome a refusal.
+fn put_table<H: Wait, SR: Replies, SW: Requests, F: Sink>(
     rt: &H,
     alloc: Global,
     is_json: bool,
     names: &[&str],
     peer: &mut Peer<SR, SW>,
+    table: &mut String,
     notes: &mut F,
-) -> Result<(String, Outcome), Stop>
+) -> Result<Outcome, Stop>
     ensures begun { peer.new.begun ≡ peer.old.begun }
-    ensures ok { IfOk result (λ it. IsTable (λ name. name.now) is_json
+    ensures ok { IfOk result (PutsTable (λ name. name.now) is_json
         (streams SW.contents SR.remaining F.contents F.faults peer.old.client notes.old)
         (streams SW.contents SR.remaining F.contents F.faults peer.new.client notes.new)
-        names.now it.0.bytes.items it.1) }
+        names.now table.old.bytes.items table.new.bytes.items) }
     ensures err { IfErr result IsOwnFault }
 {
     let width = width_of(names);
-    let mut table = String::new(alloc);
-    put_top(is_json, names, &mut table)?;
+    put_top(is_json, names, table)?;
     let mut outcome = Outcome::Done;
     'names: for name in names {
         let finding = describe(rt, alloc, name, peer, notes)?;
-        put_finding(alloc, is_json, width, name, finding, &mut table)?;
+        put_finding(alloc, is_json, width, name, finding, table)?;
         outcome = outcome_after(outcome, finding);
     }
-    Ok((table, outcome))
+    Ok(outcome)
 }
 
 // The texts of these names.
@@ -146,7 +146,8 @@ fn show_each<H: Wait, SR: Replies, SW: Requests, W: Sink, F: Sink>(
         (streams SW.contents SR.remaining F.contents F.faults peer.new.client notes.new)
         (W.contents output.old) (W.contents output.new) names.now)) }
 {
-    let (table, outcome) = table_of(rt, alloc, is_json, names, peer, notes)?;
+    let mut table = String::new(alloc);
+    let outcome = put_table(rt, alloc, is_json, names, peer, &mut table, notes)?;
     write_text(output, table.as_bytes())?;
     Ok(outcome)
 }

@@ -1,10 +1,11 @@
 //! What comes next of a fifodir that is followed, and how it is written.
-ghost use Rattle.std.specs.Prelude.{◌≡◌, ℕ, List, length, true, Err, Ok, IfErr, OnOk, if◌then◌else◌, is_some};
+ghost use Rattle.std.specs.Prelude.{◌≡◌, ℕ, List, length, true, Err, Ok, IfErr, OnOk, MatchResult, if◌then◌else◌, is_some};
 ghost use Rattle.std.specs.Io.KnownBytes.{Appends};
 ghost use Rattle.hub_requests.specs.declared.reply.Reply.{Reply as replies};
 ghost use Rattle.hub_ask.specs.declared.outcome.Outcome.TheVariants as outcome;
 ghost use Rattle.hub_look.specs.EventLines.{IsTextOf, number_after};
-ghost use Rattle.hub_look.specs.Follows.{EndsTake, FailsToWrite, GoesOn, IsTaken, manner_of, written_of};
+ghost use Rattle.hub_protocol.specs.Replies.{Shows};
+ghost use Rattle.hub_look.specs.Follows.{EndsTake, FailsToWrite, GoesOn, IsSettled, IsTaken, StopsBy, manner_of, written_of};
 ghost use Rattle.hub_look.specs.Subscribing.{name_of};
 ghost use Rattle.hub_ask.specs.Streams.{streams};
 ghost use Rattle.hub_look.specs.declared.stop.Stop.TheVariants as stops;
@@ -58,6 +59,43 @@ fn written_of<'a>(following: &Following<'_>, letters: &'a [u8]) -> &'a [u8]
     }
 }
 
+// Writes the letters of this reply, or tells of another one what there is to tell.
+fn write_reply<C: Clock, W: Sink, F: Sink>(
+    clock: &C,
+    alloc: Global,
+    following: &Following<'_>,
+    reply: BorrowedReply<'_>,
+    followed: &mut Followed,
+    output: &mut W,
+    notes: &mut F,
+) -> Result<(), Stop>
+    ensures ok { (it : replies) → Shows reply.entry it → OnOk result (IsSettled
+        (manner_of following.now) followed.old followed.new
+        (F.contents notes.old) (F.contents notes.new) (F.faults notes.old) (F.faults notes.new)
+        (W.contents output.old) (W.contents output.new) it) }
+    ensures err { IfErr result (FailsToWrite (manner_of following.now) followed.old
+        (W.contents output.old) (W.contents output.new)) }
+{
+    match reply {
+        BorrowedReply::Got(letters) => {
+            let letters = written_of(following, letters);
+            write_letters(clock, alloc, following, followed, letters, output)
+        }
+        BorrowedReply::Hit(letters) => {
+            write_letters(clock, alloc, following, followed, letters, output)
+        }
+        BorrowedReply::End => {
+            followed.is_over = true;
+            Ok(())
+        }
+        BorrowedReply::Evicted => Ok(tell(alloc, followed.name.as_str(), "evicted", notes)?),
+        BorrowedReply::No(refusal) => {
+            Ok(tell_refusal(alloc, followed.name.as_str(), refusal, notes)?)
+        }
+        _ => Ok(()),
+    }
+}
+
 // How a follow goes on after letters.
 fn after_letters(following: &Following<'_>) -> Result<bool, Stop>
     ensures { result ≡ (if following.now.is_once
@@ -67,6 +105,20 @@ fn after_letters(following: &Following<'_>) -> Result<bool, Stop>
         Err(Stop::Reply(Outcome::Done))
     } else {
         Ok(true)
+    }
+}
+
+// How a follow goes on after this reply, which is written. Ok has whether letters came.
+fn after_reply(following: &Following<'_>, reply: BorrowedReply<'_>) -> Result<bool, Stop>
+    ensures { (it : replies) → Shows reply.entry it → MatchResult result
+        (λ _. GoesOn following.now.is_once it) (StopsBy following.now.is_once it) }
+{
+    match reply {
+        BorrowedReply::Got(_) | BorrowedReply::Hit(_) => after_letters(following),
+        BorrowedReply::Late | BorrowedReply::End => Ok(false),
+        BorrowedReply::Evicted => Err(Stop::Reply(Outcome::Nothing)),
+        BorrowedReply::No(_) => Err(Stop::Reply(Outcome::Refused)),
+        _ => Err(Stop::Fault(AskError::Unknown)),
     }
 }
 
@@ -96,29 +148,7 @@ pub(crate) fn take_and_write<H: Wait + Clock, SR: Replies, SW: Requests, W: Sink
 {
     let id = followed.handle;
     let heard = ask_once(rt, alloc, Request::Next { id, turns }, peer)?;
-    match heard.reply() {
-        BorrowedReply::Got(letters) => {
-            let letters = written_of(following, letters);
-            write_letters(rt, alloc, following, followed, letters, output)?;
-            after_letters(following)
-        }
-        BorrowedReply::Hit(letters) => {
-            write_letters(rt, alloc, following, followed, letters, output)?;
-            after_letters(following)
-        }
-        BorrowedReply::Late => Ok(false),
-        BorrowedReply::End => {
-            followed.is_over = true;
-            Ok(false)
-        }
-        BorrowedReply::Evicted => {
-            tell(alloc, followed.name.as_str(), "evicted", notes)?;
-            Err(Stop::Reply(Outcome::Nothing))
-        }
-        BorrowedReply::No(refusal) => {
-            tell_refusal(alloc, followed.name.as_str(), refusal, notes)?;
-            Err(Stop::Reply(Outcome::Refused))
-        }
-        _ => Err(Stop::Fault(AskError::Unknown)),
-    }
+    let reply = heard.reply();
+    write_reply(rt, alloc, following, reply, followed, output, notes)?;
+    after_reply(following, reply)
 }

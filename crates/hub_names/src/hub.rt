@@ -18,7 +18,7 @@ pub use looking::{NamesChange, NamesLook};
 use named::Named;
 
 /// Why no fifodir was made.
-#[derive(Clone, Copy, Debug, PartialEq, Eq, Hash, Error)]
+#[derive(Clone, Copy, Debug, PartialEq, Eq, Error)]
 pub enum HubError {
     /// A fifodir has this name already.
     #[error("a fifodir has this name")]

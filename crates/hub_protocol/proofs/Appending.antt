@@ -1,5 +1,5 @@
 -- Pieces that are appended to a vector, one after the other.
-use Rattle.std.proofs.Common.{◌≡◌, ◌++◌, ◌+◌, ◌≤◌, ℕ, List, length, take, Result, Err, vec_len, vec_capacity, refl, ap, sym, subst, ◌∙◌, append_assoc, length-append, arith}
+use Rattle.std.proofs.Common.{◌≡◌, ◌++◌, ◌+◌, ◌≤◌, ℕ, List, length, take, Result, Ok, Err, vec_len, vec_capacity, refl, ap, sym, subst, ◌∙◌, append_assoc, length-append, arith}
 use Rattle.std.proofs.lemmas.List.{take-take, take_at}
 use Rattle.std.specs.declared.alloc.AllocError.{AllocError}
 use Rattle.std.specs.declared.alloc.Global.{Global}
@@ -31,4 +31,29 @@ refused_there old mid new result error so_far next more whole appended grown cap
           let written = step.room there in
           absurd (cc);
       capacity = omega (arith, step.capacity, capacity);
+    })
+
+-- a piece, and then more behind it
+pub then_appended : (old mid new : Vec ℕ Global) (done : Unit {0}) (result : Result (Unit {0}) AllocError) (text more : List ℕ) → Appends old mid (Ok done) text → Appends mid new result more → Appends old new result (text ++ more)
+then_appended old mid new done (Ok last) text more first next = record {
+  ok = next.ok ∙ ap (λ l. l ++ more) first.ok ∙ append_assoc old.items text more;
+  err = tt;
+  room = λ fits. refl;
+  capacity = omega (arith, first.capacity, next.capacity);
+}
+then_appended old mid new done (Err error) text more first next = record {
+  ok = tt;
+  err = still_there old.items mid.items new.items text first.ok next.err;
+  room = λ fits. next.room (omega (arith, fits, first.capacity, ap length first.ok, length-append old.items text, length-append text more));
+  capacity = omega (arith, first.capacity, next.capacity);
+}
+
+-- a piece that was refused, and none behind it
+pub refused_first : (old new : Vec ℕ Global) (result : Result (Unit {0}) AllocError) (error : AllocError) (text more : List ℕ) → Appends old new (Err error) text → result ≡ Err error → Appends old new result (text ++ more)
+refused_first old new result error text more step refused =
+    subst (λ (r : Result (Unit {0}) AllocError). Appends old new r (text ++ more)) (sym refused) (record {
+      ok = tt;
+      err = step.err;
+      room = λ fits. step.room (omega (arith, fits, length-append text more));
+      capacity = step.capacity;
     })

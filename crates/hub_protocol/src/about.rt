@@ -31,12 +31,8 @@ pub fn about_in(kind: Kind, rest: Rest<'_>) -> Option<About>
         (λ it. IsSoundAbout it × (word_of_kind kind ∷ pieces_of rest.entry ≡ pieces_about it)) }
 {
     let (notifies, rest) = flag_in(rest)?;
-    let (waiting, rest) = number_in(rest)?;
-    let (total, rest) = number_in(rest)?;
-    let (policy, rest) = policy_in(rest)?;
-    let (subscriptions, rest) = number_in(rest)?;
-    let (publishers, rest) = number_in(rest)?;
-    let pending = last_number(rest)?;
+    let (waiting, total, policy, rest) = limits_in(rest)?;
+    let (subscriptions, publishers, pending) = usage_in(rest)?;
     Some(About {
         kind,
         notifies,
@@ -47,6 +43,35 @@ pub fn about_in(kind: Kind, rest: Rest<'_>) -> Option<About>
         publishers,
         pending,
     })
+}
+
+// How many events may be pending, how many there may be in all, and what happens if more would be pending.
+fn limits_in(rest: Rest<'_>) -> Option<(u64, u64, Policy, Rest<'_>)>
+    ensures { MatchOption result
+        ((waiting total : ℕ) (p : policy) (more : List (List ℕ)) → IsCount waiting → IsCount total
+        → pieces_of rest.entry ≢ decimal waiting ∷ decimal total ∷ word_of_policy p ∷ more)
+        (λ l. IsCount l.0 × IsCount l.1 × (pieces_of rest.entry
+        ≡ decimal l.0 ∷ decimal l.1 ∷ word_of_policy l.2 ∷ pieces_of l.3)) }
+{
+    let (waiting, rest) = number_in(rest)?;
+    let (total, rest) = number_in(rest)?;
+    let (policy, rest) = policy_in(rest)?;
+    Some((waiting, total, policy, rest))
+}
+
+// How many subscriptions and publishers there are, and how many events are pending. Nothing is left behind them.
+fn usage_in(rest: Rest<'_>) -> Option<(u64, u64, u64)>
+    ensures { MatchOption result
+        ((subscriptions publishers pending : ℕ) → IsCount subscriptions → IsCount publishers
+        → IsCount pending → pieces_of rest.entry
+        ≢ decimal subscriptions ∷ decimal publishers ∷ decimal pending ∷ [])
+        (λ u. IsCount u.0 × IsCount u.1 × IsCount u.2
+        × (pieces_of rest.entry ≡ decimal u.0 ∷ decimal u.1 ∷ decimal u.2 ∷ [])) }
+{
+    let (subscriptions, rest) = number_in(rest)?;
+    let (publishers, rest) = number_in(rest)?;
+    let pending = last_number(rest)?;
+    Some((subscriptions, publishers, pending))
 }
 
 fn flag_in(rest: Rest<'_>) -> Option<(bool, Rest<'_>)>

@@ -64,13 +64,13 @@ fn field_of(kind: Kind, text: &[u8]) -> Option<Field<'_>>
 {
     match kind {
         Kind::Name => name_field(text),
-        Kind::Number(_, _) | Kind::Flag => numeral(text).map(|number| Field::Number(number)),
+        Kind::Number(_, _) | Kind::Flag => Some(Field::Number(numeral(text)?)),
         Kind::Letters => letters_field(text),
-        Kind::Mode => Mode::of_word(text).map(|mode| Field::Mode(mode)),
-        Kind::Span => Span::of_word(text).map(|span| Field::Span(span)),
-        Kind::Want => Want::of_word(text).map(|want| Field::Want(want)),
-        Kind::State => State::of_word(text).map(|state| Field::State(state)),
-        Kind::Will => Will::of_word(text).map(|will| Field::Will(will)),
+        Kind::Mode => Some(Field::Mode(Mode::of_word(text)?)),
+        Kind::Span => Some(Field::Span(Span::of_word(text)?)),
+        Kind::Want => Some(Field::Want(Want::of_word(text)?)),
+        Kind::State => Some(Field::State(State::of_word(text)?)),
+        Kind::Will => Some(Field::Will(Will::of_word(text)?)),
     }
 }
 

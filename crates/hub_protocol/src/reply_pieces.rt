@@ -64,15 +64,14 @@ pub fn closed_in(rest: Rest<'_>) -> Option<bool>
     }
 }
 
+// Whether each of these words says `closed`.
+const OPENNESSES: &[(&[u8], bool)] = &[(b"open", false), (b"closed", true)];
+
 fn closed_of(word: &[u8]) -> Option<bool>
     ensures { MatchOption result ((closed : Bool) → word.now ≢ openness closed)
         (λ closed. word.now ≡ openness closed) }
 {
-    match word {
-        b"open" => Some(false),
-        b"closed" => Some(true),
-        _ => None,
-    }
+    meaning_of(OPENNESSES, word)
 }
 
 /// The letters that are all that is left. There may be none.

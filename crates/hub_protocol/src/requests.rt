@@ -168,9 +168,10 @@ pub fn request_of(alloc: Global, line: &Line<'_>) -> Result<Request, Refusal>
     ensures err { IfErr result (λ refusal. refusal ≡ no.Memory) }
 {
     let fields = line.fields;
-    made_of(
+    let request = made_of(
         alloc, line.verb, &fields[0], &fields[1], &fields[2], &fields[3], &line.last,
-    )
+    )?;
+    Ok(request)
 }
 
 // What a field of a kind says.
@@ -222,7 +223,7 @@ fn made_of(
     c: &Field<'_>,
     d: &Field<'_>,
     last: &Last<'_>,
-) -> Result<Request, Refusal>
+) -> Result<Request, AllocError>
     requires first { IsSound (field_shown a.now) }
     requires second { IsSound (field_shown b.now) }
     requires third { IsSound (field_shown c.now) }
@@ -231,7 +232,6 @@ fn made_of(
     ensures ok { IfOk result (λ request. IsMadeOf (word_of verb)
         (field_shown a.now ∷ field_shown b.now ∷ field_shown c.now ∷ field_shown d.now ∷ [])
         (last_shown last.now) (form_of request)) }
-    ensures err { IfErr result (λ refusal. refusal ≡ no.Memory) }
 {
     forms!(made(alloc, verb, (a, b, c, d), last))
 }

@@ -2,9 +2,9 @@
 ghost use Rattle.std.specs.Prelude.{◌≡◌, ◌++◌, ◌+◌, ◌∷◌, ◌≤◌, length, map, OnOk, OnErr, IsOk, vec_len, vec_capacity};
 ghost use Rattle.hub_requests.specs.Names.{names_text};
 ghost use Rattle.hub_protocol.specs.Spelling.{form_of, pieces_of_last, says, spelling, text_of_field};
-ghost use Rattle.hub_protocol.specs.Writing.{Appends, field_told, last_told, line_of_request};
+ghost use Rattle.hub_protocol.specs.Writing.{Appends, field_told, last_told, line_of_request, what_tells};
 
-use crate::table::forms;
+use crate::table::{MOST_FIELDS, forms};
 use crate::words::Spelled;
 use crate::writing::{Appended, append_letters, append_name, append_names, append_number};
 use hub_letters::{Mode, Span, State, Want};
@@ -33,6 +33,17 @@ enum End<'a> {
     Pattern(&'a PatternText),
     Evict(bool),
 }
+
+/// What the line of a request says. Behind the fields that count are others, which aren't told.
+#[derive(Clone, Copy)]
+struct ToldForm<'a> {
+    word: &'static [u8],
+    fields: [Told<'a>; MOST_FIELDS],
+    count: usize,
+    end: End<'a>,
+}
+
+const UNTOLD: Told<'static> = Told::Number(0);
 
 /// Appends the line of the request, with its LF. An error says that memory ran out; `out` then has the same bytes as
 /// before.
@@ -80,13 +91,29 @@ macro_rules! end {
     (Evict $last:ident) => { End::Evict(*$last) };
 }
 
-// Appends the word of the request, its fields and its end.
-macro_rules! appended {
-    (($said:ident, $out:ident) $places:tt
+// A form with 1 to 4 fields.
+macro_rules! form {
+    ($word:literal $end:expr, $a:expr) => {
+        ToldForm { word: $word, fields: [$a, UNTOLD, UNTOLD, UNTOLD], count: 1, end: $end }
+    };
+    ($word:literal $end:expr, $a:expr, $b:expr) => {
+        ToldForm { word: $word, fields: [$a, $b, UNTOLD, UNTOLD], count: 2, end: $end }
+    };
+    ($word:literal $end:expr, $a:expr, $b:expr, $c:expr) => {
+        ToldForm { word: $word, fields: [$a, $b, $c, UNTOLD], count: 3, end: $end }
+    };
+    ($word:literal $end:expr, $a:expr, $b:expr, $c:expr, $d:expr) => {
+        ToldForm { word: $word, fields: [$a, $b, $c, $d], count: 4, end: $end }
+    };
+}
+
+// The word of the request, its fields and its end.
+macro_rules! told_form {
+    ($said:ident $places:tt
      $($word:literal $request:ident { $($field:ident: $place:ident $kind:ident),* } $ending:ident $(($last:ident))?)*) => {
         match $said {
             $(Request::$request { $($field,)* $($last)? } => {
-                append_form($word, &[$(told!($kind $field)),*], end!($ending $($last)?), $out)
+                form!($word end!($ending $($last)?), $(told!($kind $field)),*)
             })*
         }
     };
@@ -95,7 +122,15 @@ macro_rules! appended {
 fn append_request(request: &Request, out: &mut Vec<u8>) -> Appended
     ensures { Appends out.old out.new result (spelling (form_of request.now)) }
 {
-    forms!(appended(request, out))
+    let form = form_told(request);
+    append_form(form.word, &form.fields[..form.count], form.end, out)
+}
+
+fn form_told(request: &Request) -> ToldForm<'_>
+    ensures count { result.count ≤ length result.fields }
+    ensures form { what_tells result ≡ form_of request.now }
+{
+    forms!(told_form request)
 }
 
 fn append_form(word: &[u8], fields: &[Told<'_>], end: End<'_>, out: &mut Vec<u8>) -> Appended

@@ -2,7 +2,7 @@
 ghost use Rattle.std.specs.Prelude.{◌≡◌, ◌++◌, ◌+◌, ◌∷◌, [], ◌≤◌, length, OnOk, OnErr, IsOk, vec_len, vec_capacity, codes};
 ghost use Rattle.std.specs.Fmt.{decimal};
 ghost use Rattle.hub_requests.specs.declared.reply.Reply.{Reply};
-ghost use Rattle.hub_protocol.specs.Writing.{Appends};
+ghost use Rattle.hub_protocol.specs.Writing.{Appends, place_text};
 ghost use Rattle.hub_requests.specs.Names.{names_text};
 ghost use Rattle.hub_requests.specs.Texts.{line_of, number_or_dash, numbers_text, text_of, text_of_flag, word_of_kind, word_of_policy};
 
@@ -202,24 +202,35 @@ pub(crate) fn append_name(name: &Name, out: &mut Vec<u8>) -> Appended
 fn append_refusal(refusal: Refusal, out: &mut Vec<u8>) -> Appended
     ensures { Appends out.old out.new result (line_of (Reply.No refusal)) }
 {
+    let text = refusal_text(refusal);
     match refusal {
-        Refusal::Long => out.extend_from_slice(b"no long"),
-        Refusal::Text => out.extend_from_slice(b"no text"),
-        Refusal::Word => out.extend_from_slice(b"no word"),
-        Refusal::Form => out.extend_from_slice(b"no form"),
-        Refusal::Range => out.extend_from_slice(b"no range"),
-        Refusal::Right => out.extend_from_slice(b"no right"),
-        Refusal::Name => out.extend_from_slice(b"no name"),
-        Refusal::Exists => out.extend_from_slice(b"no exists"),
-        Refusal::Kind => out.extend_from_slice(b"no kind"),
-        Refusal::Id => out.extend_from_slice(b"no id"),
-        Refusal::Many => out.extend_from_slice(b"no many"),
-        Refusal::Spent => out.extend_from_slice(b"no spent"),
-        Refusal::Closed => out.extend_from_slice(b"no closed"),
-        Refusal::Unlawful(place) => append_number(b"no unlawful ", place, out),
-        Refusal::Full => out.extend_from_slice(b"no full"),
-        Refusal::Pattern => out.extend_from_slice(b"no pattern"),
-        Refusal::Overlong => out.extend_from_slice(b"no overlong"),
-        Refusal::Memory => out.extend_from_slice(b"no memory"),
+        Refusal::Unlawful(place) => append_number(text, place, out),
+        _ => out.extend_from_slice(text),
+    }
+}
+
+// The line of the refusal, up to the place if it tells one.
+fn refusal_text(refusal: Refusal) -> &'static [u8]
+    ensures { line_of (Reply.No refusal) ≡ result.now ++ place_text refusal }
+{
+    match refusal {
+        Refusal::Long => b"no long",
+        Refusal::Text => b"no text",
+        Refusal::Word => b"no word",
+        Refusal::Form => b"no form",
+        Refusal::Range => b"no range",
+        Refusal::Right => b"no right",
+        Refusal::Name => b"no name",
+        Refusal::Exists => b"no exists",
+        Refusal::Kind => b"no kind",
+        Refusal::Id => b"no id",
+        Refusal::Many => b"no many",
+        Refusal::Spent => b"no spent",
+        Refusal::Closed => b"no closed",
+        Refusal::Unlawful(_) => b"no unlawful ",
+        Refusal::Full => b"no full",
+        Refusal::Pattern => b"no pattern",
+        Refusal::Overlong => b"no overlong",
+        Refusal::Memory => b"no memory",
     }
 }

@@ -135,3 +135,7 @@ first_nowhere first capacity l place later last counts none at all some counted 
     let one = first_later l [] (le-ltb 0 l counted) in
     let whole = past first capacity l place later last counts none at all some is in
     omega arith
+
+-- what is found at a place is its count
+pub count_at : (items : List ℕ) (place count : ℕ) → Some count ≡ slice_get items place → count ≡ get_or items place 0
+count_at items place count found = sym (get_or_from_slice_get items place count 0 (sym found))

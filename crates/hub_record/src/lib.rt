@@ -43,7 +43,7 @@ pub use runs::{Call, Said, World, replay};
 use thiserror::Error;
 
 /// A letter with the number of its publisher.
-#[derive(Clone, Copy, Debug, PartialEq, Eq, Hash)]
+#[derive(Clone, Copy, Debug, PartialEq, Eq)]
 pub struct Event {
     /// The number of the publisher.
     pub who: u64,
@@ -60,7 +60,7 @@ impl Event {
 }
 
 /// Which letters a record takes.
-#[derive(Clone, Copy, Debug, PartialEq, Eq, Hash)]
+#[derive(Clone, Copy, Debug, PartialEq, Eq)]
 pub enum Kind {
     /// Any letters in any order, as in a fifodir that a user makes by `s6-mkfifodir`.
     Plain,
@@ -69,7 +69,7 @@ pub enum Kind {
 }
 
 /// The answer to a take.
-#[derive(Clone, Copy, Debug, PartialEq, Eq, Hash)]
+#[derive(Clone, Copy, Debug, PartialEq, Eq)]
 pub enum Taken {
     /// This many events fill the beginning of the slice. It is 0 if the slice is empty and events are pending.
     Got(usize),
@@ -83,7 +83,7 @@ pub enum Taken {
 }
 
 /// Why there is no new subscription. If several reasons hold, the first in this order is reported.
-#[derive(Clone, Copy, Debug, PartialEq, Eq, Hash, Error)]
+#[derive(Clone, Copy, Debug, PartialEq, Eq, Error)]
 pub enum SubError {
     /// The record is closed.
     #[error("the fifodir is closed")]
@@ -100,7 +100,7 @@ pub enum SubError {
 }
 
 /// Why no letter of a message was added. If several reasons hold, the first in this order is reported.
-#[derive(Clone, Copy, Debug, PartialEq, Eq, Hash, Error)]
+#[derive(Clone, Copy, Debug, PartialEq, Eq, Error)]
 pub enum PubError {
     /// The record is closed.
     #[error("the fifodir is closed")]
@@ -120,17 +120,17 @@ pub enum PubError {
 }
 
 /// The id was never given, or it was cancelled.
-#[derive(Clone, Copy, Debug, PartialEq, Eq, Hash, Error)]
+#[derive(Clone, Copy, Debug, PartialEq, Eq, Error)]
 #[error("no such id")]
 pub struct NoId;
 
 /// The record is closed already.
-#[derive(Clone, Copy, Debug, PartialEq, Eq, Hash, Error)]
+#[derive(Clone, Copy, Debug, PartialEq, Eq, Error)]
 #[error("closed already")]
 pub struct Closed;
 
 /// The status of a fifodir at one moment.
-#[derive(Clone, Copy, Debug, PartialEq, Eq, Hash)]
+#[derive(Clone, Copy, Debug, PartialEq, Eq)]
 pub struct Status {
     /// How many events its record has.
     pub number: u64,

@@ -26,7 +26,7 @@ pub enum Call {
 }
 
 /// The reply to a call, one variant for each kind of call.
-#[derive(Clone, Copy, Debug, PartialEq, Eq, Hash)]
+#[derive(Clone, Copy, Debug, PartialEq, Eq)]
 pub enum Said {
     /// The id and its mark.
     Subscribed(Result<(u64, u64), SubError>),

@@ -3,7 +3,7 @@
 use hub_record::{Kind, Policy};
 
 /// What a fifodir is, and how much is there at one moment.
-#[derive(Clone, Copy, Debug, PartialEq, Eq, Hash)]
+#[derive(Clone, Copy, Debug, PartialEq, Eq)]
 pub struct About {
     /// Whether it takes any letters, or those of a service in their lawful order.
     pub kind: Kind,

@@ -5,7 +5,7 @@ ghost use Rattle.hub_requests.specs.Wills.{state_of};
 use hub_letters::State;
 
 /// Where a session wants a service to be told to be when the session has ended.
-#[derive(Clone, Copy, Debug, PartialEq, Eq, Hash)]
+#[derive(Clone, Copy, Debug, PartialEq, Eq)]
 pub enum Will {
     /// It is to be off.
     Off,

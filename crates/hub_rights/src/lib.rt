@@ -4,6 +4,7 @@
 //! makes at most so many fifodirs. Each is a [`Desk`](hub_requests::Desk) over any other, and can touch that one only by asking it.
 #![tactic(auto)]
 
+mod asking;
 mod laws;
 mod limited;
 mod onlooker;

@@ -2,6 +2,7 @@
 ghost use Rattle.std.specs.Prelude.{◌≡◌};
 ghost use Rattle.hub_rights.specs.Limits.{IsOverTheShare, left_after, left_of};
 
+use crate::asking::ask_about;
 use hub_requests::{Desk, Enter, Name, Refusal, Reply, Request};
 use std::sync::Wait;
 
@@ -48,7 +49,7 @@ impl<D: Desk> Limited<D> {
         let Ok(name) = name.copy() else {
             return Reply::No(Refusal::Memory);
         };
-        match self.below.ask(rt, &Request::About { name }) {
+        match ask_about(rt, &mut self.below, name) {
             Reply::About(_) => Reply::No(Refusal::Exists),
             Reply::No(refusal) if refusal != Refusal::Name => Reply::No(refusal),
             _ => Reply::No(Refusal::Many),

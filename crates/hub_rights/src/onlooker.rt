@@ -2,6 +2,7 @@
 ghost use Rattle.std.specs.Prelude.{◌≡◌, IfErr, OnOk};
 ghost use Rattle.hub_rights.specs.Looking.{MayNotSubscribe, MaySubscribe};
 
+use crate::asking::ask_about;
 use hub_record::Policy;
 use hub_requests::{Desk, Enter, Name, Refusal, Reply, Request};
 use std::sync::Wait;
@@ -30,7 +31,7 @@ impl<D: Desk> Onlooker<D> {
         let Ok(name) = name.copy() else {
             return Err(Refusal::Memory);
         };
-        match self.below.ask(rt, &Request::About { name }) {
+        match ask_about(rt, &mut self.below, name) {
             Reply::About(about) if about.policy == Policy::Evict => Ok(()),
             Reply::No(refusal) => Err(refusal),
             _ => Err(Refusal::Right),

@@ -1,5 +1,5 @@
 //! Threads that serve sessions, and the one that puts others in the place of those that have left.
-ghost use Rattle.std.specs.Prelude.{◌≡◌, IfOk, vec_len};
+ghost use Rattle.std.specs.Prelude.{◌≡◌, IfOk, IsSome, vec_len};
 ghost use Rattle.hub_server.specs.Crews.{HasWorked, IsCrew};
 ghost use Rattle.hub_server.specs.Sessions.{IsEnded};
 
@@ -45,14 +45,31 @@ where
     O: Desks + Send + Drop + 'static,
     J: Journal<Connection<C>, Connection<C>> + Send + Drop + 'static,
 {
-    fn share(&self) -> Result<Means<C, O, J>, AllocError> {
+    // A share of each of these.
+    fn of(
+        alloc: Global,
+        desks: &O,
+        door: &SharedDoor<C>,
+        journal: &J,
+        bell: &Arc<Bell, Global>,
+    ) -> Result<Means<C, O, J>, AllocError> {
         Ok(Means {
-            alloc: self.alloc,
-            desks: self.desks.share()?,
-            door: self.door.share()?,
-            journal: self.journal.share()?,
-            bell: Arc::try_clone(&self.bell)?,
+            alloc,
+            desks: desks.share()?,
+            door: door.share()?,
+            journal: journal.share()?,
+            bell: Arc::try_clone(bell)?,
         })
+    }
+
+    fn share(&self) -> Result<Means<C, O, J>, AllocError> {
+        Means::of(
+            self.alloc,
+            &self.desks,
+            &self.door,
+            &self.journal,
+            &self.bell,
+        )
     }
 
     fn start<H>(&self, rt: &H, seat: &Arc<Seat, Global>) -> Result<JoinHandle<()>, ServeError>
@@ -62,6 +79,19 @@ where
         let (own, means) = (*rt, self.share()?);
         let seat = Arc::try_clone(seat)?;
         Ok(spawn(rt, move || work(own, means, seat))?)
+    }
+
+    // Starts a worker in a new place.
+    fn start_placed<H>(&self, rt: &H) -> Result<Place, ServeError>
+    where
+        H: Threads + Wait + Enter + Copy + Send + 'static,
+        ensures { IfOk result (λ place. IsSome place.thread) }
+    {
+        let Ok(seat) = Arc::new(self.alloc, Seat::new()) else {
+            return Err(ServeError::Memory);
+        };
+        let thread = Some(self.start(rt, &seat)?);
+        Ok(Place { thread, seat })
     }
 
     // Puts another worker in the place of one that has left, unless none can be started.
@@ -138,11 +168,8 @@ where
         let mut places = Vec::new(means.alloc);
         'workers: for _worker in 0..count {
             places.reserve(1)?;
-            let Ok(seat) = Arc::new(means.alloc, Seat::new()) else {
-                return Err(ServeError::Memory);
-            };
-            let thread = Some(means.start(rt, &seat)?);
-            places.push_reserved(Place { thread, seat });
+            let place = means.start_placed(rt)?;
+            places.push_reserved(place);
         }
         Ok(Workers { means, places })
     }
@@ -200,6 +227,24 @@ where
     }
 }
 
+// What workers have shares of, with a bell of their own.
+fn new_means<C, O, J>(
+    alloc: Global,
+    desks: &O,
+    door: &SharedDoor<C>,
+    journal: &J,
+) -> Result<Means<C, O, J>, ServeError>
+where
+    C: Clock + Copy + Send + Drop + 'static,
+    O: Desks + Send + Drop + 'static,
+    J: Journal<Connection<C>, Connection<C>> + Send + Drop + 'static,
+{
+    let Ok(bell) = Arc::new(alloc, Bell::new()) else {
+        return Err(ServeError::Memory);
+    };
+    Ok(Means::of(alloc, desks, door, journal, &bell)?)
+}
+
 /// Starts so many threads, each of which serves one session of the door after the other, for as long as the program runs.
 /// Each session has a desk of its own, and the journal learns how it ended. A thread ends after a session that may have left much
 /// in the caches of the C library. The thread that this returns puts another one in its place.
@@ -221,17 +266,11 @@ where
     // As many were started as were asked for. A `Crew` says that each has its thread.
     ensures { IfOk result (λ keeper. keeper.crew.value.asked ≡ count) }
 {
-    let (Ok(bell), Ok(begun)) = (Arc::new(alloc, Bell::new()), Arc::new(alloc, Begun::new())) else {
+    let Ok(begun) = Arc::new(alloc, Begun::new()) else {
         return Err(ServeError::Memory);
     };
     let told = Arc::try_clone(&begun)?;
-    let means = Means {
-        alloc,
-        desks: desks.share()?,
-        door: door.share()?,
-        journal: journal.share()?,
-        bell,
-    };
+    let means = new_means(alloc, desks, door, journal)?;
     let own = *rt;
     let keeper = spawn(rt, move || start_and_keep(&own, means, count, &told))?;
     match begun.wait(rt) {

@@ -114,13 +114,12 @@ refused_last all done left number refusal e none counted before asking refused =
 
 -- ---- a session
 
-pub all_done : {D : Type 0} (begins : D → Type 0) (asks : Asking D) (ends : D → D → Type 0) (old new : D) (bytes text : List ℕ) (done : Result (Unit {0}) RefusedLine) (it : Unit {0}) → bytes ≡ text → begins old
-    → SetsUp asks ends old (lines_of bytes) new done → done ≡ Ok it → IsSetUp begins asks ends (lines_of text) (Ok it)
-all_done begins asks ends old new bytes text done it same begun sets is =
-    inr (old, new, done, begun, subst (λ t. SetsUp asks ends old (lines_of t) new done) same sets, ap setup_fault (sym is))
+pub all_done : {D : Type 0} (begins : D → Type 0) (asks : Asking D) (ends : D → D → Type 0) (old new : D) (text : List ℕ) (done : Result (Unit {0}) RefusedLine) (it : Unit {0}) → begins old
+    → SetsUp asks ends old (lines_of text) new done → done ≡ Ok it → IsSetUp begins asks ends (lines_of text) (Ok it)
+all_done begins asks ends old new text done it begun sets is = inr (old, new, done, begun, sets, ap setup_fault (sym is))
 
-pub one_refused : {D : Type 0} (begins : D → Type 0) (asks : Asking D) (ends : D → D → Type 0) (old new : D) (bytes text : List ℕ) (done : Result (Unit {0}) RefusedLine) (at : RefusedLine) (told : Result (Unit {0}) Fault)
-    → bytes ≡ text → begins old → SetsUp asks ends old (lines_of bytes) new done → done ≡ Err at → IsErrAnd told (λ error. error ≡ SetupLine at) → IsSetUp begins asks ends (lines_of text) told
-one_refused begins asks ends old new bytes text done at (Ok it) same begun sets is error = absurd error
-one_refused begins asks ends old new bytes text done at (Err fault) same begun sets is error =
-    inr (old, new, done, begun, subst (λ t. SetsUp asks ends old (lines_of t) new done) same sets, ap Err error ∙ ap setup_fault (sym is))
+pub one_refused : {D : Type 0} (begins : D → Type 0) (asks : Asking D) (ends : D → D → Type 0) (old new : D) (text : List ℕ) (done : Result (Unit {0}) RefusedLine) (at : RefusedLine) (told : Result (Unit {0}) Fault)
+    → begins old → SetsUp asks ends old (lines_of text) new done → done ≡ Err at → IsErrAnd told (λ error. error ≡ SetupLine at) → IsSetUp begins asks ends (lines_of text) told
+one_refused begins asks ends old new text done at (Ok it) begun sets is error = absurd error
+one_refused begins asks ends old new text done at (Err fault) begun sets is error =
+    inr (old, new, done, begun, sets, ap Err error ∙ ap setup_fault (sym is))

@@ -58,14 +58,14 @@ impl<P: Pause + Copy> HubDesks<P> {
         &self,
         rt: &H,
         alloc: Global,
-        text: Vec<u8>,
+        text: &[u8],
     ) -> Result<(), Fault>
         ensures { IsSetUp (IsNewDesk (arc_value self.now.hub) self.now.pause)
             ⟦<SharedDesk<P> as Desk>⟧.asks ⟦<SharedDesk<P> as Desk>⟧.ends
-            (lines_of text.items) result }
+            (lines_of text.now) result }
     {
         let mut own = self.open(alloc, None)?;
-        let done = set_up(rt, alloc, &mut own, &text);
+        let done = set_up(rt, alloc, &mut own, text);
         self.count_lost(&own);
         own.release(rt);
         done?;

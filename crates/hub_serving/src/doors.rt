@@ -115,7 +115,7 @@ fn open_look<H>(
     place: &mut Option<Place<'_>>,
     shared: &Option<Quota>,
     options: &HubOptions<'_>,
-    desks: HubDesks<Patience<H>>,
+    desks: &HubDesks<Patience<H>>,
     watcher: &Watcher<H>,
 ) -> Result<Option<OpenDoor>, Fault>
 where
@@ -129,8 +129,11 @@ where
     };
     let few = most_looking(options.sessions);
     let mode = options.look.map(|look| look.mode);
+    let desks = LookDesks {
+        desks: desks.share()?,
+    };
     let how = Opening::of(Side::Looking, few, mode, shared, options)?;
-    match open_door(rt, alloc, place, how, &LookDesks { desks }, watcher) {
+    match open_door(rt, alloc, place, how, &desks, watcher) {
         Ok(door) => Ok(Some(door)),
         Err(fault) => Err(fault.at_look()),
     }
@@ -163,14 +166,13 @@ where
     ensures both { IfOk result (λ doors. is_some doors.look ≡ is_some places.new.look) }
 {
     let shared = shared_by(alloc, options)?;
-    let others = desks.share()?;
     let look = open_look(
         rt,
         alloc,
         &mut places.look,
         &shared,
         options,
-        others,
+        &desks,
         watcher,
     )?;
     let (all, names) = (options.sessions, options.names);

@@ -24,7 +24,7 @@ use hub_options::{HubOptions, LookOptions, VERSION};
 use hub_server::most_looking;
 use hub_shared::Hub;
 use hub_wait::Patience;
-use std::alloc::Global;
+use std::alloc::{AllocError, Global};
 use std::fs::{File, Files};
 use std::io::Write;
 use std::net::Net;
@@ -65,19 +65,100 @@ where
         make_root_folder(rt)?;
     }
     let mut places = Places::take(rt, alloc, &options)?;
-    let ended = serve_at(rt, alloc, &mut places, options, setup, notice, log);
+    let ended = serve_at(
+        rt,
+        alloc,
+        &mut places,
+        &options,
+        setup.as_slice(),
+        notice,
+        log,
+    );
     places.leave(rt);
     ended
 }
 
-// Serves sessions at these places. The threads come before the places, since a client that could connect would be cut off if one of
-// them couldn't be started: who has no `Doors` can't put a socket there. Nor is anybody told before all are there (`AllInPlace`).
+/// A hub whose doors have their threads, and what tells of it.
+#[derive(Drop)]
+struct Living<H> {
+    doors: Doors,
+    watcher: Watcher<H>,
+    lost: LostWills,
+    troubles: Troubles,
+}
+
+// The desks over a new hub that has carried out the lines of this setup. Wills that are lost are counted here.
+fn set_up_desks<H>(
+    rt: &H,
+    alloc: Global,
+    lost: &LostWills,
+    setup: &[u8],
+) -> Result<HubDesks<Patience<H>>, Fault>
+where
+    H: Clock + Wait + Enter + Copy,
+{
+    let Ok(hub) = Arc::new(alloc, Hub::new(alloc)?) else {
+        return Err(Fault::Memory);
+    };
+    let desks = HubDesks {
+        hub,
+        pause: Patience::new(*rt),
+        stay: Stay::Long,
+        lost: Some(lost.share()?),
+    };
+    desks.set_up(rt, alloc, setup)?;
+    Ok(desks)
+}
+
+// What tells of fifodirs in trouble, of those that these desks make and of those that are noted as full.
+fn troubles_of<H>(
+    rt: &H,
+    alloc: Global,
+    desks: &HubDesks<Patience<H>>,
+    full: &FullNames,
+) -> Result<Troubles, AllocError>
+where
+    H: Clock + Copy,
+{
+    let hub = Arc::try_clone(&desks.hub)?;
+    Ok(Troubles::of(rt, alloc, hub, full.share()?))
+}
+
+// A hub whose sockets are in these places. Its threads come before that, since a client that could connect would be cut off if one of
+// them couldn't be started: who has no `Doors` can't put a socket there.
+fn begin<H>(
+    rt: &H,
+    alloc: Global,
+    places: &mut Places<'_>,
+    options: &HubOptions<'_>,
+    setup: &[u8],
+) -> Result<(Living<H>, AllInPlace), Fault>
+where
+    H: Files<File = File> + Net + Clock + Threads + Wait + Enter + Copy + Send + 'static,
+{
+    let watcher = Watcher::new(alloc, *rt)?;
+    let lost = LostWills::new(alloc)?;
+    let desks = set_up_desks(rt, alloc, &lost, setup)?;
+    let full = FullNames::new(alloc)?;
+    let troubles = troubles_of(rt, alloc, &desks, &full)?;
+    let doors = open_doors(rt, alloc, places, options, desks, full, &watcher)?;
+    let there = places.put(rt, &doors, options.sessions)?;
+    let living = Living {
+        doors,
+        watcher,
+        lost,
+        troubles,
+    };
+    Ok((living, there))
+}
+
+// Serves sessions at these places. Nobody is told before all sockets are there (`AllInPlace`).
 fn serve_at<H, F>(
     rt: &H,
     alloc: Global,
     places: &mut Places<'_>,
-    options: HubOptions<'_>,
-    setup: Vec<u8>,
+    options: &HubOptions<'_>,
+    setup: &[u8],
     notice: Option<Notice>,
     log: &mut F,
 ) -> Result<(), Fault>
@@ -85,32 +166,12 @@ where
     H: Files<File = File> + Net + Clock + Threads + Wait + Enter + Copy + Send + 'static,
     F: Write,
 {
-    let Ok(hub) = Arc::new(alloc, Hub::new(alloc)?) else {
-        return Err(Fault::Memory);
-    };
-    let pause = Patience::new(*rt);
-    let stay = Stay::Long;
-    let lost = LostWills::new(alloc)?;
-    let desks = HubDesks {
-        hub,
-        pause,
-        stay,
-        lost: Some(lost.share()?),
-    };
-    desks.set_up(rt, alloc, setup)?;
-    let full = FullNames::new(alloc)?;
-    let hub = Arc::try_clone(&desks.hub)?;
-    let troubles = Troubles::of(rt, alloc, hub, full.share()?);
-    let watcher = Watcher::new(alloc, *rt)?;
-    let doors = open_doors(rt, alloc, places, &options, desks, full, &watcher)?;
-    let there = places.put(rt, &doors, options.sessions)?;
+    let (living, there) = begin(rt, alloc, places, options, setup)?;
     if let Some(notice) = notice {
         notice.give(rt, &there)?;
     }
-    let _: io::Result<()> = tell_listening(alloc, &options, log);
-    watch(
-        rt, alloc, places, &there, &watcher, &lost, doors, troubles, log,
-    )
+    let _: io::Result<()> = tell_listening(alloc, options, log);
+    watch(rt, alloc, places, &there, living, log)
 }
 
 // Tells what happens to sessions, and keeps the sockets in their places. It returns only if one is lost.
@@ -119,10 +180,7 @@ fn watch<H, F>(
     alloc: Global,
     places: &Places<'_>,
     there: &AllInPlace,
-    watcher: &Watcher<H>,
-    lost: &LostWills,
-    mut doors: Doors,
-    mut troubles: Troubles,
+    mut living: Living<H>,
     log: &mut F,
 ) -> Result<(), Fault>
 where
@@ -130,12 +188,13 @@ where
     F: Write,
 {
     'seconds: for _ in rt.forever() {
-        let pending = watcher.take(rt);
+        let pending = living.watcher.take(rt);
         let _: io::Result<()> = tell_pending(alloc, pending, log);
-        let _: io::Result<()> = tell_if(alloc, lost.take(), log);
-        let _: io::Result<()> = tell_each(alloc, &doors.crowds(rt, watcher.running()), log);
+        let _: io::Result<()> = tell_if(alloc, living.lost.take(), log);
+        let running = living.watcher.running();
+        let _: io::Result<()> = tell_each(alloc, &living.doors.crowds(rt, running), log);
         let _: io::Result<()> = tell_each(alloc, &places.keep(rt, there)?, log);
-        troubles.tell(rt, alloc, log);
+        living.troubles.tell(rt, alloc, log);
         if pending.has_lines() {
             thread::sleep(rt, Duration::from_secs(1));
         }

@@ -8,7 +8,7 @@ use hub_letters::Span;
 use std::marker::Model;
 
 /// How a wait ends.
-#[derive(Clone, Copy, Debug, PartialEq, Eq, Hash)]
+#[derive(Clone, Copy, Debug, PartialEq, Eq)]
 pub enum Verdict {
     /// What was wanted holds.
     Yes,

@@ -7,7 +7,7 @@ use hub_record::Status;
 use std::marker::Model;
 
 /// What a wait wants of a service, and what it knows of it.
-#[derive(Clone, Copy, Debug, PartialEq, Eq, Hash)]
+#[derive(Clone, Copy, Debug, PartialEq, Eq)]
 pub struct Watch {
     want: Want,
     notifies: bool,

@@ -1,11 +1,29 @@
-use Rattle.std.proofs.Common.{◌≡◌, false, ◌++◌, ◌∙◌, take, length, string_bytes, sym, subst, arith}
+use Rattle.std.proofs.Common.{◌≡◌, ◌-◌, ◌≤◌, false, ◌++◌, [], ◌∷◌, ◌∙◌, take, length, string_bytes, sym, ap, subst, arith, length-append}
+use Rattle.std.specs.String.{string_len}
+use Rattle.std.proofs.lemmas.List.{take_all}
 use Rattle.std.proofs.lemmas.List.Elements.{All-push}
+use Rattle.hub_letters.specs.declared.mode.TheConstants.{MOST_GATHERED}
 use Rattle.hub_listen.specs.Hit.{finds}
 use Rattle.hub_listen.specs.Letters.{IsLetter, AreLetters}
 use Rattle.hub_listen.specs.Alive.{AreAlive}
 use Rattle.hub_listen.proofs.Prefixes.{grown_more, fails_more, length_grown}
 use Rattle.hub_listen.proofs.Found.{AreAlive-pushed, heard_match, heard_nothing}
 use Rattle.hub_listen.proofs.search.first_hit.Goals as goal
+
+pub returns-then-len-ge-MOST_GATHERED-clause-none : goal.returns-then-len-ge-MOST_GATHERED-clause-none
+returns-then-len-ge-MOST_GATHERED-clause-none c =
+    let full = length_grown _ _ c.args.piece.now c.loop-i.i c.loop-i-test.true c.loop-i.invariant.grown in
+    λ j some within short. c.loop-i.invariant.none j some (omega arith)
+
+pub returns-then-len-ge-MOST_GATHERED-clause-grown : goal.returns-then-len-ge-MOST_GATHERED-clause-grown
+returns-then-len-ge-MOST_GATHERED-clause-grown c =
+    let full = length_grown _ _ c.args.piece.now c.loop-i.i c.loop-i-test.true c.loop-i.invariant.grown in
+    let room : c.loop-i.i ≡ MOST_GATHERED - string_len c.args.text.now = omega arith in
+    c.loop-i.invariant.grown ∙ ap (λ n. string_bytes c.args.text.now ++ take n c.args.piece.now) room
+
+pub hear_last-requires-clause-some : goal.hear_last-requires-clause-some
+hear_last-requires-clause-some c =
+    omega (arith, ap length (c.as_bytes.ensures.value ∙ c.as_str.ensures.value ∙ c.append.ensures.bytes), length-append (string_bytes c.loop-i.text) (c.index-piece-i.result ∷ []))
 
 pub hear_last-requires-clause-alive : goal.hear_last-requires-clause-alive
 hear_last-requires-clause-alive c =
@@ -46,3 +64,11 @@ loop-i-preserved c =
       none = fails_more (λ j. finds (string_bytes c.args.pattern.now.text) (string_bytes c.args.text.now ++ take j c.args.piece.now)) c.loop-i.i
           c.loop-i.invariant.none (subst (λ t. finds (string_bytes c.args.pattern.now.text) t ≡ false) grown none);
     }
+
+pub returns-clause-grown : goal.returns-clause-grown
+returns-clause-grown c =
+    let piece = c.args.piece.now in
+    let all : take c.loop-i.i piece ≡ piece = take_all c.loop-i.i piece (omega arith) in
+    let size = ap length c.loop-i.invariant.grown ∙ length-append (string_bytes c.args.text.now) (take c.loop-i.i piece) in
+    let room : length piece ≤ MOST_GATHERED - string_len c.args.text.now = omega (arith, size, ap length all) in
+    c.loop-i.invariant.grown ∙ ap (λ l. string_bytes c.args.text.now ++ l) (all ∙ sym (take_all _ piece room))

@@ -1,12 +1,14 @@
 use Rattle.hub_requests.specs.declared.request.Request.TheVariants as request
 use Rattle.hub_look.proofs.Refusals.{looked_up_by}
-use Rattle.hub_look.proofs.Looked.{refused_so, spelled_about, about_told}
+use Rattle.hub_look.proofs.Looked.{about_told, spelled_about}
+use Rattle.hub_look.specs.Stops.{IsOwnFault}
+use Rattle.hub_look.proofs.Judged.{stops_so}
 use Rattle.hub_look.proofs.describing.about_of.Goals as goal
 
-pub returns-in-Err-clause-ok : goal.returns-in-Err-clause-ok
-returns-in-Err-clause-ok g c =
-    refused_so _ _ (request.About c.args.name.now) c.args.name.now c.in_ok-heard.field-0 c.in-Err.refusal (looked_up_by _ _ (request.About c.args.name.now) _ c.args.name.now c.in_ok-heard.field-0 c.in_ok-heard.ensures.ok (spelled_about c.args.name.now)) c.in-Err.is
+pub returns-clause-ok : goal.returns-clause-ok
+returns-clause-ok g c =
+    about_told _ _ c.args.name.now c.in_ok-look_up.field-0 c.about_in.result
+    (looked_up_by _ _ (request.About c.args.name.now) _ c.args.name.now c.in_ok-look_up.field-0 c.in_ok-look_up.ensures.ok (spelled_about c.args.name.now)) c.about_in.ensures.ok
 
-pub returns-in-About-clause-ok : goal.returns-in-About-clause-ok
-returns-in-About-clause-ok g c =
-    about_told _ _ c.args.name.now c.in_ok-heard.field-0 c.in-Ok.heard c.in-About.about (looked_up_by _ _ (request.About c.args.name.now) _ c.args.name.now c.in_ok-heard.field-0 c.in_ok-heard.ensures.ok (spelled_about c.args.name.now)) c.in-Ok.is c.in-About.ensures
+pub returns-in_err-look_up-clause-err : goal.returns-in_err-look_up-clause-err
+returns-in_err-look_up-clause-err g c = stops_so IsOwnFault _ c.in_err-look_up.field-0.0 c.from_residual.ensures.1 c.in_err-look_up.ensures.err

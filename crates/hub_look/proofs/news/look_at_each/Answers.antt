@@ -21,3 +21,9 @@ followed-preserved g c =
       asked = looks_on (manner_of c.args.following.now) _ _ _ c.followed.invariant.asked
           (seen_to (manner_of c.args.following.now) c.followed.all c.followed.at c.index-all-at.result (get_or c.followed.all c.followed.at c.index-all-at.result) c.look_at.new.followed _ _ _ _ (omega (arith, many, within)) refl c.in_ok-came.ensures.ok);
     }
+
+pub returns-in_err-came-clause-begun : goal.returns-in_err-came-clause-begun
+returns-in_err-came-clause-begun g c = c.in_err-came.ensures.begun ∙ c.followed.invariant.begun
+
+pub returns-clause-begun : goal.returns-clause-begun
+returns-clause-begun g c = c.followed.invariant.begun
