@@ -9,11 +9,12 @@ use Rattle.hub_requests.specs.declared.reply.Reply.{Reply}
 use Rattle.hub_requests.specs.declared.reply.Reply.TheVariants as reply
 use Rattle.hub_protocol.specs.Replies.{Shows}
 use Rattle.hub_protocol.specs.Spelling.{form_of, spelling}
+use Rattle.hub_protocol.specs.declared.replies.BorrowedReply.{BorrowedReply}
 use Rattle.hub_protocol.specs.declared.replies.BorrowedReply.TheVariants as shown
 use Rattle.hub_ask.specs.Hearing.{line_of}
 use Rattle.hub_ask.specs.declared.heard.Heard.{Heard}
 use Rattle.hub_ask.specs.Streams.{IsHeard, Streams}
-use Rattle.hub_look.specs.Tables.{IsAbout, IsDescribed, IsJudged, IsLookedUp, IsRefused, TellsBy}
+use Rattle.hub_look.specs.Tables.{IsAbout, IsDescribed, IsJudged, IsLookedUp, IsRefused, IsSaid, TellsBy}
 use Rattle.hub_look.specs.declared.stop.Stop.{Stop}
 use Rattle.hub_look.proofs.Listed.{replied_so}
 
@@ -30,41 +31,27 @@ pub heard_so : (before after : Streams) (asked : Request) (name : List ℕ) (loo
     → IsLookedUp before after asked name looked → looked ≡ Ok heard → IsHeard before after asked (line_of heard)
 heard_so before after asked name looked heard h is = subst (IsLookedUp before after asked name) is h
 
-state_shown : (status : Status) (it : Reply) → Shows (shown.State status) it → it ≡ reply.State status
+pub state_shown : (status : Status) (it : Reply) → Shows (shown.State status) it → it ≡ reply.State status
 state_shown status (reply.State other) same = ap reply.State (sym same)
 state_shown status it h = absurd h
 
-about_shown : (about : About) (it : Reply) → Shows (shown.About about) it → it ≡ reply.About about
+pub about_shown : (about : About) (it : Reply) → Shows (shown.About about) it → it ≡ reply.About about
 about_shown about (reply.About other) same = ap reply.About (sym same)
 about_shown about it h = absurd h
 
--- what the hub says of how it is
-told_status : (before after : Streams) (name : List ℕ) (looked : Result Heard Refusal) (verdict : Result Status Refusal)
-    → IsLookedUp before after (request.Status name) name looked → TellsBy shown.State looked verdict → IsJudged before after name verdict
-told_status before after name (Ok heard) (Ok status) h shows =
-    replied_so before after (request.Status name) (line_of heard) (shown.State status) (reply.State status) shows h (state_shown status shows.reply shows.shows)
-told_status before after name (Err refusal) (Err other) h same = subst (IsRefused before after (request.Status name) name) (sym same) h
-told_status before after name (Ok heard) (Err refusal) h tells = absurd tells
-told_status before after name (Err refusal) (Ok status) h tells = absurd tells
+-- what the hub says, if a reply of this kind shows it
+module _ {T : Type 0} (variant : T → BorrowedReply) (kind : T → Reply) (shows : (read : T) (it : Reply) → Shows (variant read) it → it ≡ kind read) (asked : Request) where
+  told : (before after : Streams) (name : List ℕ) (looked : Result Heard Refusal) (said : Result T Refusal)
+      → IsLookedUp before after asked name looked → TellsBy variant looked said → IsSaid kind asked before after name said
+  told before after name (Ok heard) (Ok it) h tells = replied_so before after asked (line_of heard) (variant it) (kind it) tells h (shows it tells.reply tells.shows)
+  told before after name (Err refusal) (Err other) h same = subst (IsRefused before after asked name) (sym same) h
+  told before after name (Ok heard) (Err refusal) h tells = absurd tells
+  told before after name (Err refusal) (Ok it) h tells = absurd tells
 
-pub status_told : (before after : Streams) (name : List ℕ) (looked : Result Heard Refusal) (result : Result (Result Status Refusal) Stop)
-    → IsLookedUp before after (request.Status name) name looked → IfOk result (TellsBy shown.State looked) → IfOk result (IsJudged before after name)
-status_told before after name looked (Ok verdict) h tells = told_status before after name looked verdict h tells
-status_told before after name looked (Err stop) h tells = tt
-
--- what it says of what it is
-told_about : (before after : Streams) (name : List ℕ) (looked : Result Heard Refusal) (verdict : Result About Refusal)
-    → IsLookedUp before after (request.About name) name looked → TellsBy shown.About looked verdict → IsAbout before after name verdict
-told_about before after name (Ok heard) (Ok about) h shows =
-    replied_so before after (request.About name) (line_of heard) (shown.About about) (reply.About about) shows h (about_shown about shows.reply shows.shows)
-told_about before after name (Err refusal) (Err other) h same = subst (IsRefused before after (request.About name) name) (sym same) h
-told_about before after name (Ok heard) (Err refusal) h tells = absurd tells
-told_about before after name (Err refusal) (Ok about) h tells = absurd tells
-
-pub about_told : (before after : Streams) (name : List ℕ) (looked : Result Heard Refusal) (result : Result (Result About Refusal) Stop)
-    → IsLookedUp before after (request.About name) name looked → IfOk result (TellsBy shown.About looked) → IfOk result (IsAbout before after name)
-about_told before after name looked (Ok verdict) h tells = told_about before after name looked verdict h tells
-about_told before after name looked (Err stop) h tells = tt
+  pub told_so : (before after : Streams) (name : List ℕ) (looked : Result Heard Refusal) (result : Result (Result T Refusal) Stop)
+      → IsLookedUp before after asked name looked → IfOk result (TellsBy variant looked) → IfOk result (IsSaid kind asked before after name)
+  told_so before after name looked (Ok said) h tells = told before after name looked said h tells
+  told_so before after name looked (Err stop) h tells = tt
 
 -- ---- both looks
 

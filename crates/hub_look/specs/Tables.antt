@@ -10,6 +10,7 @@ use Rattle.hub_requests.specs.Texts.{word_of}
 use Rattle.hub_requests.specs.declared.about.About.{About}
 use Rattle.hub_requests.specs.declared.request.Request.{Request}
 use Rattle.hub_requests.specs.declared.request.Request.TheVariants as request
+use Rattle.hub_requests.specs.declared.reply.Reply.{Reply}
 use Rattle.hub_requests.specs.declared.reply.Reply.TheVariants as reply
 use Rattle.hub_requests.specs.declared.reply.Refusal.{Refusal}
 use Rattle.hub_requests.specs.declared.reply.Refusal.TheVariants.{Right, Name, Closed}
@@ -75,15 +76,18 @@ TellsBy variant (Ok heard) (Ok it) = IsShown (line_of heard) (variant it)
 TellsBy variant (Err refusal) (Err other) = other ≡ refusal
 TellsBy variant looked told = ⊥
 
--- The status of the name was asked for once, and this is what the hub says of it.
-abbrev pub IsJudged : (before after : Streams) (name : List ℕ) → Verdict → Type 0
-IsJudged before after name (Ok status) = IsReplied before after (request.Status name) (reply.State status)
-IsJudged before after name (Err refusal) = IsRefused before after (request.Status name) name refusal
+-- The hub was asked this of the name once, and this is what it says: a reply of this kind, or a refusal.
+abbrev pub IsSaid : {T : Type 0} → (kind : T → Reply) → (asked : Request) → (before after : Streams) → (name : List ℕ) → Result T Refusal → Type 0
+IsSaid kind asked before after name (Ok it) = IsReplied before after asked (kind it)
+IsSaid kind asked before after name (Err refusal) = IsRefused before after asked name refusal
 
--- The hub was asked once what the name is, and this is what it says.
+-- how the name is
+abbrev pub IsJudged : (before after : Streams) (name : List ℕ) → Verdict → Type 0
+IsJudged before after name = IsSaid reply.State (request.Status name) before after name
+
+-- what the name is
 abbrev pub IsAbout : (before after : Streams) (name : List ℕ) → Result About Refusal → Type 0
-IsAbout before after name (Ok about) = IsReplied before after (request.About name) (reply.About about)
-IsAbout before after name (Err refusal) = IsRefused before after (request.About name) name refusal
+IsAbout before after name = IsSaid reply.About (request.About name) before after name
 
 -- The hub was asked once what the name is, and then for its status, unless it refused the former. This is what it says of both.
 abbrev pub IsDescribed : (before after : Streams) (name : List ℕ) → Finding → Type 0
