@@ -1,11 +1,9 @@
 pub mod Asked
 pub mod Asks
-pub mod Columns
+pub mod Headings
 pub mod Judged
 pub mod Listed
-pub mod LinesSoFar
 pub mod Looked
 pub mod Refusals
-pub mod ServiceStates
 pub mod Subscribed
 pub mod Takes

@@ -14,7 +14,7 @@ use Rattle.hub_protocol.specs.declared.replies.BorrowedReply.TheVariants as show
 use Rattle.hub_ask.specs.Hearing.{line_of}
 use Rattle.hub_ask.specs.declared.heard.Heard.{Heard}
 use Rattle.hub_ask.specs.Streams.{IsHeard, Streams}
-use Rattle.hub_look.specs.Tables.{IsAbout, IsDescribed, IsJudged, IsLookedUp, IsRefused, IsSaid, TellsBy}
+use Rattle.hub_look.specs.Tables.{IsAbout, IsDescribed, IsJudged, IsLookedUp, IsRefused, HubSays, TellsBy}
 use Rattle.hub_look.specs.declared.stop.Stop.{Stop}
 use Rattle.hub_look.proofs.Listed.{replied_so}
 
@@ -42,14 +42,14 @@ about_shown about it h = absurd h
 -- what the hub says, if a reply of this kind shows it
 module _ {T : Type 0} (variant : T → BorrowedReply) (kind : T → Reply) (shows : (read : T) (it : Reply) → Shows (variant read) it → it ≡ kind read) (asked : Request) where
   told : (before after : Streams) (name : List ℕ) (looked : Result Heard Refusal) (said : Result T Refusal)
-      → IsLookedUp before after asked name looked → TellsBy variant looked said → IsSaid kind asked before after name said
+      → IsLookedUp before after asked name looked → TellsBy variant looked said → HubSays kind asked before after name said
   told before after name (Ok heard) (Ok it) h tells = replied_so before after asked (line_of heard) (variant it) (kind it) tells h (shows it tells.reply tells.shows)
   told before after name (Err refusal) (Err other) h same = subst (IsRefused before after asked name) (sym same) h
   told before after name (Ok heard) (Err refusal) h tells = absurd tells
   told before after name (Err refusal) (Ok it) h tells = absurd tells
 
   pub told_so : (before after : Streams) (name : List ℕ) (looked : Result Heard Refusal) (result : Result (Result T Refusal) Stop)
-      → IsLookedUp before after asked name looked → IfOk result (TellsBy variant looked) → IfOk result (IsSaid kind asked before after name)
+      → IsLookedUp before after asked name looked → IfOk result (TellsBy variant looked) → IfOk result (HubSays kind asked before after name)
   told_so before after name looked (Ok said) h tells = told before after name looked said h tells
   told_so before after name looked (Err stop) h tells = tt
 

@@ -14,8 +14,8 @@ use Rattle.hub_ask.specs.declared.heard.Heard.{Heard}
 use Rattle.hub_ask.specs.Streams.{IsHeard, Streams}
 use Rattle.hub_look.specs.Subscribing.{AreBegun, AreCancelled, IsBegun, IsBetween, IsCancelled, IsHandled, IsNew, IsNumbered, IsSubscribed, IsTried, name_of, sub_line}
 use Rattle.hub_look.specs.Tables.{IsFoundBy, IsJudged, TellsBy, Verdict}
-use Rattle.hub_look.specs.declared.following.Form.{Form}
-use Rattle.hub_look.specs.declared.following.Form.TheVariants.{Line, Plain, Json}
+use Rattle.hub_views.specs.declared.form.Form.{Form}
+use Rattle.hub_views.specs.declared.form.Form.TheVariants.{Line, Plain, Json}
 use Rattle.hub_look.specs.declared.stop.Stop.{Stop}
 use Rattle.hub_look.specs.declared.subscribing.Followed.{Followed}
 use Rattle.hub_look.proofs.Listed.{replied_so}

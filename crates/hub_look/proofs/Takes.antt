@@ -16,7 +16,7 @@ use Rattle.hub_ask.specs.declared.fault.AskError.TheVariants.{Relay}
 use Rattle.hub_look.specs.Stops.{IsOwnFault}
 use Rattle.hub_ask.specs.declared.outcome.Outcome.{Outcome}
 use Rattle.hub_ask.specs.declared.outcome.Outcome.TheVariants as outcome
-use Rattle.hub_look.specs.EventLines.{IsTextOf, number_after}
+use Rattle.hub_views.specs.EventLines.{IsTextOf, number_after}
 use Rattle.hub_look.specs.Follows.{Manner, IsSettled, IsTaken, IsWrittenFor, EndsTake, FailsToWrite, GoesOn, StopsBy, ends_by, told_of, written_of}
 use Rattle.hub_look.specs.Subscribing.{name_of}
 use Rattle.hub_ask.specs.Streams.{IsNoted, IsToldTo, Streams, note_of}

@@ -11,13 +11,13 @@ use Rattle.hub_ask.specs.declared.fault.AskError.{AskError}
 use Rattle.hub_ask.specs.declared.fault.AskError.TheVariants.{Relay, Unknown}
 use Rattle.hub_ask.specs.declared.outcome.Outcome.{Outcome}
 use Rattle.hub_ask.specs.declared.outcome.Outcome.TheVariants as outcome
-use Rattle.hub_look.specs.EventLines.{IsTextOf, number_after}
+use Rattle.hub_views.specs.EventLines.{IsTextOf, number_after}
 use Rattle.hub_look.specs.Stops.{IsOwnStop, StopsWith}
 use Rattle.hub_ask.specs.Streams.{Streams, IsReplied, IsNoted, IsToldTo, note_of}
 use Rattle.hub_look.specs.Subscribing.{AreBegun, name_of}
 use Rattle.hub_look.specs.Tables.{reason_of}
 use Rattle.hub_look.specs.declared.following.Following.{Following}
-use Rattle.hub_look.specs.declared.following.Form.{Form}
+use Rattle.hub_views.specs.declared.form.Form.{Form}
 use Rattle.hub_look.specs.declared.subscribing.Followed.{Followed}
 use Rattle.hub_look.specs.declared.stop.Stop.{Stop}
 use Rattle.hub_look.specs.declared.stop.Stop.TheVariants as stops

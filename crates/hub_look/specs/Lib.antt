@@ -1,10 +1,6 @@
 pub mod Looking
 pub mod Looks
 pub mod Stops
-pub mod ServiceStates
-pub mod Descriptions
 pub mod Tables
-pub mod Json
-pub mod EventLines
 pub mod Subscribing
 pub mod Follows

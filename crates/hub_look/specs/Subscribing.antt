@@ -9,8 +9,8 @@ use Rattle.hub_ask.specs.Lines.{joined}
 use Rattle.hub_look.specs.Looking.{LooksBy}
 use Rattle.hub_ask.specs.Streams.{Streams, IsReplied}
 use Rattle.hub_look.specs.Tables.{IsJudged}
-use Rattle.hub_look.specs.declared.following.Form.{Form}
-use Rattle.hub_look.specs.declared.following.Form.TheVariants.{Line, Plain, Json}
+use Rattle.hub_views.specs.declared.form.Form.{Form}
+use Rattle.hub_views.specs.declared.form.Form.TheVariants.{Line, Plain, Json}
 use Rattle.hub_look.specs.declared.subscribing.Followed.{Followed}
 
 -- the name of a fifodir that is followed

@@ -23,10 +23,10 @@ use Rattle.hub_ask.specs.Hearing.{line_of}
 use Rattle.hub_ask.specs.declared.heard.Heard.{Heard}
 use Rattle.hub_ask.specs.declared.outcome.Outcome.{Outcome}
 use Rattle.hub_ask.specs.declared.outcome.Outcome.TheVariants.{Done, Refused}
-use Rattle.hub_look.specs.Descriptions.{columns_of, object_of, row_of}
+use Rattle.hub_views.specs.Descriptions.{columns_of, object_of, row_of}
 use Rattle.hub_look.specs.Looking.{LooksBy}
 use Rattle.hub_ask.specs.Streams.{Streams, IsHeard, IsReplied, IsNoted, note_of}
-use Rattle.hub_look.specs.declared.describing.Description.{Description}
+use Rattle.hub_views.specs.declared.description.Description.{Description}
 
 -- how the fifodir of a name is, or why the hub doesn't say
 abbrev pub Verdict : Type 0
@@ -77,17 +77,17 @@ TellsBy variant (Err refusal) (Err other) = other ≡ refusal
 TellsBy variant looked told = ⊥
 
 -- The hub was asked this of the name once, and this is what it says: a reply of this kind, or a refusal.
-abbrev pub IsSaid : {T : Type 0} → (kind : T → Reply) → (asked : Request) → (before after : Streams) → (name : List ℕ) → Result T Refusal → Type 0
-IsSaid kind asked before after name (Ok it) = IsReplied before after asked (kind it)
-IsSaid kind asked before after name (Err refusal) = IsRefused before after asked name refusal
+abbrev pub HubSays : {T : Type 0} → (kind : T → Reply) → (asked : Request) → (before after : Streams) → (name : List ℕ) → Result T Refusal → Type 0
+HubSays kind asked before after name (Ok it) = IsReplied before after asked (kind it)
+HubSays kind asked before after name (Err refusal) = IsRefused before after asked name refusal
 
 -- how the name is
 abbrev pub IsJudged : (before after : Streams) (name : List ℕ) → Verdict → Type 0
-IsJudged before after name = IsSaid reply.State (request.Status name) before after name
+IsJudged before after name = HubSays reply.State (request.Status name) before after name
 
 -- what the name is
 abbrev pub IsAbout : (before after : Streams) (name : List ℕ) → Result About Refusal → Type 0
-IsAbout before after name = IsSaid reply.About (request.About name) before after name
+IsAbout before after name = HubSays reply.About (request.About name) before after name
 
 -- The hub was asked once what the name is, and then for its status, unless it refused the former. This is what it says of both.
 abbrev pub IsDescribed : (before after : Streams) (name : List ℕ) → Finding → Type 0

@@ -11,19 +11,10 @@ use crate::stop::Stop;
 use hub_ask::{AskError, Heard, Replies, Requests};
 use hub_io::Sink;
 use hub_protocol::BorrowedReply;
-use hub_record::Status;
 use hub_requests::{About, Refusal};
+use hub_views::Description;
 use std::alloc::Global;
 use std::sync::Wait;
-
-/// What a hub says of a fifodir.
-#[derive(Clone, Copy)]
-pub(crate) struct Description {
-    /// What it is, and how much was there before its status was asked for: that makes a session one of its publishers.
-    pub(crate) about: About,
-    /// How it is.
-    pub(crate) status: Status,
-}
 
 // What was heard of what it is, or the refusal.
 fn about_in(looked: Result<Heard, Refusal>) -> Result<Result<About, Refusal>, Stop>

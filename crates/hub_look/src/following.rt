@@ -1,26 +1,15 @@
 //! What is followed, and how it is written.
 ghost use Rattle.std.specs.Prelude.{◌≡◌, IfNone, IfOk, MatchResult, is_some, true};
-ghost use Rattle.hub_look.specs.EventLines.{IsTextOf};
+ghost use Rattle.hub_views.specs.EventLines.{IsTextOf};
 ghost use Rattle.hub_look.specs.Stops.{StopsWith};
 ghost use Rattle.hub_look.specs.declared.stop.Stop.TheVariants as stops;
 
-use crate::events::{hit_line, lines_of, stamp};
 use crate::limited::millis_left;
 use crate::stop::Stop;
 use hub_ask::{AskError, Deadline, Outcome};
+use hub_views::{Form, hit_line, lines_of, stamp};
 use std::alloc::{AllocError, Global};
 use std::rt::Clock;
-
-/// How a letter or a hit is written: on a line of its own.
-#[derive(Clone, Copy, Debug, PartialEq, Eq)]
-pub enum Form {
-    /// With its time and its name. A letter has its number besides, and what it says of a service.
-    Line,
-    /// Nothing but the letters.
-    Plain,
-    /// The same as in a line, as an object of JSON.
-    Json,
-}
 
 /// What is followed, and how it is written.
 #[derive(Drop, Debug)]

@@ -6,27 +6,22 @@
 
 mod asking;
 mod describing;
-mod events;
 mod following;
-mod json;
 mod limited;
 mod look;
 mod names;
 mod news;
-mod objects;
 mod peer;
 mod presence;
-mod rows;
-mod states;
 mod stop;
 mod subscribing;
 mod table;
 mod taking;
 
-pub use following::{Following, Form};
+pub use following::Following;
 pub use limited::Limited;
 pub use news::follow;
 pub use peer::Peer;
 pub use presence::are_there;
-pub use states::state_words_are_true;
+pub use hub_views::Form;
 pub use table::show_states;

@@ -8,13 +8,14 @@ ghost use Rattle.hub_look.specs.Subscribing.{AreBegun, IsBegun, IsCancelled, IsN
 ghost use Rattle.hub_look.specs.Tables.{IsJudged};
 
 use crate::asking::{ask_about, handle_for, state_of};
-use crate::following::{Following, Form};
+use crate::following::Following;
 use crate::peer::Peer;
 use crate::stop::Stop;
 use hub_ask::{AskError, Outcome, Replies, Requests};
 use hub_io::Sink;
 use hub_protocol::BorrowedReply;
 use hub_requests::Request;
+use hub_views::Form;
 use std::alloc::{AllocError, Global};
 use std::sync::Wait;
 

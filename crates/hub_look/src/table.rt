@@ -4,15 +4,14 @@ ghost use Rattle.hub_look.specs.Stops.{IsFaultOf, IsOwnFault, IsRefusal};
 ghost use Rattle.hub_ask.specs.Streams.{streams};
 ghost use Rattle.hub_look.specs.Tables.{FailsToShow, FailsToShowAll, FailsToShowStates, PutsTable, ShowsAll, ShowsStates, ShowsTable, headings_of, outcome_after, row_by, top_of, width_of};
 
-use crate::describing::{Description, describe};
+use crate::describing::describe;
 use crate::names::all_names;
-use crate::objects::put_object;
 use crate::peer::Peer;
-use crate::rows::{put_described, put_row};
 use crate::stop::{Stop, write_text};
 use hub_ask::{AskError, Outcome, Replies, Requests};
 use hub_io::Sink;
 use hub_requests::Refusal;
+use hub_views::{Description, put_described, put_object, put_row};
 use std::alloc::{AllocError, Global};
 use std::sync::Wait;
 

@@ -3,7 +3,7 @@ ghost use Rattle.std.specs.Prelude.{◌≡◌, ℕ, List, length, true, Err, Ok,
 ghost use Rattle.std.specs.Io.KnownBytes.{Appends};
 ghost use Rattle.hub_requests.specs.declared.reply.Reply.{Reply as replies};
 ghost use Rattle.hub_ask.specs.declared.outcome.Outcome.TheVariants as outcome;
-ghost use Rattle.hub_look.specs.EventLines.{IsTextOf, number_after};
+ghost use Rattle.hub_views.specs.EventLines.{IsTextOf, number_after};
 ghost use Rattle.hub_protocol.specs.Replies.{Shows};
 ghost use Rattle.hub_look.specs.Follows.{EndsTake, FailsToWrite, GoesOn, IsSettled, IsTaken, StopsBy, manner_of, written_of};
 ghost use Rattle.hub_look.specs.Subscribing.{name_of};
@@ -11,7 +11,6 @@ ghost use Rattle.hub_ask.specs.Streams.{streams};
 ghost use Rattle.hub_look.specs.declared.stop.Stop.TheVariants as stops;
 
 use crate::asking::ask_once;
-use crate::events::number_after;
 use crate::following::Following;
 use crate::peer::Peer;
 use crate::stop::{Stop, tell, tell_refusal, write_text};
@@ -20,6 +19,7 @@ use hub_ask::{AskError, Outcome, Replies, Requests};
 use hub_io::Sink;
 use hub_protocol::BorrowedReply;
 use hub_requests::Request;
+use hub_views::number_after;
 use std::alloc::Global;
 use std::rt::Clock;
 use std::sync::Wait;

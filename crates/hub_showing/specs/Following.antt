@@ -13,8 +13,8 @@ use Rattle.hub_look.specs.Follows.{Beginning, FailsToFollow, FollowsTo, Manner, 
 use Rattle.hub_look.specs.Looks.{OnlyLooks}
 use Rattle.hub_ask.specs.Streams.{IsToldTo, Streams, Going, Told}
 use Rattle.hub_look.specs.declared.following.Following.{Following}
-use Rattle.hub_look.specs.declared.following.Form.{Form}
-use Rattle.hub_look.specs.declared.following.Form.TheVariants as form
+use Rattle.hub_views.specs.declared.form.Form.{Form}
+use Rattle.hub_views.specs.declared.form.Form.TheVariants as form
 use Rattle.hub_io.specs.Counted.{Writing}
 use Rattle.hub_showing.specs.Breaking.{follow_breaks}
 use Rattle.hub_dialing.specs.Dialing.{Dialing, OverOne}

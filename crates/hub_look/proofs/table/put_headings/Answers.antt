@@ -1,5 +1,5 @@
 use Rattle.std.proofs.Common.{sym, ◌∙◌}
-use Rattle.hub_look.proofs.Columns.{headings_none, headings_some}
+use Rattle.hub_look.proofs.Headings.{headings_none, headings_some}
 use Rattle.hub_look.proofs.table.put_headings.Goals as goal
 
 pub returns-then-is_empty : goal.returns-then-is_empty

@@ -1,0 +1,3 @@
+pub mod ServiceStates
+pub mod Columns
+pub mod LinesSoFar

@@ -1,0 +1,4 @@
+pub mod ServiceStates
+pub mod Descriptions
+pub mod Json
+pub mod EventLines
