@@ -32,4 +32,5 @@ pub mod server;
 pub mod serving;
 pub mod shared;
 pub mod showing;
+pub mod views;
 pub mod wait;

@@ -14,7 +14,6 @@ use Rattle.hub_ask.specs.Asking.{IsAnswered}
 use Rattle.hub_ask.specs.declared.fault.AskError.{AskError}
 use Rattle.hub_ask.specs.declared.fault.AskError.TheVariants.{Relay}
 use Rattle.hub_look.specs.Stops.{IsOwnFault}
-use Rattle.hub_ask.specs.declared.outcome.Outcome.{Outcome}
 use Rattle.hub_ask.specs.declared.outcome.Outcome.TheVariants as outcome
 use Rattle.hub_views.specs.EventLines.{IsTextOf, number_after}
 use Rattle.hub_look.specs.Follows.{Manner, IsSettled, IsTaken, IsWrittenFor, EndsTake, FailsToWrite, GoesOn, StopsBy, ends_by, told_of, written_of}
