@@ -1,13 +1,15 @@
 -- One direction of a relay: the lines that passed, and those before a reply.
-use Rattle.std.proofs.Common.{◌≡◌, ℕ, ◌+◌, ◌≤◌, false, List, [], ◌∷◌, ◌++◌, length, Option, refl, sym, ap, ◌∙◌, subst, arith, append-nil, append_assoc, length-append}
+use Rattle.std.proofs.Common.{◌≡◌, ◌≢◌, ℕ, ◌+◌, ◌≤◌, false, List, [], ◌∷◌, ◌++◌, length, Option, refl, sym, ap, ◌∙◌, subst, arith, append-nil, append_assoc, length-append}
 use Rattle.std.specs.Io.KnownBytes.{Appends, Consumes}
 use Rattle.std.proofs.KnownBytes.{Consumes-nil, Consumes-trans, Appends-nil, Appends-trans}
 use Rattle.hub_io.specs.Lines.{has_lf, IsLine, lines_of}
 use Rattle.hub_io.specs.Telling.{Rises}
 use Rattle.hub_io.proofs.Told.{Grows-none, Rises-add}
 use Rattle.hub_client.specs.Relaying.{ended_lines}
-use Rattle.hub_client.specs.Passing.{Moves}
-use Rattle.hub_client.specs.UnderWay.{HasPassed, HasSent}
+use Rattle.hub_client.specs.declared.passing.Passed.{Passed}
+use Rattle.hub_client.specs.declared.passing.Passed.TheVariants.{Line, Part, Nothing}
+use Rattle.hub_client.specs.Passing.{Moves, slack_of, EndsAs}
+use Rattle.hub_client.specs.UnderWay.{sent_of, HasPassed, HasSent}
 use Rattle.hub_client.proofs.EndedLines.{ended_more, cut_more, lines-ended, lines-ended_part}
 
 -- ---- the lines that passed
@@ -90,6 +92,15 @@ sent_part {had} {mid} {has} {held} {between} {holds} {after = after} {passed = p
       told = told_all p m;
       least = subst (λ l. reads + m.reads ≤ length l + 1) all (least_all p m);
     }
+
+-- a line was sent, and a last one without an LF with one
+pub sent_more : {had mid has held between holds : Option (List ℕ)} {made much makes : Option ℕ} {before after passed : List ℕ} {count reads left left' : ℕ}
+    → (end : Passed) → end ≢ Nothing → (p : HasPassed had mid held between made much before count reads) (m : Moves mid has much makes before after left left' (slack_of end) passed)
+    → EndsAs end passed after has → Appends between holds (sent_of end passed) → HasSent had has held holds made makes (lines_of after) (count + 1) (reads + m.reads)
+sent_more Line other p m line a = sent_lines (passes_line p m line a)
+sent_more {had} {mid} {has} {held} {between} {holds} {made} {much} {makes} {count = count} {reads} Part other p m (some, cut, empty, end) a =
+    subst (λ l. HasSent had has held holds made makes (lines_of l) (count + 1) (reads + m.reads)) (sym empty) (sent_part p m some cut empty a)
+sent_more Nothing other p m ended a = absurd (other refl)
 
 -- the input ended
 pub sent_all : {had mid has held between holds : Option (List ℕ)} {made much makes : Option ℕ} {before after passed : List ℕ} {count reads left left' : ℕ}

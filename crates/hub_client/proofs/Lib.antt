@@ -7,4 +7,3 @@ pub mod Writable
 pub mod InPieces
 pub mod Directions
 pub mod Turns
-pub mod Counts

@@ -1,11 +1,16 @@
 -- The turns of a relay.
-use Rattle.std.proofs.Common.{◌≡◌, ◌≢◌, ℕ, ◌+◌, ◌<◌, ◌≤◌, false, List, [], ◌∷◌, ◌++◌, length, take, Option, Result, Ok, Err, inl, inr, refl, sym, ap, ◌∙◌, subst, arith, append-nil, append_assoc, length-append}
+use Rattle.std.proofs.Common.{◌≡◌, ◌≢◌, ℕ, ◌+◌, ◌<◌, ◌≤◌, false, true, List, [], ◌∷◌, ◌++◌, length, take, Option, Result, Ok, Err, inl, inr, refl, sym, ap, ◌∙◌, subst, arith, append-nil, append_assoc, length-append}
 use Rattle.std.proofs.Math.Seq.{take-append_seam}
+use Rattle.std.proofs.lemmas.Bool.{false≢true}
+use denote.Enum.Bare.{sameb}
 use Rattle.std.specs.Io.KnownBytes.{Appends, IsAtEnd}
 use Rattle.std.proofs.KnownBytes.{Consumes-nil, Appends-nil, Appends-trans}
 use Rattle.hub_io.specs.declared.reading.TheConstants.{CHUNK, MAX_READS}
 use Rattle.hub_io.specs.Telling.{Rises}
 use Rattle.hub_io.proofs.Told.{Grows-none, Rises-add}
+use Rattle.hub_client.specs.contracts.passing.Passed.{the_type}
+use Rattle.hub_client.specs.declared.passing.Passed.{Passed}
+use Rattle.hub_client.specs.declared.passing.Passed.TheVariants.{Line, Part, Nothing}
 use Rattle.hub_client.specs.declared.fault.RelayError.{RelayError}
 use Rattle.hub_client.specs.declared.fault.RelayError.TheVariants.{Input, Output, Send, Receive, Ended, Turns, Memory}
 use Rattle.hub_client.specs.Relaying.{ended_lines, line_count, writable, Finished, Stopped, StopsAt, AreAnswered, AwaitsReply, ReadsWithin}
@@ -16,6 +21,26 @@ use Rattle.hub_client.specs.UnderWay.{slack_for, FailsToSend, FailsToReceive, Ar
 use Rattle.hub_client.proofs.Directions.{has_passed_none, consumed_all, least_all, passes_line}
 use Rattle.hub_client.proofs.Writable.{writable-ended, writable_at, writable_short}
 use Rattle.hub_client.proofs.EndedLines.{front, part_short, ended-append, complete-ended, lines-ended, count-ended, count-ended_part}
+
+-- ---- how much of a line passed
+
+pub is_nothing : (passed : Passed) → sameb the_type passed Nothing ≡ true → passed ≡ Nothing
+is_nothing Line e = absurd (false≢true e)
+is_nothing Part e = absurd (false≢true e)
+is_nothing Nothing e = refl
+
+pub is_some : (passed : Passed) → sameb the_type passed Nothing ≡ false → passed ≢ Nothing
+is_some passed e is = false≢true (sym e ∙ ap (λ it. sameb the_type it Nothing) is)
+
+pub is_part : (passed : Passed) → sameb the_type passed Part ≡ true → passed ≡ Part
+is_part Line e = absurd (false≢true e)
+is_part Part e = refl
+is_part Nothing e = absurd (false≢true e)
+
+pub is_line : (passed : Passed) → sameb the_type passed Nothing ≡ false → sameb the_type passed Part ≡ false → passed ≡ Line
+is_line Line e f = refl
+is_line Part e f = absurd (false≢true (sym f))
+is_line Nothing e f = absurd (false≢true (sym e))
 
 -- ---- replies
 
@@ -209,13 +234,6 @@ send_turns r e passed rest left' is f turns = let it : e ≡ Turns = cc in (subs
 
 pub receive_turns : {T : Type 0} (r : Result T RelayError) (e : RelayError) (due rest : List ℕ) (has : Option (List ℕ)) (left' : ℕ) → r ≡ Err e → FailsToReceive e due rest has left' → r ≡ Err Turns → left' ≡ 0
 receive_turns r e due rest has left' is f turns = let it : e ≡ Turns = cc in (subst (λ x. FailsToReceive x due rest has left') it f).2
-
--- a relay that has its buffers needs no more memory
-pub send_needs_none : {T : Type 0} (r : Result T RelayError) (e : RelayError) (passed rest : List ℕ) (left' : ℕ) → r ≡ Err e → FailsToSend e passed rest left' → r ≢ Err Memory
-send_needs_none r e passed rest left' is f memory = let it : e ≡ Memory = cc in subst (λ x. FailsToSend x passed rest left') it f
-
-pub receive_needs_none : {T : Type 0} (r : Result T RelayError) (e : RelayError) (due rest : List ℕ) (has : Option (List ℕ)) (left' : ℕ) → r ≡ Err e → FailsToReceive e due rest has left' → r ≢ Err Memory
-receive_needs_none r e due rest has left' is f memory = let it : e ≡ Memory = cc in subst (λ x. FailsToReceive x due rest has left') it f
 
 -- nothing was read or written
 pub stops_at_once : (has held has' held' : Option (List ℕ)) → Stopped has has held held has' has' held' held' Memory

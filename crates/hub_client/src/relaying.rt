@@ -131,14 +131,14 @@ pub fn relay<H: Wait, R: Source, W: Sink, SR: Source, SW: Sink>(
     let mut left = MAX_READS;
     let mut count = 0;
     'turns: loop {
-        match send_line(&mut lines, input, sender, &mut left)? {
-            Passed::Nothing => return Ok(count),
-            Passed::Line => receive_reply(&mut replies, receiver, output, &mut left)?,
-            Passed::Part => {
-                receive_reply(&mut replies, receiver, output, &mut left)?;
-                return Ok(count + 1);
-            }
+        let passed = send_line(&mut lines, input, sender, &mut left)?;
+        if passed == Passed::Nothing {
+            return Ok(count);
         }
+        receive_reply(&mut replies, receiver, output, &mut left)?;
         count += 1;
+        if passed == Passed::Part {
+            return Ok(count);
+        }
     }
 }
