@@ -53,8 +53,7 @@ fn limits_in(rest: Rest<'_>) -> Option<(u64, u64, Policy, Rest<'_>)>
         (λ l. IsCount l.0 × IsCount l.1 × (pieces_of rest.entry
         ≡ decimal l.0 ∷ decimal l.1 ∷ word_of_policy l.2 ∷ pieces_of l.3)) }
 {
-    let (waiting, rest) = number_in(rest)?;
-    let (total, rest) = number_in(rest)?;
+    let (waiting, total, rest) = numbers_in(rest)?;
     let (policy, rest) = policy_in(rest)?;
     Some((waiting, total, policy, rest))
 }
@@ -68,8 +67,7 @@ fn usage_in(rest: Rest<'_>) -> Option<(u64, u64, u64)>
         (λ u. IsCount u.0 × IsCount u.1 × IsCount u.2
         × (pieces_of rest.entry ≡ decimal u.0 ∷ decimal u.1 ∷ decimal u.2 ∷ [])) }
 {
-    let (subscriptions, rest) = number_in(rest)?;
-    let (publishers, rest) = number_in(rest)?;
+    let (subscriptions, publishers, rest) = numbers_in(rest)?;
     let pending = last_number(rest)?;
     Some((subscriptions, publishers, pending))
 }
@@ -116,6 +114,19 @@ fn policy_of(word: &[u8]) -> Option<Policy>
         (λ p. word.now ≡ word_of_policy p) }
 {
     meaning_of(POLICIES, word)
+}
+
+// Two numbers, and what is left behind them.
+fn numbers_in(rest: Rest<'_>) -> Option<(u64, u64, Rest<'_>)>
+    ensures { MatchOption result
+        ((first second : ℕ) (more : List (List ℕ)) → IsCount first → IsCount second
+        → pieces_of rest.entry ≢ decimal first ∷ decimal second ∷ more)
+        (λ p. IsCount p.0 × IsCount p.1
+        × (pieces_of rest.entry ≡ decimal p.0 ∷ decimal p.1 ∷ pieces_of p.2)) }
+{
+    let (first, rest) = number_in(rest)?;
+    let (second, rest) = number_in(rest)?;
+    Some((first, second, rest))
 }
 
 fn number_in(rest: Rest<'_>) -> Option<(u64, Rest<'_>)>
