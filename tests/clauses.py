@@ -17,7 +17,7 @@ from pathlib import Path
 import libraries
 from batches import batches_of, changes_bodies, texts_of
 from editing import ROOT, apply, copy_sources, edited
-from functions import path_of
+from functions import changes_definitions, path_of
 from running import Untried, kit, run
 
 REFUSED = re.compile(r"must-fail (\w+)/([\w.-]+)\.edit: refused, as it must be(.*)")
@@ -122,11 +122,11 @@ def lacking(name):
 
 
 def failed_in(said, edit):
-    """Returns the functions and clauses whose goals failed, by what a check said. If an edit changes a definition of specs/, a lemma may
-    fail in their place, on which their proofs rest."""
+    """Returns the functions and clauses whose goals failed, by what a check said. If an edit changes a definition or a constant, a lemma
+    may fail in their place, on which their proofs rest."""
     told = [it for it in said.splitlines() if TOLD.match(it)]
     failed = [(function_of(f": {it}", edit), clause_of(f": {it}")) for it in told if not NAMES.match(it)]
-    if failed and any(path.startswith("specs/") for path, _, _ in edit.pairs):
+    if failed and changes_definitions(edit):
         rests = [found for it in told if (found := RESTS.match(it))]
         failed += [(it[1], clause_of(f": error: `{goal}`")) for it in rests for goal in it[2].split(", ")]
         failed += [(it[2], clause_of(f": error: `{it[1]}`")) for it in map(OPEN.match, said.splitlines()) if it]

@@ -139,6 +139,23 @@ def changed_by(edit):
     return [*{it[3:]: it for it in found}.values()]
 
 
+def changes_definitions(edit):
+    """Whether an edit changes what lemmas may rest on, and not just functions and their proofs: a definition of specs/, or a constant."""
+    texts = {}
+    for path, old, new in edit.pairs:
+        if not path.endswith(".rt"):
+            if path.startswith("specs/"):
+                return True
+            continue
+        text = texts.get(path) or (edit.crate / path).read_text(encoding="utf-8")
+        number = text.partition(old)[0].count("\n") + 1
+        is_inside = any(it.first <= number <= it.last for it in functions_of(path, text))
+        if not is_inside and not re.match(r"(ghost )?use |\s*///", text.splitlines()[number - 1]):
+            return True
+        texts[path] = text.replace(old, new)
+    return False
+
+
 def is_in_body(number, it, lines):
     """Whether a line of the text is in the body of a function, and not in its contract."""
     head = lines[it.first - 1]
