@@ -21,6 +21,7 @@ pub mod local;
 pub mod look;
 pub mod names;
 pub mod options;
+pub mod place;
 pub mod protocol;
 pub mod record;
 pub mod reports;

@@ -1,7 +1,6 @@
 pub mod Serving
 pub mod Setup
 pub mod Pending
-pub mod Places
 pub mod Crowds
 pub mod Doors
 pub mod Noting

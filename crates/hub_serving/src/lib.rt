@@ -8,16 +8,12 @@
 mod crowd;
 mod desks;
 mod doors;
-mod folder;
 mod living;
 mod living_desks;
-mod lock;
-mod look;
 mod look_desks;
 mod lost_wills;
 mod notice;
 mod noting;
-mod place;
 mod places;
 mod serving;
 mod setup;

@@ -2,9 +2,9 @@
 ghost use Rattle.std.specs.Prelude.{◌≡◌, IfOk, is_some};
 
 use crate::doors::Doors;
-use crate::place::{InPlace, Place, take_place};
 use hub_endings::{Fault, HubLine, LookFault};
 use hub_options::HubOptions;
+use hub_place::{InPlace, Place, take_place};
 use std::alloc::Global;
 use std::fs::{File, Files};
 use std::net::Net;

@@ -3,7 +3,7 @@
 ghost use Rattle.std.specs.Prelude.{◌≡◌, IfErr};
 ghost use Rattle.hub_endings.specs.declared.fault.Fault.TheVariants as fault;
 ghost use Rattle.hub_endings.specs.declared.listen_fault.ListenFault.{ListenFault as listen_fault};
-ghost use Rattle.hub_serving.specs.Places.{path_fault};
+ghost use Rattle.hub_place.specs.Places.{path_fault};
 
 use crate::folder::{Folder, remove_left};
 use crate::lock::lock_beside;
@@ -28,7 +28,7 @@ const MOST_BYTES: usize = 103;
 
 /// The path of a socket, a lock that no other server of this program has meanwhile, and a private folder.
 #[derive(Drop)]
-pub(crate) struct Place<'a> {
+pub struct Place<'a> {
     socket: &'a str,
     lock: File,
     folder: Folder,
@@ -38,12 +38,12 @@ pub(crate) struct Place<'a> {
 
 /// That a hub's socket was put in its place. Only [`Place::put`] makes one.
 #[derive(Drop)]
-pub(crate) struct InPlace {
+pub struct InPlace {
     made: (),
 }
 
 /// Makes the folder of root's socket, whatever the umask is. What is there already stays as it is.
-pub(crate) fn make_root_folder<H: Files>(rt: &H) -> Result<(), Fault>
+pub fn make_root_folder<H: Files>(rt: &H) -> Result<(), Fault>
     ensures { IfErr result (λ error. (why : listen_fault) × (error ≡ fault.Listen why)) }
 {
     let made = DirBuilder::new()
@@ -72,7 +72,7 @@ fn check_path(path: &str) -> Result<(), ListenFault>
 }
 
 /// Takes the socket's place, if no server has it. An error is `Taken` if another server has it, `Listen` or `Memory`.
-pub(crate) fn take_place<'a, H: Files<File = File> + Net>(
+pub fn take_place<'a, H: Files<File = File> + Net>(
     rt: &H,
     alloc: Global,
     socket: &'a str,
@@ -95,7 +95,7 @@ pub(crate) fn take_place<'a, H: Files<File = File> + Net>(
 
 impl Place<'_> {
     /// Whether this place is that of the socket with this path, by whatever name.
-    pub(crate) fn is_at<H: Files>(&self, rt: &H, alloc: Global, socket: &str) -> bool {
+    pub fn is_at<H: Files>(&self, rt: &H, alloc: Global, socket: &str) -> bool {
         let Ok(path) = format!(in alloc; "{socket}.lock") else {
             return false;
         };
@@ -109,7 +109,7 @@ impl Place<'_> {
     }
 
     /// A socket that listens in the private folder, with this mode. Nobody can connect to it until it is put in its place.
-    pub(crate) fn listen<H: Files + Net>(
+    pub fn listen<H: Files + Net>(
         &mut self,
         rt: &H,
         mode: Option<u32>,
@@ -125,7 +125,7 @@ impl Place<'_> {
 
     /// Puts the socket in its place, once there are threads for so many sessions. A stale socket's file makes way for it, and nothing
     /// else does.
-    pub(crate) fn put<H: Files + Net>(
+    pub fn put<H: Files + Net>(
         &self,
         rt: &H,
         _keeper: &Keeper,
@@ -172,7 +172,7 @@ impl Place<'_> {
 
     /// Sees to it that the socket is in its place. Returns whether it was away and is back. An error is `Lost` if another file is
     /// in its place, or if it can't be put back.
-    pub(crate) fn keep<H: Files>(&self, rt: &H, _there: &InPlace) -> Result<bool, Fault> {
+    pub fn keep<H: Files>(&self, rt: &H, _there: &InPlace) -> Result<bool, Fault> {
         match fs::symlink_metadata(rt, self.socket) {
             Ok(found) if self.own == Some(identity(&found)) => Ok(false),
             Ok(_) => Err(Fault::Lost),
@@ -185,7 +185,7 @@ impl Place<'_> {
     }
 
     /// Removes the private folder.
-    pub(crate) fn leave<H: Files>(&self, rt: &H) {
+    pub fn leave<H: Files>(&self, rt: &H) {
         self.folder.remove(rt);
         let _: io::Result<()> = self.lock.set_len(0);
     }
