@@ -1,4 +1,4 @@
-//! The sessions of a hub, and its place.
+//! The sessions of a hub, and what a hub does that lives.
 //!
 //! [`serve`] accepts connections at a Unix socket, and serves them by [`serve_all`] over one hub. [`serve_forever`] does so for as long
 //! as the program runs: it takes the socket's place, has the hub carry out the lines of its setup as [`set_up`] does, keeps the
