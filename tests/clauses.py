@@ -65,6 +65,7 @@ def clause_of(text):
         return f"requires {name[1]}" if name else "requires"
     if goal.startswith("inv"):  # (rt prints no more than 160 characters)
         return "invariant"
+    goal = re.sub(r"^\w+-(?=returns\b)", "", goal)  # (functions that call one another are named before their goals)
     if not goal.startswith("returns"):
         return f"no clause, but {goal or 'no goal'}"
     return name[1] if name else "ensures"

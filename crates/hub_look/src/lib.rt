@@ -19,9 +19,9 @@ mod table;
 mod taking;
 
 pub use following::Following;
+pub use hub_views::Form;
 pub use limited::Limited;
 pub use news::follow;
 pub use peer::Peer;
 pub use presence::are_there;
-pub use hub_views::Form;
 pub use table::show_states;
