@@ -7,18 +7,17 @@ that this one calls, which takes half a minute once the libraries below are buil
 
 import os
 import re
-import shutil
 import subprocess
 import sys
 import tempfile
 import time
 from pathlib import Path
 
-import libraries
 from batches import batches_of, changes_bodies, texts_of
-from editing import ROOT, apply, copy_sources, edited
+from editing import apply, edited
 from functions import changes_definitions, path_of
-from running import Untried, kit, run
+from proofs import copy_with_libraries, crates_below, fault_of as fault_of_library, kit
+from running import Untried, run
 
 REFUSED = re.compile(r"must-fail (\w+)/([\w.-]+)\.edit: refused, as it must be(.*)")
 # A line about a goal that isn't proved, and one about a proof file that names what an edit took away.
@@ -30,8 +29,8 @@ RESTS = re.compile(r"(?:\./)?proofs/(?:\w+/)*(\w+)/\w+\.antt:.* which was not ad
 OPEN = re.compile(r"note: `([^`]+)` of (?:\./)?proofs/(?:\w+/)*(\w+)/\w+\.antt must prove: ")
 # How many seconds a check may take, if nothing else says when it ends.
 SECONDS = 3600
-# Runs `rt check` over the libraries as they are. `rt ci` leaves them without the stamps by which `rt check` knows them. The first word
-# is the folder of the toolchain's programs.
+# Runs `rt check` over the libraries as they are, and has it share nothing with other copies. The first word is the folder of the toolchain's
+# programs.
 CHECK = """import os, sys
 sys.path.insert(0, sys.argv[1])
 import rtlib
@@ -88,38 +87,9 @@ def refused_in(report):
     return {(crate, name): text for crate, name, text in REFUSED.findall(report)}
 
 
-def crates_below(name):
-    """Returns the names of the crate and of those that it uses, by crates.txt."""
-    below = dict(re.findall(r"^(\w+)[^:\n]*:(.*)$", (ROOT / "crates.txt").read_text(encoding="utf-8"), re.M))
-    found, left = set(), [name]
-    while left:
-        it = left.pop()
-        if it in below and it not in found:
-            found.add(it)
-            left += below[it].split()
-    return found
-
-
-def copy_with_libraries(tree, name):
-    """Copies the sources. The crates below this one have their libraries there, as they are."""
-    copy_sources(tree)
-    for below in crates_below(name) - {name}:
-        library = libraries.library_of(below)
-        if library.is_dir():
-            shutil.copytree(library, tree / "crates" / below / "out" / "rlib", copy_function=link_or_copy)
-
-
-def link_or_copy(file, to):
-    """Gives a file of a library a second name. (`rt` removes such a file before it makes it anew, and never writes into it.)"""
-    try:
-        os.link(file, to)
-    except OSError:
-        shutil.copy2(file, to)
-
-
 def lacking(name):
     """Returns why a library below this crate can't be used, or None."""
-    return next((fault for it in sorted(crates_below(name) - {name}) if (fault := libraries.fault_of(it))), None)
+    return next((fault for it in sorted(crates_below(name) - {name}) if (fault := fault_of_library(it))), None)
 
 
 def failed_in(said, edit):

@@ -6,11 +6,12 @@ first line.
 
 import hashlib
 import re
-import shutil
+import sys
 from dataclasses import dataclass, field
 from pathlib import Path
 
 ROOT = Path(__file__).resolve().parent.parent
+sys.path.insert(0, str(ROOT / "tools"))
 # The family of edits.txt whose edits the gate tries each time.
 MAIN = "Main promises"
 HOLE = "EFFECT"
@@ -257,13 +258,6 @@ def edited(edit, crate=None):
         if fault := changed(texts, crate or edit.crate, path, old, new):
             return texts, fault
     return texts, None if texts else "it has no old and new text"
-
-
-def copy_sources(tree):
-    """Copies the crates, and the files beside them that `rt` reads."""
-    shutil.copytree(ROOT / "crates", tree / "crates", ignore=shutil.ignore_patterns("out"))
-    for file in ("crates.txt", "HANDLES"):
-        shutil.copy(ROOT / file, tree)
 
 
 def apply(texts, crate):

@@ -1,5 +1,5 @@
 """What the tests in Python share: a client, a hub that lives, the program as it is run, and a report of what holds. A test that
-imports this shows where it is if SIGTERM ends it, as tests/within does when its time is over."""
+imports this shows where it is if SIGTERM ends it, as ./check does when its time is over."""
 
 import atexit
 import contextlib

@@ -10,9 +10,8 @@ import tempfile
 import time
 from pathlib import Path
 
-import clauses
-import libraries
 from editing import apply, edited
+from proofs import copy_with_libraries
 
 # The first edit of a crate may wait until those crates below are built that no library of these sources is there for. If the pass accepts
 # an edit, `rt` goes on and proves them, until the time is over.
@@ -57,19 +56,10 @@ def fault_of(edit, crate):
     return f"it is refused by another error: {others[0]}" if others else None
 
 
-def copy_for(name, tree):
-    """Copies the sources, with the libraries below this crate that are of these sources, and has `rt` know that they are."""
-    clauses.copy_with_libraries(tree, name)
-    for below in clauses.crates_below(name) - {name}:
-        stamp = tree / "crates" / below / "out" / "rlib" / "stamp"
-        if libraries.fault_of(below) is None and not stamp.is_file():
-            stamp.write_text(libraries.stamps()[below], encoding="utf-8")
-
-
 def try_edits(edits):
     """Tries edits of one crate one after the other, in one copy of the sources. Yields each with its fault and its seconds."""
     with tempfile.TemporaryDirectory() as work:
-        copy_for(edits[0].crate.name, Path(work))
+        copy_with_libraries(Path(work), edits[0].crate.name)
         for edit in edits:
             begun = time.monotonic()
             fault = fault_of(edit, Path(work) / "crates" / edit.crate.name)

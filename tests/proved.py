@@ -15,6 +15,7 @@ import clauses
 from batches import batches_of, texts_of
 from editing import apply, edited
 from functions import changed_by, functions_in, is_plain, whole_path
+from proofs import copy_with_libraries
 from running import Untried
 
 # A line about a function, as a check tells with --progress.
@@ -59,7 +60,7 @@ def fault_of(edit, folder, end):
     if why := clauses.lacking(edit.crate.name):
         raise Untried(why)
     with tempfile.TemporaryDirectory(dir=folder) as work:
-        clauses.copy_with_libraries(Path(work), edit.crate.name)
+        copy_with_libraries(Path(work), edit.crate.name)
         return fault_in(Path(work), edit, end)
 
 
@@ -85,7 +86,7 @@ def unproved(edits, folder, end):
     faults = {}
     with tempfile.TemporaryDirectory(dir=folder) as work:
         tree, left = Path(work), [*edits]
-        clauses.copy_with_libraries(tree, edits[0].crate.name)
+        copy_with_libraries(tree, edits[0].crate.name)
         for batch in (it for it in batches_of(edits) if len(it) > 1):
             begun, proved = time.monotonic(), proved_in(tree, batch, end)
             print(f"{edits[0].crate.name}: {len(proved)} of {len(batch)} edits are proved together, {time.monotonic() - begun:.0f} s", flush=True)

@@ -1,15 +1,11 @@
-"""How the tests of edits run a command: in a group of processes of its own, which ends with the command, and at the latest with a time. It also
-says how many may run at the same time."""
+"""How the tests of edits run a command: in a group of processes of its own, which ends with the command, and at the latest with a time."""
 
 import contextlib
-import functools
 import os
-import re
 import signal
 import subprocess
 import threading
 import time
-from pathlib import Path
 
 # For how many seconds a group of processes may end by itself once it is told to.
 GRACE = 5
@@ -19,35 +15,6 @@ RUNNING, GUARD = set(), threading.Lock()
 
 class Untried(Exception):
     """An edit can't be tried here, or not in the time that is left."""
-
-
-@functools.cache
-def kit():
-    """Returns the folder of the toolchain."""
-    return Path(subprocess.run(["rt", "doc"], capture_output=True, text=True, check=True).stdout.strip()).parent
-
-
-def processors():
-    """Returns how many processors there are to use, by the quota of the control group too."""
-    count = len(os.sched_getaffinity(0))
-    with contextlib.suppress(OSError, ValueError):
-        quota, period = map(int, Path("/sys/fs/cgroup/cpu.max").read_text(encoding="ascii").split())
-        count = min(count, max(1, quota // period))
-    return count
-
-
-def free_memory():
-    """Returns the free memory in bytes, by the limit of the control group too."""
-    free = 1024 * int(re.search(r"^MemAvailable: +(\d+) kB$", Path("/proc/meminfo").read_text(encoding="ascii"), re.M)[1])
-    with contextlib.suppress(OSError, ValueError):
-        most, used = (int(Path(f"/sys/fs/cgroup/memory.{it}").read_text(encoding="ascii")) for it in ("max", "current"))
-        free = min(free, most - used)
-    return free
-
-
-def at_a_time(memory):
-    """Returns how many commands may run at the same time that take so much memory each: one a processor at most."""
-    return max(1, min(processors(), free_memory() // memory))
 
 
 def end_group(process):
