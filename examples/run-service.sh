@@ -4,9 +4,10 @@
 #     examples/run-service.sh NAME CHECK PROGRAM..
 #
 # NAME is the service at the hub; FTRIGHUB_SOCKET in the environment is the hub's socket. CHECK is a command of the shell that
-# succeeds once PROGRAM is ready, such as `pg_isready -q`; the script tries it ten times a second. HUP, INT and TERM end PROGRAM,
-# and the script ends with its status. PROGRAM runs without a hub too. If the script is killed, the hub says that the service is down,
-# and PROGRAM gets a TERM if there is a `setpriv` that can do that, as that of util-linux, and PROGRAM doesn't change its user.
+# succeeds once PROGRAM is ready, such as `pg_isready -q`; the script tries it ten times a second. What it says while it fails is on
+# standard error, every five seconds if it is new. HUP, INT and TERM end PROGRAM, and the script ends with its status. PROGRAM runs
+# without a hub too. If the script is killed, the hub says that the service is down, and PROGRAM gets a TERM if there is a `setpriv` that
+# can do that, as that of util-linux, and PROGRAM doesn't change its user.
 #
 # From the environment: FAILURE is the state to tell if PROGRAM ends by itself with another status than 0: `failed` if it isn't
 # given; `down` is for a script that is started again. FTRIGHUB is the hub's program, or else it is `ftrighub` on the path.
@@ -83,12 +84,25 @@ pass_on() {
     { kill "$first" && wait "$first"; } 2>/dev/null
 }
 
+# is_ready: whether CHECK succeeds. If it doesn't in the first of fifty turns, what it said is printed, unless that was printed last.
+# shellcheck disable=SC2317 # it runs in the background
+is_ready() {
+    [ "$turn" -eq 0 ] || {
+        sh -c "$check" >/dev/null 2>&1
+        return
+    }
+    before=$said
+    said=$(sh -c "$check" 2>&1) && return
+    [ -z "$said" ] || [ "$said" = "$before" ] || printf 'run-service: %s: CHECK: %s\n' "$name" "$said" >&2
+    return 1
+}
+
 # tell_all: holds that the program is up, and once it is ready, that. A restarted hub is empty, so it is told again: within five seconds
 # that the program is up, and within a second that it is ready. It ends after TERM, or if descriptor 4 has ended.
 # shellcheck disable=SC2317 # it runs in the background
 tell_all() {
     turn=0
-    until sh -c "$check" >/dev/null 2>&1; do
+    until is_ready; do
         [ "$turn" -ne 0 ] || is_held || hold_anew up
         turn=$(((turn + 1) % 50))
         pause 0.1
@@ -106,6 +120,7 @@ tell_all() {
 report() {
     over=
     holder=
+    said=
     trap 'over=yes' TERM
     trap '' HUP INT
     tell_all
