@@ -5,6 +5,7 @@
 #![tactic(auto)]
 
 mod running;
+mod streams;
 
 pub use hub_requests::Enter;
 pub use running::run;

@@ -3,6 +3,7 @@ ghost use Rattle.hub_dialing.specs.Calls.{calling};
 ghost use Rattle.hub_dialing.specs.Dialing.{dialing};
 ghost use Rattle.hub_running.specs.Running.{CarriesOut, Judges, Runs};
 
+use crate::streams::open_missing;
 use hub_arguments::{Plan, Start, begin, own_socket, own_words};
 use hub_commands::{ask_words, hold_as_told, make_fifodirs, tell_state, wait_as_told};
 use hub_dialing::{Dial, call};
@@ -102,7 +103,8 @@ where
     }
 }
 
-/// Does what the words of the command line say, and returns the exit status.
+/// Does what the words of the command line say, and returns the exit status. A standard stream of the program that is missing can be used
+/// by nothing else from then on.
 pub fn run<H, D, R, W, F>(
     rt: &H,
     alloc: Global,
@@ -138,6 +140,7 @@ where
         (record { dialer = dialer.new; input = input.new; output = output.new; notes = notes.new })
         result }
 {
+    open_missing();
     let words = match own_words(rt, alloc) {
         Ok(words) => words,
         Err(error) if error.kind() == ErrorKind::OutOfMemory => return Err(Ending::Failed(
