@@ -7,7 +7,7 @@ use Rattle.hub_endings.specs.declared.fault.Fault.{Fault}
 use Rattle.hub_endings.specs.declared.fault.Fault.TheVariants.{Listen, Taken, Notify, Setup, SetupLine, Lost, Look, Accept, Connect, Memory, Script, Serve, Session, Relay, Ask}
 use Rattle.hub_endings.specs.declared.listen_fault.ListenFault.{ListenFault}
 use Rattle.hub_endings.specs.declared.listen_fault.ListenFault.TheVariants as listening
-use Rattle.hub_endings.specs.declared.listen_fault.ListenFault.TheVariants.{Untold, NoFolder, NotFolder, Denied, Empty, Long, Another, Lock, Names, ReadOnly, Space}
+use Rattle.hub_endings.specs.declared.listen_fault.ListenFault.TheVariants.{Untold, NoFolder, NotFolder, Denied, Empty, Long, Another, Lock, Names, Shared, Umask, ReadOnly, Space}
 use Rattle.hub_endings.specs.declared.look_fault.LookFault.{LookFault}
 use Rattle.hub_endings.specs.declared.look_fault.LookFault.TheVariants as looking
 use Rattle.hub_io.specs.Faults.{fault_text}
@@ -34,6 +34,8 @@ listen_text Long = codes "cannot listen: the path is too long (at most 103 bytes
 listen_text Another = codes "cannot listen: a file that isn't a socket"
 listen_text Lock = codes "cannot listen: SOCKET.lock isn't an ordinary file of this user"
 listen_text Names = codes "cannot listen: SOCKET.a to SOCKET.z are taken"
+listen_text Shared = codes "cannot listen: no mode can be set where others may write to the directory"
+listen_text Umask = codes "cannot listen: the umask takes this user's own rights"
 listen_text ReadOnly = codes "cannot listen: read-only file system"
 listen_text Space = codes "cannot listen: no space left"
 listen_text listening.Memory = codes "cannot listen: out of memory"

@@ -28,6 +28,10 @@ pub enum ListenFault {
     Lock,
     /// No name for the private folder is free.
     Names,
+    /// The socket is to get a mode, and other users may put another file in its place meanwhile.
+    Shared,
+    /// The umask takes this user's own rights to the private folder.
+    Umask,
     /// The file system can't be written to.
     ReadOnly,
     /// The file system is full, or this user's share of it is.
@@ -52,6 +56,9 @@ impl fmt::Display for ListenFault {
             ListenFault::Another => "cannot listen: a file that isn't a socket",
             ListenFault::Lock => "cannot listen: SOCKET.lock isn't an ordinary file of this user",
             ListenFault::Names => "cannot listen: SOCKET.a to SOCKET.z are taken",
+            ListenFault::Shared =>
+                "cannot listen: no mode can be set where others may write to the directory",
+            ListenFault::Umask => "cannot listen: the umask takes this user's own rights",
             ListenFault::ReadOnly => "cannot listen: read-only file system",
             ListenFault::Space => "cannot listen: no space left",
             ListenFault::Memory => "cannot listen: out of memory",

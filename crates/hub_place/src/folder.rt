@@ -102,6 +102,18 @@ impl Folder {
         Ok(fs::symlink_metadata(rt, self.path.as_str())?.ino())
     }
 
+    /// Why no socket could be made in the folder.
+    pub(crate) fn why_not<H: Files>(&self, rt: &H, fault: io::Error) -> ListenFault {
+        let is_usable = match fs::symlink_metadata(rt, self.path.as_str()) {
+            Ok(found) => found.mode() & OWN == OWN,
+            Err(_) => true,
+        };
+        if fault.kind() == ErrorKind::PermissionDenied && !is_usable {
+            return ListenFault::Umask;
+        }
+        ListenFault::from(fault)
+    }
+
     // Removes a stale socket that a hub was about to remove, if no server has it.
     fn remove_stale<H: Files + Net>(&self, rt: &H) {
         let stale = self.stale.as_str();

@@ -23,6 +23,12 @@ const ROOT_FOLDER: &str = "/run/ftrighub";
 
 const ROOT_FOLDER_MODE: u32 = 0o755;
 
+/// The bits of a folder's mode that let others than its owner write to it.
+const OTHERS_WRITE: u32 = 0o022;
+
+/// The bit of a folder's mode by which each user may rename only its own files there.
+const STICKY: u32 = 0o1000;
+
 /// The most bytes of a path whose socket has a second name SOCKET.K/s.
 const MOST_BYTES: usize = 103;
 
@@ -108,14 +114,21 @@ impl Place<'_> {
         }
     }
 
-    /// A socket that listens in the private folder, with this mode. Nobody can connect to it until it is put in its place.
+    /// A socket that listens in the private folder, with this mode. Nobody can connect to it until it is put in its place. An error is
+    /// `Shared` if it is to have a mode, and another user could have the mode of another file set.
     pub fn listen<H: Files + Net>(
         &mut self,
         rt: &H,
         mode: Option<u32>,
     ) -> Result<UnixListener, ListenFault> {
+        if mode.is_some() && is_shared(rt, self.socket)? {
+            return Err(ListenFault::Shared);
+        }
         let aside = self.folder.socket.as_str();
-        let listener = UnixListener::bind(rt, aside)?;
+        let listener = match UnixListener::bind(rt, aside) {
+            Ok(listener) => listener,
+            Err(fault) => return Err(self.folder.why_not(rt, fault)),
+        };
         if let Some(mode) = mode {
             fs::set_permissions(rt, aside, Permissions::from_mode(mode))?;
         }
@@ -189,6 +202,18 @@ impl Place<'_> {
         self.folder.remove(rt);
         let _: io::Result<()> = self.lock.set_len(0);
     }
+}
+
+// Whether others than its owner may rename the private folder: who may write to the folder that it is in, unless that is sticky. A link
+// in its place would be followed as a mode is set.
+fn is_shared<H: Files>(rt: &H, socket: &str) -> Result<bool, ListenFault> {
+    let folder = match socket.rsplit_once('/') {
+        Some((folder, _)) if folder.is_empty() => "/",
+        Some((folder, _)) => folder,
+        None => ".",
+    };
+    let mode = fs::metadata(rt, folder)?.mode();
+    Ok(mode & OTHERS_WRITE != 0 && mode & STICKY == 0)
 }
 
 fn identity(file: &Metadata) -> (u64, u64) {
