@@ -1,5 +1,5 @@
 //! What a session keeps between two reads, and how it answers the bytes of one read.
-ghost use Rattle.std.specs.Prelude.{◌≡◌, ◌+◌, ◌<◌, ◌≤◌, ◌^◌, List, [], ◌∷◌, ◌++◌, length, OnOk, OnErr, IfOk, IfErr, vec_len, vec_capacity};
+ghost use Rattle.std.specs.Prelude.{◌≡◌, ◌+◌, ◌<◌, ◌≤◌, ◌^◌, List, [], ◌∷◌, ◌++◌, length, OnOk, OnErr, IfOk, IfErr, IsTrue, vec_len, vec_capacity};
 ghost use Rattle.hub_requests.specs.declared.bounds.TheConstants.{LONGEST_REPLY};
 ghost use Rattle.std.specs.Io.KnownBytes.{Appends};
 ghost use Rattle.hub_io.specs.Lines.{last_line};
@@ -32,6 +32,8 @@ pub(crate) struct Batch {
     line: Vec<u8>,
     held: Vec<u8>,
     count: u64,
+    /// Whether the request of the last line may have slept. Its client may have left meanwhile, and then its reply can't be written.
+    slept: bool,
     ghost line_room: { 513 ≤ vec_capacity line },
     ghost held_room: { MOST_HELD ≤ vec_capacity held },
     ghost short: { vec_len line ≤ 513 },
@@ -51,6 +53,7 @@ impl Batch {
             line,
             held,
             count: 0,
+            slept: false,
         })
     }
 
@@ -193,6 +196,7 @@ impl Batch {
         let line = parse(self.alloc, &self.line);
         self.make_room::<D, R, W, M>(means, writer, &line)?;
         let reply = means.answer(rt, desk, &line);
+        self.slept = may_sleep(&line);
         // Else the proof has a path for each kind of request with each kind of reply.
         drop(line);
         reply.is_short();
@@ -202,7 +206,8 @@ impl Batch {
         Ok(())
     }
 
-    // Writes what is held back if this line's request may sleep, or if its reply may have no room. Else it does nothing.
+    // Writes what is held back if this line's request may sleep, if that of the line before may have slept, or if its reply may have no
+    // room. Else it does nothing. So no line is begun after a sleep in which the client left: that write fails.
     fn make_room<D, R, W, M: Means<D, R, W>>(
         &mut self,
         means: &mut M,
@@ -212,6 +217,7 @@ impl Batch {
         ensures ok { OnOk result (Sends self.old.held.items
             (M.contents writer.old) (M.contents writer.new) self.new.held.items) }
         ensures awake { OnOk result (MaySleep line.now → self.new.held.items ≡ []) }
+        ensures woken { OnOk result (IsTrue self.old.slept → self.new.held.items ≡ []) }
         ensures room { OnOk result (vec_len self.new.held + LONGEST_REPLY ≤ MOST_HELD) }
         ensures line { OnOk result (self.new.line.items ≡ self.old.line.items) }
         ensures count { OnOk result (self.new.count ≡ self.old.count) }
@@ -225,7 +231,8 @@ impl Batch {
         ensures lost { OnErr result (WorksOut (M.history means.old) (M.history means.new)
             self.old.count self.old.held.items) }
     {
-        if may_sleep(line) || self.held.len() > MOST_HELD - LONGEST_REPLY {
+        let has_room = self.held.len() <= MOST_HELD - LONGEST_REPLY;
+        if self.slept || may_sleep(line) || !has_room {
             return self.write_held::<D, R, W, M>(means, writer);
         }
         Ok(())

@@ -47,6 +47,8 @@ pub struct Connection<C> {
     /// Whether the system's limit for a call is less than the whole time.
     is_short: bool,
     timed_out: bool,
+    /// Whether anything was received.
+    has_begun: bool,
     /// How many line feeds were received.
     lines: u64,
 }
@@ -89,6 +91,7 @@ impl<C: Clock + Copy> Connection<C> {
             limit: idle.map(|whole| Limit::new(clock, whole)),
             is_short: false,
             timed_out: false,
+            has_begun: false,
             lines: 0,
         }
     }
@@ -134,11 +137,29 @@ impl<C: Clock + Copy> Connection<C> {
         }
     }
 
+    // Before the first line is there, sees to it that its client hasn't closed the connection altogether. Who has, while the line waited,
+    // has given it up, and may have asked for something else since. So many bytes were received.
+    fn check_client(&mut self, count: usize) -> io::Result<()> {
+        self.has_begun = self.has_begun || count > 0;
+        if self.lines == 0 && self.has_begun && self.is_abandoned() {
+            return Err(io::Error::from(ErrorKind::ConnectionReset));
+        }
+        Ok(())
+    }
+
+    fn is_abandoned(&self) -> bool {
+        match self.client() {
+            Some(client) => client.is_gone(),
+            None => false,
+        }
+    }
+
     fn pull_in_time(&mut self, buf: &mut [u8]) -> io::Result<usize>
         ensures bound { ReadsAtMost result buf.new }
     {
         self.begin(Way::Receive)?;
         let count = self.stream()?.pull(buf)?;
+        self.check_client(count)?;
         let ended = line_feeds(&buf[..count]);
         self.lines = self.lines.saturating_add(ended);
         if self.limit.is_some() && ended > 0 {

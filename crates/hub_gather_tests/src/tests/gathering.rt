@@ -148,37 +148,38 @@ fn all_is_written_at_the_end(rt: HostRuntime) -> Result<(), Fail> {
     expect_steps(&rt, INPUTS.as_slice())
 }
 
-/// Requests that may sleep, behind and before others, also with no turns. A line that is refused never sleeps, whatever its word is.
+/// Requests that may sleep, behind and before others, also with no turns. No line is begun behind one before its reply is written. A line
+/// that is refused never sleeps, whatever its word is.
 static SLEEPS: [Row; 15] = [
     (
         &["sub w\nnext 1 0\nsub w\n"],
         3,
-        "R sub [ok;] next sub [late;ok;] R",
+        "R sub [ok;] next [late;] sub [ok;] R",
     ),
     (
         &["sub w\nawait 1 0\nsub w\n"],
         3,
-        "R sub [ok;] await sub [late;ok;] R",
+        "R sub [ok;] await [late;] sub [ok;] R",
     ),
     (
         &["sub w\nwait all up 0 w\nsub w\n"],
         3,
-        "R sub [ok;] wait sub [late;ok;] R",
+        "R sub [ok;] wait [late;] sub [ok;] R",
     ),
     (
         &["sub w\nnext 1 1000000\nsub w\n"],
         3,
-        "R sub [ok;] next sub [late;ok;] R",
+        "R sub [ok;] next [late;] sub [ok;] R",
     ),
     (
         &["sub w\nawait 1 1000000\nsub w\n"],
         3,
-        "R sub [ok;] await sub [late;ok;] R",
+        "R sub [ok;] await [late;] sub [ok;] R",
     ),
     (
         &["sub w\nwait any down 1000000 w v\nsub w\n"],
         3,
-        "R sub [ok;] wait sub [late;ok;] R",
+        "R sub [ok;] wait [late;] sub [ok;] R",
     ),
     (&["next 1 0\n"], 1, "R next [late;] R"),
     (
@@ -194,7 +195,7 @@ static SLEEPS: [Row; 15] = [
     (
         &["sub w\nnext 1", " 5\nclose w\n"],
         3,
-        "R sub [ok;] R next close [late;end;] R",
+        "R sub [ok;] R next [late;] close [end;] R",
     ),
     (
         &["sub w\nnext\nsub w\n"],
@@ -224,6 +225,6 @@ static SLEEPS: [Row; 15] = [
 ];
 
 #[test]
-fn all_is_written_before_a_request_that_may_sleep(rt: HostRuntime) -> Result<(), Fail> {
+fn all_is_written_before_and_after_a_request_that_may_sleep(rt: HostRuntime) -> Result<(), Fail> {
     expect_steps(&rt, SLEEPS.as_slice())
 }

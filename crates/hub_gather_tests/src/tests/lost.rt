@@ -134,15 +134,16 @@ fn nothing_follows_a_write_that_fails(rt: HostRuntime) -> Result<(), Fail> {
 /// The session's input, which of its writes fails, and its steps.
 type Asleep = (&'static str, u64, &'static str);
 
-/// Writes that fail before a request that may sleep: it isn't answered, and its lines aren't either.
-static ASLEEP: [Asleep; 4] = [
+/// Writes that fail before a request that may sleep, or behind one: no further line is answered.
+static ASLEEP: [Asleep; 5] = [
     ("sub w\nnext 1 0\nsub w\n", 1, "R sub [ok;]!"),
     ("sub w\n\nawait 1 5\nsub w\n", 1, "R sub - [ok;no word;]!"),
     (
         "sub w\nwait all up 0 w\nsub w\n",
         2,
-        "R sub [ok;] wait sub [late;ok;]!",
+        "R sub [ok;] wait [late;]!",
     ),
+    ("await 1 5\nclose w\n\nsub w\n", 1, "R await [late;]!"),
     ("next 1 0\nnext 1 0\n", 1, "R next [late;]!"),
 ];
 
@@ -158,7 +159,7 @@ fn stops_so<H: AllocGlobal + Wait + Enter>(rt: &H, row: &Asleep) -> Result<bool,
 }
 
 #[test]
-fn a_request_that_may_sleep_is_not_answered_after_a_fault(rt: HostRuntime) -> Result<(), Fail> {
+fn no_line_is_begun_after_a_fault_beside_a_sleep(rt: HostRuntime) -> Result<(), Fail> {
     for row in &ASLEEP {
         assert!(rt; stops_so(&rt, row)?, "{row:?}");
     }
