@@ -28,9 +28,10 @@ LISTENS = re.compile(r"ftrighub: (\S+) listens at (.+) \((?:mode (0[0-7]{3}), )?
 HANG_UP = re.compile(r"ftrighub: (session \d+ stopped after \d+ s \(lines: \d+\): (could not read from its client|its client left before it read its reply)"
                      r"|\d+ more sessions stopped)")
 CROWD = re.compile(r"ftrighub: all \d+ sessions are taken, and clients wait")
-# What it says of fifodirs that refused a publisher as full, or evicted a subscription.
+# What it says of fifodirs that refused a publisher as full, evicted a subscription, or weren't told a will.
 TROUBLE = re.compile(r"ftrighub: [A-Za-z0-9_.-]{1,32}: (a publisher was refused as full, the slowest subscription is \d+ events behind"
-                     r"|a subscription was evicted, more than \d+ events behind)")
+                     r"|a subscription was evicted, more than \d+ events behind"
+                     r"|a will was not carried out, the slowest subscription is \d+ events behind; end its client, then tell [A-Za-z0-9_.-]{1,32} its state)")
 # What has to happen happens within so many seconds, also on a slow machine with much else to do.
 PATIENCE = 60
 

@@ -16,6 +16,8 @@ pub enum Trouble {
     Refused { pending: u64 },
     /// A subscription was evicted: more events were pending for it than so many, which is the fifodir's limit.
     Evicted { limit: u64 },
+    /// A will couldn't be carried out, and so many events are pending for the slowest subscription.
+    Will { pending: u64 },
 }
 
 /// A trouble of the fifodir with this name. Its text is a line of the hub's log.
@@ -38,6 +40,10 @@ impl<'a> fmt::Display for TroubleAt<'a> {
             Trouble::Evicted { limit } => write!(
                 f,
                 "{name}: a subscription was evicted, more than {limit} events behind"
+            ),
+            Trouble::Will { pending } => write!(
+                f,
+                "{name}: a will was not carried out, the slowest subscription is {pending} events behind; end its client, then tell {name} its state"
             ),
         }
     }

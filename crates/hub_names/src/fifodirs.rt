@@ -221,8 +221,14 @@ impl Fifodirs {
     }
 
     /// Carries out the wills by the session's publishers, in their order, each with a copy of the pause. Returns how many were
-    /// refused at fifodirs that are open.
-    pub fn carry_out<H: Wait, P: Pause + Copy>(&mut self, rt: &H, wills: &Wills, pause: P) -> u64
+    /// refused at fifodirs that are open, and adds the names of these to `names`, as far as there is memory.
+    pub fn carry_out<H: Wait, P: Pause + Copy>(
+        &mut self,
+        rt: &H,
+        wills: &Wills,
+        pause: P,
+        names: &mut Vec<Name>,
+    ) -> u64
         ensures { AreCarriedOut self.old (wills_in wills.now) result self.new }
     {
         let mut lost = 0;
@@ -232,6 +238,7 @@ impl Fifodirs {
             };
             if self.carry_out_one(rt, name, will, pause) {
                 lost += 1;
+                add(names, name);
             }
         }
         lost
@@ -277,6 +284,13 @@ impl Fifodirs {
             change: _,
         } = self;
         by_name.destroy_empty();
+    }
+}
+
+// Adds a copy of the name, unless memory runs out.
+fn add(names: &mut Vec<Name>, name: &Name) {
+    if let Ok(copy) = name.copy() {
+        let _ = names.push(copy);
     }
 }
 

@@ -3,7 +3,7 @@ use Rattle.std.specs.Prelude.{ℕ, ◌-◌, Bool, true, ◌&&◌, if◌then◌el
 use Rattle.hub_endings.specs.Faults.{line_with}
 use Rattle.hub_endings.specs.Troubles.{trouble_text}
 use Rattle.hub_endings.specs.declared.trouble.Trouble.{Trouble}
-use Rattle.hub_endings.specs.declared.trouble.Trouble.TheVariants.{Refused, Evicted}
+use Rattle.hub_endings.specs.declared.trouble.Trouble.TheVariants.{Refused, Evicted, Will}
 use Rattle.hub_serving.specs.declared.troubles.TheConstants.{MINUTE}
 use Rattle.hub_serving.specs.declared.troubles.Past.{Past}
 use Rattle.hub_serving.specs.declared.troubles.Look.{Look}
@@ -33,12 +33,17 @@ refusal_of past look = if is_told look.refused past.refusal look.now then Some (
 abbrev pub eviction_of : Past → Look → Option Trouble
 eviction_of past look = if is_told (has_evicted past look) past.eviction look.now then Some (Evicted look.limit) else None
 
+-- what is told of a will that was lost
+abbrev pub loss_of : Past → Look → Option Trouble
+loss_of past look = if is_told look.lost past.loss look.now then Some (Will look.pending) else None
+
 -- what is known after a look
 abbrev pub past_after : Past → Look → Past
 past_after past look = record {
   evicted = look.evicted;
   refusal = told_after look.refused past.refusal look.now;
   eviction = told_after (has_evicted past look) past.eviction look.now;
+  loss = told_after look.lost past.loss look.now;
 }
 
 -- the line of a trouble of the fifodir with this name, with its LF, if there is one

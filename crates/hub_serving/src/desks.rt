@@ -28,7 +28,7 @@ pub(crate) struct HubDesks<P: Pause + Copy> {
     pub(crate) hub: Arc<Hub, Global>,
     pub(crate) pause: P,
     pub(crate) stay: Stay,
-    /// Where wills are counted that weren't carried out, if somebody tells how many they are.
+    /// Where wills are counted that weren't carried out, if somebody tells of them.
     pub(crate) lost: Option<LostWills>,
 }
 
@@ -66,16 +66,16 @@ impl<P: Pause + Copy> HubDesks<P> {
     {
         let mut own = self.open(alloc, None)?;
         let done = set_up(rt, alloc, &mut own, text);
-        self.count_lost(&own);
+        self.count_lost(rt, &own);
         own.release(rt);
         done?;
         Ok(())
     }
 
     // Counts the wills that the desk's end couldn't carry out.
-    pub(crate) fn count_lost(&self, desk: &SharedDesk<P>) {
+    pub(crate) fn count_lost<H: Wait>(&self, rt: &H, desk: &SharedDesk<P>) {
         if let Some(lost) = &self.lost {
-            lost.add(desk.lost_wills());
+            lost.add(rt, desk.lost_wills(), desk.lost_names());
         }
     }
 }
@@ -122,7 +122,7 @@ impl<P: Pause + Copy> Desks for HubDesks<P> {
             return Err(FrontError::Memory);
         };
         let served = serve_staying(rt, alloc, self.stay, self, &mut desk, reader, writer);
-        self.count_lost(&desk);
+        self.count_lost(rt, &desk);
         desk.release(rt);
         served
     }

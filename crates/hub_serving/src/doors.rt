@@ -6,7 +6,7 @@ use crate::crowd::Crowd;
 use crate::desks::HubDesks;
 use crate::living_desks::LivingDesks;
 use crate::look_desks::LookDesks;
-use crate::noting::FullNames;
+use crate::noting::NotedNames;
 use crate::places::Places;
 use crate::watching::Watcher;
 use hub_endings::{Fault, HubLine};
@@ -155,7 +155,7 @@ pub(crate) fn open_doors<H>(
     places: &mut Places<'_>,
     options: &HubOptions<'_>,
     desks: HubDesks<Patience<H>>,
-    full: FullNames,
+    full: NotedNames,
     watcher: &Watcher<H>,
 ) -> Result<Doors, Fault>
 where

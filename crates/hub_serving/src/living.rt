@@ -12,7 +12,7 @@ use crate::desks::HubDesks;
 use crate::doors::{Doors, open_doors};
 use crate::lost_wills::LostWills;
 use crate::notice::Notice;
-use crate::noting::FullNames;
+use crate::noting::NotedNames;
 use crate::places::{AllInPlace, Places};
 use crate::setup::read_setup;
 use crate::troubles::Troubles;
@@ -110,18 +110,19 @@ where
     Ok(desks)
 }
 
-// What tells of fifodirs in trouble, of those that these desks make and of those that are noted as full.
+// What tells of fifodirs in trouble, of those that these desks make, of those that are noted as full, and of those of lost wills.
 fn troubles_of<H>(
     rt: &H,
     alloc: Global,
     desks: &HubDesks<Patience<H>>,
-    full: &FullNames,
+    full: &NotedNames,
+    lost: &LostWills,
 ) -> Result<Troubles, AllocError>
 where
     H: Clock + Copy,
 {
     let hub = Arc::try_clone(&desks.hub)?;
-    Ok(Troubles::of(rt, alloc, hub, full.share()?))
+    Ok(Troubles::of(rt, alloc, hub, full.share()?, lost.share()?))
 }
 
 // A hub whose sockets are in these places. Its threads come before that, since a client that could connect would be cut off if one of
@@ -139,8 +140,8 @@ where
     let watcher = Watcher::new(alloc, *rt)?;
     let lost = LostWills::new(alloc)?;
     let desks = set_up_desks(rt, alloc, &lost, setup)?;
-    let full = FullNames::new(alloc)?;
-    let troubles = troubles_of(rt, alloc, &desks, &full)?;
+    let full = NotedNames::new(alloc)?;
+    let troubles = troubles_of(rt, alloc, &desks, &full, &lost)?;
     let doors = open_doors(rt, alloc, places, options, desks, full, &watcher)?;
     let there = places.put(rt, &doors, options.sessions)?;
     let living = Living {

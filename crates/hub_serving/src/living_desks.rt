@@ -9,7 +9,7 @@ ghost use Rattle.hub_shared.specs.Desks.{IsNewDesk};
 ghost use Rattle.hub_shared.specs.declared.shared_desk.SharedDesk.{SharedDesk};
 
 use crate::desks::HubDesks;
-use crate::noting::{FullNames, Noting};
+use crate::noting::{NotedNames, Noting};
 use hub_gather::{Enter, serve_staying};
 use hub_io::{FrontError, Sink, Source};
 use hub_requests::Desk;
@@ -26,7 +26,7 @@ pub(crate) struct LivingDesks<P: Pause + Copy> {
     pub(crate) desks: HubDesks<P>,
     /// How many fifodirs a session may make.
     pub(crate) names: u64,
-    pub(crate) full: FullNames,
+    pub(crate) full: NotedNames,
 }
 
 impl<P: Pause + Copy> Desks for LivingDesks<P> {
@@ -65,7 +65,7 @@ impl<P: Pause + Copy> Desks for LivingDesks<P> {
         let desks = &self.desks;
         let served = serve_staying(rt, alloc, desks.stay, desks, &mut desk, reader, writer);
         let below = desk.apart().into_below();
-        desks.count_lost(&below);
+        desks.count_lost(rt, &below);
         below.release(rt);
         served
     }

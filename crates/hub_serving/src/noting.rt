@@ -7,26 +7,25 @@ use std::alloc::{AllocError, Global};
 use std::mem;
 use std::sync::{Arc, Mutex, Wait};
 
-/// The names of fifodirs at which publishers were refused as full, until somebody takes them. What threads share isn't seen by
-/// contracts.
+/// The names of fifodirs at which something has happened, until somebody takes them. What threads share isn't seen by contracts.
 #[derive(Drop)]
-pub(crate) struct FullNames {
+pub(crate) struct NotedNames {
     names: Arc<Mutex<Vec<Name>>, Global>,
 }
 
-impl FullNames {
-    pub(crate) fn new(alloc: Global) -> Result<FullNames, AllocError> {
+impl NotedNames {
+    pub(crate) fn new(alloc: Global) -> Result<NotedNames, AllocError> {
         let names = Arc::new(alloc, Mutex::new(Vec::new(alloc)))?;
-        Ok(FullNames { names })
+        Ok(NotedNames { names })
     }
 
     /// A share for another thread.
-    pub(crate) fn share(&self) -> Result<FullNames, AllocError> {
+    pub(crate) fn share(&self) -> Result<NotedNames, AllocError> {
         let names = Arc::try_clone(&self.names)?;
-        Ok(FullNames { names })
+        Ok(NotedNames { names })
     }
 
-    fn note<H: Wait>(&self, rt: &H, name: &Name) {
+    pub(crate) fn note<H: Wait>(&self, rt: &H, name: &Name) {
         put(&mut self.names.lock(rt), name);
     }
 
@@ -81,11 +80,11 @@ fn published_name(request: &Request) -> Option<&Name>
 /// answers. Like that one it can't be dropped: `apart` gives back the desk below, to be released.
 pub(crate) struct Noting<D> {
     below: D,
-    full: FullNames,
+    full: NotedNames,
 }
 
 impl<D> Noting<D> {
-    pub(crate) fn over(desk: D, full: FullNames) -> Noting<D>
+    pub(crate) fn over(desk: D, full: NotedNames) -> Noting<D>
         ensures { below result ≡ desk }
     {
         Noting { below: desk, full }

@@ -1,10 +1,11 @@
-//! Fifodirs in trouble: a publisher was refused there as full, or a subscription was evicted.
+//! Fifodirs in trouble: a publisher was refused there as full, a subscription was evicted, or a will was lost.
 
 ghost use Rattle.std.specs.Prelude.{◌≡◌, ◌∷◌, [], OnOk};
 ghost use Rattle.std.specs.Io.KnownBytes.{Appends};
-ghost use Rattle.hub_serving.specs.Troubles.{eviction_of, is_told, past_after, refusal_of, trouble_line};
+ghost use Rattle.hub_serving.specs.Troubles.{eviction_of, is_told, loss_of, past_after, refusal_of, trouble_line};
 
-use crate::noting::{FullNames, is_among};
+use crate::lost_wills::LostWills;
+use crate::noting::{NotedNames, is_among};
 use hub_endings::{Trouble, TroubleAt};
 use hub_requests::{Enter, MOST_NAMES, Name, Reply};
 use hub_shared::{Found, Hub};
@@ -27,6 +28,8 @@ pub(crate) struct Past {
     refusal: Option<u64>,
     /// In which second it was told last that a subscription was evicted. None: never.
     eviction: Option<u64>,
+    /// In which second it was told last that a will was lost. None: never.
+    loss: Option<u64>,
 }
 
 /// A look at a fifodir.
@@ -36,6 +39,8 @@ pub(crate) struct Look {
     now: u64,
     /// Whether a publisher was refused as full since the look before.
     refused: bool,
+    /// Whether a will couldn't be carried out since the look before.
+    lost: bool,
     /// How many events are pending for the slowest subscription.
     pending: u64,
     /// How many subscriptions are evicted and not cancelled.
@@ -50,15 +55,18 @@ impl Past {
         evicted: 0,
         refusal: None,
         eviction: None,
+        loss: None,
     };
 
-    // What to tell of the fifodir by a look at it: of a publisher that was refused, and of a subscription that was evicted.
-    fn note(&mut self, look: Look) -> [Option<Trouble>; 2]
-        ensures troubles { result ≡ refusal_of self.old look ∷ eviction_of self.old look ∷ [] }
+    // What to tell of the fifodir by a look at it: of a publisher that was refused, of a subscription that was evicted, and of a will that
+    // was lost.
+    fn note(&mut self, look: Look) -> [Option<Trouble>; 3]
+        ensures troubles { result ≡ refusal_of self.old look ∷ eviction_of self.old look ∷ loss_of self.old look ∷ [] }
         ensures past { self.new ≡ past_after self.old look }
     {
         let refused = is_told(look.refused, self.refusal, look.now);
         let evicted = is_told(look.evicted > self.evicted, self.eviction, look.now);
+        let lost = is_told(look.lost, self.loss, look.now);
         self.evicted = look.evicted;
         if refused {
             self.refusal = Some(look.now);
@@ -66,10 +74,14 @@ impl Past {
         if evicted {
             self.eviction = Some(look.now);
         }
+        if lost {
+            self.loss = Some(look.now);
+        }
         let (pending, limit) = (look.pending, look.limit);
         [
             refused.then_some(Trouble::Refused { pending }),
             evicted.then_some(Trouble::Evicted { limit }),
+            lost.then_some(Trouble::Will { pending }),
         ]
     }
 }
@@ -93,17 +105,20 @@ struct Watched {
 }
 
 impl Watched {
-    // What to tell of it in this second, if publishers were refused at fifodirs with these names since the look before.
+    // What to tell of it in this second, if publishers were refused at fifodirs with these names since the look before, and wills were lost
+    // at those with the others.
     fn look<H: Wait + Enter>(
         &mut self,
         rt: &H,
         now: u64,
         refused: &[Name],
-    ) -> [Option<Trouble>; 2] {
+        lost: &[Name],
+    ) -> [Option<Trouble>; 3] {
         let usage = self.found.dir.usage(rt);
         self.past.note(Look {
             now,
             refused: is_among(refused, &self.name),
+            lost: is_among(lost, &self.name),
             pending: usage.pending,
             evicted: usage.evicted,
             limit: self.found.dir.limits().waiting,
@@ -111,12 +126,13 @@ impl Watched {
     }
 }
 
-/// Tells of fifodirs in trouble, of each at most two lines a minute. It keeps those that it has found, since a hub keeps its names for
+/// Tells of fifodirs in trouble, of each at most three lines a minute. It keeps those that it has found, since a hub keeps its names for
 /// as long as it lives.
 #[derive(Drop)]
 pub(crate) struct Troubles {
     hub: Arc<Hub, Global>,
-    full: FullNames,
+    full: NotedNames,
+    lost: LostWills,
     /// When it began, if that is known.
     begun: Option<Instant>,
     /// The fifodirs that it has found, in the order in which they were made.
@@ -124,16 +140,18 @@ pub(crate) struct Troubles {
 }
 
 impl Troubles {
-    /// Those of this hub, whose desks note refusals among these names.
+    /// Those of this hub, whose desks note refusals among these names, and their lost wills here.
     pub(crate) fn of<C: Clock>(
         rt: &C,
         alloc: Global,
         hub: Arc<Hub, Global>,
-        full: FullNames,
+        full: NotedNames,
+        lost: LostWills,
     ) -> Troubles {
         Troubles {
             hub,
             full,
+            lost,
             begun: Instant::now(rt).ok(),
             watched: Vec::new(alloc),
         }
@@ -148,9 +166,10 @@ impl Troubles {
     ) {
         self.find_new(rt);
         let refused = self.full.take(rt, alloc);
+        let lost = self.lost.take_names(rt, alloc);
         let now = self.seconds(rt);
         for watched in self.watched.as_mut_slice() {
-            for trouble in watched.look(rt, now, &refused) {
+            for trouble in watched.look(rt, now, &refused, &lost) {
                 let _: io::Result<()> = tell_trouble(alloc, &watched.name, trouble, out);
             }
         }

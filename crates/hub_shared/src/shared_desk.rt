@@ -41,6 +41,8 @@ pub struct SharedDesk<P: Pause + Copy> {
     wills: Wills,
     /// How many wills its last end couldn't carry out.
     lost: u64,
+    /// At which fifodirs.
+    lost_names: Vec<Name>,
 }
 
 impl<P: Pause + Copy> SharedDesk<P> {
@@ -61,6 +63,7 @@ impl<P: Pause + Copy> SharedDesk<P> {
             handles,
             wills: Wills::new(alloc),
             lost: 0,
+            lost_names: Vec::new(alloc),
         })
     }
 
@@ -100,6 +103,11 @@ impl<P: Pause + Copy> SharedDesk<P> {
         self.lost
     }
 
+    /// The names of these fifodirs, as far as there was memory for them.
+    pub fn lost_names(&self) -> &[Name] {
+        &self.lost_names
+    }
+
     /// Ends all that the session still holds, and frees the desk.
     pub fn release<H: Wait>(mut self, rt: &H) {
         self.end(rt);
@@ -113,6 +121,7 @@ impl<P: Pause + Copy> SharedDesk<P> {
             handles,
             wills: _,
             lost: _,
+            lost_names: _,
         } = self;
         handles.release(rt);
         fifodirs.release(rt);
@@ -300,7 +309,9 @@ impl<P: Pause + Copy> Desk for SharedDesk<P> {
 
     fn end<H: Wait>(&mut self, rt: &H) {
         self.handles.end(rt);
-        self.lost = self.fifodirs.carry_out(rt, &self.wills, self.pause);
+        self.lost_names.clear();
+        let names = &mut self.lost_names;
+        self.lost = self.fifodirs.carry_out(rt, &self.wills, self.pause, names);
         self.wills.clear();
         self.fifodirs.leave(rt);
         self.wake();

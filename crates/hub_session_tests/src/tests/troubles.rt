@@ -4,7 +4,7 @@ use hub_fakes::Narrow;
 use std::test::Fail;
 
 /// A fifodir's name, its trouble, and the line.
-static ROWS: [(&str, Trouble, &str); 5] = [
+static ROWS: [(&str, Trouble, &str); 6] = [
     (
         "web",
         Trouble::Refused { pending: 64 },
@@ -14,6 +14,12 @@ static ROWS: [(&str, Trouble, &str); 5] = [
         "web",
         Trouble::Evicted { limit: 64 },
         "ftrighub: web: a subscription was evicted, more than 64 events behind\n",
+    ),
+    (
+        "db",
+        Trouble::Will { pending: 3 },
+        "ftrighub: db: a will was not carried out, the slowest subscription is 3 events behind; \
+         end its client, then tell db its state\n",
     ),
     (
         "-",
