@@ -118,6 +118,7 @@ tell_all() {
 # report: tells the hub of the program until TERM. It ends when its holds have, so nothing is told after what the script tells at last.
 # shellcheck disable=SC2317 # it runs in the background
 report() {
+    exec 3>&- # (`report 3>&-` would keep it, to open it again)
     over=
     holder=
     said=
@@ -149,7 +150,7 @@ folder=$(mktemp -d) && mkfifo "$folder/alive" || exit 1
 # shellcheck disable=SC2094 # it is a pipe
 exec 3<>"$folder/alive" 4<"$folder/alive"
 rm -r "$folder"
-report 3>&- &
+report &
 reporter=$!
 exec 4<&-
 trap 'stop HUP' HUP
