@@ -8,5 +8,5 @@ returns g c = record {
   client = refl;
   ends = record { fifodirs = c.leave.ensures; handles = c.end.ensures.none; given = c.end.ensures.given };
   wills = (c.carry_out-self.new.self, c.carry_out-self.ensures);
-  none_left = c.clear.ensures;
+  none_left = c.clear-2.ensures;
 }
