@@ -4,15 +4,13 @@ ghost use Rattle.std.specs.Option.{SomeIff};
 ghost use Rattle.std.specs.Str.Parse.{IsNumeral, digits_value};
 ghost use Rattle.hub_ask.specs.Durations.{AreParts, AsksFor, IsPlace, SpellsDuration, WritesFraction, WritesNumber, turns_of_request};
 ghost use Rattle.hub_ask.specs.Lines.{bytes_of};
-ghost use Rattle.hub_ask.specs.declared.duration.TheConstants.{MOST_MILLIS, MOST_TURNS};
+ghost use Rattle.hub_ask.specs.declared.duration.TheConstants.{MOST_MILLIS};
+ghost use Rattle.hub_requests.specs.declared.bounds.TheConstants.{MOST_TURNS};
 
 use crate::line::Line;
 use hub_protocol::parse;
 use hub_requests::Request;
 use std::alloc::Global;
-
-/// The most turns of a wait. A turn takes about a millisecond.
-pub const MOST_TURNS: u64 = 1_000_000;
 
 /// The most milliseconds of a duration: those of 1,000 hours.
 pub const MOST_MILLIS: u64 = 3_600_000_000;

@@ -29,7 +29,7 @@ pub use asking::ask;
 pub use bounded::Bounded;
 pub use client::Client;
 pub use deadline::Deadline;
-pub use duration::{MOST_MILLIS, MOST_TURNS, millis_of, turns_asked, turns_of_request};
+pub use duration::{MOST_MILLIS, millis_of, turns_asked, turns_of_request};
 pub use exchanging::{ANSWER, exchange};
 pub use fault::AskError;
 pub use heard::Heard;

@@ -10,7 +10,7 @@ use Rattle.hub_ask.specs.Asking.{IsAnswered, IsBrokenOff}
 use Rattle.hub_ask.specs.Outcomes.{TellsOfWait, status_of}
 use Rattle.hub_ask.specs.Waiting.{Asking, AsksAbout, IsEnded, wait_words}
 use Rattle.hub_ask.specs.declared.client.Client.{Client}
-use Rattle.hub_ask.specs.declared.duration.TheConstants.{MOST_TURNS}
+use Rattle.hub_requests.specs.declared.bounds.TheConstants.{MOST_TURNS}
 use Rattle.hub_ask.specs.declared.outcome.Outcome.{Outcome}
 use Rattle.hub_ask.specs.declared.waiting.TheConstants.{GRACE}
 use Rattle.hub_client.specs.Passing.{has_lf}

@@ -2,7 +2,7 @@
 use Rattle.std.specs.Prelude.{◌≡◌, ◌⊎◌, ℕ, ◌+◌, ◌≤◌, true, false, List, Option, Result, Ok, Err}
 use Rattle.hub_ask.specs.Asking.{HasNoReply, IsWritten}
 use Rattle.hub_ask.specs.Outcomes.{Tells, outcome_of, status_of}
-use Rattle.hub_ask.specs.declared.duration.TheConstants.{MOST_TURNS}
+use Rattle.hub_requests.specs.declared.bounds.TheConstants.{MOST_TURNS}
 use Rattle.hub_ask.specs.declared.exchanging.TheConstants.{ANSWER}
 use Rattle.hub_ask.specs.declared.fault.AskError.{AskError}
 use Rattle.hub_ask.specs.declared.outcome.Outcome.{Outcome}

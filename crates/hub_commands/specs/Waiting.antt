@@ -6,7 +6,7 @@ use Rattle.hub_ask.specs.Lines.{joined}
 use Rattle.hub_ask.specs.Outcomes.{TellsOfWait, status_of}
 use Rattle.hub_ask.specs.Waiting.{Asking, AsksAbout, FailsToEnd, IsEnded, reply_of, wait_words}
 use Rattle.hub_ask.specs.declared.client.Client.{Client}
-use Rattle.hub_ask.specs.declared.duration.TheConstants.{MOST_TURNS}
+use Rattle.hub_requests.specs.declared.bounds.TheConstants.{MOST_TURNS}
 use Rattle.hub_ask.specs.declared.fault.AskError.{AskError}
 use Rattle.hub_ask.specs.declared.fault.AskError.TheVariants as ask
 use Rattle.hub_ask.specs.declared.outcome.Outcome.{Outcome}

@@ -2,7 +2,7 @@
 ghost use Rattle.std.specs.Prelude.{◌≡◌, ◌≤◌, ◌+◌, true, false, IfSome, MatchBool};
 ghost use Rattle.hub_ask.specs.Lines.{bytes_of, joined};
 ghost use Rattle.hub_ask.specs.Waiting.{AsksAbout, wait_words};
-ghost use Rattle.hub_ask.specs.declared.duration.TheConstants.{MOST_TURNS};
+ghost use Rattle.hub_requests.specs.declared.bounds.TheConstants.{MOST_TURNS};
 ghost use Rattle.hub_ask.specs.declared.waiting.TheConstants.{GRACE};
 ghost use Rattle.hub_client.specs.Passing.{has_lf};
 ghost use Rattle.hub_dialing.specs.Dialing.{dialing};
@@ -10,13 +10,14 @@ ghost use Rattle.hub_commands.specs.Waiting.{Begins, EndsTry, GoesOn, IsRestart,
 
 use crate::saying::Sayings;
 use hub_ask::{
-    AskError, Client, Deadline, GRACE, Line, MOST_TURNS, Outcome, Replies, Requests, delay_of,
-    end_wait, millis_of, wait_line,
+    AskError, Client, Deadline, GRACE, Line, Outcome, Replies, Requests, delay_of, end_wait,
+    wait_line,
 };
 use hub_dialing::Dial;
 use hub_endings::{BadWords, Ending, Fault, limit_of};
 use hub_io::Sink;
 use hub_options::Wish;
+use hub_requests::MOST_TURNS;
 use std::alloc::Global;
 use std::rt::Clock;
 use std::sync::Wait;

@@ -1,5 +1,5 @@
 use Rattle.std.proofs.Common.{◌≡◌, ◌≤◌, true}
-use Rattle.hub_ask.specs.declared.duration.TheConstants.{MOST_TURNS}
+use Rattle.hub_requests.specs.declared.bounds.TheConstants.{MOST_TURNS}
 use Rattle.hub_dialing.specs.Dialing.{dialing}
 use Rattle.hub_commands.specs.Waiting.{IsAt, wishing}
 use Rattle.hub_commands.proofs.waiting.wait_on.Given as goal
