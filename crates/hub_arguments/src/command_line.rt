@@ -93,6 +93,7 @@ fn program<'a>(alloc: Global) -> Command<'a> {
         .about(ABOUT)
         .after_help(LINES)
         .subcommand_required(true)
+        .arg_required_else_help(true)
 }
 
 // The command with this subcommand, unless memory ran out for one of them.
@@ -151,7 +152,7 @@ fn lacks_socket(matches: &ArgMatches<'_>) -> bool {
     }
 }
 
-// The help for words without a command or with `help` before it, or what is wrong with them.
+// The help for words that begin with `help`, or what is wrong with them.
 fn help_for(alloc: Global, words: &[String]) -> Result<Option<Error>, AllocError> {
     let Some(asked) = words_of_help(alloc, words)? else {
         return Ok(None);

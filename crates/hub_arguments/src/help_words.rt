@@ -22,14 +22,13 @@ fn asked<'a>(
     Ok(asked)
 }
 
-/// The words that ask for help in the place of these: no word is `-h`, and `help WORD ..` is `WORD .. --help`, by which a misspelt WORD
-/// is told as it is without `help`.
+/// The words that ask for help in the place of these: `help WORD ..` is `WORD .. --help`, by which a misspelt WORD is told as it is
+/// without `help`.
 pub(crate) fn words_of_help<'a>(
     alloc: Global,
     words: &'a [String],
 ) -> Result<Option<Vec<&'a str>>, AllocError> {
     match words {
-        [] | [_] => Ok(Some(asked(alloc, &[], "-h")?)),
         [_, first, second, ..] if first.as_str() == "help" && is_command(second) => {
             Ok(Some(asked(alloc, &words[2..], "--help")?))
         }

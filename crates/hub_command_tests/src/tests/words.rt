@@ -15,7 +15,6 @@ fn words_of(alloc: Global, line: &str) -> Result<Vec<String>, AllocError> {
 
 /// These ask for help or for the version.
 static HELP: &str = "
-    ftrighub
     ftrighub help
     ftrighub help script
     ftrighub help wait
@@ -42,6 +41,7 @@ static HELP: &str = "
 
 /// These are refused.
 static WRONG: &str = "
+    ftrighub
     ftrighub stauts
     ftrighub help stauts
     ftrighub help --socket
