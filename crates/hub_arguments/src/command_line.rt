@@ -164,6 +164,19 @@ fn help_for(alloc: Global, words: &[String]) -> Result<Option<Error>, AllocError
     )
 }
 
+// What is wrong with words behind `--version`, if there are some: `clap` doesn't look at them.
+fn behind_version(alloc: Global, words: &[String]) -> Result<Option<Error>, AllocError> {
+    let [_, first, second, ..] = words else {
+        return Ok(None);
+    };
+    if first.as_str() != "--version" && first.as_str() != "-V" {
+        return Ok(None);
+    }
+    let text = format!(in alloc; "unexpected argument '{second}' found")?;
+    let error = command(alloc, false, None)?.error(ErrorKind::UnknownArgument, text.as_str())?;
+    Ok(Some(error))
+}
+
 // What the words of a subcommand that asks a hub for one thing ask for.
 fn asking_plan<'a>(alloc: Global, word: &str, found: &ArgMatches<'a>) -> Read<'a> {
     match word {
@@ -209,6 +222,9 @@ pub fn read_words<'a>(
     known: Option<&'a OwnSocket>,
 ) -> Result<Plan<'a>, WordsError> {
     if let Some(error) = help_for(alloc, words)? {
+        return Err(WordsError::Text(error));
+    }
+    if let Some(error) = behind_version(alloc, words)? {
         return Err(WordsError::Text(error));
     }
     let matches = matches_of(alloc, words, known)?;

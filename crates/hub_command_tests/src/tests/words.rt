@@ -24,7 +24,6 @@ static HELP: &str = "
     ftrighub -h
     ftrighub --version
     ftrighub -V
-    ftrighub --version now
     ftrighub script --help
     ftrighub serve --help
     ftrighub call --help
@@ -45,6 +44,9 @@ static WRONG: &str = "
     ftrighub stauts
     ftrighub help stauts
     ftrighub help --socket
+    ftrighub --version now
+    ftrighub --version --help
+    ftrighub -V script
     ftrighub status --scoket s
     ftrighub script --version
     ftrighub script now
