@@ -9,13 +9,13 @@ Makes the fifodir (a list of events) of each service, in the order of the NAMEs.
 
   ftrighub make db web
 
-If a NAME is there already and is the same, it is as if it were made now. So
-each script that needs a service may make it. If what is there isn't the same,
-it stays as it is, and standard error says both:
+If a NAME is there already, of the same kind and with or without readiness as
+wanted, that counts as made, whatever its limits are. So each script that needs
+a service may make it. If another is there, it stays as it is, and standard
+error says both:
 
-  db: is svc 64 1000 1, not svc 64 1000000000000 1 evict
+  db: is a plain fifodir, not a service with readiness
 
-These are the fields of the requests svc and dir: see `ftrighub script --help`.
 Another refusal of the hub is such a line too, as `db: no many`. The other NAMEs
 are made nevertheless.
 

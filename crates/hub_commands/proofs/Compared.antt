@@ -22,7 +22,7 @@ use Rattle.hub_requests.specs.declared.reply.Reply.TheVariants as reply
 use Rattle.hub_requests.specs.declared.reply.Refusal.{Refusal}
 use Rattle.hub_requests.specs.declared.reply.Refusal.TheVariants.{Exists}
 use Rattle.hub_commands.specs.Asked.{FailsOnce}
-use Rattle.hub_commands.specs.Making.{FailsToLook, FailsToMake, IsCompared, IsJudged, IsMade, IsThere, RepliesToAbout, RepliesToMake, about_told, made_told, request_for, shape_of, unlike_text}
+use Rattle.hub_commands.specs.Making.{FailsToLook, FailsToMake, IsCompared, IsJudged, IsMade, IsThere, RepliesToAbout, RepliesToMake, about_told, is_alike, made_told, request_for, unlike_text}
 use Rattle.hub_commands.specs.Notes.{reason_of}
 use Rattle.hub_commands.proofs.Replied.{refused_by}
 
@@ -75,26 +75,26 @@ not_made_there before between after wanted name (Ok outcome) there h = tt
 not_made_there before between after wanted name (Err error) there h = inr (between, there, h)
 
 -- the look was answered
-pub compared : (sent sends had has noted notes : Option (List ℕ)) (faults failed : Option ℕ) (name : List ℕ) (wanted : Shape) (asked : Request) (text : List ℕ) (read : BorrowedReply) (about : About) (there : Shape) (outcome : Outcome) (h : IsShown text read)
-    → there ≡ shape_of about → read ≡ shown.About about → asked ≡ request.About name → IsAnswered sent sends had has (spelling (form_of asked)) text
-    → IsJudged noted notes faults failed name there wanted outcome
+pub compared : (sent sends had has noted notes : Option (List ℕ)) (faults failed : Option ℕ) (name : List ℕ) (wanted : Shape) (asked : Request) (text : List ℕ) (read : BorrowedReply) (about : About) (outcome : Outcome) (h : IsShown text read)
+    → read ≡ shown.About about → asked ≡ request.About name → IsAnswered sent sends had has (spelling (form_of asked)) text
+    → IsJudged noted notes faults failed name about wanted outcome
     → IsCompared (record { sent = sent; had = had; noted = noted; faults = faults }) (record { sent = sends; had = has; noted = notes; faults = failed }) name wanted outcome
-compared sent sends had has noted notes faults failed name wanted asked text read about there Done h shaped is same answered judged =
+compared sent sends had has noted notes faults failed name wanted asked text read about Done h is same answered judged =
     let replied = replied_by sent sends had has noted faults (request.About name) text read (reply.About about) h (about_shown about h.reply (subst (λ it. Shows it h.reply) is h.shows))
     (subst (λ it. IsAnswered sent sends had has (spelling (form_of it)) text) same answered) in
-    (about, record { of_hub = replied.of_hub; answered = replied.answered; noted = judged.1; faults = judged.2 }, sym shaped ∙ judged.0)
-compared sent sends had has noted notes faults failed name wanted asked text read about there Refused h shaped is same answered judged =
+    (about, record { of_hub = replied.of_hub; answered = replied.answered; noted = judged.1; faults = judged.2 }, judged.0)
+compared sent sends had has noted notes faults failed name wanted asked text read about Refused h is same answered judged =
     inr (record {
       about = about;
       between = record { sent = sends; had = has; noted = noted; faults = faults };
       looked = replied_by sent sends had has noted faults (request.About name) text read (reply.About about) h (about_shown about h.reply (subst (λ it. Shows it h.reply) is h.shows))
           (subst (λ it. IsAnswered sent sends had has (spelling (form_of it)) text) same answered);
-      other = λ e. judged.0 (shaped ∙ e);
-      told = record { sent = refl; had = refl; noted = subst (λ it. IsToldTo noted notes faults failed (note_of name (unlike_text it wanted))) shaped judged.1 };
+      other = judged.0;
+      told = record { sent = refl; had = refl; noted = judged.1 };
     })
-compared sent sends had has noted notes faults failed name wanted asked text read about there Never h shaped is same answered judged = absurd judged
-compared sent sends had has noted notes faults failed name wanted asked text read about there Late h shaped is same answered judged = absurd judged
-compared sent sends had has noted notes faults failed name wanted asked text read about there Nothing h shaped is same answered judged = absurd judged
+compared sent sends had has noted notes faults failed name wanted asked text read about Never h is same answered judged = absurd judged
+compared sent sends had has noted notes faults failed name wanted asked text read about Late h is same answered judged = absurd judged
+compared sent sends had has noted notes faults failed name wanted asked text read about Nothing h is same answered judged = absurd judged
 
 -- the look was refused
 pub not_compared : (sent sends had has noted notes : Option (List ℕ)) (faults failed : Option ℕ) (name : List ℕ) (wanted : Shape) (asked : Request) (text bytes : List ℕ) (read : BorrowedReply) (refusal : Refusal) (h : IsShown text read)
@@ -121,7 +121,7 @@ not_made_new sent sends had has noted notes faults failed wanted name asked text
 
 -- ---- what is there isn't as it is wanted
 
-pub judged_unlike : (noted notes : Option (List ℕ)) (faults failed : Option ℕ) (name bytes text what : List ℕ) (there wanted : Shape) → there ≢ wanted → bytes ≡ name → what ≡ text → text ≡ unlike_text there wanted
+pub judged_unlike : (noted notes : Option (List ℕ)) (faults failed : Option ℕ) (name bytes text what : List ℕ) (there : About) (wanted : Shape) → is_alike there wanted ≡ false → bytes ≡ name → what ≡ text → text ≡ unlike_text there wanted
     → IsToldTo noted notes faults failed (note_of bytes what) → IsJudged noted notes faults failed name there wanted Refused
 judged_unlike noted notes faults failed name bytes text what there wanted other is_name seen is told =
     (other, subst (λ it. IsToldTo noted notes faults failed (note_of name it)) (seen ∙ is) (subst (λ it. IsToldTo noted notes faults failed (note_of it what)) is_name told))

@@ -4,7 +4,6 @@ pub mod Doing
 pub mod Told
 pub mod Held
 pub mod Made
-pub mod Shapes
 pub mod Compared
 pub mod Makes
 pub mod Waits

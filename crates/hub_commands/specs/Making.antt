@@ -1,6 +1,6 @@
 -- What `make` does.
 use Rattle.std.specs.Prelude.{◌≡◌, ◌≢◌, ◌⊎◌, ℕ, List, [], ◌∷◌, ◌++◌, codes, ⊤, Bool, true, false, Option, None, Some, Result, Ok, Err, map}
-use Rattle.std.specs.Fmt.{decimal}
+use Rattle.std.specs.Bool.{beq}
 use Rattle.std.specs.List.{list_all}
 use Rattle.hub_options.specs.declared.changing.Shape.{Shape}
 use Rattle.hub_ask.specs.declared.fault.AskError.{AskError}
@@ -43,39 +43,25 @@ request_of Service shape name = request.Svc name shape.waiting shape.total shape
 abbrev pub request_for : Shape → (name : List ℕ) → Request
 request_for shape name = request_of shape.kind shape name
 
--- what is there, as it would be made
-abbrev pub shape_of : About → Shape
-shape_of about = record { kind = about.kind; notifies = about.notifies; waiting = about.waiting; total = about.total; policy = about.policy }
+-- whether one fifodir is as another is wanted; how much it takes doesn't count
+abbrev pub is_alike_to : (kind wanted : Kind) → (notifies reports : Bool) → Bool
+is_alike_to Plain Plain notifies reports = true
+is_alike_to Service Service notifies reports = beq notifies reports
+is_alike_to kind wanted notifies reports = false
 
-abbrev pub evict_text : Policy → List ℕ
-evict_text Hold = []
-evict_text Evict = codes " evict"
+-- whether what is there is as it is wanted
+abbrev pub is_alike : (there : About) → (wanted : Shape) → Bool
+is_alike there wanted = is_alike_to there.kind wanted.kind there.notifies wanted.notifies
 
-abbrev pub readiness_text : Bool → List ℕ
-readiness_text true = codes " 1"
-readiness_text false = codes " 0"
-
--- how many events may be pending, and how many there may be in all
-abbrev pub limits_text : (waiting total : ℕ) → List ℕ
-limits_text waiting total = decimal waiting ++ (codes " " ++ decimal total)
-
-abbrev pub plain_text : Shape → List ℕ
-plain_text shape = codes "dir " ++ (limits_text shape.waiting shape.total ++ evict_text shape.policy)
-
-abbrev pub service_text : Shape → List ℕ
-service_text shape = codes "svc " ++ (limits_text shape.waiting shape.total ++ (readiness_text shape.notifies ++ evict_text shape.policy))
-
-abbrev pub text_of : Kind → Shape → List ℕ
-text_of Plain shape = plain_text shape
-text_of Service shape = service_text shape
-
--- the line that makes such a fifodir, but for its name
-abbrev pub shape_text : Shape → List ℕ
-shape_text shape = text_of shape.kind shape
+-- what a fifodir is
+abbrev pub sort_text : Kind → (notifies : Bool) → List ℕ
+sort_text Plain notifies = codes "a plain fifodir"
+sort_text Service true = codes "a service with readiness"
+sort_text Service false = codes "a service without readiness"
 
 -- what is said of a fifodir that isn't as it is wanted
-abbrev pub unlike_text : (there wanted : Shape) → List ℕ
-unlike_text there wanted = codes "is " ++ (shape_text there ++ (codes ", not " ++ shape_text wanted))
+abbrev pub unlike_text : (there : About) → (wanted : Shape) → List ℕ
+unlike_text there wanted = codes "is " ++ (sort_text there.kind there.notifies ++ (codes ", not " ++ sort_text wanted.kind wanted.notifies))
 
 -- ---- the replies
 
@@ -106,10 +92,10 @@ RepliesToAbout other = ⊥
 -- ---- one name
 
 -- What is there is as it is wanted, which isn't noted. Or it isn't, and there is one note of both.
-abbrev pub IsJudged : (noted notes : Option (List ℕ)) (faults failed : Option ℕ) (name : List ℕ) (there wanted : Shape) → Outcome → Type 0
-IsJudged noted notes faults failed name there wanted Done = (there ≡ wanted) × (notes ≡ noted) × (failed ≡ faults)
+abbrev pub IsJudged : (noted notes : Option (List ℕ)) (faults failed : Option ℕ) (name : List ℕ) (there : About) (wanted : Shape) → Outcome → Type 0
+IsJudged noted notes faults failed name there wanted Done = (is_alike there wanted ≡ true) × (notes ≡ noted) × (failed ≡ faults)
 IsJudged noted notes faults failed name there wanted Refused =
-    (there ≢ wanted) × IsToldTo noted notes faults failed (note_of name (unlike_text there wanted))
+    (is_alike there wanted ≡ false) × IsToldTo noted notes faults failed (note_of name (unlike_text there wanted))
 IsJudged noted notes faults failed name there wanted other = ⊥
 
 -- What is there isn't as it is wanted, and there is one note of both.
@@ -117,13 +103,13 @@ pub record IsUnlike (before after : Streams) (name : List ℕ) (wanted : Shape) 
   pub about : About
   pub between : Streams
   pub looked : IsReplied before between (request.About name) (reply.About about)
-  pub other : shape_of about ≢ wanted
-  pub told : IsNoted between after (note_of name (unlike_text (shape_of about) wanted))
+  pub other : is_alike about wanted ≡ false
+  pub told : IsNoted between after (note_of name (unlike_text about wanted))
 
 -- What is there was looked at once. It is as it is wanted; or it isn't, or the hub doesn't say, and there is one note of that.
 abbrev pub IsCompared : (before after : Streams) (name : List ℕ) (wanted : Shape) → Outcome → Type 0
 IsCompared before after name wanted Done =
-    (about : About) × IsReplied before after (request.About name) (reply.About about) × (shape_of about ≡ wanted)
+    (about : About) × IsReplied before after (request.About name) (reply.About about) × (is_alike about wanted ≡ true)
 IsCompared before after name wanted Refused =
     ((refusal : Refusal) × IsRefused before after (request.About name) name refusal) ⊎ IsUnlike before after name wanted
 IsCompared before after name wanted other = ⊥

@@ -9,7 +9,7 @@ ghost use Rattle.hub_commands.specs.Making.{FailsToLook, FailsToMake, FailsToMak
 
 use crate::noting::note_refusal;
 use crate::requesting::ask_once;
-use crate::shaping::{request_for, shape_of, unlike_text};
+use crate::shaping::{is_alike, request_for, unlike_text};
 use hub_ask::{ANSWER, AskError, Client, Outcome, Replies, Requests, note};
 use hub_dialing::Dial;
 use hub_endings::{BadWords, Ending};
@@ -49,11 +49,11 @@ fn is_there(refusal: Refusal) -> bool
     matches!(refusal, Refusal::Exists)
 }
 
-// Judges what is there by what is wanted. If it isn't the same, both are noted.
+// Judges what is there by what is wanted. If it is another, both are noted.
 fn judge<F: Sink>(
     alloc: Global,
     name: &Name,
-    there: Shape,
+    there: About,
     wanted: Shape,
     notes: &mut F,
 ) -> Result<Outcome, AllocError>
@@ -61,7 +61,7 @@ fn judge<F: Sink>(
         (F.faults notes.old) (F.faults notes.new) name.now there wanted) }
     ensures err { IfErr result (λ _. notes.new ≡ notes.old) }
 {
-    if there == wanted {
+    if is_alike(there, wanted) {
         return Ok(Outcome::Done);
     }
     let text = unlike_text(alloc, there, wanted)?;
@@ -90,7 +90,7 @@ fn compare<H: Wait, SR: Replies, SW: Requests, F: Sink>(
     let look = Request::About { name: name.copy()? };
     let heard = ask_once(rt, alloc, look, client)?;
     match about_told(heard.reply()) {
-        Some(Ok(about)) => Ok(judge(alloc, name, shape_of(about), wanted, notes)?),
+        Some(Ok(about)) => Ok(judge(alloc, name, about, wanted, notes)?),
         Some(Err(refusal)) => {
             note_refusal(alloc, name.bytes(), refusal, notes)?;
             Ok(Outcome::Refused)

@@ -16,8 +16,8 @@ returns-in_err-heard-clause-err g c =
 
 pub returns-in-Some-Ok-clause-ok : goal.returns-in-Some-Ok-clause-ok
 returns-in-Some-Ok-clause-ok g c =
-    compared _ _ _ _ _ _ _ _ c.args.name.now c.args.wanted _ _ c.reply.result c.in-Some-Ok.about c.shape_of.result c.in_ok-judge-in-Some-Ok.field-0 c.reply.ensures
-    c.shape_of.ensures (is_about c.reply.result c.in-Some-Ok.about (cc)) (ap request.About c.in_ok-copy.ensures) c.in_ok-heard.ensures.ok c.in_ok-judge-in-Some-Ok.ensures.ok
+    compared _ _ _ _ _ _ _ _ c.args.name.now c.args.wanted _ _ c.reply.result c.in-Some-Ok.about c.in_ok-judge-in-Some-Ok.field-0 c.reply.ensures
+    (is_about c.reply.result c.in-Some-Ok.about (cc)) (ap request.About c.in_ok-copy.ensures) c.in_ok-heard.ensures.ok c.in_ok-judge-in-Some-Ok.ensures.ok
 
 pub returns-in-Some-Err-clause-ok : goal.returns-in-Some-Err-clause-ok
 returns-in-Some-Err-clause-ok g c =
