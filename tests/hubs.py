@@ -17,7 +17,7 @@ import time
 import traceback
 
 TOP = os.path.dirname(os.path.dirname(os.path.realpath(__file__)))
-# What the program says if nobody listens, if no reply comes, and if a reply isn't a hub's.
+# What `call` says if it can't connect, and what the program says if no reply comes, and if a reply isn't a hub's.
 CONNECT = "ftrighub: cannot connect\n"
 NO_ANSWER = "ftrighub: no answer\n"
 UNKNOWN = "ftrighub: unknown reply\n"
@@ -232,6 +232,15 @@ class Program:
             return None, "", ""
         output, fault = ((text or b"").decode() for text in (done.stdout, done.stderr))
         return done.returncode, output, fault
+
+
+def unreached(path, why="no such file"):
+    """What a command for people says if it can't connect to a hub."""
+    return f"ftrighub: cannot connect to {path}: {why}\n"
+
+
+# Why it can't.
+NOBODY, FULL, NO_PATH = "nobody listens there", "no room for one more connection", "the path is empty, or has more than 107 bytes"
 
 
 def environment(known):

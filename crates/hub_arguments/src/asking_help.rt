@@ -25,10 +25,10 @@ If the hub refuses, standard error has a line on what to do:
 
 Exit status: 0 the reply is ok, got, hit, yes or names; 3 no; 4 never; 5 late;
 6 none, end or evicted. 2 the command line was refused. 1 an error while
-running, with a line on standard error: `cannot connect`, `no answer` (no reply
-within 10 seconds, and the time of the wait, await or next itself), `send
-failed`, `receive failed`, `connection ended`, `unknown reply` (it isn't a hub),
-`write failed`, `too many reads`, `out of memory`.";
+running, with a line on standard error: `cannot connect to PATH` and why, `no
+answer` (no reply within 10 seconds, and the time of the wait, await or next
+itself), `send failed`, `receive failed`, `connection ended`, `unknown reply`
+(it isn't a hub), `write failed`, `too many reads`, `out of memory`.";
 
 /// The subcommand `wait` in one line.
 pub const WAIT_ABOUT: &str = "Wait until services reach a state, and report those that don't";

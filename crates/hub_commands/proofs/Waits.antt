@@ -1,5 +1,5 @@
 -- How a wait goes on, and how it ends.
-use Rattle.std.proofs.Common.{◌≡◌, ℕ, ◌+◌, ◌^◌, ◌<◌, ◌≤◌, List, [], ◌∷◌, ◌++◌, ◌==◌, ◌||◌, Option, None, Some, Result, Ok, Err, IsErrAnd, false, codes, inl, inr, refl, sym, ap, ◌∙◌, subst, arith, ne_eqb, true, Bool}
+use Rattle.std.proofs.Common.{◌≡◌, ℕ, ◌+◌, ◌^◌, ◌<◌, ◌≤◌, List, [], ◌∷◌, ◌++◌, ◌==◌, ◌||◌, ◌⊎◌, Option, None, Some, Result, Ok, Err, IsErrAnd, false, codes, inl, inr, refl, sym, ap, ◌∙◌, subst, arith, ne_eqb, true, Bool}
 use Rattle.std.proofs.lemmas.Fmt.{decimal_is_IsNumeral}
 use Rattle.std.proofs.lemmas.List.Folds.{list_any-append}
 use Rattle.std.proofs.lemmas.Str.Parse.{digit_from_value}
@@ -14,11 +14,13 @@ use Rattle.hub_requests.specs.declared.bounds.TheConstants.{MOST_TURNS}
 use Rattle.hub_ask.specs.declared.outcome.Outcome.{Outcome}
 use Rattle.hub_ask.specs.declared.waiting.TheConstants.{GRACE}
 use Rattle.hub_client.specs.Passing.{has_lf}
-use Rattle.hub_dialing.specs.Dialing.{Dialing}
-use Rattle.hub_commands.specs.Waiting.{Begins, EndsSo, EndsTry, GoesOn, IsAt, IsTried, PutsOff, WaitsFor, WaitsOn, Wishing}
+use Rattle.hub_dialing.specs.Dialing.{Dialing, OverOne}
+use Rattle.hub_commands.specs.Waiting.{Begins, EndsSo, EndsTry, GoesOn, IsAt, IsPassing, IsTried, PutsOff, WaitsFor, WaitsOn, Wishing}
 use Rattle.hub_endings.specs.declared.ending.Ending.{Ending}
-use Rattle.hub_endings.specs.declared.ending.Ending.TheVariants.{Refused, Stopped, Failed}
-use Rattle.hub_endings.specs.declared.fault.Fault.TheVariants.{Memory}
+use Rattle.hub_endings.specs.declared.ending.Ending.TheVariants.{Refused, Stopped, Unreached, Failed}
+use Rattle.hub_endings.specs.declared.fault.Fault.{Fault}
+use Rattle.hub_endings.specs.declared.fault.Fault.TheVariants.{Memory, Ask}
+use Rattle.hub_ask.specs.declared.fault.AskError.{AskError}
 
 -- ---- the lines of a wait
 
@@ -68,11 +70,16 @@ not_cut span want names items first turns few less cut same is =
 pub at_first : {D SR SW : Type 0} (d : Dialing D SR SW) (w : Wishing) (first : ℕ) (old : D) → IsAt d w first old old first
 at_first d w first old = record { before = []; tried = refl; next = refl }
 
+-- a fault of an exchange isn't one that passes
+never_passes : (fault : Fault) (error : AskError) → fault ≡ Ask error → IsPassing fault → ⊥
+never_passes fault error is passes = subst IsPassing is passes
+
 -- a try that came to nothing
-pub put_off : {D SR SW T : Type 0} (d : Dialing D SR SW) (w : Wishing) (old new : D) (turns : ℕ) (line : List ℕ) (text : T → List ℕ) (tried : Option (Client SR SW × T))
-    → line ≡ w.line turns → IsTried d old new w.socket (turns + GRACE) line w.is_now text (Ok tried) → GoesOn w.is_now w.want turns text tried → PutsOff d w turns old new
-put_off d w old new turns line text None same tried on = (on, inl tried.1)
-put_off d w old new turns line text (Some it) same tried on = (
+pub put_off : {D SR SW T : Type 0} (d : Dialing D SR SW) (w : Wishing) (old new : D) (turns : ℕ) (line : List ℕ) (text : T → List ℕ) (tried : Result (Client SR SW × T) Fault)
+    → line ≡ w.line turns → IsTried d old new w.socket (turns + GRACE) line text tried → GoesOn w.is_now w.want turns text tried → PutsOff d w turns old new
+put_off d w old new turns line text (Err fault) same (inl reached) on = (on.0, inl (fault, on.1, reached))
+put_off d w old new turns line text (Err fault) same (inr it) on = absurd (never_passes fault it.0 it.1 on.1)
+put_off d w old new turns line text (Ok it) same tried on = (
   on.0,
   inr (record {
     receive = tried.receive;
@@ -89,27 +96,55 @@ put_off d w old new turns line text (Some it) same tried on = (
 )
 
 -- and one more
-pub one_more_try : {D SR SW T : Type 0} (d : Dialing D SR SW) (w : Wishing) (first : ℕ) (old now new : D) (turns next : ℕ) (line : List ℕ) (text : T → List ℕ) (tried : Option (Client SR SW × T))
-    → IsAt d w first old now turns → line ≡ w.line turns → IsTried d now new w.socket (turns + GRACE) line w.is_now text (Ok tried) → GoesOn w.is_now w.want turns text tried → next ≤ turns
+pub one_more_try : {D SR SW T : Type 0} (d : Dialing D SR SW) (w : Wishing) (first : ℕ) (old now new : D) (turns next : ℕ) (line : List ℕ) (text : T → List ℕ) (tried : Result (Client SR SW × T) Fault)
+    → IsAt d w first old now turns → line ≡ w.line turns → IsTried d now new w.socket (turns + GRACE) line text tried → GoesOn w.is_now w.want turns text tried → next ≤ turns
     → IsAt d w first old new next
 one_more_try d w first old now new turns next line text tried at same came on fewer =
     record { before = turns ∷ at.before; tried = (now, at.tried, at.next, put_off d w now new turns line text tried same came on); next = fewer }
 
 -- ---- the end
 
+-- by a fault of the last try
+ends_by_fault : {D SR SW : Type 0} (d : Dialing D SR SW) (w : Wishing) (first : ℕ) (old between new : D) (turns : ℕ) (line : List ℕ)
+    (untouched : Type 0) (held holds : Option (List ℕ)) (fault : Fault)
+    → IsAt d w first old between turns → line ≡ w.line turns → has_lf line ≡ false
+    → (d.reaches between w.socket (turns + GRACE) (Err fault) new)
+    ⊎ ((error : AskError) × (fault ≡ Ask error) × OverOne d between new w.socket (turns + GRACE) (λ sent sends had has. IsBrokenOff sent sends had has line))
+    → untouched → holds ≡ held → WaitsOn d w first old new untouched held holds (Err (Failed fault))
+ends_by_fault d w first old between new turns line untouched held holds fault at same cut (inl reached) kept still = record {
+  between = between;
+  turns = turns;
+  at = at;
+  last = inr (inl (subst (λ l. has_lf l ≡ false) same cut, reached, kept));
+}
+ends_by_fault d w first old between new turns line untouched held holds fault at same cut (inr it) kept still = record {
+  between = between;
+  turns = turns;
+  at = at;
+  last = inr (inr (
+    subst (λ l. has_lf l ≡ false) same cut,
+    it.0,
+    it.1,
+    record {
+      receive = it.2.receive;
+      receives = it.2.receives;
+      send = it.2.send;
+      sends = it.2.sends;
+      reached = it.2.reached;
+      over = inl (subst (λ l. IsBrokenOff (d.contents it.2.send) (d.contents it.2.sends) (d.remaining it.2.receive) (d.remaining it.2.receives) l) same it.2.over, still);
+    },
+  ));
+}
+
 -- by the last try
 pub ends_by_try : {D SR SW T : Type 0} (d : Dialing D SR SW) (w : Wishing) (first : ℕ) (old between new : D) (turns : ℕ) (line : List ℕ) (text : T → List ℕ)
-    (untouched : Type 0) (held holds : Option (List ℕ)) (tried : Option (Client SR SW × T)) (result : Result ℕ Ending)
-    → IsAt d w first old between turns → line ≡ w.line turns → has_lf line ≡ false → IsTried d between new w.socket (turns + GRACE) line w.is_now text (Ok tried)
+    (untouched : Type 0) (held holds : Option (List ℕ)) (tried : Result (Client SR SW × T) Fault) (result : Result ℕ Ending)
+    → IsAt d w first old between turns → line ≡ w.line turns → has_lf line ≡ false → IsTried d between new w.socket (turns + GRACE) line text tried
     → EndsTry d.remaining d.contents w.is_quiet w.asks untouched held holds text tried result → WaitsOn d w first old new untouched held holds result
-ends_by_try d w first old between new turns line text untouched held holds None result at same cut came ends =
-    subst (λ r. WaitsOn d w first old new untouched held holds r) (sym ends.0) (record {
-      between = between;
-      turns = turns;
-      at = at;
-      last = inr (inl (subst (λ l. has_lf l ≡ false) same cut, came.1, ends.1));
-    })
-ends_by_try d w first old between new turns line text untouched held holds (Some it) (Ok status) at same cut came ends = record {
+ends_by_try d w first old between new turns line text untouched held holds (Err fault) result at same cut came ends =
+    subst (λ r. WaitsOn d w first old new untouched held holds r) (sym ends.0)
+    (ends_by_fault d w first old between new turns line untouched held holds fault at same cut came ends.1 ends.2)
+ends_by_try d w first old between new turns line text untouched held holds (Ok it) (Ok status) at same cut came ends = record {
   between = between;
   turns = turns;
   at = at;
@@ -133,9 +168,10 @@ ends_by_try d w first old between new turns line text untouched held holds (Some
     },
   );
 }
-ends_by_try d w first old between new turns line text untouched held holds (Some it) (Err (Refused _)) at same cut came ends = absurd ends
-ends_by_try d w first old between new turns line text untouched held holds (Some it) (Err (Stopped report)) at same cut came ends = absurd ends
-ends_by_try d w first old between new turns line text untouched held holds (Some it) (Err (Failed fault)) at same cut came ends = record {
+ends_by_try d w first old between new turns line text untouched held holds (Ok it) (Err (Refused _)) at same cut came ends = absurd ends
+ends_by_try d w first old between new turns line text untouched held holds (Ok it) (Err (Stopped report)) at same cut came ends = absurd ends
+ends_by_try d w first old between new turns line text untouched held holds (Ok it) (Err (Unreached hub)) at same cut came ends = absurd ends
+ends_by_try d w first old between new turns line text untouched held holds (Ok it) (Err (Failed fault)) at same cut came ends = record {
   between = between;
   turns = turns;
   at = at;
@@ -158,41 +194,6 @@ ends_by_try d w first old between new turns line text untouched held holds (Some
   ));
 }
 
--- by a fault of the last try
-pub ends_trying : {D SR SW T : Type 0} (d : Dialing D SR SW) (w : Wishing) (first : ℕ) (old between new : D) (turns : ℕ) (line : List ℕ) (text : T → List ℕ)
-    (untouched : Type 0) (held holds : Option (List ℕ)) (result : Result ℕ Ending) (ending : Ending)
-    → IsAt d w first old between turns → line ≡ w.line turns → has_lf line ≡ false → IsErrAnd result (λ it. it ≡ ending)
-    → IsTried d between new w.socket (turns + GRACE) line w.is_now text (Err ending) → untouched → holds ≡ held → WaitsOn d w first old new untouched held holds result
-ends_trying d w first old between new turns line text untouched held holds (Ok status) ending at same cut is came kept still = absurd is
-ends_trying d w first old between new turns line text untouched held holds (Err other) (Refused _) at same cut is came kept still = absurd came
-ends_trying d w first old between new turns line text untouched held holds (Err other) (Stopped report) at same cut is came kept still = absurd came
-ends_trying d w first old between new turns line text untouched held holds (Err other) (Failed fault) at same cut is (inl reached) kept still =
-    subst (λ e. WaitsOn d w first old new untouched held holds (Err e)) (sym is) (record {
-      between = between;
-      turns = turns;
-      at = at;
-      last = inr (inl (subst (λ l. has_lf l ≡ false) same cut, reached, kept));
-    })
-ends_trying d w first old between new turns line text untouched held holds (Err other) (Failed fault) at same cut is (inr it) kept still =
-    subst (λ e. WaitsOn d w first old new untouched held holds (Err e)) (sym is) (record {
-      between = between;
-      turns = turns;
-      at = at;
-      last = inr (inr (
-        subst (λ l. has_lf l ≡ false) same cut,
-        it.0,
-        it.1,
-        record {
-          receive = it.2.receive;
-          receives = it.2.receives;
-          send = it.2.send;
-          sends = it.2.sends;
-          reached = it.2.reached;
-          over = inl (subst (λ l. IsBrokenOff (d.contents it.2.send) (d.contents it.2.sends) (d.remaining it.2.receive) (d.remaining it.2.receives) l) same it.2.over, still);
-        },
-      ));
-    })
-
 -- without memory for a line
 pub ends_without_memory : {D SR SW : Type 0} (d : Dialing D SR SW) (w : Wishing) (first : ℕ) (old between : D) (turns : ℕ)
     (untouched : Type 0) (held holds : Option (List ℕ)) (result : Result ℕ Ending)
@@ -210,8 +211,8 @@ ends_without_memory d w first old between turns untouched held holds (Err other)
 
 -- quietly
 pub ends_quietly : {SR SW T : Type 0} (remaining : SR → Option (List ℕ)) (contents : SW → Option (List ℕ)) (is_quiet : Bool) (asks : Asking) (untouched : Type 0) (held : Option (List ℕ)) (text : T → List ℕ)
-    (tried : Option (Client SR SW × T)) (it : Client SR SW × T) (reply : List ℕ) (status : ℕ) (outcome : Outcome)
-    → tried ≡ Some it → text it.1 ≡ reply → is_quiet ≡ true → status ≡ status_of outcome → TellsOfWait reply (Some outcome)
+    (tried : Result (Client SR SW × T) Fault) (it : Client SR SW × T) (reply : List ℕ) (status : ℕ) (outcome : Outcome)
+    → tried ≡ Ok it → text it.1 ≡ reply → is_quiet ≡ true → status ≡ status_of outcome → TellsOfWait reply (Some outcome)
     → EndsTry remaining contents is_quiet asks untouched held held text tried (Ok status)
 ends_quietly remaining contents is_quiet asks untouched held text tried it reply status outcome came same quiet is told =
     let said : TellsOfWait (text it.1) (Some outcome) = subst (λ r. TellsOfWait r (Some outcome)) (sym same) told in
@@ -220,8 +221,8 @@ ends_quietly remaining contents is_quiet asks untouched held text tried it reply
 
 -- or with what is written
 pub ends_aloud : {SR SW T N : Type 0} (remaining : SR → Option (List ℕ)) (contents : SW → Option (List ℕ)) (is_quiet : Bool) (want : List ℕ) (name : N → List ℕ) (names items : List N)
-    (untouched : Type 0) (held holds : Option (List ℕ)) (text : T → List ℕ) (tried : Option (Client SR SW × T)) (it : Client SR SW × T) (client later : Client SR SW) (reply : List ℕ) (status : ℕ) (outcome : Outcome)
-    → tried ≡ Some it → it.0 ≡ client → text it.1 ≡ reply → names ≡ items → is_quiet ≡ false → status ≡ status_of outcome
+    (untouched : Type 0) (held holds : Option (List ℕ)) (text : T → List ℕ) (tried : Result (Client SR SW × T) Fault) (it : Client SR SW × T) (client later : Client SR SW) (reply : List ℕ) (status : ℕ) (outcome : Outcome)
+    → tried ≡ Ok it → it.0 ≡ client → text it.1 ≡ reply → names ≡ items → is_quiet ≡ false → status ≡ status_of outcome
     → IsEnded (contents client.sender) (contents later.sender) (remaining client.receiver) (remaining later.receiver) held holds reply (AsksAbout want name names) outcome
     → EndsTry remaining contents is_quiet (AsksAbout want name items) untouched held holds text tried (Ok status)
 ends_aloud remaining contents is_quiet want name names items untouched held holds text tried it client later reply status outcome came one same listed loud is ended =

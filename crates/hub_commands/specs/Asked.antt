@@ -18,7 +18,7 @@ use Rattle.hub_dialing.specs.Dialing.{Dialing, OverOne}
 use Rattle.hub_commands.specs.Notes.{reason_of}
 use Rattle.hub_endings.specs.declared.ending.BadWords.{BadWords}
 use Rattle.hub_endings.specs.declared.ending.Ending.{Ending}
-use Rattle.hub_endings.specs.declared.ending.Ending.TheVariants.{Refused, Stopped, Failed}
+use Rattle.hub_endings.specs.declared.ending.Ending.TheVariants.{Refused, Stopped, Unreached, Failed}
 use Rattle.hub_endings.specs.declared.fault.Fault.TheVariants.{Memory, Ask}
 
 -- ---- one request
@@ -58,6 +58,7 @@ DoesWith d old new socket n notes note refuses goes fails (Ok status) =
     (outcome : Outcome) × (status ≡ status_of outcome) × OverOne d old new socket ANSWER (Told n notes note (goes outcome))
 DoesWith d old new socket n notes note refuses goes fails (Err (Refused words)) = refuses words × (new ≡ old) × (note ≡ notes)
 DoesWith d old new socket n notes note refuses goes fails (Err (Stopped report)) = ⊥
+DoesWith d old new socket n notes note refuses goes fails (Err (Unreached hub)) = ⊥
 DoesWith d old new socket n notes note refuses goes fails (Err (Failed fault)) =
     ((fault ≡ Memory) × (new ≡ old) × (note ≡ notes))
     ⊎ ((d.reaches old socket ANSWER (Err fault) new × (note ≡ notes))

@@ -13,7 +13,7 @@ use Rattle.hub_commands.specs.Hints.{Hints, refusal_of}
 use Rattle.hub_endings.specs.declared.ending.BadWords.{BadWords}
 use Rattle.hub_endings.specs.declared.ending.BadWords.TheVariants as bad
 use Rattle.hub_endings.specs.declared.ending.Ending.{Ending}
-use Rattle.hub_endings.specs.declared.ending.Ending.TheVariants.{Refused, Stopped, Failed}
+use Rattle.hub_endings.specs.declared.ending.Ending.TheVariants.{Refused, Stopped, Unreached, Failed}
 use Rattle.hub_endings.specs.declared.fault.Fault.{Fault}
 use Rattle.hub_endings.specs.declared.fault.Fault.TheVariants.{Memory, Ask}
 use Rattle.hub_protocol.specs.Replies.{IsOfHub}
@@ -40,6 +40,7 @@ Ends d old new socket millis line refuses untouched goes fails (Ok status) =
     (has_lf line ≡ false) × (outcome : Outcome) × (status ≡ status_of outcome) × OverOne d old new socket millis (goes outcome)
 Ends d old new socket millis line refuses untouched goes fails (Err (Refused words)) = refuses words × (new ≡ old) × untouched
 Ends d old new socket millis line refuses untouched goes fails (Err (Stopped report)) = ⊥
+Ends d old new socket millis line refuses untouched goes fails (Err (Unreached hub)) = ⊥
 Ends d old new socket millis line refuses untouched goes fails (Err (Failed fault)) =
     Fails d old new socket millis line untouched fails fault
 

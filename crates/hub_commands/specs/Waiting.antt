@@ -21,8 +21,10 @@ use Rattle.hub_endings.specs.Words.{IsLimit}
 use Rattle.hub_endings.specs.declared.ending.BadWords.{BadWords}
 use Rattle.hub_endings.specs.declared.ending.BadWords.TheVariants as bad
 use Rattle.hub_endings.specs.declared.ending.Ending.{Ending}
-use Rattle.hub_endings.specs.declared.ending.Ending.TheVariants.{Refused, Stopped, Failed}
-use Rattle.hub_endings.specs.declared.fault.Fault.TheVariants.{Memory, Connect, Ask}
+use Rattle.hub_endings.specs.declared.ending.Ending.TheVariants.{Refused, Stopped, Unreached, Failed}
+use Rattle.hub_endings.specs.declared.fault.Fault.TheVariants.{Memory, Reach, Ask}
+use Rattle.hub_endings.specs.declared.fault.Fault.{Fault}
+use Rattle.hub_endings.specs.Reaching.{is_absence}
 
 -- ---- its words
 
@@ -75,14 +77,11 @@ pub record IsReplied {D SR SW : Type 0} (d : Dialing D SR SW) (old new : D) (soc
   pub reached : d.reaches old socket millis (Ok (receive, send)) new
   pub answered : IsAnswered (d.contents send) (d.contents client.sender) (d.remaining receive) (d.remaining client.receiver) line reply
 
--- A try: a reply came, or there was no hub, or it went wrong; `text` gives the bytes of a reply.
-abbrev pub IsTried : {D SR SW T : Type 0} → Dialing D SR SW → (old new : D) → (socket : List ℕ) → (millis : ℕ) → (line : List ℕ) → (is_now : Bool) → (text : T → List ℕ)
-    → Result (Option (Client SR SW × T)) Ending → Type 0
-IsTried d old new socket millis line is_now text (Ok None) = (is_now ≡ false) × d.reaches old socket millis (Err Connect) new
-IsTried d old new socket millis line is_now text (Ok (Some it)) = IsReplied d old new socket millis line it.0 (text it.1)
-IsTried d old new socket millis line is_now text (Err (Refused _)) = ⊥
-IsTried d old new socket millis line is_now text (Err (Stopped report)) = ⊥
-IsTried d old new socket millis line is_now text (Err (Failed fault)) = d.reaches old socket millis (Err fault) new
+-- A try: a reply came, or there was a fault; `text` gives the bytes of a reply.
+abbrev pub IsTried : {D SR SW T : Type 0} → Dialing D SR SW → (old new : D) → (socket : List ℕ) → (millis : ℕ) → (line : List ℕ) → (text : T → List ℕ)
+    → Result (Client SR SW × T) Fault → Type 0
+IsTried d old new socket millis line text (Ok it) = IsReplied d old new socket millis line it.0 (text it.1)
+IsTried d old new socket millis line text (Err fault) = d.reaches old socket millis (Err fault) new
     ⊎ ((error : AskError) × (fault ≡ Ask error) × OverOne d old new socket millis (λ sent sends had has. IsBrokenOff sent sends had has line))
 
 -- A name that isn't made is waited for. After `late` a wait goes on only if it was one of the longest, and not for a restart.
@@ -94,17 +93,22 @@ MayDelay want turns Late = (turns ≡ MOST_TURNS) × (IsRestart want → ⊥)
 abbrev pub Delays : (want : List ℕ) → (turns : ℕ) → (reply : List ℕ) → Type 0
 Delays want turns reply = (delay : Delay) × (reply ≡ text_of (reply_of delay)) × MayDelay want turns delay
 
+-- a fault that isn't the end of a wait: no hub is there yet, or it has no room
+abbrev pub IsPassing : Fault → Type 0
+IsPassing (Reach why) = is_absence why ≡ true
+IsPassing other = ⊥
+
 -- the wait goes on after this
-abbrev pub GoesOn : {C T : Type 0} → (is_now : Bool) → (want : List ℕ) → (turns : ℕ) → (text : T → List ℕ) → Option (C × T) → Type 0
-GoesOn is_now want turns text None = is_now ≡ false
-GoesOn is_now want turns text (Some it) = (is_now ≡ false) × Delays want turns (text it.1)
+abbrev pub GoesOn : {C T : Type 0} → (is_now : Bool) → (want : List ℕ) → (turns : ℕ) → (text : T → List ℕ) → Result (C × T) Fault → Type 0
+GoesOn is_now want turns text (Ok it) = (is_now ≡ false) × Delays want turns (text it.1)
+GoesOn is_now want turns text (Err fault) = (is_now ≡ false) × IsPassing fault
 
 -- ---- the tries
 
 -- A try with so many turns that came to nothing yet, since the wait isn't to end at once: no hub was there, or its reply isn't the end.
 abbrev pub PutsOff : {D SR SW : Type 0} → Dialing D SR SW → Wishing → (turns : ℕ) → (old new : D) → Type 0
 PutsOff d w turns old new = (w.is_now ≡ false)
-    × (d.reaches old w.socket (turns + GRACE) (Err Connect) new
+    × (((fault : Fault) × IsPassing fault × d.reaches old w.socket (turns + GRACE) (Err fault) new)
     ⊎ OverOne d old new w.socket (turns + GRACE) (λ sent sends had has. (reply : List ℕ) × IsAnswered sent sends had has (w.line turns) reply × Delays w.want turns reply))
 
 -- the first line has all turns, and each other one no more than the one before it
@@ -138,12 +142,12 @@ EndsInVain true held holds reply error = (error ≡ ask.Unknown) × TellsOfWait 
 
 -- how a wait ended after this try; `text` gives the bytes of a reply
 abbrev pub EndsTry : {SR SW T : Type 0} → (remaining : SR → Option (List ℕ)) → (contents : SW → Option (List ℕ)) → (is_quiet : Bool) → Asking → (untouched : Type 0)
-    → (held holds : Option (List ℕ)) → (text : T → List ℕ) → Option (Client SR SW × T) → Result ℕ Ending → Type 0
-EndsTry remaining contents is_quiet asks untouched held holds text None result = (result ≡ Err (Failed Connect)) × untouched
-EndsTry {SR} {SW} remaining contents is_quiet asks untouched held holds text (Some it) (Ok status) = (outcome : Outcome) × (status ≡ status_of outcome)
+    → (held holds : Option (List ℕ)) → (text : T → List ℕ) → Result (Client SR SW × T) Fault → Result ℕ Ending → Type 0
+EndsTry remaining contents is_quiet asks untouched held holds text (Err fault) result = (result ≡ Err (Failed fault)) × untouched × (holds ≡ held)
+EndsTry {SR} {SW} remaining contents is_quiet asks untouched held holds text (Ok it) (Ok status) = (outcome : Outcome) × (status ≡ status_of outcome)
     × (later : Client SR SW) × EndsSo is_quiet (contents it.0.sender) (contents later.sender) (remaining it.0.receiver) (remaining later.receiver) held holds (text it.1) asks outcome
-EndsTry remaining contents is_quiet asks untouched held holds text (Some it) (Err (Failed fault)) = (error : AskError) × (fault ≡ Ask error) × EndsInVain is_quiet held holds (text it.1) error
-EndsTry remaining contents is_quiet asks untouched held holds text (Some it) other = ⊥
+EndsTry remaining contents is_quiet asks untouched held holds text (Ok it) (Err (Failed fault)) = (error : AskError) × (fault ≡ Ask error) × EndsInVain is_quiet held holds (text it.1) error
+EndsTry remaining contents is_quiet asks untouched held holds text (Ok it) other = ⊥
 
 -- the last line was sent once, and so the wait ended: sends' and has' are the streams between the reply and the questions
 pub record GoesSo (w : Wishing) (turns : ℕ) (sent sends had has held holds : Option (List ℕ)) (outcome : Outcome) : Type 0 where
@@ -180,6 +184,7 @@ EndsBefore w limit (Ok status) = ⊥
 EndsBefore w limit (Err (Refused words)) = (IsRestart w.want × IsLong limit × (words ≡ bad.Restart))
     ⊎ ((has_lf (w.line (turns_by limit)) ≡ true) × (words ≡ bad.Name))
 EndsBefore w limit (Err (Stopped report)) = ⊥
+EndsBefore w limit (Err (Unreached hub)) = ⊥
 EndsBefore w limit (Err (Failed fault)) = fault ≡ Memory
 
 -- a wait with this limit

@@ -6,7 +6,7 @@ ghost use Rattle.hub_requests.specs.declared.bounds.TheConstants.{MOST_TURNS};
 ghost use Rattle.hub_ask.specs.declared.waiting.TheConstants.{GRACE};
 ghost use Rattle.hub_client.specs.Passing.{has_lf};
 ghost use Rattle.hub_dialing.specs.Dialing.{dialing};
-ghost use Rattle.hub_commands.specs.Waiting.{Begins, EndsTry, GoesOn, IsRestart, IsTried, WaitsAsTold, WaitsOn, wishing};
+ghost use Rattle.hub_commands.specs.Waiting.{Begins, Delays, EndsTry, GoesOn, IsRestart, IsTried, WaitsAsTold, WaitsOn, wishing};
 
 use crate::saying::Sayings;
 use hub_ask::{
@@ -58,7 +58,26 @@ fn first_turns(limit: Option<u64>, want: &str) -> Result<u64, Ending>
     Ok(millis.min(MOST_TURNS))
 }
 
-// Connects once, and sends the line. None if there is no hub yet.
+/// What came of one try: a reply to the line, or a fault.
+type Tried<SR, SW> = Result<(Client<SR, SW>, Vec<u8>), Fault>;
+
+// Connects, and with `is_now` goes on trying to while the hub has no room.
+fn reach<D: Dial>(
+    dialer: &mut D,
+    socket: &str,
+    is_now: bool,
+    millis: u64,
+) -> Result<(D::Receiver, D::Sender), Fault>
+    ensures { D.reaches dialer.old socket.now millis result dialer.new }
+{
+    if is_now {
+        dialer.dial(socket, millis)
+    } else {
+        dialer.dial_at_once(socket, millis)
+    }
+}
+
+// Connects once, and sends the line.
 fn try_once<H: Wait, D: Dial>(
     rt: &H,
     alloc: Global,
@@ -67,50 +86,46 @@ fn try_once<H: Wait, D: Dial>(
     is_now: bool,
     line: &Line,
     turns: u64,
-) -> Result<Option<(Client<D::Receiver, D::Sender>, Vec<u8>)>, Ending>
+) -> Tried<D::Receiver, D::Sender>
     requires { turns ≤ MOST_TURNS }
     ensures { IsTried (dialing D.reaches D.Receiver.remaining D.Sender.contents)
-        dialer.old dialer.new socket.now (turns + GRACE) (bytes_of line.now) is_now
+        dialer.old dialer.new socket.now (turns + GRACE) (bytes_of line.now)
         (λ reply. reply.items) result }
 {
-    let millis = turns + GRACE;
-    let reached = if is_now {
-        Some(dialer.dial(socket, millis)?)
-    } else {
-        dialer.dial_at_once(socket, millis)?
-    };
-    let Some((receiver, sender)) = reached else {
-        return Ok(None);
-    };
+    let (receiver, sender) = reach(dialer, socket, is_now, turns + GRACE)?;
     let mut client = Client::new(receiver, sender);
     let reply = client.send(rt, alloc, line)?;
-    Ok(Some((client, reply)))
+    Ok((client, reply))
+}
+
+// For what a wait goes on after this reply to a line of so many turns. None if it is the end of the wait.
+fn delay_after(reply: &[u8], want: &str, turns: u64) -> Option<Delay>
+    ensures { IfSome result (λ _. Delays want.now turns reply.now) }
+{
+    match delay_of(reply)? {
+        hub_ask::Delay::Missing => Some(Delay::Names),
+        hub_ask::Delay::Late => {
+            if turns == MOST_TURNS && !is_restart(want) {
+                Some(Delay::Time)
+            } else {
+                None
+            }
+        }
+    }
 }
 
 // For what a wait goes on after this try of so many turns. None if that was its last one.
-fn goes_on<SR, SW>(
-    tried: &Option<(Client<SR, SW>, Vec<u8>)>,
-    wish: &Wish<'_>,
-    turns: u64,
-) -> Option<Delay>
+fn goes_on<SR, SW>(tried: &Tried<SR, SW>, wish: &Wish<'_>, turns: u64) -> Option<Delay>
     ensures { IfSome result (λ _. GoesOn wish.now.is_now wish.now.want.now turns
         (λ reply. reply.items) tried.now) }
 {
     if wish.is_now {
         return None;
     }
-    let Some((_, reply)) = tried else {
-        return Some(Delay::Hub);
-    };
-    match delay_of(reply)? {
-        hub_ask::Delay::Missing => Some(Delay::Names),
-        hub_ask::Delay::Late => {
-            if turns == MOST_TURNS && !is_restart(wish.want) {
-                Some(Delay::Time)
-            } else {
-                None
-            }
-        }
+    match tried {
+        Ok((_, reply)) => delay_after(reply, wish.want, turns),
+        Err(Fault::Reach(why)) if why.is_absence() => Some(Delay::Hub),
+        Err(_) => None,
     }
 }
 
@@ -128,11 +143,11 @@ fn next_turns<C: Clock>(clock: &C, deadline: &Option<Deadline>, turns: u64) -> O
     Some(u64::try_from(left.as_millis()).unwrap_or(turns).min(turns))
 }
 
-// Ends a wait by this try: by its reply, or without a hub.
+// Ends a wait by this try: by its reply, or its fault.
 fn end<H: Wait, SR: Replies + Drop, SW: Requests + Drop, W: Sink, F: Sink>(
     rt: &H,
     alloc: Global,
-    tried: Option<(Client<SR, SW>, Vec<u8>)>,
+    tried: Tried<SR, SW>,
     wish: &Wish<'_>,
     output: &mut W,
     notes: &mut F,
@@ -144,8 +159,9 @@ fn end<H: Wait, SR: Replies + Drop, SW: Requests + Drop, W: Sink, F: Sink>(
     ensures quiet { wish.now.is_quiet ≡ true
         → (output.new ≡ output.old) × (notes.new ≡ notes.old) }
 {
-    let Some((mut client, reply)) = tried else {
-        return Err(Ending::Failed(Fault::Connect));
+    let (mut client, reply) = match tried {
+        Ok(both) => both,
+        Err(fault) => return Err(Ending::Failed(fault)),
     };
     if wish.is_quiet {
         let outcome = Outcome::of_wait(&reply).ok_or(AskError::Unknown)?;
@@ -184,7 +200,7 @@ fn wait_on<H: Wait + Clock, D: Dial, W: Sink, F: Sink>(
         let Some(line) = wait_line(alloc, wish.span, wish.want, turns, names)? else {
             unreachable!()
         };
-        let tried = try_once(rt, alloc, dialer, socket, wish.is_now, &line, turns)?;
+        let tried = try_once(rt, alloc, dialer, socket, wish.is_now, &line, turns);
         let Some((delay, next)) = next_try(rt, &tried, wish, deadline, turns) else {
             return end(rt, alloc, tried, wish, output, notes);
         };
@@ -197,7 +213,7 @@ fn wait_on<H: Wait + Clock, D: Dial, W: Sink, F: Sink>(
 // For what the next try has to wait, and how many turns its line has. None if there is no next one.
 fn next_try<C: Clock, SR, SW>(
     clock: &C,
-    tried: &Option<(Client<SR, SW>, Vec<u8>)>,
+    tried: &Tried<SR, SW>,
     wish: &Wish<'_>,
     deadline: &Option<Deadline>,
     turns: u64,

@@ -1,6 +1,14 @@
 -- How a hub is reached.
-use Rattle.std.specs.Prelude.{ℕ, List, Option, Result, Ok}
+use Rattle.std.specs.Prelude.{⊤, ℕ, List, Option, Result, Ok}
+use Rattle.hub_ask.specs.declared.fault.AskError.TheVariants.{NoAnswer}
 use Rattle.hub_endings.specs.declared.fault.Fault.{Fault}
+use Rattle.hub_endings.specs.declared.fault.Fault.TheVariants.{Reach, Ask}
+
+-- it couldn't connect, or not in time
+abbrev pub IsUnreached : Fault → Type 0
+IsUnreached (Reach why) = ⊤
+IsUnreached (Ask NoAnswer) = ⊤
+IsUnreached other = ⊥
 
 -- how a dialer reaches a hub: the dialer before, the path of the socket, the milliseconds, the two halves of a connection or a
 -- fault, the dialer after

@@ -1,17 +1,15 @@
 //! A connection to a server, which ends by a time.
-ghost use Rattle.std.specs.Prelude.{◌≡◌, ◌⊎◌, IfErr};
-ghost use Rattle.hub_ask.specs.declared.fault.AskError.TheVariants as ask;
-ghost use Rattle.hub_endings.specs.declared.fault.Fault.TheVariants as fault;
+ghost use Rattle.std.specs.Prelude.{IfErr};
+ghost use Rattle.hub_dialing.specs.Dialing.{IsUnreached};
 
 use crate::tie::Connection;
 use hub_ask::{AskError, Bounded, Deadline, Timed, halves};
-use hub_endings::Fault;
-use std::io::ErrorKind;
+use hub_endings::{Fault, ReachFault};
 use std::net::Net;
 use std::os::unix::net::UnixStream;
 use std::rt::Clock;
 use std::time::Duration;
-use std::{io, thread};
+use std::thread;
 
 /// How many milliseconds pass before another try, if the server has no room for one more connection.
 const PAUSE: u64 = 10;
@@ -19,8 +17,8 @@ const PAUSE: u64 = 10;
 /// The most tries. The longest time of a request ends before.
 const TRIES: u64 = 1_000_000;
 
-// Connects, and fails with `WouldBlock` if the server has no room for one more connection: a blocking connect would wait for it.
-fn connect_now<H: Net>(rt: &H, socket: &str) -> io::Result<UnixStream> {
+// Connects, and fails with `Full` if the server has no room for one more connection: a blocking connect would wait for it.
+fn connect_now<H: Net>(rt: &H, socket: &str) -> Result<UnixStream, ReachFault> {
     let connection = UnixStream::from(mio::net::UnixStream::connect(rt, socket)?);
     connection.set_nonblocking(false)?;
     Ok(connection)
@@ -32,13 +30,13 @@ fn connect_by<H: Net + Clock>(
     socket: &str,
     deadline: &Deadline,
 ) -> Result<UnixStream, Fault>
-    ensures { IfErr result (λ it. (it ≡ fault.Connect) ⊎ (it ≡ fault.Ask ask.NoAnswer)) }
+    ensures { IfErr result IsUnreached }
 {
     'tries: for _ in 0..TRIES {
         match connect_now(rt, socket) {
             Ok(connection) => return Ok(connection),
-            Err(error) if error.kind() != ErrorKind::WouldBlock => return Err(Fault::Connect),
-            Err(_) => {}
+            Err(ReachFault::Full) => {}
+            Err(why) => return Err(Fault::Reach(why)),
         }
         let Some(left) = deadline.left(rt) else {
             break;
@@ -49,41 +47,30 @@ fn connect_by<H: Net + Clock>(
 }
 
 /// Connects to the server at the socket, and returns the two halves of the connection: for its replies and for requests. They end
-/// so many milliseconds after the call began. The error is `Connect`, or the one of no answer if it can't connect in time.
+/// so many milliseconds after the call began. The error says why it can't connect, or is the one of no answer if it can't in time.
 pub fn connect<H: Net + Clock + Copy>(
     rt: &H,
     socket: &str,
     millis: u64,
 ) -> Result<(Bounded<Timed<H>>, Timed<H>), Fault>
-    ensures { IfErr result (λ it. (it ≡ fault.Connect) ⊎ (it ≡ fault.Ask ask.NoAnswer)) }
+    ensures { IfErr result IsUnreached }
 {
     let deadline = Deadline::after(rt, millis);
     let connection = connect_by(rt, socket, &deadline)?;
     split(rt, &connection, deadline)
 }
 
-// Whether a server may be there later, though there is none now, or it has no room for one more connection.
-fn is_absent(kind: ErrorKind) -> bool {
-    matches!(
-        kind,
-        ErrorKind::NotFound | ErrorKind::ConnectionRefused | ErrorKind::WouldBlock
-    )
-}
-
-/// Connects as [`connect`] does, if that can be done at once. None if no server is there yet, or it has no room for one more connection.
+/// Connects as [`connect`] does, if that can be done at once.
 pub(crate) fn connect_at_once<H: Net + Clock + Copy>(
     rt: &H,
     socket: &str,
     millis: u64,
-) -> Result<Option<(Bounded<Timed<H>>, Timed<H>)>, Fault>
-    ensures { IfErr result (λ it. it ≡ fault.Connect) }
+) -> Result<(Bounded<Timed<H>>, Timed<H>), Fault>
+    ensures { IfErr result IsUnreached }
 {
     let deadline = Deadline::after(rt, millis);
-    match connect_now(rt, socket) {
-        Ok(connection) => Ok(Some(split(rt, &connection, deadline)?)),
-        Err(error) if is_absent(error.kind()) => Ok(None),
-        Err(_) => Err(Fault::Connect),
-    }
+    let connection = connect_now(rt, socket)?;
+    split(rt, &connection, deadline)
 }
 
 // The two halves of the connection.
@@ -92,11 +79,11 @@ fn split<H: Clock + Copy>(
     connection: &UnixStream,
     deadline: Deadline,
 ) -> Result<(Bounded<Timed<H>>, Timed<H>), Fault>
-    ensures { IfErr result (λ it. it ≡ fault.Connect) }
+    ensures { IfErr result IsUnreached }
 {
     match halves(*rt, connection, deadline) {
         Ok(both) => Ok(both),
-        Err(_) => Err(Fault::Connect),
+        Err(error) => Err(Fault::Reach(ReachFault::from(error))),
     }
 }
 
@@ -106,14 +93,14 @@ pub(crate) fn connect_tied<H: Net + Clock + Copy>(
     socket: &str,
     millis: u64,
 ) -> Result<((Bounded<Timed<H>>, Timed<H>), Connection), Fault>
-    ensures { IfErr result (λ it. (it ≡ fault.Connect) ⊎ (it ≡ fault.Ask ask.NoAnswer)) }
+    ensures { IfErr result IsUnreached }
 {
     let deadline = Deadline::after(rt, millis);
     let tied = connect_by(rt, socket, &deadline)?;
     let both = split(rt, &tied, deadline)?;
     match tied.try_clone() {
         Ok(clone) => Ok((both, Connection::new(clone))),
-        Err(_) => Err(Fault::Connect),
+        Err(error) => Err(Fault::Reach(ReachFault::from(error))),
     }
 }
 

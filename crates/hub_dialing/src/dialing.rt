@@ -1,8 +1,8 @@
 //! How a hub is reached.
-ghost use Rattle.std.specs.Prelude.{◌≡◌, ◌⊎◌, ℕ, List, Result, Ok, Err, IfOk, IfErr, IfSome, IfNone};
-ghost use Rattle.hub_ask.specs.declared.fault.AskError.TheVariants as ask;
+ghost use Rattle.std.specs.Prelude.{◌≡◌, ℕ, List, Result, Ok, Err, IfOk, IfErr};
 ghost use Rattle.hub_endings.specs.declared.fault.Fault.{Fault as fault_of};
 ghost use Rattle.hub_endings.specs.declared.fault.Fault.TheVariants as fault;
+ghost use Rattle.hub_dialing.specs.Dialing.{IsUnreached};
 
 use crate::connecting::{connect, connect_at_once, connect_tied, connection_at};
 use crate::tie::{Connection, Tie};
@@ -30,18 +30,13 @@ pub trait Dial {
     fn dial(&mut self, socket: &str, millis: u64) -> Result<(Self::Receiver, Self::Sender), Fault>
         ensures { reaches self.old socket.now millis result self.new };
 
-    /// Connects as `dial` does, if that can be done at once. None if no hub is there yet, or it has no room: this is as a call of
-    /// `dial` that failed to connect.
+    /// Connects as `dial` does, if that can be done at once.
     fn dial_at_once(
         &mut self,
         socket: &str,
         millis: u64,
-    ) -> Result<Option<(Self::Receiver, Self::Sender)>, Fault>
-        ensures some { IfOk result (λ it. IfSome it
-            (λ both. reaches self.old socket.now millis (Ok both) self.new)) }
-        ensures none { IfOk result (λ it. IfNone it
-            (reaches self.old socket.now millis (Err fault.Connect) self.new)) }
-        ensures err { IfErr result (λ it. reaches self.old socket.now millis (Err it) self.new) };
+    ) -> Result<(Self::Receiver, Self::Sender), Fault>
+        ensures { reaches self.old socket.now millis result self.new };
 
     /// What sees whether a hub still has its end of a connection.
     type Tie: Tie + Drop;
@@ -88,8 +83,7 @@ impl<H: Net + Clock + Copy> Dial for Dialer<H> {
 
     type Sender = Timed<H>;
 
-    ghost reaches = { λ old _ _ both new. (new ≡ old)
-        × IfErr both (λ it. (it ≡ fault.Connect) ⊎ (it ≡ fault.Ask ask.NoAnswer)) };
+    ghost reaches = { λ old _ _ both new. (new ≡ old) × IfErr both IsUnreached };
 
     fn dial(&mut self, socket: &str, millis: u64) -> Result<(Bounded<Timed<H>>, Timed<H>), Fault> {
         connect(&self.rt, socket, millis)
@@ -99,7 +93,7 @@ impl<H: Net + Clock + Copy> Dial for Dialer<H> {
         &mut self,
         socket: &str,
         millis: u64,
-    ) -> Result<Option<(Bounded<Timed<H>>, Timed<H>)>, Fault> {
+    ) -> Result<(Bounded<Timed<H>>, Timed<H>), Fault> {
         connect_at_once(&self.rt, socket, millis)
     }
 

@@ -4,7 +4,7 @@ use Rattle.std.specs.Fmt.{decimal}
 use Rattle.hub_ask.specs.Faults.{ask_text}
 use Rattle.hub_client.specs.Faults.{relay_text}
 use Rattle.hub_endings.specs.declared.fault.Fault.{Fault}
-use Rattle.hub_endings.specs.declared.fault.Fault.TheVariants.{Listen, Taken, Notify, Setup, SetupLine, Lost, Look, Accept, Connect, Memory, Script, Serve, Session, Relay, Ask}
+use Rattle.hub_endings.specs.declared.fault.Fault.TheVariants.{Listen, Taken, Notify, Setup, SetupLine, Lost, Look, Accept, Connect, Reach, Memory, Script, Serve, Session, Relay, Ask}
 use Rattle.hub_endings.specs.declared.listen_fault.ListenFault.{ListenFault}
 use Rattle.hub_endings.specs.declared.listen_fault.ListenFault.TheVariants as listening
 use Rattle.hub_endings.specs.declared.listen_fault.ListenFault.TheVariants.{Untold, NoFolder, NotFolder, Denied, Empty, Long, Another, Lock, Names, Shared, Umask, ReadOnly, Space}
@@ -17,6 +17,7 @@ use Rattle.hub_io.specs.declared.fault.FrontError.{FrontError}
 use Rattle.hub_io.specs.declared.fault.FrontError.TheVariants as passing
 use Rattle.hub_reports.specs.Reports.{serve_text}
 use Rattle.hub_requests.specs.Texts.{word_of}
+use Rattle.hub_endings.specs.Reaching.{reach_text}
 use Rattle.hub_endings.specs.declared.refused_line.RefusedLine.{RefusedLine}
 
 -- the text of a line that was refused
@@ -76,6 +77,7 @@ text_of Lost = codes "socket file lost"
 text_of (Look fault) = look_fault_text fault
 text_of Accept = codes "cannot accept"
 text_of Connect = codes "cannot connect"
+text_of (Reach why) = codes "cannot connect: " ++ reach_text why
 text_of Memory = fault_text passing.Memory
 text_of (Script fault) = fault_text fault
 text_of (Serve fault) = serve_text fault

@@ -1,3 +1,4 @@
+pub mod Reaching
 pub mod Faults
 pub mod HubLines
 pub mod BadWords

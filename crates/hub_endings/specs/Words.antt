@@ -7,7 +7,7 @@ use Rattle.hub_client.specs.Passing.{has_lf}
 use Rattle.hub_endings.specs.declared.ending.BadWords.{BadWords}
 use Rattle.hub_endings.specs.declared.ending.BadWords.TheVariants as bad
 use Rattle.hub_endings.specs.declared.ending.Ending.{Ending}
-use Rattle.hub_endings.specs.declared.ending.Ending.TheVariants.{Refused, Stopped, Failed}
+use Rattle.hub_endings.specs.declared.ending.Ending.TheVariants.{Refused, Stopped, Unreached, Failed}
 use Rattle.hub_endings.specs.declared.fault.Fault.TheVariants.{Memory}
 
 -- whether one of these words has an LF; text gives the bytes of a word
@@ -30,6 +30,7 @@ IsLimitOf duration (Ok None) = ⊥
 IsLimitOf duration (Ok (Some millis)) = SpellsDuration duration millis × (millis ≤ MOST_MILLIS)
 IsLimitOf duration (Err (Refused words)) = IsNoDuration duration × NamesDuration duration words
 IsLimitOf duration (Err (Stopped report)) = ⊥
+IsLimitOf duration (Err (Unreached hub)) = ⊥
 IsLimitOf duration (Err (Failed fault)) = IsNoDuration duration × (fault ≡ Memory)
 
 -- those of the duration that is told, or none if none is told; text gives its bytes

@@ -6,6 +6,8 @@ ghost use Rattle.hub_endings.specs.declared.ending.Ending.TheVariants.{Failed};
 ghost use Rattle.hub_endings.specs.declared.fault.Fault.TheVariants as fault;
 
 use crate::fault::Fault;
+use crate::line::tell_line;
+use crate::reach_fault::Unreached;
 use crate::stopped::tell_faults;
 use hub_ask::AskError;
 use hub_io::FrontError;
@@ -64,6 +66,8 @@ pub enum Ending {
     Refused(BadWords),
     /// A session of `serve` stopped, or an accept failed.
     Stopped(Report),
+    /// The hub that was to be asked couldn't be reached.
+    Unreached(Unreached),
     /// A fault came before it was done.
     Failed(Fault),
 }
@@ -77,6 +81,7 @@ pub fn tell_end<W: Write>(alloc: Global, ended: &Result<u8, Ending>, out: &mut W
         Ok(_) => Ok(()),
         Err(Ending::Refused(words)) => writeln!(out, "ftrighub: {words}"),
         Err(Ending::Stopped(report)) => tell_faults(alloc, report, out),
+        Err(Ending::Unreached(hub)) => tell_line(alloc, hub, out),
         Err(Ending::Failed(fault)) => fault.tell(alloc, out),
     }
 }
@@ -88,7 +93,7 @@ pub fn end_status(ended: &Result<u8, Ending>) -> u8
     match ended {
         Ok(status) => *status,
         Err(Ending::Refused(_)) => 2,
-        Err(Ending::Stopped(_) | Ending::Failed(_)) => 1,
+        Err(Ending::Stopped(_) | Ending::Unreached(_) | Ending::Failed(_)) => 1,
     }
 }
 

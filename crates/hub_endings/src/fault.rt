@@ -7,6 +7,7 @@ ghost use Rattle.hub_endings.specs.declared.fault.Fault.TheVariants as fault;
 use crate::line::tell_line;
 use crate::listen_fault::ListenFault;
 use crate::look_fault::LookFault;
+use crate::reach_fault::ReachFault;
 use crate::refused_line::RefusedLine;
 use hub_ask::AskError;
 use hub_client::RelayError;
@@ -36,8 +37,10 @@ pub enum Fault {
     Look(LookFault),
     /// A connection was expected, and accepting it failed.
     Accept,
-    /// The connection to a server at the socket couldn't be made.
+    /// The connection of a call to a server at the socket couldn't be made.
     Connect,
+    /// The connection of a command to a hub couldn't be made.
+    Reach(ReachFault),
     /// Memory ran out before the first session.
     Memory,
     /// The session of `script` stopped, or a text such as `--help` couldn't be printed.
@@ -66,6 +69,7 @@ impl fmt::Display for Fault {
             Fault::Accept => "cannot accept",
             Fault::Connect => "cannot connect",
             Fault::Listen(fault) => return fault.fmt(f),
+            Fault::Reach(why) => return write!(f, "cannot connect: {why}"),
             Fault::SetupLine(line) => return line.fmt(f),
             Fault::Look(fault) => return fault.fmt(f),
             Fault::Memory => return FrontError::Memory.fmt(f),
@@ -116,6 +120,14 @@ impl From<ListenFault> for Fault {
 
     fn from(error: ListenFault) -> Fault {
         Fault::Listen(error)
+    }
+}
+
+impl From<ReachFault> for Fault {
+    ghost from_gives = { λ error it. it ≡ fault.Reach error };
+
+    fn from(error: ReachFault) -> Fault {
+        Fault::Reach(error)
     }
 }
 

@@ -1,5 +1,5 @@
 -- What the program does with a plan.
-use Rattle.std.specs.Prelude.{◌≡◌, ◌⊎◌, ℕ, List, All, IsOk, IfOk, IfErr, true, false, Result, Ok, Err}
+use Rattle.std.specs.Prelude.{◌≡◌, ◌⊎◌, ℕ, List, All, IsOk, IfOk, IfErr, true, false, Option, None, Some, Result, Ok, Err}
 use Rattle.hub_arguments.specs.declared.command_line.Plan.{Plan}
 use Rattle.hub_arguments.specs.declared.command_line.Plan.TheVariants as plan
 use Rattle.hub_ask.specs.Lines.{joined}
@@ -14,9 +14,10 @@ use Rattle.hub_commands.specs.Telling.{TellsAsTold}
 use Rattle.hub_commands.specs.Waiting.{WaitsAsTold, wishing}
 use Rattle.hub_endings.specs.declared.ending.BadWords.TheVariants as bad
 use Rattle.hub_endings.specs.declared.ending.Ending.{Ending}
-use Rattle.hub_endings.specs.declared.ending.Ending.TheVariants.{Refused, Stopped, Failed}
+use Rattle.hub_endings.specs.declared.ending.Ending.TheVariants.{Refused, Stopped, Unreached, Failed}
 use Rattle.hub_endings.specs.declared.fault.Fault.{Fault}
-use Rattle.hub_endings.specs.declared.fault.Fault.TheVariants.{Script, Memory}
+use Rattle.hub_endings.specs.declared.fault.Fault.TheVariants.{Script, Memory, Reach}
+use Rattle.hub_endings.specs.declared.reach_fault.ReachFault.{ReachFault}
 use Rattle.hub_io.specs.declared.fault.FrontError.{FrontError}
 use Rattle.hub_script.specs.Output.{Serves, Stops}
 use Rattle.hub_io.specs.Counted.{Reading, Writing}
@@ -101,13 +102,36 @@ CarriesOut d c r w n old new (plan.Make socket names shape) result =
     MakesAsTold d old.dialer new.dialer socket.now n old.notes new.notes (λ name. name.now) names.items shape result
     × (new.input ≡ old.input) × (new.output ≡ old.output)
 
+-- the socket of the hub that a command asks; `call` isn't one of these
+abbrev pub hub_of : Plan → Option (List ℕ)
+hub_of (plan.Ask socket words) = Some socket.now
+hub_of (plan.Wait socket wish) = Some socket.now
+hub_of (plan.Status socket names is_json) = Some socket.now
+hub_of (plan.Follow socket follow) = Some socket.now
+hub_of (plan.Tell socket name state) = Some socket.now
+hub_of (plan.Hold socket hold) = Some socket.now
+hub_of (plan.Make socket names shape) = Some socket.now
+hub_of other = None
+
+-- It names the socket of a hub that couldn't be reached, and why. Or memory ran out.
+abbrev pub Names : (socket : List ℕ) → (why : ReachFault) → Result ℕ Ending → Type 0
+Names socket why (Err (Unreached hub)) = (hub.socket.bytes.items ≡ socket) × (hub.why ≡ why)
+Names socket why (Err (Failed fault)) = fault ≡ Memory
+Names socket why other = ⊥
+
+-- how the program ends after a command that asks the hub at a socket, or none, and ended so
+abbrev pub IsNamed : (socket : Option (List ℕ)) → (ended result : Result ℕ Ending) → Type 0
+IsNamed (Some socket) (Err (Failed (Reach why))) result = Names socket why result
+IsNamed socket ended result = result ≡ ended
+
 -- How the program ends without a plan: its words ask for a text, are none or are refused, lack a socket, or there was a fault before.
 abbrev pub EndsEarly : Result ℕ Ending → Type 0
 EndsEarly (Ok status) = (status ≡ 0) ⊎ (status ≡ 2)
 EndsEarly (Err (Refused words)) = (words ≡ bad.NotText) ⊎ (words ≡ bad.NoSocket)
 EndsEarly (Err (Stopped report)) = ⊥
+EndsEarly (Err (Unreached hub)) = ⊥
 EndsEarly (Err (Failed fault)) = (fault ≡ Memory) ⊎ ((error : FrontError) × (fault ≡ Script error))
 
 -- What the program does: it carries out a plan, or ends before it has one, and then it touches nothing.
 abbrev pub Runs : {D SR SW CR CW R W F : Type 0} → Dialing D SR SW → Calling D CR CW → Reading R → Writing W → Writing F → (old new : Hands D R W F) → Result ℕ Ending → Type 0
-Runs d c r w n old new result = ((plan : Plan) × CarriesOut d c r w n old new plan result) ⊎ (EndsEarly result × (new ≡ old))
+Runs d c r w n old new result = ((plan : Plan) × (ended : Result ℕ Ending) × CarriesOut d c r w n old new plan ended × IsNamed (hub_of plan) ended result) ⊎ (EndsEarly result × (new ≡ old))

@@ -1,13 +1,14 @@
 //! What the program does with the words of its command line.
+ghost use Rattle.std.specs.Prelude.{◌≡◌, option_map};
 ghost use Rattle.hub_dialing.specs.Calls.{calling};
 ghost use Rattle.hub_dialing.specs.Dialing.{dialing};
-ghost use Rattle.hub_running.specs.Running.{CarriesOut, Judges, Runs};
+ghost use Rattle.hub_running.specs.Running.{CarriesOut, IsNamed, Judges, Runs, hub_of};
 
 use crate::streams::open_missing;
 use hub_arguments::{Plan, Start, begin, own_socket, own_words};
 use hub_commands::{ask_words, hold_as_told, make_fifodirs, tell_state, wait_as_told};
 use hub_dialing::{Dial, call};
-use hub_endings::{BadWords, Ending, Fault};
+use hub_endings::{BadWords, Ending, Fault, Unreached};
 use hub_io::{Sink, Source};
 use hub_reports::Report;
 use hub_requests::Enter;
@@ -103,6 +104,39 @@ where
     }
 }
 
+// The socket of the hub that the command asks. `call` names none: it says as little as ever.
+fn hub_of<'a>(plan: &Plan<'a>) -> Option<&'a str>
+    ensures { option_map (λ socket. socket.now) result ≡ hub_of plan.now }
+{
+    match plan {
+        Plan::Ask { socket, .. }
+        | Plan::Wait { socket, .. }
+        | Plan::Status { socket, .. }
+        | Plan::Follow { socket, .. }
+        | Plan::Tell { socket, .. }
+        | Plan::Hold { socket, .. }
+        | Plan::Make { socket, .. } => Some(*socket),
+        Plan::Script | Plan::Serve { .. } | Plan::ServeForever(_) | Plan::Call { .. } => None,
+    }
+}
+
+// How the command ended, with the socket of a hub that it couldn't reach.
+fn named(
+    alloc: Global,
+    ended: Result<u8, Ending>,
+    socket: Option<&str>,
+) -> Result<u8, Ending>
+    ensures { IsNamed (option_map (λ socket. socket.now) socket.entry) ended result }
+{
+    match (ended, socket) {
+        (Err(Ending::Failed(Fault::Reach(why))), Some(path)) => {
+            let socket = String::from_str(alloc, path)?;
+            Err(Ending::Unreached(Unreached { socket, why }))
+        }
+        (ended, _) => ended,
+    }
+}
+
 /// Does what the words of the command line say, and returns the exit status. A standard stream of the program that is missing can be used
 /// by nothing else from then on.
 pub fn run<H, D, R, W, F>(
@@ -128,7 +162,7 @@ where
     R: Source,
     W: Sink,
     F: Sink,
-    // One plan is carried out. Or there is none, and everything is as it was.
+    // One plan is carried out, and the hub is named if it couldn't be reached. Or there is no plan, and everything is as it was.
     ensures { Runs
         (dialing D.reaches D.Receiver.remaining D.Sender.contents)
         (calling D.connects D.Incoming.remaining D.Incoming.reads D.Incoming.faults
@@ -150,7 +184,11 @@ where
     };
     let known = own_socket(rt, alloc, libc::geteuid())?;
     match begin(rt, alloc, words.as_slice(), known.as_ref())? {
-        Start::Run(plan) => carry_out(rt, alloc, dialer, plan, input, output, notes),
+        Start::Run(plan) => {
+            let socket = hub_of(&plan);
+            let ended = carry_out(rt, alloc, dialer, plan, input, output, notes);
+            named(alloc, ended, socket)
+        }
         Start::NoSocket => Err(Ending::Refused(BadWords::NoSocket)),
         Start::End(status) => Ok(status),
     }

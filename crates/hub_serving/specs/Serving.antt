@@ -1,7 +1,7 @@
 -- Why a server ended before it had a report.
 use Rattle.std.specs.Prelude.{◌≡◌, ⊤}
 use Rattle.hub_endings.specs.declared.fault.Fault.{Fault}
-use Rattle.hub_endings.specs.declared.fault.Fault.TheVariants.{Listen, Taken, Notify, Setup, SetupLine, Lost, Look, Accept, Connect, Memory, Script, Serve, Session, Relay, Ask}
+use Rattle.hub_endings.specs.declared.fault.Fault.TheVariants.{Listen, Taken, Notify, Setup, SetupLine, Lost, Look, Accept, Connect, Reach, Memory, Script, Serve, Session, Relay, Ask}
 use Rattle.hub_endings.specs.declared.listen_fault.ListenFault.TheVariants.{Untold}
 use Rattle.hub_reports.specs.declared.report.ServeError.{ServeError}
 
@@ -18,6 +18,7 @@ FailsToServe stops Lost = ⊥
 FailsToServe stops (Look fault) = ⊥
 FailsToServe stops Accept = ⊥
 FailsToServe stops Connect = ⊥
+FailsToServe stops (Reach why) = ⊥
 FailsToServe stops (Script fault) = ⊥
 FailsToServe stops (Session number fault) = ⊥
 FailsToServe stops (Relay error) = ⊥

@@ -17,7 +17,8 @@ use Rattle.hub_dialing.specs.Dialing.{Dialing}
 use Rattle.hub_showing.specs.Following.{AfterLooks, AreTried, Course, FailsThere, FollowsAsTold, FollowsOn, FollowsThere, Having, IsAbsence, IsGoodFollow, IsLimitOfFollow, IsLookedThere, IsReached, IsSilent, IsUnreached, IsUntil, LooksThere, course, following_wanted, is_some_of, some_of}
 use Rattle.hub_endings.specs.Words.{IsLimit}
 use Rattle.hub_endings.specs.declared.ending.Ending.{Ending}
-use Rattle.hub_endings.specs.declared.ending.Ending.TheVariants.{Refused, Stopped, Failed}
+use Rattle.hub_endings.specs.declared.ending.Ending.TheVariants.{Refused, Stopped, Unreached, Failed}
+use Rattle.hub_endings.specs.declared.reach_fault.Unreached as hubs
 use Rattle.hub_endings.specs.declared.fault.Fault.{Fault}
 use Rattle.hub_endings.specs.declared.fault.Fault.TheVariants.{Ask}
 
@@ -130,12 +131,17 @@ never_stops : {T : Type 0} (text : T → List ℕ) (timeout : Option T) (report 
 never_stops text None report h = cc h
 never_stops text (Some duration) report h = h
 
+never_unreached : {T : Type 0} (text : T → List ℕ) (timeout : Option T) (hub : hubs.Unreached) → IsLimit text timeout (Err (Unreached hub)) → ⊥
+never_unreached text None hub h = cc h
+never_unreached text (Some duration) hub h = h
+
 -- its words are refused by their duration, or memory ran out
 ends_by_limit : {D SR SW F : Type 0} (d : Dialing D SR SW) (socket : List ℕ) (n : Writing F) (before after : Having D F) (wanted : Follow) (untouched : Type 0) (ending : Ending)
     → follow_breaks (λ word. word.now) wanted.pattern wanted.names.items ≡ false → IsLimitOfFollow wanted (Err ending) → after ≡ before → untouched
     → FollowsAsTold d socket n before after wanted untouched (Err ending)
 ends_by_limit d socket n before after wanted untouched (Refused bad) whole limit same still = (inr limit, same, still)
 ends_by_limit d socket n before after wanted untouched (Stopped report) whole limit same still = absurd (never_stops (λ word. word.now) wanted.timeout report limit)
+ends_by_limit d socket n before after wanted untouched (Unreached hub) whole limit same still = absurd (never_unreached (λ word. word.now) wanted.timeout hub limit)
 ends_by_limit d socket n before after wanted untouched (Failed fault) whole limit same still = inr (whole, limit, same, still)
 
 pub told_by_limit : {D SR SW F : Type 0} (d : Dialing D SR SW) (socket : List ℕ) (n : Writing F) (before after : Having D F) (wanted : Follow) (untouched : Type 0) (result : Result ℕ Ending) (ending : Ending)

@@ -22,9 +22,10 @@ use Rattle.hub_endings.specs.Words.{IsLimit}
 use Rattle.hub_endings.specs.declared.ending.BadWords.{BadWords}
 use Rattle.hub_endings.specs.declared.ending.BadWords.TheVariants as bad
 use Rattle.hub_endings.specs.declared.ending.Ending.{Ending}
-use Rattle.hub_endings.specs.declared.ending.Ending.TheVariants.{Refused, Stopped, Failed}
+use Rattle.hub_endings.specs.declared.ending.Ending.TheVariants.{Refused, Stopped, Unreached, Failed}
 use Rattle.hub_endings.specs.declared.fault.Fault.{Fault}
-use Rattle.hub_endings.specs.declared.fault.Fault.TheVariants.{Ask, Connect}
+use Rattle.hub_endings.specs.declared.fault.Fault.TheVariants.{Ask, Reach}
+use Rattle.hub_endings.specs.declared.reach_fault.ReachFault.{ReachFault}
 
 -- ---- what is wanted
 
@@ -135,7 +136,7 @@ pub record IsEnded {D SR SW F : Type 0} (c : Course D SR SW F) (before after : H
 
 -- The hub has no room, or can't be reached.
 abbrev pub IsAbsence : Fault → Type 0
-IsAbsence fault = (fault ≡ Connect) ⊎ (fault ≡ Ask NoAnswer)
+IsAbsence fault = ((why : ReachFault) × (fault ≡ Reach why)) ⊎ (fault ≡ Ask NoAnswer)
 
 -- Only looks were sent over one connection, and nothing was noted or written.
 abbrev pub IsLookedThere : {D SR SW F : Type 0} → Course D SR SW F → (before after : Having D F) → Type 0
@@ -214,5 +215,6 @@ abbrev pub FollowsAsTold : {D SR SW F : Type 0} → Dialing D SR SW → (socket 
 FollowsAsTold d socket n before after wanted untouched (Ok status) = IsGoodFollow wanted × ((went : Outcome) × (status ≡ status_of went) × FollowsOn d socket n wanted before after (Ok (Some went)))
 FollowsAsTold d socket n before after wanted untouched (Err (Refused words)) = IsBadFollow wanted words × (after ≡ before) × untouched
 FollowsAsTold d socket n before after wanted untouched (Err (Stopped report)) = ⊥
+FollowsAsTold d socket n before after wanted untouched (Err (Unreached hub)) = ⊥
 FollowsAsTold d socket n before after wanted untouched (Err (Failed fault)) = (IsGoodFollow wanted × FollowsOn d socket n wanted before after (Err fault))
     ⊎ ((follow_breaks (λ word. word.now) wanted.pattern wanted.names.items ≡ false) × IsLimitOfFollow wanted (Err (Failed fault)) × (after ≡ before) × untouched)

@@ -13,7 +13,7 @@ use Rattle.hub_dialing.specs.Dialing.{Dialing, OverOne}
 use Rattle.hub_endings.specs.declared.ending.BadWords.{BadWords}
 use Rattle.hub_endings.specs.declared.ending.BadWords.TheVariants as bad
 use Rattle.hub_endings.specs.declared.ending.Ending.{Ending}
-use Rattle.hub_endings.specs.declared.ending.Ending.TheVariants.{Refused, Stopped, Failed}
+use Rattle.hub_endings.specs.declared.ending.Ending.TheVariants.{Refused, Stopped, Unreached, Failed}
 use Rattle.hub_endings.specs.declared.fault.Fault.TheVariants.{Ask}
 
 -- Over one connection nothing was sent but looks, and this went over it.
@@ -29,6 +29,7 @@ LooksWith d old new socket breaks refused untouched goes fails (Ok status) =
 LooksWith d old new socket breaks refused untouched goes fails (Err (Refused words)) =
     (breaks ≡ true) × (words ≡ refused) × (new ≡ old) × untouched
 LooksWith d old new socket breaks refused untouched goes fails (Err (Stopped report)) = ⊥
+LooksWith d old new socket breaks refused untouched goes fails (Err (Unreached hub)) = ⊥
 LooksWith d old new socket breaks refused untouched goes fails (Err (Failed fault)) = (breaks ≡ false)
     × ((d.reaches old socket ANSWER (Err fault) new × untouched)
     ⊎ ((error : AskError) × (fault ≡ Ask error) × LooksOver d old new socket (fails error)))

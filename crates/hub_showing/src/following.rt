@@ -114,7 +114,7 @@ fn unreached<C: Clock>(
         (λ it. it ≡ fault) }
 {
     match fault {
-        Fault::Connect | Fault::Ask(AskError::NoAnswer) if following.is_again => Ok(None),
+        Fault::Reach(_) | Fault::Ask(AskError::NoAnswer) if following.is_again => Ok(None),
         Fault::Ask(AskError::NoAnswer) if following.millis_left(clock).is_none() => Ok(Some(
             Outcome::Late,
         )),

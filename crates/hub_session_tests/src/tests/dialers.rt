@@ -1,6 +1,6 @@
 //! What the program's own dialer does at sockets.
 use hub_dialing::{Dial, Dialer};
-use hub_endings::Fault;
+use hub_endings::{Fault, ReachFault};
 use hub_io::{Sink, Source};
 use std::fs::Files;
 use std::io::{ErrorKind, Read, Write};
@@ -73,9 +73,15 @@ fn a_dialer_connects_once_and_there(rt: HostRuntime) -> Result<(), Fail> {
 fn a_dialer_reaches_nobody(rt: HostRuntime) -> Result<(), Fail> {
     drop(listen(&rt, "left.sock")?);
     let mut dialer = Dialer::new(rt);
-    for socket in ["left.sock", "never-made.sock", ""] {
-        let dialed = dialer.dial(socket, 10_000);
-        assert!(rt; matches!(dialed, Err(Fault::Connect)), "dial {socket}");
+    for (socket, why) in [
+        ("left.sock", ReachFault::Nobody),
+        ("never-made.sock", ReachFault::NoFile),
+        ("", ReachFault::Path),
+    ] {
+        let dialed = dialer.dial(socket, 10_000).err();
+        assert_eq!(rt; dialed, Some(Fault::Reach(why)), "dial {socket}");
+        let at_once = dialer.dial_at_once(socket, 10_000).err();
+        assert_eq!(rt; at_once, Some(Fault::Reach(why)), "dial {socket} at once");
         let connected = dialer.connect(socket);
         assert!(rt;
             matches!(connected, Err(Fault::Connect)),

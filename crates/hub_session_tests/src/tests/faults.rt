@@ -1,6 +1,6 @@
 //! The lines of faults on standard error.
 use hub_client::RelayError;
-use hub_endings::{Fault, ListenFault, LookFault, tell_faults};
+use hub_endings::{Fault, ListenFault, LookFault, ReachFault, tell_faults};
 use hub_fakes::Narrow;
 use hub_io::FrontError;
 use hub_server::{Report, ServeError};
@@ -9,13 +9,17 @@ use std::io;
 use std::io::ErrorKind;
 use std::test::Fail;
 
-static OWN: [(Fault, &str); 7] = [
+static OWN: [(Fault, &str); 8] = [
     (Fault::Taken, "ftrighub: another server listens there\n"),
     (Fault::Notify, "ftrighub: cannot notify\n"),
     (Fault::Setup, "ftrighub: cannot read the setup\n"),
     (Fault::Lost, "ftrighub: socket file lost\n"),
     (Fault::Accept, "ftrighub: cannot accept\n"),
     (Fault::Connect, "ftrighub: cannot connect\n"),
+    (
+        Fault::Reach(ReachFault::Denied),
+        "ftrighub: cannot connect: permission denied\n",
+    ),
     (Fault::Memory, "ftrighub: out of memory\n"),
 ];
 

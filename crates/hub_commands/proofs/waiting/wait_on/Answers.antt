@@ -4,7 +4,7 @@ use Rattle.hub_ask.specs.Waiting.{AsksAbout, wait_words}
 use Rattle.hub_client.specs.Passing.{has_lf}
 use Rattle.hub_dialing.specs.Dialing.{dialing}
 use Rattle.hub_commands.specs.Waiting.{EndsTry, wishing}
-use Rattle.hub_commands.proofs.Waits.{at_first, ends_by_try, ends_trying, ends_without_memory, not_cut, one_more_try}
+use Rattle.hub_commands.proofs.Waits.{at_first, ends_by_try, ends_without_memory, not_cut, one_more_try}
 use Rattle.hub_commands.proofs.waiting.wait_on.Goals as goal
 
 pub tries-init : goal.tries-init
@@ -21,25 +21,16 @@ unreachable-requires g c =
     (ap (λ n. joined (λ (name : Bor (List ℕ)). name.now) n) c.as_slice-names.ensures.value)
     (subst (λ it. IfNone it (has_lf (wait_words c.args.wish.now.span.now c.args.wish.now.want.now c.tries.turns (joined (λ (name : Bor (List ℕ)). name.now) c.as_slice-names.result.now)) ≡ true)) c.in_default.is c.in_ok-line.ensures.none)
 
-pub returns-in_err-tried-clause-goes : goal.returns-in_err-tried-clause-goes
-returns-in_err-tried-clause-goes g c =
-    let same : bytes_of c.in-Some-2.line ≡ wait_words c.args.wish.now.span.now c.args.wish.now.want.now c.tries.turns (joined (λ (name : Bor (List ℕ)). name.now) c.args.wish.now.names.items) =
-    subst (λ it. IfSome it (λ line. bytes_of line ≡ wait_words c.args.wish.now.span.now c.args.wish.now.want.now c.tries.turns (joined (λ (name : Bor (List ℕ)). name.now) c.as_slice-names.result.now))) c.in-Some-2.is c.in_ok-line.ensures.line
-    ∙ ap (λ n. wait_words c.args.wish.now.span.now c.args.wish.now.want.now c.tries.turns (joined (λ (name : Bor (List ℕ)). name.now) n)) c.as_slice-names.ensures.value in
-    ends_trying (dialing g.D.Dial.reaches g.D.Receiver.Read.remaining g.D.Sender.Write.contents) (wishing c.args.socket.now c.args.wish.now) c.args.first c.args.dialer.now c.tries.dialer c.try_once.new.dialer c.tries.turns (bytes_of c.in-Some-2.line) (λ (reply : Vec ℕ Global). reply.items)
-    (c.tries.output ≡ c.args.output.now) (g.W.Write.contents c.args.output.now) (g.W.Write.contents c.tries.output) c.from_residual-in_err-tried.result c.in_err-tried.field-0.0
-    c.tries.invariant.at same c.in-Some-2.line.cut c.from_residual-in_err-tried.ensures.1 c.in_err-tried.ensures c.tries.invariant.output (ap g.W.Write.contents c.tries.invariant.output)
-
 pub returns-in_default-next_try-clause-goes : goal.returns-in_default-next_try-clause-goes
 returns-in_default-next_try-clause-goes g c =
     let same : bytes_of c.in-Some-2.line ≡ wait_words c.args.wish.now.span.now c.args.wish.now.want.now c.tries.turns (joined (λ (name : Bor (List ℕ)). name.now) c.args.wish.now.names.items) =
     subst (λ it. IfSome it (λ line. bytes_of line ≡ wait_words c.args.wish.now.span.now c.args.wish.now.want.now c.tries.turns (joined (λ (name : Bor (List ℕ)). name.now) c.as_slice-names.result.now))) c.in-Some-2.is c.in_ok-line.ensures.line
     ∙ ap (λ n. wait_words c.args.wish.now.span.now c.args.wish.now.want.now c.tries.turns (joined (λ (name : Bor (List ℕ)). name.now) n)) c.as_slice-names.ensures.value in
-    ends_by_try (dialing g.D.Dial.reaches g.D.Receiver.Read.remaining g.D.Sender.Write.contents) (wishing c.args.socket.now c.args.wish.now) c.args.first c.args.dialer.now c.tries.dialer c.try_once.new.dialer c.tries.turns (bytes_of c.in-Some-2.line) (λ (reply : Vec ℕ Global). reply.items)
-    (c.end.new.output ≡ c.args.output.now) (g.W.Write.contents c.args.output.now) (g.W.Write.contents c.end.new.output) c.in_ok-tried.tried c.end.result
-    c.tries.invariant.at same c.in-Some-2.line.cut c.in_ok-tried.ensures
+    ends_by_try (dialing g.D.Dial.reaches g.D.Receiver.Read.remaining g.D.Sender.Write.contents) (wishing c.args.socket.now c.args.wish.now) c.args.first c.args.dialer.now c.tries.dialer c.try_once-tried.new.dialer c.tries.turns (bytes_of c.in-Some-2.line) (λ (reply : Vec ℕ Global). reply.items)
+    (c.end.new.output ≡ c.args.output.now) (g.W.Write.contents c.args.output.now) (g.W.Write.contents c.end.new.output) c.try_once-tried.result c.end.result
+    c.tries.invariant.at same c.in-Some-2.line.cut c.try_once-tried.ensures
     (subst (λ o. EndsTry g.D.Receiver.Read.remaining g.D.Sender.Write.contents c.args.wish.now.is_quiet (AsksAbout c.args.wish.now.want.now (λ (name : Bor (List ℕ)). name.now) c.args.wish.now.names.items)
-    (c.end.new.output ≡ o) (g.W.Write.contents o) (g.W.Write.contents c.end.new.output) (λ (reply : Vec ℕ Global). reply.items) c.in_ok-tried.tried c.end.result) c.tries.invariant.output c.end.ensures.ended)
+    (c.end.new.output ≡ o) (g.W.Write.contents o) (g.W.Write.contents c.end.new.output) (λ (reply : Vec ℕ Global). reply.items) c.try_once-tried.result c.end.result) c.tries.invariant.output c.end.ensures.ended)
 
 pub returns-in_err-say-clause-goes : goal.returns-in_err-say-clause-goes
 returns-in_err-say-clause-goes g c =
@@ -47,10 +38,10 @@ returns-in_err-say-clause-goes g c =
     subst (λ it. IfSome it (λ line. bytes_of line ≡ wait_words c.args.wish.now.span.now c.args.wish.now.want.now c.tries.turns (joined (λ (name : Bor (List ℕ)). name.now) c.as_slice-names.result.now))) c.in-Some-2.is c.in_ok-line.ensures.line
     ∙ ap (λ n. wait_words c.args.wish.now.span.now c.args.wish.now.want.now c.tries.turns (joined (λ (name : Bor (List ℕ)). name.now) n)) c.as_slice-names.ensures.value in
     let fewer : c.in-Some-next_try.next ≤ c.tries.turns = (let known = c.in-Some-next_try.ensures.fewer in omega (arith, known)) in
-    ends_without_memory (dialing g.D.Dial.reaches g.D.Receiver.Read.remaining g.D.Sender.Write.contents) (wishing c.args.socket.now c.args.wish.now) c.args.first c.args.dialer.now c.try_once.new.dialer c.in-Some-next_try.next
+    ends_without_memory (dialing g.D.Dial.reaches g.D.Receiver.Read.remaining g.D.Sender.Write.contents) (wishing c.args.socket.now c.args.wish.now) c.args.first c.args.dialer.now c.try_once-tried.new.dialer c.in-Some-next_try.next
     (c.tries.output ≡ c.args.output.now) (g.W.Write.contents c.args.output.now) (g.W.Write.contents c.tries.output) c.from_residual-in_err-say.result
-    (one_more_try (dialing g.D.Dial.reaches g.D.Receiver.Read.remaining g.D.Sender.Write.contents) (wishing c.args.socket.now c.args.wish.now) c.args.first c.args.dialer.now c.tries.dialer c.try_once.new.dialer c.tries.turns c.in-Some-next_try.next (bytes_of c.in-Some-2.line) (λ (reply : Vec ℕ Global). reply.items) c.in_ok-tried.tried
-    c.tries.invariant.at same c.in_ok-tried.ensures c.in-Some-next_try.ensures.on fewer)
+    (one_more_try (dialing g.D.Dial.reaches g.D.Receiver.Read.remaining g.D.Sender.Write.contents) (wishing c.args.socket.now c.args.wish.now) c.args.first c.args.dialer.now c.tries.dialer c.try_once-tried.new.dialer c.tries.turns c.in-Some-next_try.next (bytes_of c.in-Some-2.line) (λ (reply : Vec ℕ Global). reply.items) c.try_once-tried.result
+    c.tries.invariant.at same c.try_once-tried.ensures c.in-Some-next_try.ensures.on fewer)
     c.from_residual-in_err-say.ensures.1 c.tries.invariant.output
 
 pub tries-preserved : goal.tries-preserved
@@ -60,8 +51,8 @@ tries-preserved g c =
     ∙ ap (λ n. wait_words c.args.wish.now.span.now c.args.wish.now.want.now c.tries.turns (joined (λ (name : Bor (List ℕ)). name.now) n)) c.as_slice-names.ensures.value in
     let fewer : c.in-Some-next_try.next ≤ c.tries.turns = (let known = c.in-Some-next_try.ensures.fewer in omega (arith, known)) in
     record {
-      at = (one_more_try (dialing g.D.Dial.reaches g.D.Receiver.Read.remaining g.D.Sender.Write.contents) (wishing c.args.socket.now c.args.wish.now) c.args.first c.args.dialer.now c.tries.dialer c.try_once.new.dialer c.tries.turns c.in-Some-next_try.next (bytes_of c.in-Some-2.line) (λ (reply : Vec ℕ Global). reply.items) c.in_ok-tried.tried
-          c.tries.invariant.at same c.in_ok-tried.ensures c.in-Some-next_try.ensures.on fewer);
+      at = (one_more_try (dialing g.D.Dial.reaches g.D.Receiver.Read.remaining g.D.Sender.Write.contents) (wishing c.args.socket.now c.args.wish.now) c.args.first c.args.dialer.now c.tries.dialer c.try_once-tried.new.dialer c.tries.turns c.in-Some-next_try.next (bytes_of c.in-Some-2.line) (λ (reply : Vec ℕ Global). reply.items) c.try_once-tried.result
+          c.tries.invariant.at same c.try_once-tried.ensures c.in-Some-next_try.ensures.on fewer);
       few = (let few = c.tries.invariant.few in omega (arith, few, fewer));
       output = c.tries.invariant.output;
       quiet = λ q. (
