@@ -1,5 +1,6 @@
 -- How a request went.
-use Rattle.std.specs.Prelude.{◌≡◌, ◌≢◌, ⊤, ℕ, List, Bool, true, false, Option, MatchOption}
+use Rattle.std.specs.Prelude.{◌≡◌, ◌≢◌, ⊤, ℕ, ◌+◌, ◌==◌, List, [], ◌∷◌, length, count_by, Bool, true, false, Option, MatchOption}
+use Rattle.hub_protocol.specs.Spelling.{is_space}
 use Rattle.hub_requests.specs.Texts.{text_of}
 use Rattle.hub_requests.specs.declared.reply.Reply.{Reply}
 use Rattle.hub_requests.specs.declared.reply.Reply.TheVariants as reply
@@ -27,13 +28,13 @@ status_of Never = 4
 status_of Late = 5
 status_of Nothing = 6
 
--- the replies of a hub to a wait
-abbrev pub RepliesToWait : Reply → Type 0
-RepliesToWait (reply.Yes numbers) = ⊤
-RepliesToWait reply.Never = ⊤
-RepliesToWait reply.Late = ⊤
-RepliesToWait (reply.No refusal) = ⊤
-RepliesToWait other = ⊥
+-- the replies of a hub to a wait for so many services
+abbrev pub RepliesToWait : (services : ℕ) → Reply → Type 0
+RepliesToWait services (reply.Yes numbers) = length numbers ≡ services
+RepliesToWait services reply.Never = ⊤
+RepliesToWait services reply.Late = ⊤
+RepliesToWait services (reply.No refusal) = ⊤
+RepliesToWait services other = ⊥
 
 -- what is read of a line, as the code has it
 abbrev pub outcome_read : BorrowedReply → Outcome
@@ -45,12 +46,17 @@ outcome_read shown.End = Nothing
 outcome_read shown.Evicted = Nothing
 outcome_read read = Done
 
-abbrev pub replies_to_wait : BorrowedReply → Bool
-replies_to_wait (shown.Yes numbers) = true
-replies_to_wait shown.Never = true
-replies_to_wait shown.Late = true
-replies_to_wait (shown.No refusal) = true
-replies_to_wait read = false
+-- whether a text has so many fields; one without a byte has none
+abbrev pub has_count : List ℕ → (count : ℕ) → Bool
+has_count [] count = count == 0
+has_count (byte ∷ bytes) count = count_by is_space (byte ∷ bytes) + 1 == count
+
+abbrev pub replies_to_wait : (services : ℕ) → BorrowedReply → Bool
+replies_to_wait services (shown.Yes text) = has_count text.now services
+replies_to_wait services shown.Never = true
+replies_to_wait services shown.Late = true
+replies_to_wait services (shown.No refusal) = true
+replies_to_wait services read = false
 
 -- the text is that of a reply of a hub, of this kind, and the request of that reply went so
 pub record IsTold (Kind : Reply → Type 0) (text : List ℕ) (outcome : Outcome) : Type 0 where
@@ -68,6 +74,6 @@ TellsBy Kind text outcome = MatchOption outcome ((reply : Reply) → IsOfHub rep
 abbrev pub Tells : List ℕ → Option Outcome → Type 0
 Tells text outcome = TellsBy (λ reply. ⊤) text outcome
 
--- a reply of a hub to a wait
-abbrev pub TellsOfWait : List ℕ → Option Outcome → Type 0
-TellsOfWait text outcome = TellsBy RepliesToWait text outcome
+-- a reply of a hub to a wait for so many services
+abbrev pub TellsOfWait : (services : ℕ) → List ℕ → Option Outcome → Type 0
+TellsOfWait services text outcome = TellsBy (RepliesToWait services) text outcome

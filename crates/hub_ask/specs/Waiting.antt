@@ -64,14 +64,14 @@ abbrev pub reply_of : Delay → Reply
 reply_of Missing = reply.No refusal.Name
 reply_of delay.Late = reply.Late
 
--- The reply was written, and tells the outcome. Then at most these questions were asked.
-pub record IsEnded (sent sends had has held holds : Option (List ℕ)) (reply : List ℕ) (asks : Asking) (outcome : Outcome) : Type 0 where
+-- The reply was written, and tells the outcome of a wait for so many services. Then at most these questions were asked.
+pub record IsEnded (services : ℕ) (sent sends had has held holds : Option (List ℕ)) (reply : List ℕ) (asks : Asking) (outcome : Outcome) : Type 0 where
   pub written : Appends held holds reply
-  pub told : TellsOfWait reply (Some outcome)
+  pub told : TellsOfWait services reply (Some outcome)
   pub after : AsksAfter sent sends had has asks outcome
 
--- Only a prefix of the reply could be written. Or it was written, and is none to a wait.
-abbrev pub FailsToEnd : (held holds : Option (List ℕ)) (reply : List ℕ) → AskError → Type 0
-FailsToEnd held holds reply (Relay relay.Output) = AppendsPart held holds reply
-FailsToEnd held holds reply Unknown = Appends held holds reply × TellsOfWait reply None
-FailsToEnd held holds reply error = ⊥
+-- Only a prefix of the reply could be written. Or it was written, and is none to a wait for so many services.
+abbrev pub FailsToEnd : (services : ℕ) (held holds : Option (List ℕ)) (reply : List ℕ) → AskError → Type 0
+FailsToEnd services held holds reply (Relay relay.Output) = AppendsPart held holds reply
+FailsToEnd services held holds reply Unknown = Appends held holds reply × TellsOfWait services reply None
+FailsToEnd services held holds reply error = ⊥

@@ -4,7 +4,7 @@ ghost use Rattle.hub_ask.specs.declared.outcome.Outcome.{Outcome as outcome};
 ghost use Rattle.hub_requests.specs.Texts.{text_of};
 ghost use Rattle.hub_requests.specs.declared.reply.Reply.{Reply as reply};
 ghost use Rattle.hub_protocol.specs.Replies.{IsOfHub, Shows};
-ghost use Rattle.hub_ask.specs.Outcomes.{outcome_of, outcome_read, replies_to_wait, status_of, Tells, TellsOfWait, RepliesToWait};
+ghost use Rattle.hub_ask.specs.Outcomes.{has_count, outcome_of, outcome_read, replies_to_wait, status_of, Tells, TellsOfWait, RepliesToWait};
 
 use hub_protocol::{BorrowedReply, read_reply};
 
@@ -43,14 +43,25 @@ fn outcome_of(read: BorrowedReply<'_>) -> Outcome
     }
 }
 
-// Whether a hub may reply so to a wait.
-fn replies_to_wait(read: BorrowedReply<'_>) -> bool
-    ensures { result ≡ replies_to_wait read.entry }
+// Whether there are so many numbers or dashes, with one space between two.
+fn has_count(text: &[u8], count: usize) -> bool
+    ensures { result ≡ has_count text.now count }
 {
-    matches!(
-        read,
-        BorrowedReply::Yes(_) | BorrowedReply::Never | BorrowedReply::Late | BorrowedReply::No(_)
-    )
+    if text.is_empty() {
+        return count == 0;
+    }
+    count > 0 && text.iter().filter(|byte| **byte == b' ').count() == count - 1
+}
+
+// Whether a hub may reply so to a wait for so many services.
+fn replies_to_wait(read: BorrowedReply<'_>, services: usize) -> bool
+    ensures { result ≡ replies_to_wait services read.entry }
+{
+    match read {
+        BorrowedReply::Yes(numbers) => has_count(numbers, services),
+        BorrowedReply::Never | BorrowedReply::Late | BorrowedReply::No(_) => true,
+        _ => false,
+    }
 }
 
 impl Outcome {
@@ -62,12 +73,12 @@ impl Outcome {
         Some(outcome_of(read))
     }
 
-    /// How the wait of this reply line went. None if a hub doesn't reply so to a wait.
-    pub fn of_wait(line: &[u8]) -> Option<Outcome>
-        ensures { TellsOfWait line.now result }
+    /// How the wait for so many services went that has this reply line. None if a hub doesn't reply so to one.
+    pub fn of_wait(line: &[u8], services: usize) -> Option<Outcome>
+        ensures { TellsOfWait services line.now result }
     {
         let read = read_reply(line)?;
-        if replies_to_wait(read) {
+        if replies_to_wait(read, services) {
             Some(outcome_of(read))
         } else {
             None
@@ -110,7 +121,7 @@ impl Outcome {
     /// A law: so does each reply of a hub to a wait, as the reply to a wait.
     #[tactic(auto, using(crate::proofs::Tellings::of_wait))]
     pub fn is_that_of_the_wait()
-        ensures { (it : reply) → IsOfHub it → RepliesToWait it
-            → TellsOfWait (text_of it) (Some (outcome_of it)) }
+        ensures { (services : ℕ) (it : reply) → IsOfHub it → RepliesToWait services it
+            → TellsOfWait services (text_of it) (Some (outcome_of it)) }
     {}
 }

@@ -1,5 +1,5 @@
 //! A wait, and how each service is that isn't as wanted in the end.
-ghost use Rattle.std.specs.Prelude.{◌≡◌, ◌∷◌, [], true, IfOk, IfErr, IfSome, IfNone, OnOk, OnErr};
+ghost use Rattle.std.specs.Prelude.{◌≡◌, ◌∷◌, [], length, true, IfOk, IfErr, IfSome, IfNone, OnOk, OnErr};
 ghost use Rattle.std.specs.Io.KnownBytes.{Appends};
 ghost use Rattle.hub_letters.specs.declared.span.Span.TheVariants as span;
 ghost use Rattle.hub_requests.specs.declared.request.Request.TheVariants as request;
@@ -183,19 +183,20 @@ pub fn end_wait<H: Wait, SR: Replies, SW: Requests, W: Sink, F: Write>(
     notes: &mut F,
 ) -> Result<Outcome, AskError>
     // Only these questions are sent, and only if it was refused, `never` or `late`.
-    ensures ok { IfOk result (IsEnded
+    ensures ok { IfOk result (IsEnded (length names.now)
         (SW.contents client.old.sender) (SW.contents client.new.sender)
         (SR.remaining client.old.receiver) (SR.remaining client.new.receiver)
         (W.contents output.old) (W.contents output.new) reply.now
         (AsksAbout want.now (λ name. name.now) names.now)) }
     // Without an outcome nothing is sent.
-    ensures err { IfErr result (FailsToEnd (W.contents output.old) (W.contents output.new) reply.now) }
+    ensures err { IfErr result (FailsToEnd (length names.now)
+        (W.contents output.old) (W.contents output.new) reply.now) }
     ensures kept { OnErr result (client.new ≡ client.old) }
 {
     if write_whole(output, reply).is_err() {
         return Err(AskError::Relay(RelayError::Output));
     }
-    let outcome = Outcome::of_wait(reply).ok_or(AskError::Unknown)?;
+    let outcome = Outcome::of_wait(reply, names.len()).ok_or(AskError::Unknown)?;
     match outcome {
         Outcome::Refused | Outcome::Never | Outcome::Late => {
             let _: Result<(), AskError> = explain(rt, alloc, want, names, client, notes);

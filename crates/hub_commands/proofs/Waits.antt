@@ -1,5 +1,5 @@
 -- How a wait goes on, and how it ends.
-use Rattle.std.proofs.Common.{◌≡◌, ℕ, ◌+◌, ◌^◌, ◌<◌, ◌≤◌, List, [], ◌∷◌, ◌++◌, ◌==◌, ◌||◌, ◌⊎◌, Option, None, Some, Result, Ok, Err, IsErrAnd, false, codes, inl, inr, refl, sym, ap, ◌∙◌, subst, arith, ne_eqb, true, Bool}
+use Rattle.std.proofs.Common.{◌≡◌, ℕ, ◌+◌, ◌^◌, ◌<◌, ◌≤◌, List, [], ◌∷◌, ◌++◌, length, ◌==◌, ◌||◌, ◌⊎◌, Option, None, Some, Result, Ok, Err, IsErrAnd, false, codes, inl, inr, refl, sym, ap, ◌∙◌, subst, arith, ne_eqb, true, Bool}
 use Rattle.std.proofs.lemmas.Fmt.{decimal_is_IsNumeral}
 use Rattle.std.proofs.lemmas.List.Folds.{list_any-append}
 use Rattle.std.proofs.lemmas.Str.Parse.{digit_from_value}
@@ -15,7 +15,7 @@ use Rattle.hub_ask.specs.declared.outcome.Outcome.{Outcome}
 use Rattle.hub_ask.specs.declared.waiting.TheConstants.{GRACE}
 use Rattle.hub_client.specs.Passing.{has_lf}
 use Rattle.hub_dialing.specs.Dialing.{Dialing, OverOne}
-use Rattle.hub_commands.specs.Waiting.{Begins, EndsSo, EndsTry, GoesOn, IsAt, IsPassing, IsTried, PutsOff, WaitsFor, WaitsOn, Wishing}
+use Rattle.hub_commands.specs.Waiting.{AreOneWait, Begins, EndsSo, EndsTry, GoesOn, IsAt, IsPassing, IsTried, PutsOff, WaitsFor, WaitsOn, Wishing}
 use Rattle.hub_endings.specs.declared.ending.Ending.{Ending}
 use Rattle.hub_endings.specs.declared.ending.Ending.TheVariants.{Refused, Stopped, Unreached, Failed}
 use Rattle.hub_endings.specs.declared.fault.Fault.{Fault}
@@ -140,7 +140,7 @@ ends_by_fault d w first old between new turns line untouched held holds fault at
 pub ends_by_try : {D SR SW T : Type 0} (d : Dialing D SR SW) (w : Wishing) (first : ℕ) (old between new : D) (turns : ℕ) (line : List ℕ) (text : T → List ℕ)
     (untouched : Type 0) (held holds : Option (List ℕ)) (tried : Result (Client SR SW × T) Fault) (result : Result ℕ Ending)
     → IsAt d w first old between turns → line ≡ w.line turns → has_lf line ≡ false → IsTried d between new w.socket (turns + GRACE) line text tried
-    → EndsTry d.remaining d.contents w.is_quiet w.asks untouched held holds text tried result → WaitsOn d w first old new untouched held holds result
+    → EndsTry d.remaining d.contents w.services w.is_quiet w.asks untouched held holds text tried result → WaitsOn d w first old new untouched held holds result
 ends_by_try d w first old between new turns line text untouched held holds (Err fault) result at same cut came ends =
     subst (λ r. WaitsOn d w first old new untouched held holds r) (sym ends.0)
     (ends_by_fault d w first old between new turns line untouched held holds fault at same cut came ends.1 ends.2)
@@ -210,35 +210,38 @@ ends_without_memory d w first old between turns untouched held holds (Err other)
 -- ---- the end of the last try
 
 -- quietly
-pub ends_quietly : {SR SW T : Type 0} (remaining : SR → Option (List ℕ)) (contents : SW → Option (List ℕ)) (is_quiet : Bool) (asks : Asking) (untouched : Type 0) (held : Option (List ℕ)) (text : T → List ℕ)
+pub ends_quietly : {SR SW T : Type 0} (remaining : SR → Option (List ℕ)) (contents : SW → Option (List ℕ)) (services : ℕ) (is_quiet : Bool) (asks : Asking) (untouched : Type 0) (held : Option (List ℕ)) (text : T → List ℕ)
     (tried : Result (Client SR SW × T) Fault) (it : Client SR SW × T) (reply : List ℕ) (status : ℕ) (outcome : Outcome)
-    → tried ≡ Ok it → text it.1 ≡ reply → is_quiet ≡ true → status ≡ status_of outcome → TellsOfWait reply (Some outcome)
-    → EndsTry remaining contents is_quiet asks untouched held held text tried (Ok status)
-ends_quietly remaining contents is_quiet asks untouched held text tried it reply status outcome came same quiet is told =
-    let said : TellsOfWait (text it.1) (Some outcome) = subst (λ r. TellsOfWait r (Some outcome)) (sym same) told in
-    subst (λ t. EndsTry remaining contents is_quiet asks untouched held held text t (Ok status)) (sym came)
-    (outcome, is, it.0, subst (λ q. EndsSo q (contents it.0.sender) (contents it.0.sender) (remaining it.0.receiver) (remaining it.0.receiver) held held (text it.1) asks outcome) (sym quiet) (said, refl, refl, refl))
+    → tried ≡ Ok it → text it.1 ≡ reply → is_quiet ≡ true → status ≡ status_of outcome → TellsOfWait services reply (Some outcome)
+    → EndsTry remaining contents services is_quiet asks untouched held held text tried (Ok status)
+ends_quietly remaining contents services is_quiet asks untouched held text tried it reply status outcome came same quiet is told =
+    let said : TellsOfWait services (text it.1) (Some outcome) = subst (λ r. TellsOfWait services r (Some outcome)) (sym same) told in
+    subst (λ t. EndsTry remaining contents services is_quiet asks untouched held held text t (Ok status)) (sym came)
+    (outcome, is, it.0, subst (λ q. EndsSo services q (contents it.0.sender) (contents it.0.sender) (remaining it.0.receiver) (remaining it.0.receiver) held held (text it.1) asks outcome) (sym quiet) (said, refl, refl, refl))
 
 -- or with what is written
-pub ends_aloud : {SR SW T N : Type 0} (remaining : SR → Option (List ℕ)) (contents : SW → Option (List ℕ)) (is_quiet : Bool) (want : List ℕ) (name : N → List ℕ) (names items : List N)
+pub ends_aloud : {SR SW T N : Type 0} (remaining : SR → Option (List ℕ)) (contents : SW → Option (List ℕ)) (services : ℕ) (is_quiet : Bool) (want : List ℕ) (name : N → List ℕ) (names items : List N)
     (untouched : Type 0) (held holds : Option (List ℕ)) (text : T → List ℕ) (tried : Result (Client SR SW × T) Fault) (it : Client SR SW × T) (client later : Client SR SW) (reply : List ℕ) (status : ℕ) (outcome : Outcome)
     → tried ≡ Ok it → it.0 ≡ client → text it.1 ≡ reply → names ≡ items → is_quiet ≡ false → status ≡ status_of outcome
-    → IsEnded (contents client.sender) (contents later.sender) (remaining client.receiver) (remaining later.receiver) held holds reply (AsksAbout want name names) outcome
-    → EndsTry remaining contents is_quiet (AsksAbout want name items) untouched held holds text tried (Ok status)
-ends_aloud remaining contents is_quiet want name names items untouched held holds text tried it client later reply status outcome came one same listed loud is ended =
-    let by_client : IsEnded (contents it.0.sender) (contents later.sender) (remaining it.0.receiver) (remaining later.receiver) held holds reply (AsksAbout want name names) outcome =
-    subst (λ k. IsEnded (contents k.sender) (contents later.sender) (remaining k.receiver) (remaining later.receiver) held holds reply (AsksAbout want name names) outcome) (sym one) ended in
-    let by_reply : IsEnded (contents it.0.sender) (contents later.sender) (remaining it.0.receiver) (remaining later.receiver) held holds (text it.1) (AsksAbout want name names) outcome =
-    subst (λ r. IsEnded (contents it.0.sender) (contents later.sender) (remaining it.0.receiver) (remaining later.receiver) held holds r (AsksAbout want name names) outcome) (sym same) by_client in
-    let by_names : IsEnded (contents it.0.sender) (contents later.sender) (remaining it.0.receiver) (remaining later.receiver) held holds (text it.1) (AsksAbout want name items) outcome =
-    subst (λ n. IsEnded (contents it.0.sender) (contents later.sender) (remaining it.0.receiver) (remaining later.receiver) held holds (text it.1) (AsksAbout want name n) outcome) listed by_reply in
-    subst (λ t. EndsTry remaining contents is_quiet (AsksAbout want name items) untouched held holds text t (Ok status)) (sym came)
-    (outcome, is, later, subst (λ q. EndsSo q (contents it.0.sender) (contents later.sender) (remaining it.0.receiver) (remaining later.receiver) held holds (text it.1) (AsksAbout want name items) outcome) (sym loud) by_names)
+    → IsEnded services (contents client.sender) (contents later.sender) (remaining client.receiver) (remaining later.receiver) held holds reply (AsksAbout want name names) outcome
+    → EndsTry remaining contents services is_quiet (AsksAbout want name items) untouched held holds text tried (Ok status)
+ends_aloud remaining contents services is_quiet want name names items untouched held holds text tried it client later reply status outcome came one same listed loud is ended =
+    let by_client : IsEnded services (contents it.0.sender) (contents later.sender) (remaining it.0.receiver) (remaining later.receiver) held holds reply (AsksAbout want name names) outcome =
+    subst (λ k. IsEnded services (contents k.sender) (contents later.sender) (remaining k.receiver) (remaining later.receiver) held holds reply (AsksAbout want name names) outcome) (sym one) ended in
+    let by_reply : IsEnded services (contents it.0.sender) (contents later.sender) (remaining it.0.receiver) (remaining later.receiver) held holds (text it.1) (AsksAbout want name names) outcome =
+    subst (λ r. IsEnded services (contents it.0.sender) (contents later.sender) (remaining it.0.receiver) (remaining later.receiver) held holds r (AsksAbout want name names) outcome) (sym same) by_client in
+    let by_names : IsEnded services (contents it.0.sender) (contents later.sender) (remaining it.0.receiver) (remaining later.receiver) held holds (text it.1) (AsksAbout want name items) outcome =
+    subst (λ n. IsEnded services (contents it.0.sender) (contents later.sender) (remaining it.0.receiver) (remaining later.receiver) held holds (text it.1) (AsksAbout want name n) outcome) listed by_reply in
+    subst (λ t. EndsTry remaining contents services is_quiet (AsksAbout want name items) untouched held holds text t (Ok status)) (sym came)
+    (outcome, is, later, subst (λ q. EndsSo services q (contents it.0.sender) (contents later.sender) (remaining it.0.receiver) (remaining later.receiver) held holds (text it.1) (AsksAbout want name items) outcome) (sym loud) by_names)
 
 -- ---- the whole command
 
 -- a wait whose first line has the turns of its limit
 pub waits_so : {D SR SW : Type 0} (d : Dialing D SR SW) (w : Wishing) (limit : Option ℕ) (turns : ℕ) (old new : D) (untouched : Type 0) (held holds : Option (List ℕ)) (nothing : Type 0) (result : Result ℕ Ending)
-    → Begins w.want limit (Ok turns) → WaitsOn d w turns old new untouched held holds result → WaitsFor d w limit old new untouched held holds nothing result
-waits_so d w limit turns old new untouched held holds nothing result begins on =
-    inr (subst (λ n. WaitsOn d w n old new untouched held holds result) begins.0 on)
+    → Begins w.want limit (Ok turns) → AreOneWait w.are_names w.services (length (w.line turns)) → WaitsOn d w turns old new untouched held holds result → WaitsFor d w limit old new untouched held holds nothing result
+waits_so d w limit turns old new untouched held holds nothing result begins fits on =
+    inr (
+      subst (λ n. AreOneWait w.are_names w.services (length (w.line n))) begins.0 fits,
+      subst (λ n. WaitsOn d w n old new untouched held holds result) begins.0 on,
+    )

@@ -1,12 +1,15 @@
 -- What `wait` does.
-use Rattle.std.specs.Prelude.{◌≡◌, ◌⊎◌, ⊤, ℕ, ◌+◌, ◌<◌, ◌≤◌, min, true, false, Bool, List, [], ◌∷◌, codes, Option, None, Some, Result, Ok, Err}
+use Rattle.std.specs.Prelude.{◌≡◌, ◌⊎◌, ⊤, ℕ, ◌+◌, ◌<◌, ◌≤◌, min, true, false, Bool, List, [], ◌∷◌, length, codes, Option, None, Some, Result, Ok, Err}
 use Rattle.hub_options.specs.declared.asking.Wish.{Wish}
 use Rattle.hub_ask.specs.Asking.{IsAnswered, IsBrokenOff}
 use Rattle.hub_ask.specs.Lines.{joined}
 use Rattle.hub_ask.specs.Outcomes.{TellsOfWait, status_of}
 use Rattle.hub_ask.specs.Waiting.{Asking, AsksAbout, FailsToEnd, IsEnded, reply_of, wait_words}
 use Rattle.hub_ask.specs.declared.client.Client.{Client}
-use Rattle.hub_requests.specs.declared.bounds.TheConstants.{MOST_TURNS}
+use Rattle.std.specs.List.{list_all}
+use Rattle.hub_protocol.specs.declared.parsing.TheConstants.{LONGEST_LINE}
+use Rattle.hub_requests.specs.Names.{is_name}
+use Rattle.hub_requests.specs.declared.bounds.TheConstants.{MOST_SERVICES, MOST_TURNS}
 use Rattle.hub_ask.specs.declared.fault.AskError.{AskError}
 use Rattle.hub_ask.specs.declared.fault.AskError.TheVariants as ask
 use Rattle.hub_ask.specs.declared.outcome.Outcome.{Outcome}
@@ -47,14 +50,32 @@ abbrev pub Begins : (want : List ℕ) → (limit : Option ℕ) → Result ℕ En
 Begins want limit (Ok turns) = (turns ≡ turns_by limit) × (IsRestart want → IsLong limit → ⊥)
 Begins want limit (Err ending) = IsRestart want × IsLong limit × (ending ≡ Refused bad.Restart)
 
+-- texts that are all names, so many of them, and the line of so many bytes that has them: those of one wait
+abbrev pub AreOneWait : (are_names : Bool) → (count size : ℕ) → Type 0
+AreOneWait are_names count size = (are_names ≡ true) × (count ≤ MOST_SERVICES) × (size ≤ LONGEST_LINE)
+
+-- they are refused, since one is no name, or else since they are too many
+abbrev pub RefusesNames : (are_names : Bool) → (count size : ℕ) → BadWords → Type 0
+RefusesNames are_names count size bad.NotName = are_names ≡ false
+RefusesNames are_names count size bad.Many = (are_names ≡ true) × ((MOST_SERVICES < count) ⊎ (LONGEST_LINE < size))
+RefusesNames are_names count size other = ⊥
+
+abbrev pub AreJudged : {T : Type 0} → (are_names : Bool) → (count size : ℕ) → Result T Ending → Type 0
+AreJudged are_names count size (Ok it) = AreOneWait are_names count size
+AreJudged are_names count size (Err (Refused words)) = RefusesNames are_names count size words
+AreJudged are_names count size (Err other) = ⊥
+
 -- ---- one wait
 
--- what is waited for: the socket of the hub, the line for so many turns, what may be asked after it, and how
+-- what is waited for: the socket of the hub, the line for so many turns, what may be asked after it, whether all texts are names, how many
+-- there are, and how
 pub record Wishing : Type 1 where
   pub socket : List ℕ
   pub want : List ℕ
   pub line : (turns : ℕ) → List ℕ
   pub asks : Asking
+  pub are_names : Bool
+  pub services : ℕ
   pub is_now : Bool
   pub is_quiet : Bool
 
@@ -64,6 +85,8 @@ wishing socket wish = record {
   want = wish.want.now;
   line = λ turns. wait_words wish.span.now wish.want.now turns (joined (λ name. name.now) wish.names.items);
   asks = AsksAbout wish.want.now (λ name. name.now) wish.names.items;
+  are_names = list_all (λ name. is_name name.now) wish.names.items;
+  services = length wish.names.items;
   is_now = wish.is_now;
   is_quiet = wish.is_quiet;
 }
@@ -131,23 +154,23 @@ pub record IsAt {D SR SW : Type 0} (d : Dialing D SR SW) (w : Wishing) (first : 
 -- ---- the last one
 
 -- The reply was written, and at most these questions were asked. If nothing is to be written, nothing was, and nothing was asked.
-abbrev pub EndsSo : (is_quiet : Bool) → (sent sends had has held holds : Option (List ℕ)) → (reply : List ℕ) → Asking → Outcome → Type 0
-EndsSo false sent sends had has held holds reply asks outcome = IsEnded sent sends had has held holds reply asks outcome
-EndsSo true sent sends had has held holds reply asks outcome = TellsOfWait reply (Some outcome) × (sends ≡ sent) × (has ≡ had) × (holds ≡ held)
+abbrev pub EndsSo : (services : ℕ) → (is_quiet : Bool) → (sent sends had has held holds : Option (List ℕ)) → (reply : List ℕ) → Asking → Outcome → Type 0
+EndsSo services false sent sends had has held holds reply asks outcome = IsEnded services sent sends had has held holds reply asks outcome
+EndsSo services true sent sends had has held holds reply asks outcome = TellsOfWait services reply (Some outcome) × (sends ≡ sent) × (has ≡ had) × (holds ≡ held)
 
 -- the reply tells no outcome, or couldn't be written
-abbrev pub EndsInVain : (is_quiet : Bool) → (held holds : Option (List ℕ)) → (reply : List ℕ) → AskError → Type 0
-EndsInVain false held holds reply error = FailsToEnd held holds reply error
-EndsInVain true held holds reply error = (error ≡ ask.Unknown) × TellsOfWait reply None × (holds ≡ held)
+abbrev pub EndsInVain : (services : ℕ) → (is_quiet : Bool) → (held holds : Option (List ℕ)) → (reply : List ℕ) → AskError → Type 0
+EndsInVain services false held holds reply error = FailsToEnd services held holds reply error
+EndsInVain services true held holds reply error = (error ≡ ask.Unknown) × TellsOfWait services reply None × (holds ≡ held)
 
 -- how a wait ended after this try; `text` gives the bytes of a reply
-abbrev pub EndsTry : {SR SW T : Type 0} → (remaining : SR → Option (List ℕ)) → (contents : SW → Option (List ℕ)) → (is_quiet : Bool) → Asking → (untouched : Type 0)
+abbrev pub EndsTry : {SR SW T : Type 0} → (remaining : SR → Option (List ℕ)) → (contents : SW → Option (List ℕ)) → (services : ℕ) → (is_quiet : Bool) → Asking → (untouched : Type 0)
     → (held holds : Option (List ℕ)) → (text : T → List ℕ) → Result (Client SR SW × T) Fault → Result ℕ Ending → Type 0
-EndsTry remaining contents is_quiet asks untouched held holds text (Err fault) result = (result ≡ Err (Failed fault)) × untouched × (holds ≡ held)
-EndsTry {SR} {SW} remaining contents is_quiet asks untouched held holds text (Ok it) (Ok status) = (outcome : Outcome) × (status ≡ status_of outcome)
-    × (later : Client SR SW) × EndsSo is_quiet (contents it.0.sender) (contents later.sender) (remaining it.0.receiver) (remaining later.receiver) held holds (text it.1) asks outcome
-EndsTry remaining contents is_quiet asks untouched held holds text (Ok it) (Err (Failed fault)) = (error : AskError) × (fault ≡ Ask error) × EndsInVain is_quiet held holds (text it.1) error
-EndsTry remaining contents is_quiet asks untouched held holds text (Ok it) other = ⊥
+EndsTry remaining contents services is_quiet asks untouched held holds text (Err fault) result = (result ≡ Err (Failed fault)) × untouched × (holds ≡ held)
+EndsTry {SR} {SW} remaining contents services is_quiet asks untouched held holds text (Ok it) (Ok status) = (outcome : Outcome) × (status ≡ status_of outcome)
+    × (later : Client SR SW) × EndsSo services is_quiet (contents it.0.sender) (contents later.sender) (remaining it.0.receiver) (remaining later.receiver) held holds (text it.1) asks outcome
+EndsTry remaining contents services is_quiet asks untouched held holds text (Ok it) (Err (Failed fault)) = (error : AskError) × (fault ≡ Ask error) × EndsInVain services is_quiet held holds (text it.1) error
+EndsTry remaining contents services is_quiet asks untouched held holds text (Ok it) other = ⊥
 
 -- the last line was sent once, and so the wait ended: sends' and has' are the streams between the reply and the questions
 pub record GoesSo (w : Wishing) (turns : ℕ) (sent sends had has held holds : Option (List ℕ)) (outcome : Outcome) : Type 0 where
@@ -155,12 +178,12 @@ pub record GoesSo (w : Wishing) (turns : ℕ) (sent sends had has held holds : O
   pub sends' : Option (List ℕ)
   pub has' : Option (List ℕ)
   pub answered : IsAnswered sent sends' had has' (w.line turns) reply
-  pub ended : EndsSo w.is_quiet sends' sends has' has held holds reply w.asks outcome
+  pub ended : EndsSo w.services w.is_quiet sends' sends has' has held holds reply w.asks outcome
 
 -- It went wrong: the last line was sent once at most, and no whole reply came, or one that tells no outcome, or couldn't be written.
 abbrev pub GoesWrong : (w : Wishing) → (turns : ℕ) → (sent sends had has held holds : Option (List ℕ)) → AskError → Type 0
 GoesWrong w turns sent sends had has held holds error = (IsBrokenOff sent sends had has (w.line turns) × (holds ≡ held))
-    ⊎ ((reply : List ℕ) × IsAnswered sent sends had has (w.line turns) reply × EndsInVain w.is_quiet held holds reply error)
+    ⊎ ((reply : List ℕ) × IsAnswered sent sends had has (w.line turns) reply × EndsInVain w.services w.is_quiet held holds reply error)
 
 -- ---- the whole command
 
@@ -182,7 +205,8 @@ pub record WaitsOn {D SR SW : Type 0} (d : Dialing D SR SW) (w : Wishing) (first
 abbrev pub EndsBefore : (w : Wishing) → (limit : Option ℕ) → Result ℕ Ending → Type 0
 EndsBefore w limit (Ok status) = ⊥
 EndsBefore w limit (Err (Refused words)) = (IsRestart w.want × IsLong limit × (words ≡ bad.Restart))
-    ⊎ ((has_lf (w.line (turns_by limit)) ≡ true) × (words ≡ bad.Name))
+    ⊎ (((has_lf (w.line (turns_by limit)) ≡ true) × (words ≡ bad.Name))
+    ⊎ RefusesNames w.are_names w.services (length (w.line (turns_by limit))) words)
 EndsBefore w limit (Err (Stopped report)) = ⊥
 EndsBefore w limit (Err (Unreached hub)) = ⊥
 EndsBefore w limit (Err (Failed fault)) = fault ≡ Memory
@@ -191,7 +215,8 @@ EndsBefore w limit (Err (Failed fault)) = fault ≡ Memory
 abbrev pub WaitsFor : {D SR SW : Type 0} → Dialing D SR SW → Wishing → (limit : Option ℕ) → (old new : D) → (untouched : Type 0) → (held holds : Option (List ℕ))
     → (nothing : Type 0) → Result ℕ Ending → Type 0
 WaitsFor d w limit old new untouched held holds nothing result =
-    (EndsBefore w limit result × (new ≡ old) × nothing) ⊎ WaitsOn d w (turns_by limit) old new untouched held holds result
+    (EndsBefore w limit result × (new ≡ old) × nothing)
+    ⊎ (AreOneWait w.are_names w.services (length (w.line (turns_by limit))) × WaitsOn d w (turns_by limit) old new untouched held holds result)
 
 -- the command ended so by what came of its duration
 abbrev pub EndsBy : {D SR SW : Type 0} → Dialing D SR SW → Wishing → (old new : D) → (untouched : Type 0) → (held holds : Option (List ℕ))

@@ -1,12 +1,14 @@
 //! The subcommand `wait`: one wait for services, for which the hub and the names may come to be there first.
-ghost use Rattle.std.specs.Prelude.{◌≡◌, ◌≤◌, ◌+◌, true, false, IfSome, MatchBool};
+ghost use Rattle.std.specs.Prelude.{◌≡◌, ◌≤◌, ◌+◌, length, true, false, IfSome, MatchBool};
+ghost use Rattle.std.specs.List.{list_all};
 ghost use Rattle.hub_ask.specs.Lines.{bytes_of, joined};
 ghost use Rattle.hub_ask.specs.Waiting.{AsksAbout, wait_words};
 ghost use Rattle.hub_requests.specs.declared.bounds.TheConstants.{MOST_TURNS};
 ghost use Rattle.hub_ask.specs.declared.waiting.TheConstants.{GRACE};
 ghost use Rattle.hub_client.specs.Passing.{has_lf};
+ghost use Rattle.hub_requests.specs.Names.{is_name};
 ghost use Rattle.hub_dialing.specs.Dialing.{dialing};
-ghost use Rattle.hub_commands.specs.Waiting.{Begins, Delays, EndsTry, GoesOn, IsRestart, IsTried, WaitsAsTold, WaitsOn, wishing};
+ghost use Rattle.hub_commands.specs.Waiting.{AreJudged, Begins, Delays, EndsTry, GoesOn, IsRestart, IsTried, WaitsAsTold, WaitsOn, wishing};
 
 use crate::saying::Sayings;
 use hub_ask::{
@@ -17,7 +19,8 @@ use hub_dialing::Dial;
 use hub_endings::{BadWords, Ending, Fault, limit_of};
 use hub_io::Sink;
 use hub_options::Wish;
-use hub_requests::MOST_TURNS;
+use hub_protocol::LONGEST_LINE;
+use hub_requests::{MOST_SERVICES, MOST_TURNS, Name};
 use std::alloc::Global;
 use std::rt::Clock;
 use std::sync::Wait;
@@ -60,6 +63,20 @@ fn first_turns(limit: Option<u64>, want: &str) -> Result<u64, Ending>
 
 /// What came of one try: a reply to the line, or a fault.
 type Tried<SR, SW> = Result<(Client<SR, SW>, Vec<u8>), Fault>;
+
+// Sees whether these are names, and few enough for one wait, whose first line this is.
+fn check_names(names: &[&str], line: &Line) -> Result<(), Ending>
+    ensures { AreJudged (list_all (λ name. is_name name.now) names.now) (length names.now)
+        (length (bytes_of line.now)) result }
+{
+    if !names.iter().all(|name| Name::is_name(name.as_bytes())) {
+        return Err(Ending::Refused(BadWords::NotName));
+    }
+    if names.len() > MOST_SERVICES || line.as_bytes().len() > LONGEST_LINE {
+        return Err(Ending::Refused(BadWords::Many));
+    }
+    Ok(())
+}
 
 // Connects, and with `is_now` goes on trying to while the hub has no room.
 fn reach<D: Dial>(
@@ -152,7 +169,7 @@ fn end<H: Wait, SR: Replies + Drop, SW: Requests + Drop, W: Sink, F: Sink>(
     output: &mut W,
     notes: &mut F,
 ) -> Result<u8, Ending>
-    ensures ended { EndsTry SR.remaining SW.contents wish.now.is_quiet
+    ensures ended { EndsTry SR.remaining SW.contents (length wish.now.names.items) wish.now.is_quiet
         (AsksAbout wish.now.want.now (λ name. name.now) wish.now.names.items)
         (output.new ≡ output.old)
         (W.contents output.old) (W.contents output.new) (λ reply. reply.items) tried result }
@@ -164,7 +181,8 @@ fn end<H: Wait, SR: Replies + Drop, SW: Requests + Drop, W: Sink, F: Sink>(
         Err(fault) => return Err(Ending::Failed(fault)),
     };
     if wish.is_quiet {
-        let outcome = Outcome::of_wait(&reply).ok_or(AskError::Unknown)?;
+        let services = wish.names.len();
+        let outcome = Outcome::of_wait(&reply, services).ok_or(AskError::Unknown)?;
         return Ok(outcome.status());
     }
     let (want, names) = (wish.want, wish.names.as_slice());
@@ -229,7 +247,7 @@ fn next_try<C: Clock, SR, SW>(
 
 /// Waits as the wish says at the hub at the socket, writes the reply, and returns the exit status for it. Unless the wish says
 /// otherwise, a hub that isn't there and names that aren't made are waited for. `notes` gets a line about what is waited for, and one for
-/// each service that isn't as wanted. What isn't a duration is refused, and so are names with a line feed.
+/// each service that isn't as wanted. What isn't a duration is refused, and so are texts that are no names, and too many names.
 pub fn wait_as_told<H: Wait + Clock, D: Dial, W: Sink, F: Sink>(
     rt: &H,
     alloc: Global,
@@ -253,9 +271,10 @@ pub fn wait_as_told<H: Wait + Clock, D: Dial, W: Sink, F: Sink>(
     let limit = limit_of(alloc, wish.timeout)?;
     let turns = first_turns(limit, wish.want)?;
     let names = wish.names.as_slice();
-    if wait_line(alloc, wish.span, wish.want, turns, names)?.is_none() {
+    let Some(line) = wait_line(alloc, wish.span, wish.want, turns, names)? else {
         return Err(Ending::Refused(BadWords::Name));
-    }
+    };
+    check_names(names, &line)?;
     let deadline = limit.map(|millis| Deadline::after(rt, millis));
     wait_on(
         rt, alloc, dialer, socket, wish, &deadline, turns, output, notes,

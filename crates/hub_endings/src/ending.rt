@@ -29,6 +29,8 @@ pub enum BadWords {
     Name,
     /// A text isn't a name that a fifodir may have.
     NotName,
+    /// There are more names than one wait may have, or their line is too long.
+    Many,
     /// This text is no duration, or one that is too long.
     Duration(String),
     /// A wait for a restart is one wait of the hub, and may not be longer than that.
@@ -48,6 +50,7 @@ impl fmt::Display for BadWords {
             BadWords::Word => "a word has a line feed",
             BadWords::Name => "a name has a line feed",
             BadWords::NotName => "a name has 1 to 32 letters, digits, _, . or -",
+            BadWords::Many => "too many names for one wait",
             BadWords::Duration(text) => {
                 return write!(
                     f,
