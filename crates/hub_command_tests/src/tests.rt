@@ -1,4 +1,6 @@
+mod dialing;
 mod durations;
 mod plans;
 mod sockets;
+mod waits;
 mod words;

@@ -15,12 +15,13 @@ use Rattle.hub_ask.specs.declared.outcome.Outcome.{Outcome}
 use Rattle.hub_ask.specs.declared.waiting.TheConstants.{GRACE}
 use Rattle.hub_client.specs.Passing.{has_lf}
 use Rattle.hub_dialing.specs.Dialing.{Dialing, OverOne}
-use Rattle.hub_commands.specs.Waiting.{AreOneWait, Begins, EndsSo, EndsTry, GoesOn, IsAt, IsPassing, IsTried, PutsOff, WaitsFor, WaitsOn, Wishing}
+use Rattle.hub_commands.specs.Waiting.{AreOneWait, Begins, EndsSo, EndsTry, GoesOn, IsAt, IsPart, IsPassing, IsTried, PutsOff, WaitsFor, WaitsOn, Wishing}
 use Rattle.hub_endings.specs.declared.ending.Ending.{Ending}
 use Rattle.hub_endings.specs.declared.ending.Ending.TheVariants.{Refused, Stopped, Unreached, Failed}
 use Rattle.hub_endings.specs.declared.fault.Fault.{Fault}
 use Rattle.hub_endings.specs.declared.fault.Fault.TheVariants.{Memory, Ask}
 use Rattle.hub_ask.specs.declared.fault.AskError.{AskError}
+use Rattle.hub_ask.specs.declared.fault.AskError.TheVariants.{NoAnswer}
 
 -- ---- the lines of a wait
 
@@ -70,15 +71,29 @@ not_cut span want names items first turns few less cut same is =
 pub at_first : {D SR SW : Type 0} (d : Dialing D SR SW) (w : Wishing) (first : ℕ) (old : D) → IsAt d w first old old first
 at_first d w first old = record { before = []; tried = refl; next = refl }
 
--- a fault of an exchange isn't one that passes
-never_passes : (fault : Fault) (error : AskError) → fault ≡ Ask error → IsPassing fault → ⊥
-never_passes fault error is passes = subst IsPassing is passes
+-- a fault of an exchange passes only if the line was a part of the wait
+part_passes : (want : List ℕ) (turns : ℕ) (error : AskError) → IsPassing want turns (Ask error) → IsPart want turns
+part_passes want turns NoAnswer passes = passes
+part_passes want turns error passes = absurd passes
 
 -- a try that came to nothing
 pub put_off : {D SR SW T : Type 0} (d : Dialing D SR SW) (w : Wishing) (old new : D) (turns : ℕ) (line : List ℕ) (text : T → List ℕ) (tried : Result (Client SR SW × T) Fault)
     → line ≡ w.line turns → IsTried d old new w.socket (turns + GRACE) line text tried → GoesOn w.is_now w.want turns text tried → PutsOff d w turns old new
 put_off d w old new turns line text (Err fault) same (inl reached) on = (on.0, inl (fault, on.1, reached))
-put_off d w old new turns line text (Err fault) same (inr it) on = absurd (never_passes fault it.0 it.1 on.1)
+put_off d w old new turns line text (Err fault) same (inr it) on = (
+  on.0,
+  inr (record {
+    receive = it.2.receive;
+    receives = it.2.receives;
+    send = it.2.send;
+    sends = it.2.sends;
+    reached = it.2.reached;
+    over = inr (
+      part_passes w.want turns it.0 (subst (IsPassing w.want turns) it.1 on.1),
+      subst (λ l. IsBrokenOff (d.contents it.2.send) (d.contents it.2.sends) (d.remaining it.2.receive) (d.remaining it.2.receives) l) same it.2.over,
+    );
+  }),
+)
 put_off d w old new turns line text (Ok it) same tried on = (
   on.0,
   inr (record {
@@ -87,7 +102,7 @@ put_off d w old new turns line text (Ok it) same tried on = (
     send = tried.send;
     sends = it.0.sender;
     reached = tried.reached;
-    over = (
+    over = inl (
       text it.1,
       subst (λ l. IsAnswered (d.contents tried.send) (d.contents it.0.sender) (d.remaining tried.receive) (d.remaining it.0.receiver) l (text it.1)) same tried.answered,
       on.1,

@@ -12,6 +12,8 @@ use Rattle.hub_requests.specs.Names.{is_name}
 use Rattle.hub_requests.specs.declared.bounds.TheConstants.{MOST_SERVICES, MOST_TURNS}
 use Rattle.hub_ask.specs.declared.fault.AskError.{AskError}
 use Rattle.hub_ask.specs.declared.fault.AskError.TheVariants as ask
+use Rattle.hub_ask.specs.declared.fault.AskError.TheVariants.{NoAnswer}
+use Rattle.hub_ask.specs.Streams.{Going}
 use Rattle.hub_ask.specs.declared.outcome.Outcome.{Outcome}
 use Rattle.hub_ask.specs.declared.waiting.Delay.{Delay}
 use Rattle.hub_ask.specs.declared.waiting.Delay.TheVariants.{Missing, Late}
@@ -107,32 +109,42 @@ IsTried d old new socket millis line text (Ok it) = IsReplied d old new socket m
 IsTried d old new socket millis line text (Err fault) = d.reaches old socket millis (Err fault) new
     ⊎ ((error : AskError) × (fault ≡ Ask error) × OverOne d old new socket millis (λ sent sends had has. IsBrokenOff sent sends had has line))
 
--- A name that isn't made is waited for. After `late` a wait goes on only if it was one of the longest, and not for a restart.
+-- a line of so many turns is only a part of a wait: it is one of the longest, and isn't for a restart
+abbrev pub IsPart : (want : List ℕ) → (turns : ℕ) → Type 0
+IsPart want turns = (turns ≡ MOST_TURNS) × (IsRestart want → ⊥)
+
+-- A name that isn't made is waited for. After `late` a wait goes on only if the line was a part of it.
 abbrev pub MayDelay : (want : List ℕ) → (turns : ℕ) → Delay → Type 0
 MayDelay want turns Missing = ⊤
-MayDelay want turns Late = (turns ≡ MOST_TURNS) × (IsRestart want → ⊥)
+MayDelay want turns Late = IsPart want turns
 
 -- the reply isn't the end of a wait for this whose line had so many turns
 abbrev pub Delays : (want : List ℕ) → (turns : ℕ) → (reply : List ℕ) → Type 0
 Delays want turns reply = (delay : Delay) × (reply ≡ text_of (reply_of delay)) × MayDelay want turns delay
 
--- a fault that isn't the end of a wait: no hub is there yet, or it has no room
-abbrev pub IsPassing : Fault → Type 0
-IsPassing (Reach why) = is_absence why ≡ true
-IsPassing other = ⊥
+-- A fault that isn't the end of a wait: no hub is there yet, or it has no room. Or it didn't answer a line that was a part of the wait.
+abbrev pub IsPassing : (want : List ℕ) → (turns : ℕ) → Fault → Type 0
+IsPassing want turns (Reach why) = is_absence why ≡ true
+IsPassing want turns (Ask NoAnswer) = IsPart want turns
+IsPassing want turns other = ⊥
 
 -- the wait goes on after this
 abbrev pub GoesOn : {C T : Type 0} → (is_now : Bool) → (want : List ℕ) → (turns : ℕ) → (text : T → List ℕ) → Result (C × T) Fault → Type 0
 GoesOn is_now want turns text (Ok it) = (is_now ≡ false) × Delays want turns (text it.1)
-GoesOn is_now want turns text (Err fault) = (is_now ≡ false) × IsPassing fault
+GoesOn is_now want turns text (Err fault) = (is_now ≡ false) × IsPassing want turns fault
 
 -- ---- the tries
 
--- A try with so many turns that came to nothing yet, since the wait isn't to end at once: no hub was there, or its reply isn't the end.
+-- A line with so many turns was sent, and its reply isn't the end of the wait. Or no reply came, and the line was a part of the wait.
+abbrev pub Leaves : Wishing → (turns : ℕ) → Going
+Leaves w turns sent sends had has = ((reply : List ℕ) × IsAnswered sent sends had has (w.line turns) reply × Delays w.want turns reply)
+    ⊎ (IsPart w.want turns × IsBrokenOff sent sends had has (w.line turns))
+
+-- A try with so many turns that came to nothing yet, since the wait isn't to end at once: no hub was there, or the line left it open.
 abbrev pub PutsOff : {D SR SW : Type 0} → Dialing D SR SW → Wishing → (turns : ℕ) → (old new : D) → Type 0
 PutsOff d w turns old new = (w.is_now ≡ false)
-    × (((fault : Fault) × IsPassing fault × d.reaches old w.socket (turns + GRACE) (Err fault) new)
-    ⊎ OverOne d old new w.socket (turns + GRACE) (λ sent sends had has. (reply : List ℕ) × IsAnswered sent sends had has (w.line turns) reply × Delays w.want turns reply))
+    × (((fault : Fault) × IsPassing w.want turns fault × d.reaches old w.socket (turns + GRACE) (Err fault) new)
+    ⊎ OverOne d old new w.socket (turns + GRACE) (Leaves w turns))
 
 -- the first line has all turns, and each other one no more than the one before it
 abbrev pub IsNext : (first : ℕ) → (before : List ℕ) → (turns : ℕ) → Type 0

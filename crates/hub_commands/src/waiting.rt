@@ -8,7 +8,7 @@ ghost use Rattle.hub_ask.specs.declared.waiting.TheConstants.{GRACE};
 ghost use Rattle.hub_client.specs.Passing.{has_lf};
 ghost use Rattle.hub_requests.specs.Names.{is_name};
 ghost use Rattle.hub_dialing.specs.Dialing.{dialing};
-ghost use Rattle.hub_commands.specs.Waiting.{AreJudged, Begins, Delays, EndsTry, GoesOn, IsRestart, IsTried, WaitsAsTold, WaitsOn, wishing};
+ghost use Rattle.hub_commands.specs.Waiting.{AreJudged, Begins, Delays, EndsTry, GoesOn, IsPart, IsRestart, IsTried, WaitsAsTold, WaitsOn, wishing};
 
 use crate::saying::Sayings;
 use hub_ask::{
@@ -115,19 +115,21 @@ fn try_once<H: Wait, D: Dial>(
     Ok((client, reply))
 }
 
+// Whether a wait goes on though a line of so many turns had no outcome: it was one of the longest, and isn't for a restart.
+fn is_part(want: &str, turns: u64) -> bool
+    ensures { MatchBool result (IsPart want.now turns) (IsPart want.now turns → ⊥) }
+{
+    turns == MOST_TURNS && !is_restart(want)
+}
+
 // For what a wait goes on after this reply to a line of so many turns. None if it is the end of the wait.
 fn delay_after(reply: &[u8], want: &str, turns: u64) -> Option<Delay>
     ensures { IfSome result (λ _. Delays want.now turns reply.now) }
 {
     match delay_of(reply)? {
         hub_ask::Delay::Missing => Some(Delay::Names),
-        hub_ask::Delay::Late => {
-            if turns == MOST_TURNS && !is_restart(want) {
-                Some(Delay::Time)
-            } else {
-                None
-            }
-        }
+        hub_ask::Delay::Late if is_part(want, turns) => Some(Delay::Time),
+        hub_ask::Delay::Late => None,
     }
 }
 
@@ -142,6 +144,7 @@ fn goes_on<SR, SW>(tried: &Tried<SR, SW>, wish: &Wish<'_>, turns: u64) -> Option
     match tried {
         Ok((_, reply)) => delay_after(reply, wish.want, turns),
         Err(Fault::Reach(why)) if why.is_absence() => Some(Delay::Hub),
+        Err(Fault::Ask(AskError::NoAnswer)) if is_part(wish.want, turns) => Some(Delay::Time),
         Err(_) => None,
     }
 }
