@@ -50,7 +50,7 @@ A hub that isn't there yet, or has no room, and a name that isn't made yet are
 waited for, unless there is --now. After a second standard error says so:
 
   ftrighub: waiting for the hub at /run/hub.sock
-  ftrighub: waiting until db web are made
+  ftrighub: waiting until web is made (the hub has db log)
 
 D is a number with ms, s, m or h, or alone for seconds, such as 500ms, 0.5s, 90,
 2m or 1h. It is for all of this together: if the hub doesn't answer within a

@@ -15,7 +15,7 @@ use Rattle.hub_ask.specs.declared.outcome.Outcome.{Outcome}
 use Rattle.hub_ask.specs.declared.waiting.TheConstants.{GRACE}
 use Rattle.hub_client.specs.Passing.{has_lf}
 use Rattle.hub_dialing.specs.Dialing.{Dialing, OverOne}
-use Rattle.hub_commands.specs.Waiting.{AreOneWait, Begins, EndsSo, EndsTry, GoesOn, IsAt, IsPart, IsPassing, IsTried, PutsOff, WaitsFor, WaitsOn, Wishing}
+use Rattle.hub_commands.specs.Waiting.{AreOneWait, AsksAfterTry, Begins, EndsSo, EndsTry, GoesOn, IsAt, IsPart, IsPassing, IsTried, PutsOff, WaitsFor, WaitsOn, Wishing}
 use Rattle.hub_endings.specs.declared.ending.Ending.{Ending}
 use Rattle.hub_endings.specs.declared.ending.Ending.TheVariants.{Refused, Stopped, Unreached, Failed}
 use Rattle.hub_endings.specs.declared.fault.Fault.{Fault}
@@ -77,10 +77,10 @@ part_passes want turns NoAnswer passes = passes
 part_passes want turns error passes = absurd passes
 
 -- a try that came to nothing
-pub put_off : {D SR SW T : Type 0} (d : Dialing D SR SW) (w : Wishing) (old new : D) (turns : ℕ) (line : List ℕ) (text : T → List ℕ) (tried : Result (Client SR SW × T) Fault)
-    → line ≡ w.line turns → IsTried d old new w.socket (turns + GRACE) line text tried → GoesOn w.is_now w.want turns text tried → PutsOff d w turns old new
-put_off d w old new turns line text (Err fault) same (inl reached) on = (on.0, inl (fault, on.1, reached))
-put_off d w old new turns line text (Err fault) same (inr it) on = (
+pub put_off : {D SR SW T : Type 0} (d : Dialing D SR SW) (w : Wishing) (old new : D) (turns : ℕ) (line : List ℕ) (text : T → List ℕ) (tried later : Result (Client SR SW × T) Fault)
+    → line ≡ w.line turns → IsTried d old new w.socket (turns + GRACE) line text tried → GoesOn w.is_now w.want turns text tried → AsksAfterTry d.contents tried later → PutsOff d w turns old new
+put_off d w old new turns line text (Err fault) later same (inl reached) on asked = (on.0, inl (fault, on.1, reached))
+put_off d w old new turns line text (Err fault) later same (inr it) on asked = (
   on.0,
   inr (record {
     receive = it.2.receive;
@@ -94,28 +94,32 @@ put_off d w old new turns line text (Err fault) same (inr it) on = (
     );
   }),
 )
-put_off d w old new turns line text (Ok it) same tried on = (
+put_off d w old new turns line text (Ok it) (Err fault) same tried on asked = absurd asked
+put_off d w old new turns line text (Ok it) (Ok later) same tried on asked = (
   on.0,
   inr (record {
     receive = tried.receive;
-    receives = it.0.receiver;
+    receives = later.0.receiver;
     send = tried.send;
-    sends = it.0.sender;
+    sends = later.0.sender;
     reached = tried.reached;
     over = inl (
       text it.1,
+      d.contents it.0.sender,
+      d.remaining it.0.receiver,
       subst (λ l. IsAnswered (d.contents tried.send) (d.contents it.0.sender) (d.remaining tried.receive) (d.remaining it.0.receiver) l (text it.1)) same tried.answered,
       on.1,
+      asked,
     );
   }),
 )
 
 -- and one more
-pub one_more_try : {D SR SW T : Type 0} (d : Dialing D SR SW) (w : Wishing) (first : ℕ) (old now new : D) (turns next : ℕ) (line : List ℕ) (text : T → List ℕ) (tried : Result (Client SR SW × T) Fault)
-    → IsAt d w first old now turns → line ≡ w.line turns → IsTried d now new w.socket (turns + GRACE) line text tried → GoesOn w.is_now w.want turns text tried → next ≤ turns
+pub one_more_try : {D SR SW T : Type 0} (d : Dialing D SR SW) (w : Wishing) (first : ℕ) (old now new : D) (turns next : ℕ) (line : List ℕ) (text : T → List ℕ) (tried later : Result (Client SR SW × T) Fault)
+    → IsAt d w first old now turns → line ≡ w.line turns → IsTried d now new w.socket (turns + GRACE) line text tried → GoesOn w.is_now w.want turns text tried → AsksAfterTry d.contents tried later → next ≤ turns
     → IsAt d w first old new next
-one_more_try d w first old now new turns next line text tried at same came on fewer =
-    record { before = turns ∷ at.before; tried = (now, at.tried, at.next, put_off d w now new turns line text tried same came on); next = fewer }
+one_more_try d w first old now new turns next line text tried later at same came on asked fewer =
+    record { before = turns ∷ at.before; tried = (now, at.tried, at.next, put_off d w now new turns line text tried later same came on asked); next = fewer }
 
 -- ---- the end
 

@@ -1,6 +1,7 @@
 pub mod Hints
 pub mod Asking
 pub mod Waiting
+pub mod Missing
 pub mod Sayings
 pub mod Notes
 pub mod Asked

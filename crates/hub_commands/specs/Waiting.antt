@@ -21,6 +21,7 @@ use Rattle.hub_ask.specs.declared.waiting.TheConstants.{GRACE}
 use Rattle.hub_client.specs.Passing.{has_lf}
 use Rattle.hub_requests.specs.Texts.{text_of}
 use Rattle.hub_commands.specs.Asking.{Ends}
+use Rattle.hub_commands.specs.Missing.{AsksNames}
 use Rattle.hub_dialing.specs.Dialing.{Dialing, OverOne}
 use Rattle.hub_endings.specs.Words.{IsLimit}
 use Rattle.hub_endings.specs.declared.ending.BadWords.{BadWords}
@@ -133,11 +134,19 @@ abbrev pub GoesOn : {C T : Type 0} → (is_now : Bool) → (want : List ℕ) →
 GoesOn is_now want turns text (Ok it) = (is_now ≡ false) × Delays want turns (text it.1)
 GoesOn is_now want turns text (Err fault) = (is_now ≡ false) × IsPassing want turns fault
 
+-- between two states of a try at most the names of the hub were asked for
+abbrev pub AsksAfterTry : {SR SW T : Type 0} → (contents : SW → Option (List ℕ)) → (old new : Result (Client SR SW × T) Fault) → Type 0
+AsksAfterTry contents (Ok it) (Ok later) = AsksNames (contents it.0.sender) (contents later.0.sender)
+AsksAfterTry contents (Err fault) new = ⊤
+AsksAfterTry contents old new = ⊥
+
 -- ---- the tries
 
--- A line with so many turns was sent, and its reply isn't the end of the wait. Or no reply came, and the line was a part of the wait.
+-- A line with so many turns was sent, its reply isn't the end of the wait, and then at most the names of the hub were asked for. Or no
+-- reply came, and the line was a part of the wait.
 abbrev pub Leaves : Wishing → (turns : ℕ) → Going
-Leaves w turns sent sends had has = ((reply : List ℕ) × IsAnswered sent sends had has (w.line turns) reply × Delays w.want turns reply)
+Leaves w turns sent sends had has = ((reply : List ℕ) × (sends' has' : Option (List ℕ)) × IsAnswered sent sends' had has' (w.line turns) reply
+    × Delays w.want turns reply × AsksNames sends' sends)
     ⊎ (IsPart w.want turns × IsBrokenOff sent sends had has (w.line turns))
 
 -- A try with so many turns that came to nothing yet, since the wait isn't to end at once: no hub was there, or the line left it open.

@@ -10,6 +10,7 @@ mod asking;
 mod hinting;
 mod holding;
 mod making;
+mod missing;
 mod noting;
 mod requesting;
 mod saying;

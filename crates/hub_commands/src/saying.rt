@@ -1,13 +1,15 @@
 //! The lines that say for what a wait waits, if it isn't for a service yet.
-ghost use Rattle.std.specs.Prelude.{◌≡◌, true, false, OnOk, OnErr};
+ghost use Rattle.std.specs.Prelude.{◌≡◌, true, false, IfOk, OnOk, OnErr};
 ghost use Rattle.hub_ask.specs.Streams.{IsToldTo};
-ghost use Rattle.hub_commands.specs.Sayings.{AreSaid, IsSaid, are, hub_line, names_line};
+ghost use Rattle.hub_commands.specs.Missing.{AsksNames};
+ghost use Rattle.hub_commands.specs.Sayings.{AreSaid, HubIsSaid, NamesAreSaid, are, hub_line, names_line, there_text};
 
-use crate::waiting::Delay;
-use hub_ask::{Deadline, write_note};
+use crate::missing::{missing_of, names_there};
+use hub_ask::{Client, Deadline, Replies, Requests, write_note};
 use hub_io::Sink;
 use std::alloc::{AllocError, Global};
 use std::rt::Clock;
+use std::sync::Wait;
 
 /// After how many milliseconds a line says for what is waited.
 const QUIET: u64 = 1_000;
@@ -20,10 +22,10 @@ struct Saying {
 }
 
 impl Saying {
-    // Whether the line is to be written now. Then it is said.
+    // Whether the line is to be written now.
     fn is_due<C: Clock>(&mut self, clock: &C) -> bool
-        ensures due { result ≡ true → (self.old.is_said ≡ false) × (self.new.is_said ≡ true) }
-        ensures other { result ≡ false → self.new.is_said ≡ self.old.is_said }
+        ensures due { result ≡ true → self.old.is_said ≡ false }
+        ensures same { self.new.is_said ≡ self.old.is_said }
     {
         if self.is_said {
             return false;
@@ -33,11 +35,7 @@ impl Saying {
             None => Deadline::after(clock, QUIET),
         };
         self.quiet = Some(quiet);
-        if quiet.left(clock).is_some() {
-            return false;
-        }
-        self.is_said = true;
-        true
+        quiet.left(clock).is_none()
     }
 }
 
@@ -63,35 +61,59 @@ impl Sayings {
         }
     }
 
-    /// Writes the line for this delay, if it is time for it and it isn't written yet.
-    pub(crate) fn say<C: Clock, F: Sink>(
+    /// Writes the line about the hub, if it is time for it and it isn't written yet.
+    pub(crate) fn say_hub<C: Clock, F: Sink>(
         &mut self,
         clock: &C,
         alloc: Global,
-        delay: Delay,
         socket: &str,
-        names: &[&str],
         notes: &mut F,
     ) -> Result<(), AllocError>
         ensures said { AreSaid self.old self.new }
-        // A line is written only if it wasn't yet.
-        ensures told { IsSaid (λ name. name.now) self.old self.new socket.now names.now
+        ensures told { HubIsSaid self.old self.new socket.now
             (F.contents notes.old) (F.contents notes.new) (F.faults notes.old) (F.faults notes.new) }
-        ensures quiet { self.old.hub.is_said ≡ true → self.old.names.is_said ≡ true
-            → notes.new ≡ notes.old }
+        ensures quiet { self.old.hub.is_said ≡ true → notes.new ≡ notes.old }
     {
-        if delay == Delay::Hub && self.hub.is_due(clock) {
-            return say_hub(alloc, socket, notes);
+        if !self.hub.is_due(clock) {
+            return Ok(());
         }
-        if delay == Delay::Names && self.names.is_due(clock) {
-            return say_names(alloc, names, notes);
+        self.hub.is_said = true;
+        tell_hub(alloc, socket, notes)
+    }
+
+    /// Writes the line about the names, if it is time for it and it isn't written yet. It asks the hub which names it has. If the hub
+    /// doesn't say so, or has all of them by now, nothing is written.
+    pub(crate) fn say_names<H: Wait + Clock, SR: Replies, SW: Requests, F: Sink>(
+        &mut self,
+        rt: &H,
+        alloc: Global,
+        names: &[&str],
+        client: &mut Client<SR, SW>,
+        notes: &mut F,
+    ) -> Result<(), AllocError>
+        ensures said { AreSaid self.old self.new }
+        ensures told { NamesAreSaid (λ name. name.now) self.old self.new
+            (F.contents notes.old) (F.contents notes.new) (F.faults notes.old) (F.faults notes.new) }
+        ensures quiet { self.old.names.is_said ≡ true → notes.new ≡ notes.old }
+        ensures asked { AsksNames (SW.contents client.old.sender) (SW.contents client.new.sender) }
+    {
+        if !self.names.is_due(rt) {
+            return Ok(());
         }
-        Ok(())
+        let Ok(there) = names_there(rt, alloc, client) else {
+            return Ok(());
+        };
+        let missing = missing_of(alloc, names, &there)?;
+        if missing.is_empty() {
+            return Ok(());
+        }
+        self.names.is_said = true;
+        tell_names(alloc, &missing, &there, notes)
     }
 }
 
 // Says that a hub is waited for.
-fn say_hub<F: Sink>(alloc: Global, socket: &str, notes: &mut F) -> Result<(), AllocError>
+fn tell_hub<F: Sink>(alloc: Global, socket: &str, notes: &mut F) -> Result<(), AllocError>
     ensures ok { OnOk result (IsToldTo (F.contents notes.old) (F.contents notes.new)
         (F.faults notes.old) (F.faults notes.new) (hub_line socket.now)) }
     ensures err { OnErr result (notes.new ≡ notes.old) }
@@ -108,16 +130,41 @@ fn are(names: usize) -> &'static str
     if names == 1 { "is" } else { "are" }
 }
 
+// What a hub has whose names are these.
+fn there_text(there: &[u8]) -> &[u8]
+    ensures { result.now ≡ there_text there.now }
+{
+    if there.is_empty() { b"no names" } else { there }
+}
+
+// The line on these names, which a hub lacks that has those.
+fn names_line(alloc: Global, missing: &[&str], there: &[u8]) -> Result<Vec<u8>, AllocError>
+    ensures { IfOk result (λ it. it.items ≡ names_line (λ name. name.now) missing.now there.now) }
+{
+    let list = missing.join(alloc, " ")?;
+    let mut line = Vec::from_slice(alloc, b"ftrighub: waiting until ")?;
+    line.extend_from_slice(list.as_bytes())?;
+    line.extend_from_slice(b" ")?;
+    line.extend_from_slice(are(missing.len()).as_bytes())?;
+    line.extend_from_slice(b" made (the hub has ")?;
+    line.extend_from_slice(there_text(there))?;
+    line.extend_from_slice(b")\n")?;
+    Ok(line)
+}
+
 // Says that these names are waited for.
-fn say_names<F: Sink>(alloc: Global, names: &[&str], notes: &mut F) -> Result<(), AllocError>
+fn tell_names<F: Sink>(
+    alloc: Global,
+    missing: &[&str],
+    there: &[u8],
+    notes: &mut F,
+) -> Result<(), AllocError>
     ensures ok { OnOk result (IsToldTo (F.contents notes.old) (F.contents notes.new)
-        (F.faults notes.old) (F.faults notes.new) (names_line (λ name. name.now) names.now)) }
+        (F.faults notes.old) (F.faults notes.new)
+        (names_line (λ name. name.now) missing.now there.now)) }
     ensures err { OnErr result (notes.new ≡ notes.old) }
 {
-    let list = names.join(alloc, " ")?;
-    let text = list.as_str();
-    let verb = are(names.len());
-    let line = format!(in alloc; "ftrighub: waiting until {text} {verb} made\n")?;
-    write_note(line.as_bytes(), notes);
+    let line = names_line(alloc, missing, there)?;
+    write_note(&line, notes);
     Ok(())
 }

@@ -8,7 +8,8 @@ ghost use Rattle.hub_ask.specs.declared.waiting.TheConstants.{GRACE};
 ghost use Rattle.hub_client.specs.Passing.{has_lf};
 ghost use Rattle.hub_requests.specs.Names.{is_name};
 ghost use Rattle.hub_dialing.specs.Dialing.{dialing};
-ghost use Rattle.hub_commands.specs.Waiting.{AreJudged, Begins, Delays, EndsTry, GoesOn, IsPart, IsRestart, IsTried, WaitsAsTold, WaitsOn, wishing};
+ghost use Rattle.hub_commands.specs.Sayings.{AreSaid};
+ghost use Rattle.hub_commands.specs.Waiting.{AreJudged, AsksAfterTry, Begins, Delays, EndsTry, GoesOn, IsPart, IsRestart, IsTried, WaitsAsTold, WaitsOn, wishing};
 
 use crate::saying::Sayings;
 use hub_ask::{
@@ -21,7 +22,7 @@ use hub_io::Sink;
 use hub_options::Wish;
 use hub_protocol::LONGEST_LINE;
 use hub_requests::{MOST_SERVICES, MOST_TURNS, Name};
-use std::alloc::Global;
+use std::alloc::{AllocError, Global};
 use std::rt::Clock;
 use std::sync::Wait;
 use std::thread;
@@ -32,7 +33,7 @@ const PAUSE: u64 = 100;
 
 /// For what the next try has to wait.
 #[derive(Clone, Copy, Debug, PartialEq, Eq)]
-pub(crate) enum Delay {
+enum Delay {
     /// A hub has to be there, with room for one more connection.
     Hub,
     /// Names have to be made.
@@ -149,18 +150,29 @@ fn goes_on<SR, SW>(tried: &Tried<SR, SW>, wish: &Wish<'_>, turns: u64) -> Option
     }
 }
 
-// Pauses, and tells how many turns the next line has: no more than these. None if the time is over.
-fn next_turns<C: Clock>(clock: &C, deadline: &Option<Deadline>, turns: u64) -> Option<u64>
-    ensures { IfSome result (λ next. next ≤ turns) }
-{
+// Pauses before the next try. False if the time is over.
+fn has_paused<C: Clock>(clock: &C, deadline: &Option<Deadline>) -> bool {
     let pause = Duration::from_millis(PAUSE);
-    let Some(deadline) = deadline else {
-        thread::sleep(clock, pause);
-        return Some(turns);
+    let left = match deadline {
+        Some(deadline) => deadline.left(clock),
+        None => Some(pause),
     };
-    thread::sleep(clock, deadline.left(clock)?.min(pause));
+    let Some(left) = left else {
+        return false;
+    };
+    thread::sleep(clock, left.min(pause));
+    true
+}
+
+// How many turns the next line has: no more than these.
+fn next_turns<C: Clock>(clock: &C, deadline: &Option<Deadline>, turns: u64) -> u64
+    ensures { result ≤ turns }
+{
+    let Some(deadline) = deadline else {
+        return turns;
+    };
     let left = deadline.left(clock).unwrap_or(Duration::ZERO);
-    Some(u64::try_from(left.as_millis()).unwrap_or(turns).min(turns))
+    u64::try_from(left.as_millis()).unwrap_or(turns).min(turns)
 }
 
 // Ends a wait by this try: by its reply, or its fault.
@@ -221,31 +233,58 @@ fn wait_on<H: Wait + Clock, D: Dial, W: Sink, F: Sink>(
         let Some(line) = wait_line(alloc, wish.span, wish.want, turns, names)? else {
             unreachable!()
         };
-        let tried = try_once(rt, alloc, dialer, socket, wish.is_now, &line, turns);
-        let Some((delay, next)) = next_try(rt, &tried, wish, deadline, turns) else {
+        let mut tried = try_once(rt, alloc, dialer, socket, wish.is_now, &line, turns);
+        let Some(delay) = next_try(rt, &tried, wish, deadline, turns) else {
             return end(rt, alloc, tried, wish, output, notes);
         };
-        sayings.say(rt, alloc, delay, socket, names, notes)?;
-        turns = next;
+        say(rt, alloc, &mut sayings, delay, &mut tried, wish, socket, notes)?;
+        turns = next_turns(rt, deadline, turns);
     }
     unreachable!()
 }
 
-// For what the next try has to wait, and how many turns its line has. None if there is no next one.
+// For what the next try has to wait, after a pause. None if there is no next one.
 fn next_try<C: Clock, SR, SW>(
     clock: &C,
     tried: &Tried<SR, SW>,
     wish: &Wish<'_>,
     deadline: &Option<Deadline>,
     turns: u64,
-) -> Option<(Delay, u64)>
-    ensures on { IfSome result (λ _. GoesOn wish.now.is_now wish.now.want.now turns
+) -> Option<Delay>
+    ensures { IfSome result (λ _. GoesOn wish.now.is_now wish.now.want.now turns
         (λ reply. reply.items) tried.now) }
-    ensures fewer { IfSome result (λ next. next.1 ≤ turns) }
 {
     let delay = goes_on(tried, wish, turns)?;
-    let next = next_turns(clock, deadline, turns)?;
-    Some((delay, next))
+    if has_paused(clock, deadline) {
+        Some(delay)
+    } else {
+        None
+    }
+}
+
+// Says for what is waited after this try, if it is time for that.
+fn say<H: Wait + Clock, SR: Replies, SW: Requests, F: Sink>(
+    rt: &H,
+    alloc: Global,
+    sayings: &mut Sayings,
+    delay: Delay,
+    tried: &mut Tried<SR, SW>,
+    wish: &Wish<'_>,
+    socket: &str,
+    notes: &mut F,
+) -> Result<(), AllocError>
+    ensures said { AreSaid sayings.old sayings.new }
+    ensures asked { AsksAfterTry SW.contents tried.old tried.new }
+    ensures quiet { sayings.old.hub.is_said ≡ true → sayings.old.names.is_said ≡ true
+        → notes.new ≡ notes.old }
+{
+    match (delay, tried) {
+        (Delay::Hub, _) => sayings.say_hub(rt, alloc, socket, notes),
+        (Delay::Names, Ok((client, _))) => {
+            sayings.say_names(rt, alloc, &wish.names, client, notes)
+        }
+        _ => Ok(()),
+    }
 }
 
 /// Waits as the wish says at the hub at the socket, writes the reply, and returns the exit status for it. Unless the wish says

@@ -37,11 +37,10 @@ returns-in_err-say-clause-goes g c =
     let same : bytes_of c.in-Some-2.line ≡ wait_words c.args.wish.now.span.now c.args.wish.now.want.now c.tries.turns (joined (λ (name : Bor (List ℕ)). name.now) c.args.wish.now.names.items) =
     subst (λ it. IfSome it (λ line. bytes_of line ≡ wait_words c.args.wish.now.span.now c.args.wish.now.want.now c.tries.turns (joined (λ (name : Bor (List ℕ)). name.now) c.as_slice-names.result.now))) c.in-Some-2.is c.in_ok-line.ensures.line
     ∙ ap (λ n. wait_words c.args.wish.now.span.now c.args.wish.now.want.now c.tries.turns (joined (λ (name : Bor (List ℕ)). name.now) n)) c.as_slice-names.ensures.value in
-    let fewer : c.in-Some-next_try.next ≤ c.tries.turns = (let known = c.in-Some-next_try.ensures.fewer in omega (arith, known)) in
-    ends_without_memory (dialing g.D.Dial.reaches g.D.Receiver.Read.remaining g.D.Sender.Write.contents) (wishing c.args.socket.now c.args.wish.now) c.args.first c.args.dialer.now c.try_once-tried.new.dialer c.in-Some-next_try.next
+    ends_without_memory (dialing g.D.Dial.reaches g.D.Receiver.Read.remaining g.D.Sender.Write.contents) (wishing c.args.socket.now c.args.wish.now) c.args.first c.args.dialer.now c.try_once-tried.new.dialer c.tries.turns
     (c.tries.output ≡ c.args.output.now) (g.W.Write.contents c.args.output.now) (g.W.Write.contents c.tries.output) c.from_residual-in_err-say.result
-    (one_more_try (dialing g.D.Dial.reaches g.D.Receiver.Read.remaining g.D.Sender.Write.contents) (wishing c.args.socket.now c.args.wish.now) c.args.first c.args.dialer.now c.tries.dialer c.try_once-tried.new.dialer c.tries.turns c.in-Some-next_try.next (bytes_of c.in-Some-2.line) (λ (reply : Vec ℕ Global). reply.items) c.try_once-tried.result
-    c.tries.invariant.at same c.try_once-tried.ensures c.in-Some-next_try.ensures.on fewer)
+    (one_more_try (dialing g.D.Dial.reaches g.D.Receiver.Read.remaining g.D.Sender.Write.contents) (wishing c.args.socket.now c.args.wish.now) c.args.first c.args.dialer.now c.tries.dialer c.try_once-tried.new.dialer c.tries.turns c.tries.turns (bytes_of c.in-Some-2.line) (λ (reply : Vec ℕ Global). reply.items) c.try_once-tried.result c.say.new.tried
+    c.tries.invariant.at same c.try_once-tried.ensures c.in-Some-next_try.ensures c.say.ensures.asked (omega arith))
     c.from_residual-in_err-say.ensures.1 c.tries.invariant.output
 
 pub tries-preserved : goal.tries-preserved
@@ -49,11 +48,10 @@ tries-preserved g c =
     let same : bytes_of c.in-Some-2.line ≡ wait_words c.args.wish.now.span.now c.args.wish.now.want.now c.tries.turns (joined (λ (name : Bor (List ℕ)). name.now) c.args.wish.now.names.items) =
     subst (λ it. IfSome it (λ line. bytes_of line ≡ wait_words c.args.wish.now.span.now c.args.wish.now.want.now c.tries.turns (joined (λ (name : Bor (List ℕ)). name.now) c.as_slice-names.result.now))) c.in-Some-2.is c.in_ok-line.ensures.line
     ∙ ap (λ n. wait_words c.args.wish.now.span.now c.args.wish.now.want.now c.tries.turns (joined (λ (name : Bor (List ℕ)). name.now) n)) c.as_slice-names.ensures.value in
-    let fewer : c.in-Some-next_try.next ≤ c.tries.turns = (let known = c.in-Some-next_try.ensures.fewer in omega (arith, known)) in
     record {
-      at = (one_more_try (dialing g.D.Dial.reaches g.D.Receiver.Read.remaining g.D.Sender.Write.contents) (wishing c.args.socket.now c.args.wish.now) c.args.first c.args.dialer.now c.tries.dialer c.try_once-tried.new.dialer c.tries.turns c.in-Some-next_try.next (bytes_of c.in-Some-2.line) (λ (reply : Vec ℕ Global). reply.items) c.try_once-tried.result
-          c.tries.invariant.at same c.try_once-tried.ensures c.in-Some-next_try.ensures.on fewer);
-      few = (let few = c.tries.invariant.few in omega (arith, few, fewer));
+      at = (one_more_try (dialing g.D.Dial.reaches g.D.Receiver.Read.remaining g.D.Sender.Write.contents) (wishing c.args.socket.now c.args.wish.now) c.args.first c.args.dialer.now c.tries.dialer c.try_once-tried.new.dialer c.tries.turns c.next_turns-turns.result (bytes_of c.in-Some-2.line) (λ (reply : Vec ℕ Global). reply.items) c.try_once-tried.result c.say.new.tried
+    c.tries.invariant.at same c.try_once-tried.ensures c.in-Some-next_try.ensures c.say.ensures.asked c.next_turns-turns.ensures);
+      few = (let few = c.tries.invariant.few in omega (arith, few, c.next_turns-turns.ensures));
       output = c.tries.invariant.output;
       quiet = λ q. (
         c.in_ok-say.ensures.said.0 (c.tries.invariant.quiet q).0,

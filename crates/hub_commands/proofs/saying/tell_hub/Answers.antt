@@ -1,6 +1,6 @@
 use Rattle.std.proofs.Common.{◌∙◌, subst}
 use Rattle.hub_ask.specs.Streams.{IsToldTo}
-use Rattle.hub_commands.proofs.saying.say_hub.Goals as goal
+use Rattle.hub_commands.proofs.saying.tell_hub.Goals as goal
 
 pub returns-clause-ok : goal.returns-clause-ok
 returns-clause-ok g c =
