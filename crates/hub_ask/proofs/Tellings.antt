@@ -1,7 +1,7 @@
 -- What replies tell.
-use Rattle.std.proofs.Common.{◌≡◌, ◌≢◌, ◌<◌, List, [], ◌∷◌, ◌++◌, length, map, ℕ, Option, None, Some, true, false, refl, sym, ap, ◌∙◌, subst, append-nil, arith}
+use Rattle.std.proofs.Common.{◌≡◌, ◌≢◌, ◌<◌, List, [], ◌∷◌, ◌++◌, length, map, ℕ, ◌-◌, ◌==◌, nat_eq, nat_lt, ◌&&◌, count_by, Option, None, Some, true, false, refl, sym, ap, ◌∙◌, subst, append-nil, arith}
 use Rattle.std.specs.List.{join_with_byte}
-use Rattle.std.proofs.lemmas.Bool.{eq-eqb, eqb-true}
+use Rattle.std.proofs.lemmas.Bool.{and_from, and_parts, eq-eqb, eqb-true, false≢true, lt-ltb, ltb-true}
 use Rattle.std.proofs.lemmas.Fmt.{decimal_nonempty}
 use Rattle.std.proofs.lemmas.List.{length-append, length-map}
 use Rattle.std.proofs.lemmas.List.Elements.{All-head}
@@ -16,7 +16,6 @@ use Rattle.hub_protocol.specs.Replies.{AreCounts, IsCountOrNone, IsOfHub, IsShow
 use Rattle.hub_protocol.specs.Spelling.{fields_of, is_space}
 use Rattle.hub_protocol.proofs.Counts.{visible_counts}
 use Rattle.hub_protocol.proofs.FormLines.{fields_of-join}
-use Rattle.std.proofs.lemmas.Bool.{false≢true}
 use Rattle.hub_record.specs.declared.Status.{Status}
 use Rattle.hub_protocol.proofs.SameReplies.{same_text}
 use Rattle.hub_ask.specs.declared.outcome.Outcome.{Outcome}
@@ -69,12 +68,24 @@ some_text number text rest h e none =
 -- so many fields as it has are counted
 count_of_fields : (text : List ℕ) (count : ℕ) → text ≢ [] → length (fields_of text) ≡ count → has_count text count ≡ true
 count_of_fields [] count some is = absurd (some refl)
-count_of_fields (byte ∷ bytes) count some is = eq-eqb _ _ (sym (length-slice_split is_space (byte ∷ bytes)) ∙ is)
+count_of_fields (byte ∷ bytes) count some is =
+    and_from (nat_lt 0 count) (count_by is_space (byte ∷ bytes) == count - 1) (lt-ltb 0 count (omega (arith, is, length-slice_split is_space (byte ∷ bytes))))
+    (eq-eqb (count_by is_space (byte ∷ bytes)) (count - 1) (omega (arith, is, length-slice_split is_space (byte ∷ bytes))))
 
 -- and no other number of them
 fields_of_count : (text : List ℕ) (count : ℕ) → text ≢ [] → has_count text count ≡ true → length (fields_of text) ≡ count
 fields_of_count [] count some is = absurd (some refl)
-fields_of_count (byte ∷ bytes) count some is = length-slice_split is_space (byte ∷ bytes) ∙ eqb-true _ _ is
+fields_of_count (byte ∷ bytes) count some is =
+    let both = and_parts (nat_lt 0 count) (count_by is_space (byte ∷ bytes) == count - 1) is in
+    let more = ltb-true 0 count both.0 in
+    let same = eqb-true (count_by is_space (byte ∷ bytes)) (count - 1) both.1 in
+    omega (arith, length-slice_split is_space (byte ∷ bytes), more, same)
+
+-- the test of the code
+pub is_counted : (text : List ℕ) (count spaces : ℕ) → (length text == 0) ≡ false → 0 < count → spaces ≡ count_by is_space text → nat_eq spaces (count - 1) ≡ has_count text count
+is_counted [] count spaces some more is = absurd (false≢true (sym some))
+is_counted (byte ∷ bytes) count spaces some more is =
+    ap (λ n. nat_eq n (count - 1)) is ∙ sym (ap (λ t. t && (count_by is_space (byte ∷ bytes) == count - 1)) (lt-ltb 0 count more))
 
 -- the numbers of a `yes` are the fields of its text
 fields_of_numbers : (number : Option ℕ) (numbers : List (Option ℕ)) (text : List ℕ) → AreCounts (number ∷ numbers)

@@ -1,5 +1,5 @@
 -- How a request went.
-use Rattle.std.specs.Prelude.{◌≡◌, ◌≢◌, ⊤, ℕ, ◌+◌, ◌==◌, List, [], ◌∷◌, length, count_by, Bool, true, false, Option, MatchOption}
+use Rattle.std.specs.Prelude.{◌≡◌, ◌≢◌, ⊤, ℕ, ◌-◌, ◌==◌, nat_lt, ◌&&◌, List, [], ◌∷◌, length, count_by, Bool, true, false, Option, MatchOption}
 use Rattle.hub_protocol.specs.Spelling.{is_space}
 use Rattle.hub_requests.specs.Texts.{text_of}
 use Rattle.hub_requests.specs.declared.reply.Reply.{Reply}
@@ -49,7 +49,7 @@ outcome_read read = Done
 -- whether a text has so many fields; one without a byte has none
 abbrev pub has_count : List ℕ → (count : ℕ) → Bool
 has_count [] count = count == 0
-has_count (byte ∷ bytes) count = count_by is_space (byte ∷ bytes) + 1 == count
+has_count (byte ∷ bytes) count = nat_lt 0 count && (count_by is_space (byte ∷ bytes) == count - 1)
 
 abbrev pub replies_to_wait : (services : ℕ) → BorrowedReply → Bool
 replies_to_wait services (shown.Yes text) = has_count text.now services

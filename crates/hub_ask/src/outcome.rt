@@ -1,5 +1,6 @@
 //! How a request went.
-ghost use Rattle.std.specs.Prelude.{◌≡◌, ℕ, List, Some};
+ghost use Rattle.std.specs.Prelude.{◌≡◌, ℕ, List, Some, count_by};
+ghost use Rattle.hub_protocol.specs.Spelling.{is_space};
 ghost use Rattle.hub_ask.specs.declared.outcome.Outcome.{Outcome as outcome};
 ghost use Rattle.hub_requests.specs.Texts.{text_of};
 ghost use Rattle.hub_requests.specs.declared.reply.Reply.{Reply as reply};
@@ -43,6 +44,12 @@ fn outcome_of(read: BorrowedReply<'_>) -> Outcome
     }
 }
 
+fn spaces(text: &[u8]) -> usize
+    ensures { result ≡ count_by is_space text.now }
+{
+    text.iter().filter(|byte| **byte == b' ').count()
+}
+
 // Whether there are so many numbers or dashes, with one space between two.
 fn has_count(text: &[u8], count: usize) -> bool
     ensures { result ≡ has_count text.now count }
@@ -50,7 +57,7 @@ fn has_count(text: &[u8], count: usize) -> bool
     if text.is_empty() {
         return count == 0;
     }
-    count > 0 && text.iter().filter(|byte| **byte == b' ').count() == count - 1
+    count > 0 && spaces(text) == count - 1
 }
 
 // Whether a hub may reply so to a wait for so many services.

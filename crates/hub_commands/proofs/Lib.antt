@@ -6,5 +6,5 @@ pub mod Held
 pub mod Made
 pub mod Compared
 pub mod Makes
-pub mod Missing
+pub mod Listed
 pub mod Waits

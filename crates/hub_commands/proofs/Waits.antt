@@ -239,20 +239,20 @@ ends_quietly remaining contents services is_quiet asks untouched held text tried
     (outcome, is, it.0, subst (λ q. EndsSo services q (contents it.0.sender) (contents it.0.sender) (remaining it.0.receiver) (remaining it.0.receiver) held held (text it.1) asks outcome) (sym quiet) (said, refl, refl, refl))
 
 -- or with what is written
-pub ends_aloud : {SR SW T N : Type 0} (remaining : SR → Option (List ℕ)) (contents : SW → Option (List ℕ)) (services : ℕ) (is_quiet : Bool) (want : List ℕ) (name : N → List ℕ) (names items : List N)
+pub ends_aloud : {SR SW T N : Type 0} (remaining : SR → Option (List ℕ)) (contents : SW → Option (List ℕ)) (is_quiet : Bool) (want : List ℕ) (name : N → List ℕ) (names items : List N)
     (untouched : Type 0) (held holds : Option (List ℕ)) (text : T → List ℕ) (tried : Result (Client SR SW × T) Fault) (it : Client SR SW × T) (client later : Client SR SW) (reply : List ℕ) (status : ℕ) (outcome : Outcome)
     → tried ≡ Ok it → it.0 ≡ client → text it.1 ≡ reply → names ≡ items → is_quiet ≡ false → status ≡ status_of outcome
-    → IsEnded services (contents client.sender) (contents later.sender) (remaining client.receiver) (remaining later.receiver) held holds reply (AsksAbout want name names) outcome
-    → EndsTry remaining contents services is_quiet (AsksAbout want name items) untouched held holds text tried (Ok status)
-ends_aloud remaining contents services is_quiet want name names items untouched held holds text tried it client later reply status outcome came one same listed loud is ended =
-    let by_client : IsEnded services (contents it.0.sender) (contents later.sender) (remaining it.0.receiver) (remaining later.receiver) held holds reply (AsksAbout want name names) outcome =
-    subst (λ k. IsEnded services (contents k.sender) (contents later.sender) (remaining k.receiver) (remaining later.receiver) held holds reply (AsksAbout want name names) outcome) (sym one) ended in
-    let by_reply : IsEnded services (contents it.0.sender) (contents later.sender) (remaining it.0.receiver) (remaining later.receiver) held holds (text it.1) (AsksAbout want name names) outcome =
-    subst (λ r. IsEnded services (contents it.0.sender) (contents later.sender) (remaining it.0.receiver) (remaining later.receiver) held holds r (AsksAbout want name names) outcome) (sym same) by_client in
-    let by_names : IsEnded services (contents it.0.sender) (contents later.sender) (remaining it.0.receiver) (remaining later.receiver) held holds (text it.1) (AsksAbout want name items) outcome =
-    subst (λ n. IsEnded services (contents it.0.sender) (contents later.sender) (remaining it.0.receiver) (remaining later.receiver) held holds (text it.1) (AsksAbout want name n) outcome) listed by_reply in
-    subst (λ t. EndsTry remaining contents services is_quiet (AsksAbout want name items) untouched held holds text t (Ok status)) (sym came)
-    (outcome, is, later, subst (λ q. EndsSo services q (contents it.0.sender) (contents later.sender) (remaining it.0.receiver) (remaining later.receiver) held holds (text it.1) (AsksAbout want name items) outcome) (sym loud) by_names)
+    → IsEnded (length names) (contents client.sender) (contents later.sender) (remaining client.receiver) (remaining later.receiver) held holds reply (AsksAbout want name names) outcome
+    → EndsTry remaining contents (length items) is_quiet (AsksAbout want name items) untouched held holds text tried (Ok status)
+ends_aloud remaining contents is_quiet want name names items untouched held holds text tried it client later reply status outcome came one same listed loud is ended =
+    let by_client : IsEnded (length names) (contents it.0.sender) (contents later.sender) (remaining it.0.receiver) (remaining later.receiver) held holds reply (AsksAbout want name names) outcome =
+    subst (λ k. IsEnded (length names) (contents k.sender) (contents later.sender) (remaining k.receiver) (remaining later.receiver) held holds reply (AsksAbout want name names) outcome) (sym one) ended in
+    let by_reply : IsEnded (length names) (contents it.0.sender) (contents later.sender) (remaining it.0.receiver) (remaining later.receiver) held holds (text it.1) (AsksAbout want name names) outcome =
+    subst (λ r. IsEnded (length names) (contents it.0.sender) (contents later.sender) (remaining it.0.receiver) (remaining later.receiver) held holds r (AsksAbout want name names) outcome) (sym same) by_client in
+    let by_names : IsEnded (length items) (contents it.0.sender) (contents later.sender) (remaining it.0.receiver) (remaining later.receiver) held holds (text it.1) (AsksAbout want name items) outcome =
+    subst (λ n. IsEnded (length n) (contents it.0.sender) (contents later.sender) (remaining it.0.receiver) (remaining later.receiver) held holds (text it.1) (AsksAbout want name n) outcome) listed by_reply in
+    subst (λ t. EndsTry remaining contents (length items) is_quiet (AsksAbout want name items) untouched held holds text t (Ok status)) (sym came)
+    (outcome, is, later, subst (λ q. EndsSo (length items) q (contents it.0.sender) (contents later.sender) (remaining it.0.receiver) (remaining later.receiver) held holds (text it.1) (AsksAbout want name items) outcome) (sym loud) by_names)
 
 -- ---- the whole command
 

@@ -2,7 +2,7 @@
 use Rattle.std.specs.Prelude.{◌≡◌, ◌⊎◌, ℕ, List, [], ◌∷◌, ◌++◌, length, All, ◌==◌, if◌then◌else◌, codes, true, false, Option}
 use Rattle.hub_ask.specs.Lines.{joined}
 use Rattle.hub_ask.specs.Streams.{IsToldTo}
-use Rattle.hub_commands.specs.Missing.{is_there}
+use Rattle.hub_commands.specs.Missing.{IsMissing}
 use Rattle.hub_commands.specs.declared.saying.Sayings.{Sayings}
 
 -- about the hub at this socket
@@ -16,10 +16,17 @@ abbrev pub there_text : (there : List ℕ) → List ℕ
 there_text [] = codes "no names"
 there_text (byte ∷ bytes) = byte ∷ bytes
 
--- about these names, which the hub lacks, and those that are there; text gives the bytes of one
+-- what is said of names that a hub lacks; text gives the bytes of one
+abbrev pub missing_text : {Name : Type 0} → (text : Name → List ℕ) → (missing : List Name) → List ℕ
+missing_text text missing = joined text missing ++ (codes " " ++ are (length missing))
+
+-- and of those that it has
+abbrev pub has_text : (there : List ℕ) → List ℕ
+has_text there = codes " made (the hub has " ++ (there_text there ++ codes ")\n")
+
+-- about both
 abbrev pub names_line : {Name : Type 0} → (text : Name → List ℕ) → (missing : List Name) → (there : List ℕ) → List ℕ
-names_line text missing there = codes "ftrighub: waiting until " ++ (joined text missing ++ (codes " " ++ (are (length missing)
-    ++ (codes " made (the hub has " ++ (there_text there ++ codes ")\n")))))
+names_line text missing there = codes "ftrighub: waiting until " ++ (missing_text text missing ++ has_text there)
 
 -- a line that was said stays said
 abbrev pub AreSaid : (old new : Sayings) → Type 0
@@ -34,4 +41,4 @@ HubIsSaid old new socket noted notes faults failed = ((notes ≡ noted) × (fail
 abbrev pub NamesAreSaid : {Name : Type 0} → (text : Name → List ℕ) → (old new : Sayings) → (noted notes : Option (List ℕ)) → (faults failed : Option ℕ) → Type 0
 NamesAreSaid {Name} text old new noted notes faults failed = ((notes ≡ noted) × (failed ≡ faults))
     ⊎ ((old.names.is_said ≡ false) × (new.names.is_said ≡ true) × (missing : List Name) × (there : List ℕ)
-    × All (λ name. is_there there (text name) ≡ false) missing × IsToldTo noted notes faults failed (names_line text missing there))
+    × All (λ name. IsMissing there (text name)) missing × IsToldTo noted notes faults failed (names_line text missing there))

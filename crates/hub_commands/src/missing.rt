@@ -1,7 +1,7 @@
 //! Which names of a wait a hub doesn't have.
-ghost use Rattle.std.specs.Prelude.{◌≡◌, All, false, IfOk, IfErr};
+ghost use Rattle.std.specs.Prelude.{◌≡◌, ◌≢◌, All, IfOk, IfErr, MatchBool};
 ghost use Rattle.hub_ask.specs.Asking.{FailsToHear, Hears};
-ghost use Rattle.hub_commands.specs.Missing.{AsksNames, is_there};
+ghost use Rattle.hub_commands.specs.Missing.{AsksNames, IsMissing};
 ghost use Rattle.hub_protocol.specs.Spelling.{form_of, spelling};
 ghost use Rattle.hub_requests.specs.declared.request.Request.TheVariants as request;
 
@@ -82,12 +82,17 @@ pub(crate) fn names_there<H: Wait, SR: Replies, SW: Requests>(
     Err(AskError::Unknown)
 }
 
-// Whether the name is one of these, which have one space between two.
-fn is_there(name: &str, names: &[u8]) -> bool
-    ensures { result ≡ is_there names.now name.now }
+fn is_other(one: &[u8], name: &[u8]) -> bool
+    ensures { MatchBool result (one.now ≢ name.now) (one.now ≡ name.now) }
 {
-    let name = name.as_bytes();
-    names.split(|byte| *byte == b' ').any(|piece| piece == name)
+    one != name
+}
+
+// Whether the name is none of these, which have one space between two.
+fn is_missing(name: &[u8], there: &[u8]) -> bool
+    ensures { MatchBool result (IsMissing there.now name.now) (IsMissing there.now name.now → ⊥) }
+{
+    there.split(|byte| *byte == b' ').all(|one| is_other(one, name))
 }
 
 /// Which of these names aren't among those of the hub.
@@ -96,11 +101,11 @@ pub(crate) fn missing_of<'a>(
     wanted: &[&'a str],
     there: &[u8],
 ) -> Result<Vec<&'a str>, AllocError>
-    ensures { IfOk result (λ it. All (λ name. is_there there.now name.now ≡ false) it.items) }
+    ensures { IfOk result (λ it. All (λ name. IsMissing there.now name.now) it.items) }
 {
     let mut missing = Vec::new(alloc);
     'names: for name in wanted {
-        if !is_there(name, there) {
+        if is_missing(name.as_bytes(), there) {
             missing.push(*name)?;
         }
     }

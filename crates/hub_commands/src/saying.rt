@@ -1,8 +1,9 @@
 //! The lines that say for what a wait waits, if it isn't for a service yet.
-ghost use Rattle.std.specs.Prelude.{◌≡◌, true, false, IfOk, OnOk, OnErr};
+ghost use Rattle.std.specs.Prelude.{◌≡◌, ◌++◌, ℕ, List, true, false, IfOk, OnOk, OnErr};
+ghost use Rattle.std.specs.Borrow.{Bor};
 ghost use Rattle.hub_ask.specs.Streams.{IsToldTo};
 ghost use Rattle.hub_commands.specs.Missing.{AsksNames};
-ghost use Rattle.hub_commands.specs.Sayings.{AreSaid, HubIsSaid, NamesAreSaid, are, hub_line, names_line, there_text};
+ghost use Rattle.hub_commands.specs.Sayings.{AreSaid, HubIsSaid, NamesAreSaid, are, has_text, hub_line, missing_text, names_line, there_text};
 
 use crate::missing::{missing_of, names_there};
 use hub_ask::{Client, Deadline, Replies, Requests, write_note};
@@ -92,7 +93,7 @@ impl Sayings {
         notes: &mut F,
     ) -> Result<(), AllocError>
         ensures said { AreSaid self.old self.new }
-        ensures told { NamesAreSaid (λ name. name.now) self.old self.new
+        ensures told { NamesAreSaid (λ (name : Bor (List ℕ)). name.now) self.old self.new
             (F.contents notes.old) (F.contents notes.new) (F.faults notes.old) (F.faults notes.new) }
         ensures quiet { self.old.names.is_said ≡ true → notes.new ≡ notes.old }
         ensures asked { AsksNames (SW.contents client.old.sender) (SW.contents client.new.sender) }
@@ -137,18 +138,33 @@ fn there_text(there: &[u8]) -> &[u8]
     if there.is_empty() { b"no names" } else { there }
 }
 
+// Puts what is said of names that a hub lacks behind this line.
+fn put_missing(alloc: Global, missing: &[&str], line: &mut Vec<u8>) -> Result<(), AllocError>
+    ensures { OnOk result (line.new.items
+        ≡ line.old.items ++ missing_text (λ name. name.now) missing.now) }
+{
+    let list = missing.join(alloc, " ")?;
+    line.extend_from_slice(list.as_bytes())?;
+    line.extend_from_slice(b" ")?;
+    line.extend_from_slice(are(missing.len()).as_bytes())
+}
+
+// Puts what is said of those that it has there.
+fn put_there(there: &[u8], line: &mut Vec<u8>) -> Result<(), AllocError>
+    ensures { OnOk result (line.new.items ≡ line.old.items ++ has_text there.now) }
+{
+    line.extend_from_slice(b" made (the hub has ")?;
+    line.extend_from_slice(there_text(there))?;
+    line.extend_from_slice(b")\n")
+}
+
 // The line on these names, which a hub lacks that has those.
 fn names_line(alloc: Global, missing: &[&str], there: &[u8]) -> Result<Vec<u8>, AllocError>
     ensures { IfOk result (λ it. it.items ≡ names_line (λ name. name.now) missing.now there.now) }
 {
-    let list = missing.join(alloc, " ")?;
     let mut line = Vec::from_slice(alloc, b"ftrighub: waiting until ")?;
-    line.extend_from_slice(list.as_bytes())?;
-    line.extend_from_slice(b" ")?;
-    line.extend_from_slice(are(missing.len()).as_bytes())?;
-    line.extend_from_slice(b" made (the hub has ")?;
-    line.extend_from_slice(there_text(there))?;
-    line.extend_from_slice(b")\n")?;
+    put_missing(alloc, missing, &mut line)?;
+    put_there(there, &mut line)?;
     Ok(line)
 }
 

@@ -65,15 +65,24 @@ fn first_turns(limit: Option<u64>, want: &str) -> Result<u64, Ending>
 /// What came of one try: a reply to the line, or a fault.
 type Tried<SR, SW> = Result<(Client<SR, SW>, Vec<u8>), Fault>;
 
+fn are_names(texts: &[&str]) -> bool
+    ensures { result ≡ list_all (λ text. is_name text.now) texts.now }
+{
+    texts.iter().all(|text| Name::is_name(text.as_bytes()))
+}
+
 // Sees whether these are names, and few enough for one wait, whose first line this is.
 fn check_names(names: &[&str], line: &Line) -> Result<(), Ending>
     ensures { AreJudged (list_all (λ name. is_name name.now) names.now) (length names.now)
         (length (bytes_of line.now)) result }
 {
-    if !names.iter().all(|name| Name::is_name(name.as_bytes())) {
+    if !are_names(names) {
         return Err(Ending::Refused(BadWords::NotName));
     }
-    if names.len() > MOST_SERVICES || line.as_bytes().len() > LONGEST_LINE {
+    if names.len() > MOST_SERVICES {
+        return Err(Ending::Refused(BadWords::Many));
+    }
+    if line.as_bytes().len() > LONGEST_LINE {
         return Err(Ending::Refused(BadWords::Many));
     }
     Ok(())
@@ -195,12 +204,11 @@ fn end<H: Wait, SR: Replies + Drop, SW: Requests + Drop, W: Sink, F: Sink>(
         Ok(both) => both,
         Err(fault) => return Err(Ending::Failed(fault)),
     };
+    let (want, names) = (wish.want, wish.names.as_slice());
     if wish.is_quiet {
-        let services = wish.names.len();
-        let outcome = Outcome::of_wait(&reply, services).ok_or(AskError::Unknown)?;
+        let outcome = Outcome::of_wait(&reply, names.len()).ok_or(AskError::Unknown)?;
         return Ok(outcome.status());
     }
-    let (want, names) = (wish.want, wish.names.as_slice());
     let outcome = end_wait(rt, alloc, &reply, want, names, &mut client, output, notes)?;
     Ok(outcome.status())
 }

@@ -1,8 +1,7 @@
-use Rattle.std.proofs.Common.{◌≡◌, false}
 use Rattle.std.specs.Prelude.{All}
-use Rattle.hub_commands.specs.Missing.{is_there}
+use Rattle.hub_commands.specs.Missing.{IsMissing}
 use Rattle.hub_commands.proofs.missing.missing_of.Given as goal
 
--- none of those so far is there
+-- each of those so far is missing
 abbrev pub invariant-names : goal.invariant-names
-invariant-names l = All (λ name. is_there l.there name.now ≡ false) l.missing.items
+invariant-names l = All (λ name. IsMissing l.there name.now) l.missing.items

@@ -1,4 +1,4 @@
-use Rattle.hub_commands.proofs.Missing.{AskedNames}
+use Rattle.hub_commands.proofs.Listed.{AskedNames}
 use Rattle.hub_commands.proofs.missing.names_there.Given as goal
 
 -- some pages were asked for

@@ -1,4 +1,4 @@
-use Rattle.std.proofs.Common.{◌≡◌, ◌≤◌, ℕ, List, Bor, Vec, Global, IfSome, IfNone, true, ◌∙◌, refl, ap, subst, arith}
+use Rattle.std.proofs.Common.{◌≡◌, ◌≤◌, ℕ, List, length, Bor, Vec, Global, IfSome, IfNone, true, ◌∙◌, refl, ap, subst, arith}
 use Rattle.hub_ask.specs.Lines.{bytes_of, joined}
 use Rattle.hub_ask.specs.Waiting.{AsksAbout, wait_words}
 use Rattle.hub_client.specs.Passing.{has_lf}
@@ -29,7 +29,7 @@ returns-in_default-next_try-clause-goes g c =
     ends_by_try (dialing g.D.Dial.reaches g.D.Receiver.Read.remaining g.D.Sender.Write.contents) (wishing c.args.socket.now c.args.wish.now) c.args.first c.args.dialer.now c.tries.dialer c.try_once-tried.new.dialer c.tries.turns (bytes_of c.in-Some-2.line) (λ (reply : Vec ℕ Global). reply.items)
     (c.end.new.output ≡ c.args.output.now) (g.W.Write.contents c.args.output.now) (g.W.Write.contents c.end.new.output) c.try_once-tried.result c.end.result
     c.tries.invariant.at same c.in-Some-2.line.cut c.try_once-tried.ensures
-    (subst (λ o. EndsTry g.D.Receiver.Read.remaining g.D.Sender.Write.contents c.args.wish.now.is_quiet (AsksAbout c.args.wish.now.want.now (λ (name : Bor (List ℕ)). name.now) c.args.wish.now.names.items)
+    (subst (λ o. EndsTry g.D.Receiver.Read.remaining g.D.Sender.Write.contents (length c.args.wish.now.names.items) c.args.wish.now.is_quiet (AsksAbout c.args.wish.now.want.now (λ (name : Bor (List ℕ)). name.now) c.args.wish.now.names.items)
     (c.end.new.output ≡ o) (g.W.Write.contents o) (g.W.Write.contents c.end.new.output) (λ (reply : Vec ℕ Global). reply.items) c.try_once-tried.result c.end.result) c.tries.invariant.output c.end.ensures.ended)
 
 pub returns-in_err-say-clause-goes : goal.returns-in_err-say-clause-goes

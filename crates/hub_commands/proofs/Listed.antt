@@ -1,5 +1,5 @@
 -- The names of a hub that were asked for.
-use Rattle.std.proofs.Common.{◌≡◌, ℕ, List, [], ◌∷◌, ◌++◌, map, Bool, Option, sym, subst, append-nil}
+use Rattle.std.proofs.Common.{◌≡◌, ◌∙◌, ℕ, List, [], ◌∷◌, ◌++◌, map, All, Bool, true, false, Option, Result, Ok, Err, OnOk, OnErr, inl, inr, ap, sym, subst, append-nil, refl}
 use Rattle.std.proofs.KnownBytes.{Appends-nil}
 use Rattle.std.proofs.lemmas.List.{map-append}
 use Rattle.std.specs.Io.KnownBytes.{Appends}
@@ -8,7 +8,13 @@ use Rattle.hub_ask.specs.Sending.{SendsFront, lines_of_requests}
 use Rattle.hub_ask.specs.declared.fault.AskError.{AskError}
 use Rattle.hub_ask.specs.declared.heard.Heard.{Heard}
 use Rattle.hub_ask.proofs.Sent.{asks_more, fails_more, fronts_none}
-use Rattle.hub_commands.specs.Missing.{AsksNames}
+use Rattle.hub_ask.specs.Streams.{IsToldTo}
+use Rattle.hub_commands.specs.Missing.{AsksNames, IsMissing}
+use Rattle.hub_commands.specs.Sayings.{NamesAreSaid, names_line}
+use Rattle.hub_commands.specs.Waiting.{AsksAfterTry}
+use Rattle.hub_commands.specs.declared.saying.Sayings.{Sayings}
+use Rattle.hub_ask.specs.declared.client.Client.{Client}
+use Rattle.hub_endings.specs.declared.fault.Fault.{Fault}
 use Rattle.hub_protocol.specs.Spelling.{form_of, spelling}
 use Rattle.hub_requests.specs.declared.request.Request.TheVariants as request
 
@@ -41,3 +47,27 @@ asked_in_vain sent mid sends had has from broken error asked fails = (
   subst (SendsFront sent sends) (sym (map-append request.Names asked.0 (from ∷ [])))
       (fails_more sent mid sends had has (map request.Names asked.0) (request.Names from) [] broken error asked.1 fails),
 )
+
+-- after a try at which nothing was asked
+pub asks_nothing : {SR SW T : Type 0} (contents : SW → Option (List ℕ)) (tried : Result (Client SR SW × T) Fault) → AsksAfterTry contents tried tried
+asks_nothing contents (Ok it) = asked_so (contents it.0.sender) (contents it.0.sender) (none_asked (contents it.0.sender) (contents it.0.sender) refl)
+asks_nothing contents (Err fault) = tt
+
+-- ---- what was said of them
+
+pub names_said : {F N E : Type 0} (text : N → List ℕ) (old new : Sayings) (contents : F → Option (List ℕ)) (faults : F → Option ℕ) (notes note : F)
+    (named missing : List N) (there bytes has : List ℕ) (result : Result (Unit {0}) E)
+    → named ≡ missing → there ≡ has → bytes ≡ has → All (λ name. IsMissing bytes (text name)) missing → old.names.is_said ≡ false → new.names.is_said ≡ true
+    → OnOk result (IsToldTo (contents notes) (contents note) (faults notes) (faults note) (names_line text named there)) → OnErr result (note ≡ notes)
+    → NamesAreSaid text old new (contents notes) (contents note) (faults notes) (faults note)
+names_said text old new contents faults notes note named missing there bytes has (Ok it) same listed at all before after ok err = inr (
+  before,
+  after,
+  missing,
+  has,
+  subst (λ h. All (λ name. IsMissing h (text name)) missing) at all,
+  subst (λ h. IsToldTo (contents notes) (contents note) (faults notes) (faults note) (names_line text missing h)) listed
+      (subst (λ m. IsToldTo (contents notes) (contents note) (faults notes) (faults note) (names_line text m there)) same ok),
+)
+names_said text old new contents faults notes note named missing there bytes has (Err e) same listed at all before after ok err =
+    inl (ap contents err, ap faults err)
