@@ -92,7 +92,9 @@ fn is_other(one: &[u8], name: &[u8]) -> bool
 fn is_missing(name: &[u8], there: &[u8]) -> bool
     ensures { MatchBool result (IsMissing there.now name.now) (IsMissing there.now name.now → ⊥) }
 {
-    there.split(|byte| *byte == b' ').all(|one| is_other(one, name))
+    there
+        .split(|byte| *byte == b' ')
+        .all(|one| is_other(one, name))
 }
 
 /// Which of these names aren't among those of the hub.

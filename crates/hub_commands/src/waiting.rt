@@ -245,7 +245,16 @@ fn wait_on<H: Wait + Clock, D: Dial, W: Sink, F: Sink>(
         let Some(delay) = next_try(rt, &tried, wish, deadline, turns) else {
             return end(rt, alloc, tried, wish, output, notes);
         };
-        say(rt, alloc, &mut sayings, delay, &mut tried, wish, socket, notes)?;
+        say(
+            rt,
+            alloc,
+            &mut sayings,
+            delay,
+            &mut tried,
+            wish,
+            socket,
+            notes,
+        )?;
         turns = next_turns(rt, deadline, turns);
     }
     unreachable!()

@@ -8,8 +8,8 @@ use hub_endings::{Fault, ReachFault};
 use std::net::Net;
 use std::os::unix::net::UnixStream;
 use std::rt::Clock;
-use std::time::Duration;
 use std::thread;
+use std::time::Duration;
 
 /// How many milliseconds pass before another try, if the server has no room for one more connection.
 const PAUSE: u64 = 10;

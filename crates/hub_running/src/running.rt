@@ -121,11 +121,7 @@ fn hub_of<'a>(plan: &Plan<'a>) -> Option<&'a str>
 }
 
 // How the command ended, with the socket of a hub that it couldn't reach.
-fn named(
-    alloc: Global,
-    ended: Result<u8, Ending>,
-    socket: Option<&str>,
-) -> Result<u8, Ending>
+fn named(alloc: Global, ended: Result<u8, Ending>, socket: Option<&str>) -> Result<u8, Ending>
     ensures { IsNamed (option_map (λ socket. socket.now) socket.entry) ended result }
 {
     match (ended, socket) {

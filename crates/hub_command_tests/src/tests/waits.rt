@@ -20,13 +20,31 @@ type Case = (
 
 static CASES: [Case; 8] = [
     ("up", None, false, &[None, Some(b"yes 3\n")], (0, 2)),
-    ("ready", None, false, &[None, None, None, Some(b"never\n")], (4, 4)),
-    ("down", None, false, &[Some(b"late\n"), None, Some(b"yes 3\n")], (0, 3)),
+    (
+        "ready",
+        None,
+        false,
+        &[None, None, None, Some(b"never\n")],
+        (4, 4),
+    ),
+    (
+        "down",
+        None,
+        false,
+        &[Some(b"late\n"), None, Some(b"yes 3\n")],
+        (0, 3),
+    ),
     ("up", Some("1h"), false, &[None, Some(b"yes 3\n")], (0, 2)),
     ("up", Some("999s"), false, &[None, Some(b"yes 3\n")], (1, 1)),
     ("up", None, true, &[None, Some(b"yes 3\n")], (1, 1)),
     ("restarted", None, false, &[None, Some(b"yes 3\n")], (1, 1)),
-    ("restarted-ready", None, false, &[None, Some(b"yes 3\n")], (1, 1)),
+    (
+        "restarted-ready",
+        None,
+        false,
+        &[None, Some(b"yes 3\n")],
+        (1, 1),
+    ),
 ];
 
 /// The status of a wait at these hubs, and how many connections it made.
@@ -39,8 +57,15 @@ fn waited<H: Wait + Clock>(
     let mut hubs = Hubs::new(replies);
     let mut output = Vec::new(alloc);
     let mut notes = Vec::new(alloc);
-    let ended: Result<u8, Ending> =
-        wait_as_told(rt, alloc, &mut hubs, "s", wish, &mut output, &mut notes);
+    let ended: Result<u8, Ending> = wait_as_told(
+        rt,
+        alloc,
+        &mut hubs,
+        "s",
+        wish,
+        &mut output,
+        &mut notes,
+    );
     (end_status(&ended), hubs.connections)
 }
 

@@ -14,8 +14,7 @@ returns-clause-waits g c =
     subst (λ it. IfSome it (λ line. bytes_of line ≡ wait_words c.args.wish.now.span.now c.args.wish.now.want.now c.in_ok-turns.turns (joined (λ (name : Bor (List ℕ)). name.now) c.as_slice-names.result.now))) c.in-Some.is c.in_ok-line.ensures.line
     ∙ ap (λ n. wait_words c.args.wish.now.span.now c.args.wish.now.want.now c.in_ok-turns.turns (joined (λ (name : Bor (List ℕ)). name.now) n)) c.as_slice-names.ensures.value in
     let fits : AreOneWait (list_all (λ (name : Bor (List ℕ)). is_name name.now) c.args.wish.now.names.items) (length c.args.wish.now.names.items) (length (bytes_of c.in-Some.line)) =
-    subst (λ n. AreOneWait (list_all (λ (name : Bor (List ℕ)). is_name name.now) n) (length n) (length (bytes_of c.in-Some.line))) c.as_slice-names.ensures.value c.in_ok-check_names.ensures in
-    (
+    subst (λ n. AreOneWait (list_all (λ (name : Bor (List ℕ)). is_name name.now) n) (length n) (length (bytes_of c.in-Some.line))) c.as_slice-names.ensures.value c.in_ok-check_names.ensures in (
       Ok c.in_ok-limit.limit,
       c.in_ok-limit.ensures,
       waits_so (dialing g.D.Dial.reaches g.D.Receiver.Read.remaining g.D.Sender.Write.contents) (wishing c.args.socket.now c.args.wish.now) c.in_ok-limit.limit c.in_ok-turns.turns c.args.dialer.now c.wait_on.new.dialer

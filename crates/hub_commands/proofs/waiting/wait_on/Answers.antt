@@ -50,7 +50,7 @@ tries-preserved g c =
     ∙ ap (λ n. wait_words c.args.wish.now.span.now c.args.wish.now.want.now c.tries.turns (joined (λ (name : Bor (List ℕ)). name.now) n)) c.as_slice-names.ensures.value in
     record {
       at = (one_more_try (dialing g.D.Dial.reaches g.D.Receiver.Read.remaining g.D.Sender.Write.contents) (wishing c.args.socket.now c.args.wish.now) c.args.first c.args.dialer.now c.tries.dialer c.try_once-tried.new.dialer c.tries.turns c.next_turns-turns.result (bytes_of c.in-Some-2.line) (λ (reply : Vec ℕ Global). reply.items) c.try_once-tried.result c.say.new.tried
-    c.tries.invariant.at same c.try_once-tried.ensures c.in-Some-next_try.ensures c.say.ensures.asked c.next_turns-turns.ensures);
+          c.tries.invariant.at same c.try_once-tried.ensures c.in-Some-next_try.ensures c.say.ensures.asked c.next_turns-turns.ensures);
       few = (let few = c.tries.invariant.few in omega (arith, few, c.next_turns-turns.ensures));
       output = c.tries.invariant.output;
       quiet = λ q. (
