@@ -121,9 +121,12 @@ def count_in(line, is_of_tests):
     return words.get("may-wait", "0")
 
 
+def sum_of(text):
+    return hashlib.sha256(text.encode()).hexdigest()[:32]
+
+
 def name_of(crate, is_of_tests, stamp):
-    whole = hashlib.sha256(f"{identity()} {stamp}".encode()).hexdigest()
-    return f"{crate}{'.tests' if is_of_tests else ''}-{whole[:32]}"
+    return f"{crate}{'.tests' if is_of_tests else ''}-{sum_of(f'{identity()} {stamp}')}"
 
 
 def note_counts(counts, made_of):
