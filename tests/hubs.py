@@ -17,6 +17,7 @@ import time
 import traceback
 
 TOP = os.path.dirname(os.path.dirname(os.path.realpath(__file__)))
+sys.path.insert(0, f"{TOP}/tools")
 # What `call` says if it can't connect, and what the program says if no reply comes, and if a reply isn't a hub's.
 CONNECT = "ftrighub: cannot connect\n"
 NO_ANSWER = "ftrighub: no answer\n"
