@@ -92,27 +92,26 @@ impl Tie for Untied {
 /// The hubs of one connection after the other: what each replies, or none in time.
 #[derive(Drop)]
 pub struct Hubs {
-    rest: &'static [Option<&'static [u8]>],
+    replies: &'static [Option<&'static [u8]>],
     /// How many connections were made.
-    pub connections: u64,
+    pub connections: usize,
 }
 
 impl Hubs {
     /// Hubs that reply these.
     pub fn new(replies: &'static [Option<&'static [u8]>]) -> Hubs {
         Hubs {
-            rest: replies,
+            replies,
             connections: 0,
         }
     }
 
     fn next(&mut self) -> Result<(Reply, Taker), Fault> {
-        let Some((first, rest)) = self.rest.split_first() else {
+        let Some(reply) = self.replies.get(self.connections) else {
             return Err(Fault::Connect);
         };
-        self.rest = rest;
         self.connections = self.connections.saturating_add(1);
-        Ok((Reply { rest: *first }, Taker))
+        Ok((Reply { rest: *reply }, Taker))
     }
 }
 

@@ -15,7 +15,7 @@ type Case = (
     Option<&'static str>,
     bool,
     &'static [Option<&'static [u8]>],
-    (u8, u64),
+    (u8, usize),
 );
 
 static CASES: [Case; 8] = [
@@ -53,7 +53,7 @@ fn waited<H: Wait + Clock>(
     alloc: Global,
     wish: &Wish<'_>,
     replies: &'static [Option<&'static [u8]>],
-) -> (u8, u64) {
+) -> (u8, usize) {
     let mut hubs = Hubs::new(replies);
     let mut output = Vec::new(alloc);
     let mut notes = Vec::new(alloc);
